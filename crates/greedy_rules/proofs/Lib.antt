@@ -1,0 +1,15 @@
+pub mod FlowOrder
+pub mod Pairs
+pub mod Search
+pub mod BatchLemmas
+pub mod SlotLemmas
+pub mod ScheduleLemmas
+pub mod StableSort
+pub mod RowLemmas
+pub mod TableLemmas
+pub mod WalkLemmas
+pub mod FillLemmas
+pub mod ApplyLemmas
+pub mod OnceLemmas
+pub mod BatchSlots
+pub mod NeedLemmas

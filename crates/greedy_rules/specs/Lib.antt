@@ -1,0 +1,11 @@
+pub mod Flows
+pub mod Batches
+pub mod Order
+pub mod Demands
+pub mod Slot
+pub mod SlotTable
+pub mod Allocation
+pub mod Walk
+pub mod Schedule
+pub mod Matching
+pub mod Examples

@@ -1,0 +1,16 @@
+ghost use Rattle.greedy_rules.specs.Matching.{EverySlotIsAMaximalMatching};
+ghost use Rattle.greedy_rules.specs.Examples.{ThreeFlowsFillTwoSlots, TwoFlowsOfOneSourceTakeTurns, ALaterAskGoesFirst, WhatABatchLeavesGoesIntoTheNext};
+
+/// A law over every schedule (the SIGCOMM 2014 Fastpass paper): no two packets of a slot share a source or a
+/// destination, and no waiting demand could join it.
+pub fn every_slot_is_a_maximal_matching()
+    ensures { EverySlotIsAMaximalMatching }
+{}
+
+/// Small schedules, which the definitions compute.
+pub fn small_schedules()
+    ensures three_flows { ThreeFlowsFillTwoSlots }
+    ensures turns { TwoFlowsOfOneSourceTakeTurns }
+    ensures later_ask { ALaterAskGoesFirst }
+    ensures left_over { WhatABatchLeavesGoesIntoTheNext }
+{}
