@@ -13,3 +13,4 @@ pub mod ApplyLemmas
 pub mod OnceLemmas
 pub mod BatchSlots
 pub mod NeedLemmas
+pub mod RoomLemmas

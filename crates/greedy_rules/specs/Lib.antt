@@ -9,3 +9,4 @@ pub mod Walk
 pub mod Schedule
 pub mod Matching
 pub mod Examples
+pub mod Room

@@ -1,10 +1,16 @@
 ghost use Rattle.greedy_rules.specs.Matching.{EverySlotIsAMaximalMatching};
+ghost use Rattle.greedy_rules.specs.Room.{FlowsFitPairs};
 ghost use Rattle.greedy_rules.specs.Examples.{ThreeFlowsFillTwoSlots, TwoFlowsOfOneSourceTakeTurns, ALaterAskGoesFirst, WhatABatchLeavesGoesIntoTheNext};
 
 /// A law over every schedule (the SIGCOMM 2014 Fastpass paper): no two packets of a slot share a source or a
 /// destination, and no waiting demand could join it.
 pub fn every_slot_is_a_maximal_matching()
     ensures { EverySlotIsAMaximalMatching }
+{}
+
+/// A law on memory: a list with room for as many items as there are pairs of endpoints has room for each batch.
+pub fn flows_fit_pairs()
+    ensures { FlowsFitPairs }
 {}
 
 /// Small schedules, which the definitions compute.

@@ -1,0 +1,4 @@
+pub mod Bits
+pub mod Taking
+pub mod Sending
+pub mod BothEnds

@@ -1,0 +1,17 @@
+use Rattle.std.proofs.Common.{◌≡◌, ◌+◌, ◌-◌, ◌^◌, ◌≤◌, drop, deque_len, deque_capacity}
+use Rattle.arrayvec.specs.ArrayVec.{array_vec_len}
+use Rattle.ack_window.specs.Acknowledgement.{decision_by}
+use Rattle.ack_window.specs.Kept.{RisesWithin}
+use Rattle.ack_window.proofs.Sending.{HasJudged}
+use Rattle.ack_window.proofs.send_window.decide.Given as goal
+
+abbrev pub invariant-numbers : goal.invariant-numbers
+invariant-numbers g l =
+    HasJudged (decision_by 4 64 l.ack) l.fn.found.items l.found.items l.fn.unresolved.items l.unresolved.items l.at
+    × RisesWithin 0 (2 ^ 32) (drop l.at l.unresolved.items)
+    × (array_vec_len l.found + deque_len l.unresolved ≤ 65)
+    × (l.at ≤ deque_len l.unresolved)
+    × (deque_capacity l.unresolved ≡ deque_capacity l.fn.unresolved)
+
+abbrev pub decreases-numbers : goal.decreases-numbers
+decreases-numbers g l = deque_len l.unresolved - l.at
