@@ -1,0 +1,16 @@
+pub mod Rising
+pub mod Finding
+pub mod BelowOne
+pub mod Chunks
+pub mod Numbers
+pub mod Entries
+pub mod Requests
+pub mod RequestRules
+pub mod Resets
+pub mod UpLaws
+pub mod Allocations
+pub mod AllocationRules
+pub mod DownLaws
+pub mod Buffers
+pub mod Encoded
+pub mod SpellingLaws

@@ -1,0 +1,30 @@
+//! The packets of the control protocol and their bytes, version 1.
+//!
+//! An endpoint sends resets and requests up to the arbiter, and the arbiter sends allocations down. Each packet has one spelling;
+//! the layout and the order of the refusals are this project's own profile of the protocol of Fastpass (SIGCOMM 2014).
+#![tactic(auto)]
+
+mod checks;
+mod demands;
+mod downward;
+mod encoding;
+mod fields;
+mod laws;
+mod mask;
+mod packet;
+mod refusal;
+mod told_slots;
+mod upward;
+
+pub use downward::decode_down;
+pub use encoding::{encode_alloc, encode_req, encode_reset};
+pub use laws::{
+    bytes_spell_one_packet, packets_have_one_spelling, spellings_begin_no_other,
+    what_follows_is_trailing,
+};
+pub use packet::{Demand, Down, Told, Up};
+pub use refusal::FrameRefused;
+pub use upward::decode_up;
+
+#[cfg(test)]
+mod tests;
