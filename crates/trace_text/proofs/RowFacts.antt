@@ -1,0 +1,44 @@
+-- What rows say together, where one row more stands at their end.
+use Rattle.std.proofs.Common.{◌≡◌, ℕ, ◌+◌, ◌≤◌, max, List, [], ◌∷◌, ◌++◌, length, Bool, true, false, Option, Some, None, refl, ap, ◌∙◌, arith, length-append}
+use Rattle.std.specs.Prelude.{◌==◌, sum_by}
+use Rattle.std.specs.Option.{option_or}
+use Rattle.std.proofs.lemmas.List.Sums.{sum_by_push}
+use Rattle.std.proofs.lemmas.Bool.Decides.{nat_tests}
+use Rattle.trace_text.specs.Rows.{Row, Ask}
+use Rattle.trace_text.specs.Earlier.{endpoints_in, endpoints_of, greatest_round, end_in, end_of, named_round, slots_of}
+
+pub length-more : (before : List Row) (row : Row) → length (before ++ row ∷ []) ≡ length before + 1
+length-more before row = omega (arith, length-append before (row ∷ []))
+
+pub endpoints_of-more : (before : List Row) (row : Row) → endpoints_in row ≡ 0 → endpoints_of (before ++ row ∷ []) ≡ endpoints_of before
+endpoints_of-more [] row none = none
+endpoints_of-more (first ∷ rows) row none = refl
+
+pub greatest_round-more : (before : List Row) (row : Row) → greatest_round (before ++ row ∷ []) ≡ max (greatest_round before) (named_round row)
+greatest_round-more [] row = omega arith
+greatest_round-more (first ∷ rows) row = let rest = greatest_round-more rows row in omega arith
+
+option_or-assoc : (a b c : Option ℕ) → option_or a (option_or b c) ≡ option_or (option_or a b) c
+option_or-assoc None b c = refl
+option_or-assoc (Some n) b c = refl
+
+pub option_or-none : (o : Option ℕ) → option_or o None ≡ o
+option_or-none None = refl
+option_or-none (Some n) = refl
+
+pub end_of-more : (before : List Row) (row : Row) → end_of (before ++ row ∷ []) ≡ option_or (end_of before) (end_in row)
+end_of-more [] row = option_or-none (end_in row)
+end_of-more (first ∷ rows) row = ap (λ o. option_or (end_in first) o) (end_of-more rows row) ∙ option_or-assoc (end_in first) (end_of rows) (end_in row)
+
+-- no flow asks for too much where this one does not
+pub slots_of-bounded : (before : List Row) (round src dst slots s d : ℕ) → ((s d : ℕ) → sum_by (slots_of s d) before ≤ 100000000)
+    → sum_by (slots_of src dst) before + slots ≤ 100000000 → sum_by (slots_of s d) (before ++ Ask round src dst slots ∷ []) ≤ 100000000
+slots_of-bounded before round src dst slots s d each this = by (src == s) refl (dst == d) refl
+  where
+    by : (a : Bool) → (src == s) ≡ a → (b : Bool) → (dst == d) ≡ b → sum_by (slots_of s d) (before ++ Ask round src dst slots ∷ []) ≤ 100000000
+    by true e true f =
+        let same : src ≡ s = grind (arith, nat_tests) in
+        let same2 : dst ≡ d = grind (arith, nat_tests) in
+        rw (sum_by_push (slots_of s d) before (Ask round src dst slots), e, f) (rw (same, same2) at this)
+    by true e false f = rw (sum_by_push (slots_of s d) before (Ask round src dst slots), e, f) (omega (arith, each s d))
+    by false e b f = rw (sum_by_push (slots_of s d) before (Ask round src dst slots), e) (omega (arith, each s d))

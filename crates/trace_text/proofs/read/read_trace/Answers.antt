@@ -1,0 +1,54 @@
+use Rattle.std.proofs.Common.{◌∷◌, [], ◌++◌, length, ap, ◌∙◌, arith}
+use Rattle.std.proofs.lemmas.Result.{err_from_is_err_and}
+use Rattle.csv.specs.Records.{fields_of}
+use Rattle.trace_text.specs.Trace.{rows_after}
+use Rattle.trace_text.proofs.RowFacts.{length-more}
+use Rattle.trace_text.proofs.TraceFacts.{told, finished, rows_after-ok, rows_after-none}
+use Rattle.trace_text.proofs.read.read_trace.Goals as goal
+
+pub loop-rows-preserved : goal.loop-rows-preserved
+loop-rows-preserved c =
+    let before = c.loop-rows.invariant.stands.0 in
+    let stands = c.loop-rows.invariant.stands.1 in
+    let same = c.loop-rows.invariant.stands.2 in
+    let next = rw c.if-branch.true at c.in_ok-read.ensures in
+    let taken = c.in_ok-take.ensures before stands in
+    record {
+      stands = (
+        before ++ taken.0 ∷ [],
+        taken.2,
+        same ∙ ap (λ l. rows_after c.args.command l before) next ∙ rows_after-ok c.args.command (fields_of c.read.new.fields) c.read.new.self before taken.0 taken.1,
+      );
+      room = omega (arith, c.loop-rows.invariant.room, taken.2.count, stands.count, length-more before taken.0, ap length next);
+    }
+
+pub returns-in_err-take-clause-refused : goal.returns-in_err-take-clause-refused
+returns-in_err-take-clause-refused c =
+    let before = c.loop-rows.invariant.stands.0 in
+    let stands = c.loop-rows.invariant.stands.1 in
+    let next = rw c.if-branch.true at c.in_ok-read.ensures in
+    let same = c.loop-rows.invariant.stands.2 ∙ ap (λ l. rows_after c.args.command l before) next in
+    let p = err_from_is_err_and c.from_residual-in_err-take.result c.from_residual-in_err-take.ensures.1 in
+    rw (p.1, p.2)
+    (told c.args.command c.args.bytes.now (fields_of c.read.new.fields) c.read.new.self before c.take.new.self c.in_err-take.field-0.0 same (c.in_err-take.ensures before stands))
+
+pub returns-clause-accepted : goal.returns-clause-accepted
+returns-clause-accepted c =
+    let before = c.loop-rows.invariant.stands.0 in
+    let none = rw c.if-branch.false at c.in_ok-read.ensures in
+    let all = c.loop-rows.invariant.stands.2 ∙ ap (λ l. rows_after c.args.command l before) none ∙ rows_after-none c.args.command before in
+    (finished c.args.command c.args.bytes.now before c.loop-rows.rows c.finish.result all c.loop-rows.invariant.stands.1 c.finish.ensures).0
+
+pub returns-clause-refused : goal.returns-clause-refused
+returns-clause-refused c =
+    let before = c.loop-rows.invariant.stands.0 in
+    let none = rw c.if-branch.false at c.in_ok-read.ensures in
+    let all = c.loop-rows.invariant.stands.2 ∙ ap (λ l. rows_after c.args.command l before) none ∙ rows_after-none c.args.command before in
+    (finished c.args.command c.args.bytes.now before c.loop-rows.rows c.finish.result all c.loop-rows.invariant.stands.1 c.finish.ensures).2
+
+pub returns-clause-valid : goal.returns-clause-valid
+returns-clause-valid c =
+    let before = c.loop-rows.invariant.stands.0 in
+    let none = rw c.if-branch.false at c.in_ok-read.ensures in
+    let all = c.loop-rows.invariant.stands.2 ∙ ap (λ l. rows_after c.args.command l before) none ∙ rows_after-none c.args.command before in
+    (finished c.args.command c.args.bytes.now before c.loop-rows.rows c.finish.result all c.loop-rows.invariant.stands.1 c.finish.ensures).1

@@ -1,0 +1,24 @@
+use Rattle.std.proofs.Common.{sym, ◌∙◌, arith, refl}
+use Rattle.std.proofs.lemmas.List.Sums.{sum_by_push}
+use Rattle.trace_text.specs.Rows.{End}
+use Rattle.trace_text.specs.Earlier.{slots_of, slots_in_round}
+use Rattle.trace_text.proofs.RowFacts.{length-more, endpoints_of-more, greatest_round-more, end_of-more}
+use Rattle.trace_text.proofs.rows.Rows.push.Goals as goal
+
+pub returns-in-End : goal.returns-in-End
+returns-in-End c = λ before s.
+    let row = End c.in-End.rounds in
+    let allowed = rw c.in-End.is at c.requires.allowed in
+    rw c.in-End.is (record {
+      count = omega (arith, length-more before row, s.count);
+      endpoints = s.endpoints ∙ sym (endpoints_of-more before row refl);
+      few = s.few;
+      round = omega (arith, greatest_round-more before row, s.round);
+      ended = rw (end_of-more before row, ← s.ended, allowed.0) refl;
+      short = allowed.1;
+      table = s.table;
+      totals = λ src dst low low2. omega (arith, s.totals src dst low low2, sum_by_push (slots_of src dst) before row);
+      bounded = λ src dst. omega (arith, s.bounded src dst, sum_by_push (slots_of src dst) before row);
+      asks = λ round src dst. omega (arith, s.asks round src dst, sum_by_push (slots_in_round round src dst) before row);
+      among = s.among;
+    })

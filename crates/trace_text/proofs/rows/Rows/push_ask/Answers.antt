@@ -1,0 +1,37 @@
+use Rattle.std.proofs.Common.{◌≡◌, ◌+◌, ◌*◌, get_or, refl, sym, ap, ◌∙◌, arith, length-set}
+use Rattle.std.proofs.lemmas.Grind.{common_steps}
+use Rattle.std.proofs.lemmas.List.Sums.{sum_by_push}
+use Rattle.std.proofs.lemmas.List.Elements.{All-push}
+use Rattle.trace_text.specs.Asks.{IsAmong, slots_asked}
+use Rattle.trace_text.specs.Rows.{Ask}
+use Rattle.trace_text.specs.Earlier.{slots_of, slots_in_round, end_of}
+use Rattle.trace_text.proofs.RowFacts.{length-more, endpoints_of-more, greatest_round-more, end_of-more, option_or-none, slots_of-bounded}
+use Rattle.trace_text.proofs.TableFacts.{table-more}
+use Rattle.trace_text.proofs.rows.Rows.push_ask.Goals as goal
+
+pub returns : goal.returns
+returns c = λ before s.
+    let row = Ask c.args.round c.args.src c.args.dst c.args.slots in
+    let n = c.args.self.now.endpoints in
+    let totals = c.args.self.now.totals.items in
+    let at = c.args.src * n + c.args.dst in
+    let old : c.index_mut.result.now ≡ get_or totals at 0 = grind (arith, common_steps) in
+    let asked = s.totals c.args.src c.args.dst c.requires.allowed.0 c.requires.allowed.1 in
+    let items = c.in_ok-push.ensures.items in
+    record {
+      count = omega (arith, length-more before row, s.count);
+      endpoints = s.endpoints ∙ sym (endpoints_of-more before row refl);
+      few = s.few;
+      round = omega (arith, greatest_round-more before row, s.round, c.max-self.ensures);
+      ended = s.ended ∙ sym (end_of-more before row ∙ option_or-none (end_of before));
+      table = length-set totals at (c.index_mut.result.now + c.args.slots) ∙ s.table;
+      totals = λ src dst low low2.
+          rw old (table-more totals n c.args.round c.args.src c.args.dst c.args.slots src dst s.table c.requires.allowed.0 c.requires.allowed.1 low low2
+          ∙ ap (λ k. k + slots_of src dst row) (s.totals src dst low low2) ∙ sym (sum_by_push (slots_of src dst) before row));
+      short = s.short;
+      bounded = λ src dst. slots_of-bounded before c.args.round c.args.src c.args.dst c.args.slots src dst s.bounded (omega arith);
+      asks = λ round src dst.
+          rw items (sum_by_push (slots_asked round src dst) c.args.self.now.asks.items _ ∙ ap (λ k. k + slots_in_round round src dst row) (s.asks round src dst)
+          ∙ sym (sum_by_push (slots_in_round round src dst) before row));
+      among = rw items (All-push (IsAmong n) c.args.self.now.asks.items _ s.among (record { src = c.requires.allowed.0; dst = c.requires.allowed.1; other = c.requires.allowed.2; some = c.requires.allowed.3 }));
+    }

@@ -1,0 +1,44 @@
+-- The asks that are kept of a trace, and their order: by round, then source, then destination.
+use Rattle.std.specs.Prelude.{◌≢◌, ℕ, ◌+◌, ◌*◌, ◌<◌, ◌≤◌, ◌==◌, ◌&&◌, List, [], ◌∷◌, Bool, ⊤, true, false, nat_lt, nat_le, ◌≡◌, length, slice_index, if◌then◌else◌, All}
+use Rattle.std.specs.List.Sorted.{IsPartitionPoint}
+use Rattle.trace_text.specs.declared.ask.Ask.{Ask}
+
+-- there are at most 256 endpoints
+abbrev pub rank_of : Ask → ℕ
+rank_of ask = (ask.round * 256 + ask.src) * 256 + ask.dst
+
+-- an ask between two of so many endpoints
+pub record IsAmong (endpoints : ℕ) (ask : Ask) : Type 0 where
+  pub src : ask.src < endpoints
+  pub dst : ask.dst < endpoints
+  pub other : ask.src ≢ ask.dst
+  pub some : 0 < ask.slots
+
+-- the slots of an ask, where it is one of this round and flow
+abbrev pub slots_asked : ℕ → ℕ → ℕ → Ask → ℕ
+slots_asked round src dst ask = if (ask.round == round) && (ask.src == src) && (ask.dst == dst) then ask.slots else 0
+
+-- an ask of this round and source
+abbrev pub is_asked_by : ℕ → ℕ → Ask → Bool
+is_asked_by round src ask = (ask.round == round) && (ask.src == src)
+
+-- the asks rise, from this rank on
+abbrev pub IsRisingFrom : ℕ → List Ask → Type 0
+IsRisingFrom low [] = ⊤
+IsRisingFrom low (ask ∷ asks) = (low ≤ rank_of ask) × IsRisingFrom (rank_of ask + 1) asks
+
+-- its rank is at least low, and below high
+abbrev pub has_rank_in : ℕ → ℕ → Ask → Bool
+has_rank_in low high ask = nat_le low (rank_of ask) && nat_lt (rank_of ask) high
+
+-- from where on the asks have at least this rank
+abbrev pub BeginsAt : List Ask → ℕ → ℕ → Type 0
+BeginsAt asks rank at = (at ≤ length asks) × IsPartitionPoint (λ ask. nat_lt (rank_of ask) rank ≡ true) (λ ask. nat_lt (rank_of ask) rank ≡ false) asks at
+
+-- what a trace keeps: one ask a round and flow, rising, and where the asks of each round begin
+pub record IsKept (endpoints rounds : ℕ) (asks : List Ask) (starts : List ℕ) : Type 0 where
+  pub few : endpoints ≤ 256
+  pub rising : IsRisingFrom 0 asks
+  pub among : All (IsAmong endpoints) asks
+  pub each : length starts ≡ rounds + 1
+  pub begin : (round : ℕ) → round ≤ rounds → BeginsAt asks (round * 65536) (slice_index starts round)

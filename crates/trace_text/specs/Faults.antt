@@ -1,0 +1,93 @@
+-- When a row of a trace is faulty: each fault is a condition on the row and the rows before it, and the first whose
+-- condition holds is the row's. This project's own profile.
+use Rattle.std.specs.Prelude.{ℕ, ◌+◌, ◌*◌, ◌==◌, ◌&&◌, ◌||◌, List, length, Bool, true, false, not, nat_lt, nat_le, Option, Some, None, is_some, Result, Ok, Err, if◌then◌else◌, codes, sum_by}
+use Rattle.std.specs.List.{list_any}
+use Rattle.std.specs.Str.{bytes_eq}
+use Rattle.trace_text.specs.Fields.{Record, field}
+use Rattle.trace_text.specs.Rows.{Row, Net, Ask, Meets, Boot, Raw, End, Fate, Hold, kind_of, field_count, is_readable, row_of}
+use Rattle.trace_text.specs.Stage.{is_here}
+use Rattle.trace_text.specs.Earlier.{endpoints_of, named_round, greatest_round, end_of, slots_of, gives_fate}
+use Rattle.trace_text.specs.declared.command.Command.{Command}
+use Rattle.trace_text.specs.declared.kind.Kind.{Kind}
+use Rattle.trace_text.specs.declared.fault.Fault.{Fault}
+use Rattle.trace_text.specs.declared.fault.Fault.TheVariants as fault
+
+-- a number from low to high
+abbrev pub is_between : ℕ → ℕ → ℕ → Bool
+is_between low high n = nat_le low n && nat_le n high
+
+abbrev pub is_round : ℕ → Bool
+is_round n = nat_le n 99999
+
+abbrev pub is_fate : Fate → Bool
+is_fate (Hold rounds) = is_between 1 100 rounds
+is_fate fate = true
+
+-- each field is in its range, in a net of so many endpoints; a byte of a packet takes two digits
+abbrev pub is_in_range : ℕ → Row → Bool
+is_in_range endpoints (Net racks hosts cores) = is_between 1 64 racks && is_between 1 64 hosts && is_between 1 64 cores && nat_le (racks * hosts) 256
+is_in_range endpoints (Ask round src dst slots) = is_round round && nat_lt src endpoints && nat_lt dst endpoints && is_between 1 100000000 slots
+is_in_range endpoints (Meets round endpoint down fate) = is_round round && nat_lt endpoint endpoints && is_fate fate
+is_in_range endpoints (Boot round endpoint) = is_round round && nat_lt endpoint endpoints
+is_in_range endpoints (Raw round packet) = is_round round && nat_le (length packet) 4096
+is_in_range endpoints (End rounds) = is_between 1 100000 rounds
+
+-- a net of several racks has more hosts in a rack than cores
+abbrev pub lacks_cores : Row → Bool
+lacks_cores (Net racks hosts cores) = nat_le 2 racks && nat_lt cores hosts
+lacks_cores row = false
+
+-- an endpoint asks for itself
+abbrev pub is_self_flow : Row → Bool
+is_self_flow (Ask round src dst slots) = src == dst
+is_self_flow row = false
+
+-- no row stands before
+abbrev pub is_first : List Row → Bool
+is_first before = length before == 0
+
+-- a row stands after the end, a net after the first row, a round below that of an earlier row, or an end whose rounds
+-- are not above every round that is named
+abbrev pub is_out_of_order : List Row → Row → Bool
+is_out_of_order before (Net racks hosts cores) = not (is_first before)
+is_out_of_order before (End rounds) = is_some (end_of before) || nat_le rounds (greatest_round before)
+is_out_of_order before row = is_some (end_of before) || nat_lt (named_round row) (greatest_round before)
+
+-- the asks of this flow up to this row are too much together
+abbrev pub asks_too_much : List Row → Row → Bool
+asks_too_much before (Ask round src dst slots) = nat_lt 100000000 (sum_by (slots_of src dst) before + slots)
+asks_too_much before row = false
+
+-- an earlier row gave a fate to the same packet
+abbrev pub has_two_fates : List Row → Row → Bool
+has_two_fates before (Meets round endpoint down fate) = list_any (gives_fate round endpoint down) before
+has_two_fates before row = false
+
+-- the fault of a row that could be read, or the row
+unfoldable pub checked : List Row → Row → Result Row Fault
+checked before row =
+    if not (is_in_range (endpoints_of before) row) then Err fault.Range
+    else if lacks_cores row then Err fault.Cores
+    else if is_self_flow row then Err fault.SelfFlow
+    else if is_out_of_order before row then Err fault.Order
+    else if asks_too_much before row then Err fault.Sum
+    else if has_two_fates before row then Err fault.TwoFates
+    else Ok row
+
+-- the fault of a row of this kind, or the row
+unfoldable pub read_kind : Command → List Row → Record → Kind → Result Row Fault
+read_kind command before fields k =
+    if not (is_here command k fields) then Err fault.NotHere
+    else if not (length fields == field_count k) then Err fault.Fields
+    else if not (is_readable k fields) then Err fault.Number
+    else checked before (row_of k fields)
+
+abbrev pub read_named : Command → List Row → Record → Option Kind → Result Row Fault
+read_named command before fields None = Err fault.Kind
+read_named command before fields (Some k) = read_kind command before fields k
+
+-- the fault of a row after the rows before it, or the row
+unfoldable pub read_row : Command → List Row → Record → Result Row Fault
+read_row command before fields =
+    if is_first before && not (bytes_eq (field fields 0) (codes "net")) then Err fault.NoNet
+    else read_named command before fields (kind_of (field fields 0))

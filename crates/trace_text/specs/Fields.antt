@@ -1,0 +1,47 @@
+-- The fields of a row of a trace: numbers, ways and hexadecimal bytes, by this project's own profile.
+use Rattle.std.specs.Prelude.{ℕ, ◌%◌, List, [], length, Bool, not, ◌&&◌, ◌||◌, ◌==◌, nat_lt, nat_le, slice_index, slice_index_or, codes}
+use Rattle.std.specs.List.{list_all}
+use Rattle.std.specs.Char.{is_ascii_digit, is_digit}
+use Rattle.std.specs.Str.{bytes_eq}
+use Rattle.std.specs.Str.Parse.{digits_value}
+
+-- the bytes of a field, and the fields of a row with the one that names its kind
+abbrev pub Field : Type 0
+Field = List ℕ
+
+abbrev pub Record : Type 0
+Record = List Field
+
+-- the field at a place, with no bytes where the row is shorter
+abbrev pub field : Record → ℕ → Field
+field fields at = slice_index_or fields at []
+
+-- one to ten bytes, of which the first of several is not "0"
+abbrev pub has_shape : Field → Bool
+has_shape text = nat_lt 0 (length text) && nat_le (length text) 10 && not (nat_lt 1 (length text) && (slice_index text 0 == 48))
+
+-- one to ten ASCII digits, without a leading zero unless it is "0", that write at most the greatest u32
+unfoldable pub is_number : Field → Bool
+is_number text = has_shape text && list_all is_ascii_digit text && nat_le (digits_value 10 text) 4294967295
+
+-- the number that a field writes
+unfoldable pub number_of : Field → ℕ
+number_of text = digits_value 10 text
+
+-- the same of the field at a place
+abbrev pub number_at : Record → ℕ → ℕ
+number_at fields at = number_of (field fields at)
+
+abbrev pub has_number : Record → ℕ → Bool
+has_number fields at = is_number (field fields at)
+
+-- the ways of a packet: up to the arbiter, and down to the endpoint
+abbrev pub is_down : Field → Bool
+is_down text = bytes_eq text (codes "down")
+
+abbrev pub is_way : Field → Bool
+is_way text = bytes_eq text (codes "up") || is_down text
+
+-- hexadecimal digits of whole bytes, in either case; no digit stands for no bytes
+unfoldable pub is_hex : Field → Bool
+is_hex text = list_all (λ c. is_digit c 16) text && (length text % 2 == 0)

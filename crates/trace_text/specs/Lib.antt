@@ -1,0 +1,11 @@
+pub mod Fields
+pub mod Rows
+pub mod Stage
+pub mod Earlier
+pub mod Faults
+pub mod Asks
+pub mod Standing
+pub mod Records
+pub mod Trace
+pub mod Valid
+pub mod FaultNumbers

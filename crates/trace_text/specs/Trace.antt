@@ -1,0 +1,83 @@
+-- A text as a trace: its rows, or the first faulty one. This project's own profile.
+use Rattle.std.specs.Prelude.{◌≡◌, ⊤, ℕ, ◌+◌, List, [], ◌∷◌, ◌++◌, length, Option, Some, None, Result, Ok, Err, nat_lt, filter, sum_by, map, slice_index_or, unwrap_or}
+use Rattle.std.specs.List.{range_with_len}
+use Rattle.csv.specs.Reading.{default_config, records, strip_bom}
+use Rattle.trace_text.specs.Fields.{Record}
+use Rattle.trace_text.specs.Rows.{Row}
+use Rattle.trace_text.specs.Earlier.{endpoints_of, end_of, slots_in_round}
+use Rattle.trace_text.specs.Faults.{read_row}
+use Rattle.trace_text.specs.declared.command.Command.{Command}
+use Rattle.trace_text.specs.declared.fault.Fault.{Fault}
+use Rattle.trace_text.specs.declared.fault.TraceRefused.{TraceRefused}
+use Rattle.trace_text.specs.declared.fault.TraceRefused.TheVariants as refused
+use Rattle.trace_text.specs.declared.fault.Fault.TheVariants as fault
+
+-- the rows of a text as fields: comma separated values with double quotes and no header. A byte order mark at the
+-- start is dropped, and a blank line is no row
+abbrev pub records_of : List ℕ → List Record
+records_of text = records default_config (strip_bom text)
+
+-- a row's number, counted from 1, and its fault
+pub record FaultyRow : Type 0 where
+  pub row : ℕ
+  pub fault : Fault
+
+-- what stands after the last row: a trace begins with a net and ends with its end
+abbrev pub ended : List Row → Option ℕ → Result (List Row) FaultyRow
+ended [] end = Err (record { row = 1; fault = fault.NoNet })
+ended (row ∷ rows) (Some rounds) = Ok (row ∷ rows)
+ended (row ∷ rows) None = Err (record { row = length (row ∷ rows) + 1; fault = fault.NoEnd })
+
+-- one row more, or its number and fault
+abbrev pub row_more : (List Row → Result (List Row) FaultyRow) → List Row → Result Row Fault → Result (List Row) FaultyRow
+row_more more before (Ok row) = more (before ++ row ∷ [])
+row_more more before (Err f) = Err (record { row = length before + 1; fault = f })
+
+-- the rows before and then these, or the first of these that is faulty
+unfoldable pub rows_after : Command → List Record → List Row → Result (List Row) FaultyRow
+rows_after command [] before = ended before (end_of before)
+rows_after command (fields ∷ records) before = row_more (rows_after command records) before (read_row command before fields)
+
+-- what is made of each number below a bound, in order
+abbrev pub each_below : {A : Type 0} → ℕ → (ℕ → A) → List A
+each_below bound f = map f (range_with_len 0 bound)
+
+-- the destinations below a bound of which there is some, rising, each with how much
+abbrev pub some_below : ℕ → (ℕ → ℕ) → List (ℕ × ℕ)
+some_below bound amount = filter (λ p. nat_lt 0 p.1) (each_below bound (λ dst. (dst, amount dst)))
+
+-- what a trace holds: how many endpoints and rounds it has, and for each round and source the destinations that are
+-- asked for, rising, each with the sum of its asks in the round
+pub record TraceContent : Type 0 where
+  pub endpoints : ℕ
+  pub rounds : ℕ
+  pub asked : List (List (List (ℕ × ℕ)))
+
+-- what a source asks for in a round
+abbrev pub asked_at : TraceContent → ℕ → ℕ → List (ℕ × ℕ)
+asked_at trace round src = slice_index_or (slice_index_or trace.asked round []) src []
+
+-- a trace in which so much is asked for in a round by a source for a destination
+abbrev pub content_by : ℕ → ℕ → (ℕ → ℕ → ℕ → ℕ) → TraceContent
+content_by endpoints rounds amount = record {
+  endpoints = endpoints;
+  rounds = rounds;
+  asked = each_below rounds (λ round. each_below endpoints (λ src. some_below endpoints (amount round src)));
+}
+
+-- what these rows are together
+abbrev pub content_of : List Row → TraceContent
+content_of rows = content_by (endpoints_of rows) (unwrap_or (end_of rows) 0) (λ round src dst. sum_by (slots_in_round round src dst) rows)
+
+abbrev pub content_or_fault : Result (List Row) FaultyRow → Result TraceContent FaultyRow
+content_or_fault (Ok rows) = Ok (content_of rows)
+content_or_fault (Err faulty) = Err faulty
+
+-- what the trace of a text holds, or the first faulty row where it is no trace that the command takes
+unfoldable pub trace_of : Command → List ℕ → Result TraceContent FaultyRow
+trace_of command text = content_or_fault (rows_after command (records_of text) [])
+
+-- the refusal tells the first faulty row, or want of memory
+abbrev pub IsFaultOf : Result TraceContent FaultyRow → TraceRefused → Type 0
+IsFaultOf trace (refused.Row row fault) = trace ≡ Err (record { row = row; fault = fault })
+IsFaultOf trace refused.Memory = ⊤

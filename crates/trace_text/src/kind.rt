@@ -1,0 +1,54 @@
+// The kinds of rows.
+ghost use Rattle.std.specs.Prelude.{◌≡◌};
+ghost use Rattle.trace_text.specs.Rows.{kind_of, field_count};
+
+/// What the first field of a row names.
+#[derive(Clone, Copy, Debug, PartialEq, Eq)]
+pub enum Kind {
+    Net,
+    Ask,
+    Lose,
+    Twice,
+    Hold,
+    Boot,
+    Raw,
+    End,
+}
+
+impl Kind {
+    pub fn of(name: &[u8]) -> Option<Kind>
+        ensures { result ≡ kind_of name.now }
+    {
+        if name == b"net".as_slice() {
+            Some(Kind::Net)
+        } else if name == b"ask".as_slice() {
+            Some(Kind::Ask)
+        } else if name == b"lose".as_slice() {
+            Some(Kind::Lose)
+        } else if name == b"twice".as_slice() {
+            Some(Kind::Twice)
+        } else if name == b"hold".as_slice() {
+            Some(Kind::Hold)
+        } else if name == b"boot".as_slice() {
+            Some(Kind::Boot)
+        } else if name == b"raw".as_slice() {
+            Some(Kind::Raw)
+        } else if name == b"end".as_slice() {
+            Some(Kind::End)
+        } else {
+            None
+        }
+    }
+
+    /// How many fields a row of the kind has, with the one that names it.
+    pub fn field_count(self) -> usize
+        ensures { result ≡ field_count self }
+    {
+        match self {
+            Kind::End => 2,
+            Kind::Boot | Kind::Raw => 3,
+            Kind::Net | Kind::Lose | Kind::Twice => 4,
+            Kind::Ask | Kind::Hold => 5,
+        }
+    }
+}
