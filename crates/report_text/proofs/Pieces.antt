@@ -1,0 +1,25 @@
+-- A line spelled piece by piece.
+use Rattle.std.proofs.Common.{◌≡◌, ◌<◌, ◌≤◌, ◌+◌, ◌-◌, ℕ, List, [], ◌∷◌, ◌++◌, length, get_or, take, drop, map, decimal, refl, sym, ap, ◌∙◌, arith}
+use Rattle.std.proofs.lemmas.List.{drop-drop, append_assoc, take_more, map-append}
+use Rattle.report_text.specs.Lines.{fields, numbers}
+
+-- what was left alone from some place on was left alone from any later one on
+pub later_rest : (a b : ℕ) (xs ys : List ℕ) → a ≤ b → drop a xs ≡ drop a ys → drop b xs ≡ drop b ys
+later_rest a b xs ys le same =
+    let on : b ≡ a + (b - a) = omega arith in
+    ap (λ (n : ℕ). drop n xs) on
+    ∙ (sym (drop-drop (b - a) a xs) ∙ (ap (drop (b - a)) same ∙ (drop-drop (b - a) a ys ∙ ap (λ (n : ℕ). drop n ys) (sym on))))
+
+fields-append : (xs ys : List (List ℕ)) → fields (xs ++ ys) ≡ fields xs ++ fields ys
+fields-append [] ys = refl
+fields-append (x ∷ xs) ys = ap (λ (rest : List ℕ). 44 ∷ x ++ rest) (fields-append xs ys) ∙ sym (append_assoc (44 ∷ x) (fields xs) (fields ys))
+
+pub numbers-append : (xs ys : List ℕ) → numbers (xs ++ ys) ≡ numbers xs ++ numbers ys
+numbers-append xs ys = ap fields (map-append decimal xs ys) ∙ fields-append (map decimal xs) (map decimal ys)
+
+-- one number more after a name
+pub numbers_more : (name values : List ℕ) (i d : ℕ) → i < length values → name ++ numbers (take (i + 1) values) ≡ (name ++ numbers (take i values)) ++ numbers (get_or values i d ∷ [])
+numbers_more name values i d below =
+    ap (λ (ns : List ℕ). name ++ numbers ns) (take_more values i d below)
+    ∙ (ap (λ (bs : List ℕ). name ++ bs) (numbers-append (take i values) (get_or values i d ∷ []))
+    ∙ sym (append_assoc name (numbers (take i values)) (numbers (get_or values i d ∷ []))))

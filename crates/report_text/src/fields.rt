@@ -1,0 +1,116 @@
+ghost use Rattle.std.specs.Prelude.{◌≡◌, ◌≢◌, ◌<◌, ◌≤◌, ◌^◌, ℕ, List, [], ◌∷◌, ◌++◌, length, codes, decimal, Some, IfSome, IsSomeAnd, slice_index, slice_index_or, true, MatchBool, ◌⊎◌, All, Bool, Option};
+ghost use Rattle.report_text.specs.Lines.{fields, numbers, core_field, bit};
+
+use std::str;
+
+/// How many bytes stand before the first comma.
+pub(crate) fn field_len(text: &[u8]) -> usize
+    ensures within { result ≤ length text.now }
+    ensures before { (i : ℕ) → i < result → slice_index text.now i ≢ 44 }
+    ensures comma { result < length text.now → slice_index text.now result ≡ 44 }
+{
+    text.iter()
+        .position(|byte| *byte == b',')
+        .unwrap_or(text.len())
+}
+
+/// Whether a field has neither a sign nor a leading zero.
+fn begins_plain(field: &[u8]) -> bool
+    ensures { MatchBool result ((slice_index field.now 0 ≢ 43) × (slice_index field.now 0 ≡ 48 → length field.now ≡ 1)) ((slice_index field.now 0 ≡ 43) ⊎ ((slice_index field.now 0 ≡ 48) × (length field.now ≢ 1))) }
+{
+    !matches!(field, [b'+', ..] | [b'0', _, ..])
+}
+
+/// Reads a number in plain decimal.
+fn number(field: &[u8]) -> Option<u32>
+    ensures spelled { IfSome result (λ n. field.now ≡ decimal n) }
+    ensures only { (n : ℕ) → n < 2 ^ 32 → field.now ≡ decimal n → IsSomeAnd result (λ m. m ≡ n) }
+{
+    if !begins_plain(field) {
+        return None;
+    }
+    let Ok(text) = str::from_utf8(field) else {
+        return None;
+    };
+    text.parse().ok()
+}
+
+/// Reads the number after a comma, and answers the bytes behind its field.
+fn next_number(text: &[u8]) -> Option<(u32, &[u8])>
+    ensures spelled { IfSome result (λ x. text.now ≡ 44 ∷ decimal x.0 ++ x.1.now) }
+    ensures only { (n : ℕ) (rest : List ℕ) → n < 2 ^ 32 → slice_index_or rest 0 44 ≡ 44 → text.now ≡ 44 ∷ decimal n ++ rest → IsSomeAnd result (λ x. (x.0 ≡ n) × (x.1.now ≡ rest)) }
+{
+    let text = text.strip_prefix(b",")?;
+    let (field, rest) = text.split_at(field_len(text));
+    Some((number(field)?, rest))
+}
+
+/// Reads a number for each value, each after a comma, and answers the bytes behind them.
+pub(crate) fn read_numbers<'a>(text: &'a [u8], values: &mut [u32]) -> Option<&'a [u8]>
+    ensures count { length values.new ≡ length values.old }
+    ensures spelled { IfSome result (λ rest. text.now ≡ numbers values.new ++ rest.now) }
+    ensures only { (ns rest : List ℕ) → length ns ≡ length values.old → All (λ n. n < 2 ^ 32) ns → slice_index_or rest 0 44 ≡ 44 → text.now ≡ numbers ns ++ rest → IsSomeAnd result (λ r. (values.new ≡ ns) × (r.now ≡ rest)) }
+{
+    let mut rest = text;
+    for value in values.iter_mut() {
+        let (number, more) = next_number(rest)?;
+        *value = number;
+        rest = more;
+    }
+    Some(rest)
+}
+
+/// Reads a number for each value, each after a comma, and nothing more.
+pub(crate) fn read_all(text: &[u8], values: &mut [u32]) -> bool
+    ensures count { length values.new ≡ length values.old }
+    ensures spelled { result ≡ true → text.now ≡ numbers values.new }
+    ensures only { (ns : List ℕ) → length ns ≡ length values.old → All (λ n. n < 2 ^ 32) ns → text.now ≡ numbers ns → MatchBool result (values.new ≡ ns) ⊥ }
+{
+    match read_numbers(text, values) {
+        Some(rest) => rest.is_empty(),
+        None => false,
+    }
+}
+
+/// Whether the field of a core says that there is none.
+fn has_no_core(text: &[u8]) -> bool
+    ensures { MatchBool result (text.now ≡ codes ",-") (text.now ≢ codes ",-") }
+{
+    matches!(text, b",-")
+}
+
+/// Reads the field of a core: a comma, and then a number of 16 bits, or a hyphen for none.
+pub(crate) fn read_core(text: &[u8]) -> Option<Option<u16>>
+    ensures spelled { IfSome result (λ core. text.now ≡ fields (core_field core ∷ [])) }
+    ensures only { (core : Option ℕ) → IfSome core (λ c. c < 2 ^ 16) → text.now ≡ fields (core_field core ∷ []) → IsSomeAnd result (λ c. c ≡ core) }
+{
+    if has_no_core(text) {
+        return Some(None);
+    }
+    let (core, rest) = next_number(text)?;
+    if !rest.is_empty() {
+        return None;
+    }
+    let core = endpoint(core)?;
+    Some(Some(core))
+}
+
+/// A number as an endpoint, where it fits 16 bits.
+pub(crate) fn endpoint(number: u32) -> Option<u16>
+    ensures spelled { IfSome result (λ n. n ≡ number) }
+    ensures only { number < 2 ^ 16 → IsSomeAnd result (λ n. n ≡ number) }
+{
+    u16::try_from(number).ok()
+}
+
+/// A flag, which is spelled 0 or 1.
+pub(crate) fn flag(number: u32) -> Option<bool>
+    ensures spelled { IfSome result (λ b. bit b ≡ number) }
+    ensures only { (b : Bool) → bit b ≡ number → IsSomeAnd result (λ r. r ≡ b) }
+{
+    match number {
+        0 => Some(false),
+        1 => Some(true),
+        _ => None,
+    }
+}

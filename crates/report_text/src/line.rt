@@ -1,0 +1,49 @@
+/// A line of the output. Slots are numbered from 1, batches and rounds from 0.
+#[derive(Clone, Copy, Debug, PartialEq, Eq)]
+pub enum Line {
+    /// What a batch records of a flow.
+    Batch {
+        batch: u32,
+        src: u16,
+        dst: u16,
+        clear: bool,
+        add: u32,
+    },
+    /// A packet of a slot, and the core that it takes where it leaves its rack.
+    Slot {
+        slot: u32,
+        src: u16,
+        dst: u16,
+        core: Option<u16>,
+    },
+    /// A packet that its endpoint sent.
+    Sent {
+        slot: u32,
+        src: u16,
+        dst: u16,
+    },
+    /// What became of a flow's demand in a plan.
+    Flow {
+        src: u16,
+        dst: u16,
+        demanded: u32,
+        allocated: u32,
+        pending: u32,
+    },
+    /// What became of a flow's demand in a replay.
+    Count {
+        src: u16,
+        dst: u16,
+        demanded: u32,
+        acknowledged: u32,
+        flight: u32,
+        pending: u32,
+        lost: u32,
+        sent: u32,
+        missed: u32,
+    },
+    /// The last line.
+    End {
+        rounds: u32,
+    },
+}

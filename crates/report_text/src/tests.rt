@@ -1,0 +1,192 @@
+use crate::{Line, read_line, write_line};
+use std::process::Abort;
+
+const LINES: [(Line, &str); 13] = [
+    (
+        Line::Batch {
+            batch: 0,
+            src: 0,
+            dst: 0,
+            clear: false,
+            add: 0,
+        },
+        "batch,0,0,0,0,0",
+    ),
+    (
+        Line::Batch {
+            batch: u32::MAX,
+            src: u16::MAX,
+            dst: u16::MAX,
+            clear: true,
+            add: u32::MAX,
+        },
+        "batch,4294967295,65535,65535,1,4294967295",
+    ),
+    (
+        Line::Slot {
+            slot: 0,
+            src: 0,
+            dst: 0,
+            core: Some(0),
+        },
+        "slot,0,0,0,0",
+    ),
+    (
+        Line::Slot {
+            slot: u32::MAX,
+            src: u16::MAX,
+            dst: u16::MAX,
+            core: Some(u16::MAX),
+        },
+        "slot,4294967295,65535,65535,65535",
+    ),
+    (
+        Line::Slot {
+            slot: 1,
+            src: 2,
+            dst: 3,
+            core: None,
+        },
+        "slot,1,2,3,-",
+    ),
+    (
+        Line::Sent {
+            slot: 0,
+            src: 0,
+            dst: 0,
+        },
+        "sent,0,0,0",
+    ),
+    (
+        Line::Sent {
+            slot: u32::MAX,
+            src: u16::MAX,
+            dst: u16::MAX,
+        },
+        "sent,4294967295,65535,65535",
+    ),
+    (
+        Line::Flow {
+            src: 0,
+            dst: 0,
+            demanded: 0,
+            allocated: 0,
+            pending: 0,
+        },
+        "flow,0,0,0,0,0",
+    ),
+    (
+        Line::Flow {
+            src: u16::MAX,
+            dst: u16::MAX,
+            demanded: u32::MAX,
+            allocated: u32::MAX,
+            pending: u32::MAX,
+        },
+        "flow,65535,65535,4294967295,4294967295,4294967295",
+    ),
+    (
+        Line::Count {
+            src: 1,
+            dst: 2,
+            demanded: 30,
+            acknowledged: 4,
+            flight: 5,
+            pending: 21,
+            lost: 7,
+            sent: 16,
+            missed: 0,
+        },
+        "count,1,2,30,4,5,21,7,16,0",
+    ),
+    (
+        Line::Count {
+            src: u16::MAX,
+            dst: u16::MAX,
+            demanded: u32::MAX,
+            acknowledged: u32::MAX,
+            flight: u32::MAX,
+            pending: u32::MAX,
+            lost: u32::MAX,
+            sent: u32::MAX,
+            missed: u32::MAX,
+        },
+        "count,65535,65535,4294967295,4294967295,4294967295,4294967295,4294967295,4294967295,4294967295",
+    ),
+    (Line::End { rounds: 0 }, "end,0"),
+    (Line::End { rounds: u32::MAX }, "end,4294967295"),
+];
+
+const NEARLY_LINES: [&str; 32] = [
+    "",
+    ",",
+    "end",
+    "end,",
+    "end,,",
+    "end,,1",
+    "end,1,",
+    "end,1,2",
+    ",end,1",
+    " end,1",
+    "end, 1",
+    "end,1 ",
+    "end,1\r",
+    "end,1\n",
+    "end,01",
+    "end,00",
+    "end,+1",
+    "end,-1",
+    "end,4294967296",
+    "end,٣",
+    "End,1",
+    "ends,1",
+    "round,1",
+    "batch,0,0,1,2,5",
+    "batch,0,0,1,-,5",
+    "slot,1,2,3",
+    "slot,1,2,3,--",
+    "slot,1,2,3,65536",
+    "sent,1,65536,0",
+    "sent,1,0,65536",
+    "flow,0,1,2,3,4,5",
+    "count,0,1,2,3,4,5,6,7",
+];
+
+#[test]
+fn lines_both_ways(rt: HostRuntime) {
+    for (line, text) in LINES {
+        let mut buf = [7; 192];
+        let length = write_line(&line, &mut buf);
+        assert_eq!(rt; length, text.len() + 1);
+        assert!(rt; buf.starts_with(text.as_bytes()));
+        assert_eq!(rt; buf.get(text.len()), Some(&b'\n'));
+        assert_eq!(rt; read_line(text.as_bytes()), Some(line));
+    }
+}
+
+#[test]
+fn nearly_lines(rt: HostRuntime) {
+    for text in NEARLY_LINES {
+        assert_eq!(rt; read_line(text.as_bytes()), None);
+    }
+    assert_eq!(rt; read_line(b"end,\xff"), None);
+}
+
+// A fifth of a million lines, into one buffer.
+#[test]
+fn many_lines(rt: HostRuntime) {
+    let mut buf = [0; 192];
+    let mut length = 0;
+    for slot in 0..200_000 {
+        let src = (slot % 256) as u16;
+        let line = Line::Slot {
+            slot,
+            src,
+            dst: 255 - src,
+            core: None,
+        };
+        length = write_line(&line, &mut buf);
+    }
+    assert_eq!(rt; length, 21);
+    assert!(rt; buf.starts_with(b"slot,199999,63,192,-\n"));
+}

@@ -1,0 +1,138 @@
+ghost use Rattle.std.specs.Prelude.{◌≡◌, ◌+◌, ◌*◌, ◌<◌, ◌≤◌, [], ◌∷◌, ◌++◌, length, take, drop, decimal};
+ghost use Rattle.report_text.specs.Lines.{line_bytes, numbers};
+
+use crate::Line;
+use itoa::Buffer;
+
+/// The most bytes that a number's field takes, with its comma.
+const FIELD: usize = 11;
+
+/// Copies bytes to this place, and answers where they end.
+fn put(buf: &mut [u8; 192], at: usize, bytes: &[u8]) -> usize
+    requires { at + length bytes.now ≤ 192 }
+    ensures end { result ≡ at + length bytes.now }
+    ensures written { take result buf.new ≡ take at buf.old ++ bytes.now }
+    ensures rest { drop result buf.new ≡ drop result buf.old }
+{
+    let end = at + bytes.len();
+    let place = &mut buf[at..end];
+    place.copy_from_slice(bytes);
+    end
+}
+
+/// Spells a number after a comma.
+fn put_number(buf: &mut [u8; 192], at: usize, number: u32) -> usize
+    requires { at + FIELD ≤ 192 }
+    ensures end { result ≡ at + length (numbers (number ∷ [])) }
+    ensures fits { result ≤ at + FIELD }
+    ensures written { take result buf.new ≡ take at buf.old ++ numbers (number ∷ []) }
+    ensures rest { drop result buf.new ≡ drop result buf.old }
+{
+    let mut digits = Buffer::new();
+    let at = put(buf, at, b",");
+    put(buf, at, digits.format(number).as_bytes())
+}
+
+/// Spells a name and its numbers at the front of the buffer.
+fn put_all(buf: &mut [u8; 192], name: &[u8], values: &[u32]) -> usize
+    requires { length name.now + FIELD * length values.now ≤ 192 }
+    ensures end { result ≡ length (name.now ++ numbers values.now) }
+    ensures fits { result ≤ length name.now + FIELD * length values.now }
+    ensures written { take result buf.new ≡ name.now ++ numbers values.now }
+    ensures rest { drop result buf.new ≡ drop result buf.old }
+{
+    let mut at = put(buf, 0, name);
+    for value in values {
+        at = put_number(buf, at, *value);
+    }
+    at
+}
+
+/// Writes a line with its line feed at the front of the buffer, and answers the length.
+pub fn write_line(line: &Line, buf: &mut [u8; 192]) -> usize
+    ensures length { result ≡ length (line_bytes line.now) + 1 }
+    ensures within { result ≤ 192 }
+    ensures written { take result buf.new ≡ line_bytes line.now ++ 10 ∷ [] }
+    ensures rest { drop result buf.new ≡ drop result buf.old }
+{
+    let at = put_line(line, buf);
+    put(buf, at, b"\n")
+}
+
+fn put_line(line: &Line, buf: &mut [u8; 192]) -> usize
+    ensures end { result ≡ length (line_bytes line.now) }
+    ensures fits { result < 192 }
+    ensures written { take result buf.new ≡ line_bytes line.now }
+    ensures rest { drop result buf.new ≡ drop result buf.old }
+{
+    match *line {
+        Line::Batch {
+            batch,
+            src,
+            dst,
+            clear,
+            add,
+        } => put_all(
+            buf,
+            b"batch",
+            &[batch, src.into(), dst.into(), clear.into(), add],
+        ),
+        Line::Slot {
+            slot,
+            src,
+            dst,
+            core,
+        } => put_slot(buf, slot, src, dst, core),
+        Line::Sent { slot, src, dst } => put_all(buf, b"sent", &[slot, src.into(), dst.into()]),
+        Line::Flow {
+            src,
+            dst,
+            demanded,
+            allocated,
+            pending,
+        } => put_all(
+            buf,
+            b"flow",
+            &[src.into(), dst.into(), demanded, allocated, pending],
+        ),
+        Line::Count {
+            src,
+            dst,
+            demanded,
+            acknowledged,
+            flight,
+            pending,
+            lost,
+            sent,
+            missed,
+        } => put_all(
+            buf,
+            b"count",
+            &[
+                src.into(),
+                dst.into(),
+                demanded,
+                acknowledged,
+                flight,
+                pending,
+                lost,
+                sent,
+                missed,
+            ],
+        ),
+        Line::End { rounds } => put_all(buf, b"end", &[rounds]),
+    }
+}
+
+fn put_slot(buf: &mut [u8; 192], slot: u32, src: u16, dst: u16, core: Option<u16>) -> usize
+    ensures end { result ≡ length (line_bytes (Line.Slot slot src dst core)) }
+    ensures fits { result < 192 }
+    ensures written { take result buf.new ≡ line_bytes (Line.Slot slot src dst core) }
+    ensures rest { drop result buf.new ≡ drop result buf.old }
+{
+    let at = put_all(buf, b"slot", &[slot, src.into(), dst.into()]);
+    match core {
+        Some(core) => put_number(buf, at, core.into()),
+        None => put(buf, at, b",-"),
+    }
+}
