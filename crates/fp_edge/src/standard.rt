@@ -1,6 +1,7 @@
 // The real outside: a reader and a writer of std. Nothing is promised of the bytes themselves.
 ghost use Rattle.std.specs.Prelude.{◌≡◌, ◌≤◌, ◌-◌, ◌^◌, take, None, IfOk};
-ghost use Rattle.std.specs.Io.KnownBytes.{Appends};
+ghost use Rattle.std.specs.Io.KnownBytes.{Appends, WriteAppends};
+ghost use Rattle.fp_edge.specs.Faults.{HasCause};
 ghost use Rattle.fp_edge.specs.Transfers.{AtMostAll, TakesSome};
 
 use crate::{Failed, Sink, Source};
@@ -10,7 +11,7 @@ const PIECE: usize = 65_536;
 
 /// A source over any reader of std. Each error of the reader is a fault.
 #[derive(Drop)]
-pub struct StdSource<T: Read> {
+pub struct StdSource<T> {
     inner: T,
     faults: u64,
     ghost counted: { faults ≤ 2 ^ 64 - 1 },
@@ -53,17 +54,20 @@ impl<T: Read> Source for StdSource<T> {
 /// A sink over any writer of std, flushed after each write. Each error of a write or a flush is a fault, and so is a
 /// write that takes nothing of a piece that isn't empty. It tells no bytes.
 #[derive(Drop)]
-pub struct StdSink<T: Write> {
+pub struct StdSink<T> {
     inner: T,
     faults: u64,
     ghost counted: { faults ≤ 2 ^ 64 - 1 },
 }
 
 impl<T: Write> StdSink<T> {
+    ghost use Rattle.fp_edge.specs.Standard.{writer_of};
+
     /// Takes no memory.
     pub fn new(inner: T) -> StdSink<T>
         ensures told { ⟦<StdSink<T> as Sink>⟧.held result ≡ None }
         ensures count { ⟦<StdSink<T> as Sink>⟧.faults result ≡ 0 }
+        ensures writer { writer_of result ≡ inner }
     {
         StdSink { inner, faults: 0 }
     }
@@ -85,11 +89,21 @@ fn write_through<T: Write>(inner: &mut T, piece: &[u8]) -> Result<usize, Failed>
 }
 
 impl<T: Write> Sink for StdSink<T> {
+    ghost use Rattle.fp_edge.specs.Standard.{writer_of};
+
     ghost held = { λ _. None };
 
     ghost faults = { λ s. s.faults };
 
-    fn write(&mut self, piece: &[u8]) -> Result<usize, Failed> {
+    fn write(&mut self, piece: &[u8]) -> Result<usize, Failed>
+        ensures bound { AtMostAll result piece.now }
+        ensures some { TakesSome result piece.now }
+        ensures bytes { WriteAppends (⟦<StdSink<T> as Sink>⟧.held self.old) (⟦<StdSink<T> as Sink>⟧.held self.new) result piece.now }
+        ensures cause { HasCause (⟦<StdSink<T> as Sink>⟧.faults self.old) (⟦<StdSink<T> as Sink>⟧.faults self.new) result }
+
+        // What is taken is the front of the piece, where the writer tells what it holds.
+        ensures written { IfOk result (λ n. Appends (T.contents (writer_of self.old)) (T.contents (writer_of self.new)) (take n piece.now)) }
+    {
         match write_through(&mut self.inner, piece) {
             Ok(n) => Ok(n),
             Err(Failed) => {

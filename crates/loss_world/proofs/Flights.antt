@@ -1,0 +1,207 @@
+-- What is due in a round, of packets that are sent, forgotten or taken off.
+use Rattle.std.proofs.Common.{◌≡◌, ℕ, ◌+◌, ◌<◌, ◌≤◌, Bool, true, false, ◌&&◌, ◌||◌, cond, eqb, leb, List, [], ◌∷◌, ◌++◌, take, drop, get_or, map, filter, remove, set, add-one, All, Option, Some, None, slice_get, sym, ◌∙◌, ap, refl, inl, inr, arith}
+use Rattle.std.proofs.lemmas.Bool.{cases_lt, cases_order, cond-true, cond-false, or_from, or_left, or_right, leb-true, leb-false, le-leb, lt-leb, eq-eqb, ne_eqb, and_left, and_right, and_from, and_parts, cond_both}
+use Rattle.std.proofs.lemmas.List.{take-append-drop, drop_more, map-append, set_split}
+use Rattle.std.proofs.lemmas.List.Elements.{filter-append, All-nil, All-cons, All-head, All-tail, All-append, All-take, All-drop}
+use Rattle.std.proofs.lemmas.Option.{get_or_from_slice_get, slice_get_within}
+use Rattle.loss_world.specs.declared.fate.Fate.{Fate}
+use Rattle.loss_world.specs.declared.fate.Fate.TheVariants.{Lose, Hold, Twice}
+use Rattle.loss_world.specs.Arrivals.{Packet, arrives_in, arrivals}
+use Rattle.loss_world.specs.InTransit.{InFlight, flight_of, is_due, due_in, rest_of, IsToCome}
+
+-- ---- joined lists
+
+pub arrivals-append : (xs ys : List Packet) (round : ℕ) → arrivals (xs ++ ys) round ≡ arrivals xs round ++ arrivals ys round
+arrivals-append xs ys round =
+    let test : Packet → Bool = λ packet. arrives_in packet.fate packet.round round in
+    let bytes : Packet → List ℕ = λ packet. packet.bytes in
+    ap (map bytes) (filter-append test xs ys) ∙ map-append bytes (filter test xs) (filter test ys)
+
+pub due_in-append : (xs ys : List InFlight) (round : ℕ) → due_in (xs ++ ys) round ≡ due_in xs round ++ due_in ys round
+due_in-append xs ys round =
+    let bytes : InFlight → List ℕ = λ flight. flight.bytes in
+    ap (map bytes) (filter-append (is_due round) xs ys) ∙ map-append bytes (filter (is_due round) xs) (filter (is_due round) ys)
+
+-- ---- one packet
+
+due_in-one : (flight : InFlight) (round : ℕ) → is_due round flight ≡ true → due_in (flight ∷ []) round ≡ flight.bytes ∷ []
+due_in-one flight round due = ap (map (λ (f : InFlight). f.bytes)) (cond-true (is_due round flight) (flight ∷ []) [] due)
+
+due_in-none : (flight : InFlight) (round : ℕ) → is_due round flight ≡ false → due_in (flight ∷ []) round ≡ []
+due_in-none flight round due = ap (map (λ (f : InFlight). f.bytes)) (cond-false (is_due round flight) (flight ∷ []) [] due)
+
+-- from a number to itself there is one number, and to the next one there are two
+from_itself : (sent round : ℕ) → (leb sent round && leb round sent) ≡ eqb round sent
+from_itself sent round =
+    elim (cases_order round sent) [
+      | inl same ↦ and_from (leb sent round) (leb round sent) (le-leb sent round (omega arith)) (le-leb round sent (omega arith)) ∙ sym (eq-eqb round sent same)
+      | inr (inl below) ↦ and_left (leb sent round) (leb round sent) (lt-leb sent round below) ∙ sym (ne_eqb round sent (λ e. omega arith))
+      | inr (inr above) ↦ and_right (leb sent round) (leb round sent) (lt-leb round sent above) ∙ sym (ne_eqb round sent (λ e. omega arith))
+    ]
+
+to_the_next : (sent round : ℕ) → (leb sent round && leb round (sent + 1)) ≡ (eqb round sent || eqb round (sent + 1))
+to_the_next sent round =
+    elim (cases_lt round sent) [
+      | inl below ↦ and_left (leb sent round) (leb round (sent + 1)) (lt-leb sent round below) ∙ sym (or_from (eqb round sent) (eqb round (sent + 1)) (ne_eqb round sent (λ e. omega arith)) (ne_eqb round (sent + 1) (λ e. omega arith)))
+      | inr from ↦ elim (cases_lt (sent + 1) round) [
+        | inl above ↦ and_right (leb sent round) (leb round (sent + 1)) (lt-leb round (sent + 1) above) ∙ sym (or_from (eqb round sent) (eqb round (sent + 1)) (ne_eqb round sent (λ e. omega arith)) (ne_eqb round (sent + 1) (λ e. omega arith)))
+        | inr to ↦ and_from (leb sent round) (leb round (sent + 1)) (le-leb sent round from) (le-leb round (sent + 1) to) ∙ sym (elim (cases_lt sent round) as (λ _. (eqb round sent || eqb round (sent + 1)) ≡ true) [
+          | inl second ↦ or_right (eqb round sent) (eqb round (sent + 1)) (eq-eqb round (sent + 1) (omega arith))
+          | inr first ↦ or_left (eqb round sent) (eqb round (sent + 1)) (eq-eqb round sent (omega arith))
+        ])
+      ]
+    ]
+
+one_of_each : (test : Bool) (flight : InFlight) (packet : Packet) → flight.bytes ≡ packet.bytes →
+    map (λ (f : InFlight). f.bytes) (cond test (flight ∷ []) []) ≡ map (λ (p : Packet). p.bytes) (cond test (packet ∷ []) [])
+one_of_each true flight packet same = ap (λ bytes. bytes ∷ []) same
+one_of_each false flight packet same = refl
+
+due_by_fate : (fate : Option Fate) (sent : ℕ) (bytes : List ℕ) (round : ℕ) →
+    due_in (flight_of (record { round = sent; fate = fate; bytes = bytes })) round ≡ arrivals (record { round = sent; fate = fate; bytes = bytes } ∷ []) round
+due_by_fate None sent bytes round =
+    rw (from_itself sent round) (one_of_each (eqb round sent) (record { rounds = record { next = sent; last = sent }; bytes = bytes }) (record { round = sent; fate = None; bytes = bytes }) refl)
+due_by_fate (Some Lose) sent bytes round = refl
+due_by_fate (Some (Hold held)) sent bytes round =
+    rw (from_itself (sent + held) round) (one_of_each (eqb round (sent + held)) (record { rounds = record { next = sent + held; last = sent + held }; bytes = bytes }) (record { round = sent; fate = Some (Hold held); bytes = bytes }) refl)
+due_by_fate (Some Twice) sent bytes round =
+    rw (to_the_next sent round) (one_of_each (eqb round sent || eqb round (sent + 1)) (record { rounds = record { next = sent; last = sent + 1 }; bytes = bytes }) (record { round = sent; fate = Some Twice; bytes = bytes }) refl)
+
+-- a packet is due, from when it is sent, in the rounds in which it arrives
+pub due_in-flight_of : (packet : Packet) (round : ℕ) → due_in (flight_of packet) round ≡ arrivals (packet ∷ []) round
+due_in-flight_of packet round = due_by_fate packet.fate packet.round packet.bytes round
+
+to_come_by_fate : (fate : Option Fate) (sent : ℕ) (bytes : List ℕ) (asked : ℕ) → asked ≤ sent → All (IsToCome asked) (flight_of (record { round = sent; fate = fate; bytes = bytes }))
+to_come_by_fate None sent bytes asked asks = All-cons (IsToCome asked) _ [] (record { some_round = omega arith; not_over = asks }) (All-nil (IsToCome asked))
+to_come_by_fate (Some Lose) sent bytes asked asks = All-nil (IsToCome asked)
+to_come_by_fate (Some (Hold held)) sent bytes asked asks = All-cons (IsToCome asked) _ [] (record { some_round = omega arith; not_over = omega arith }) (All-nil (IsToCome asked))
+to_come_by_fate (Some Twice) sent bytes asked asks = All-cons (IsToCome asked) _ [] (record { some_round = omega arith; not_over = omega arith }) (All-nil (IsToCome asked))
+
+-- it is to come where its round is not below the one asked for
+pub IsToCome-flight_of : (packet : Packet) (asked : ℕ) → asked ≤ packet.round → All (IsToCome asked) (flight_of packet)
+IsToCome-flight_of packet asked asks = to_come_by_fate packet.fate packet.round packet.bytes asked asks
+
+-- ---- what is forgotten
+
+-- whether it may arrive in this round or a later one
+abbrev pub is_kept : ℕ → InFlight → Bool
+is_kept round flight = leb round flight.rounds.last
+
+due_in-kept : (flights : List InFlight) (round later : ℕ) → round ≤ later → filter (is_due later) (filter (is_kept round) flights) ≡ filter (is_due later) flights
+due_in-kept [] round later order = refl
+due_in-kept (flight ∷ rest) round later order =
+    let again = due_in-kept rest round later order in
+    elim (cases_lt flight.rounds.last round) [
+      | inl over ↦
+          rw (lt-leb round flight.rounds.last over) (
+          again ∙ sym (cond-false (is_due later flight) (flight ∷ filter (is_due later) rest) (filter (is_due later) rest) (and_right (leb flight.rounds.next later) (leb later flight.rounds.last) (lt-leb later flight.rounds.last (omega arith))))
+          )
+      | inr stays ↦ rw (le-leb round flight.rounds.last stays) (ap (λ xs. cond (is_due later flight) (flight ∷ xs) xs) again)
+    ]
+
+pub due_in-forget : (flights : List InFlight) (round later : ℕ) → round ≤ later → due_in (filter (is_kept round) flights) later ≡ due_in flights later
+due_in-forget flights round later order = ap (map (λ (f : InFlight). f.bytes)) (due_in-kept flights round later order)
+
+pub IsToCome-forget : (flights : List InFlight) (asked round : ℕ) → All (IsToCome asked) flights → All (IsToCome round) (filter (is_kept round) flights)
+IsToCome-forget [] asked round to_come = All-nil (IsToCome round)
+IsToCome-forget (flight ∷ rest) asked round to_come =
+    let first = All-head (IsToCome asked) flight rest to_come in
+    let others = IsToCome-forget rest asked round (All-tail (IsToCome asked) flight rest to_come) in
+    cond_both (is_kept round flight) (flight ∷ filter (is_kept round) rest) (filter (is_kept round) rest) (All (IsToCome round))
+    (λ kept. All-cons (IsToCome round) flight (filter (is_kept round) rest) (record { some_round = first.some_round; not_over = leb-true round flight.rounds.last kept }) others)
+    (λ _. others)
+
+-- ---- what is taken off
+
+pub split_at : (flights : List InFlight) (at : ℕ) (flight : InFlight) → slice_get flights at ≡ Some flight → flights ≡ take at flights ++ (flight ∷ drop (at + 1) flights)
+split_at flights at flight here =
+    sym (take-append-drop at flights)
+    ∙ ap (λ xs. take at flights ++ xs) (
+    drop_more flights at flight (slice_get_within flights at flight here) ∙ ap (λ f. f ∷ drop (at + 1) flights) (get_or_from_slice_get flights at flight flight here)
+    )
+
+one_or_none : (test : Bool) (f g : InFlight) → f.bytes ≡ g.bytes → map (λ (x : InFlight). x.bytes) (cond test (f ∷ []) []) ≡ map (λ (x : InFlight). x.bytes) (cond test (g ∷ []) [])
+one_or_none true f g same = ap (λ bytes. bytes ∷ []) same
+one_or_none false f g same = refl
+
+-- in its round a packet gives its bytes, and none of them once it has arrived
+pub due_in-arrived : (flight : InFlight) (round : ℕ) → due_in (rest_of round flight) round ≡ []
+due_in-arrived flight round =
+    elim (cases_lt round flight.rounds.last) [
+      | inl more ↦ rw (lt-leb flight.rounds.last round more) (due_in-none (record { rounds = record { next = round + 1; last = flight.rounds.last }; bytes = flight.bytes }) round (and_left (leb (round + 1) round) (leb round flight.rounds.last) (lt-leb (round + 1) round (omega arith))))
+      | inr over ↦ rw (le-leb flight.rounds.last round over) refl
+    ]
+
+-- in the later rounds it is due as before
+pub due_in-later : (flight : InFlight) (round later : ℕ) → flight.rounds.next ≤ round → round < later → due_in (rest_of round flight) later ≡ due_in (flight ∷ []) later
+due_in-later flight round later from order =
+    elim (cases_lt round flight.rounds.last) [
+      | inl more ↦ rw (lt-leb flight.rounds.last round more, le-leb (round + 1) later (omega arith), le-leb flight.rounds.next later (omega arith)) (one_or_none (leb later flight.rounds.last) (record { rounds = record { next = round + 1; last = flight.rounds.last }; bytes = flight.bytes }) flight refl)
+      | inr over ↦ rw (le-leb flight.rounds.last round over) (sym (due_in-none flight later (and_right (leb flight.rounds.next later) (leb later flight.rounds.last) (lt-leb later flight.rounds.last (omega arith)))))
+    ]
+
+pub IsToCome-rest : (flight : InFlight) (round : ℕ) → All (IsToCome round) (rest_of round flight)
+IsToCome-rest flight round =
+    let later : InFlight = record { rounds = record { next = round + 1; last = flight.rounds.last }; bytes = flight.bytes } in
+    cond_both (leb flight.rounds.last round) [] (later ∷ []) (All (IsToCome round))
+    (λ _. All-nil (IsToCome round))
+    (λ more. let after = leb-false flight.rounds.last round more in All-cons (IsToCome round) later [] (record { some_round = omega arith; not_over = omega arith }) (All-nil (IsToCome round)))
+
+-- the flights once the one at this place has arrived in this round
+abbrev pub taken_off : List InFlight → ℕ → InFlight → ℕ → List InFlight
+taken_off flights at flight round = take at flights ++ (rest_of round flight ++ drop (at + 1) flights)
+
+due_in-around : (middle flights : List InFlight) (at round : ℕ) →
+    due_in (take at flights ++ (middle ++ drop (at + 1) flights)) round ≡ due_in (take at flights) round ++ (due_in middle round ++ due_in (drop (at + 1) flights) round)
+due_in-around middle flights at round =
+    due_in-append (take at flights) (middle ++ drop (at + 1) flights) round
+    ∙ ap (λ xs. due_in (take at flights) round ++ xs) (due_in-append middle (drop (at + 1) flights) round)
+
+due_in-split : (flights : List InFlight) (at : ℕ) (flight : InFlight) (round : ℕ) → slice_get flights at ≡ Some flight →
+    due_in flights round ≡ due_in (take at flights) round ++ (due_in (flight ∷ []) round ++ due_in (drop (at + 1) flights) round)
+due_in-split flights at flight round here = ap (λ xs. due_in xs round) (split_at flights at flight here) ∙ due_in-around (flight ∷ []) flights at round
+
+-- in its round the flight at this place gives its bytes where none before it is due
+pub due_in-first : (flights : List InFlight) (at : ℕ) (flight : InFlight) (round : ℕ) → slice_get flights at ≡ Some flight → due_in (take at flights) round ≡ [] → is_due round flight ≡ true →
+    due_in flights round ≡ flight.bytes ∷ due_in (taken_off flights at flight round) round
+due_in-first flights at flight round here before due =
+    let others = due_in (drop (at + 1) flights) round in
+    due_in-split flights at flight round here
+    ∙ ap (λ xs. xs ++ (due_in (flight ∷ []) round ++ others)) before
+    ∙ ap (λ xs. xs ++ others) (due_in-one flight round due)
+    ∙ ap (λ xs. flight.bytes ∷ xs) (sym (due_in-around (rest_of round flight) flights at round ∙ ap (λ xs. xs ++ (due_in (rest_of round flight) round ++ others)) before ∙ ap (λ xs. xs ++ others) (due_in-arrived flight round)))
+
+-- and in the later ones nothing changes
+pub due_in-taken_off : (flights : List InFlight) (at : ℕ) (flight : InFlight) (round later : ℕ) → slice_get flights at ≡ Some flight → is_due round flight ≡ true → round < later →
+    due_in (taken_off flights at flight round) later ≡ due_in flights later
+due_in-taken_off flights at flight round later here due order =
+    let from = leb-true flight.rounds.next round ((and_parts (leb flight.rounds.next round) (leb round flight.rounds.last) due).0) in
+    due_in-around (rest_of round flight) flights at later
+    ∙ ap (λ xs. due_in (take at flights) later ++ (xs ++ due_in (drop (at + 1) flights) later)) (due_in-later flight round later from order)
+    ∙ sym (due_in-split flights at flight later here)
+
+pub IsToCome-taken_off : (flights : List InFlight) (at : ℕ) (flight : InFlight) (round : ℕ) → All (IsToCome round) flights → All (IsToCome round) (taken_off flights at flight round)
+IsToCome-taken_off flights at flight round to_come =
+    All-append (IsToCome round) (take at flights) (rest_of round flight ++ drop (at + 1) flights)
+    (All-take (IsToCome round) at flights to_come)
+    (All-append (IsToCome round) (rest_of round flight) (drop (at + 1) flights) (IsToCome-rest flight round) (All-drop (IsToCome round) (at + 1) flights to_come))
+
+-- ---- how it is taken off
+
+found_there : (flights : List InFlight) (at : ℕ) (flight found : InFlight) → slice_get flights at ≡ Some flight → found ≡ get_or flights at found → found ≡ flight
+found_there flights at flight found here is = is ∙ get_or_from_slice_get flights at flight found here
+
+pub taken_off-set : (flights : List InFlight) (at : ℕ) (flight found : InFlight) (round : ℕ) → slice_get flights at ≡ Some flight → found ≡ get_or flights at found → round < found.rounds.last →
+    set flights at (record { rounds = record { next = round + 1; last = found.rounds.last }; bytes = found.bytes }) ≡ taken_off flights at flight round
+taken_off-set flights at flight found round here is more =
+    set_split flights at (record { rounds = record { next = round + 1; last = found.rounds.last }; bytes = found.bytes }) (slice_get_within flights at flight here)
+    ∙ ap (λ k. take at flights ++ (record { rounds = record { next = round + 1; last = found.rounds.last }; bytes = found.bytes } ∷ drop k flights)) (sym (add-one at))
+    ∙ ap (λ rest. take at flights ++ (rest ++ drop (at + 1) flights)) (sym (cond-false (leb found.rounds.last round) [] (record { rounds = record { next = round + 1; last = found.rounds.last }; bytes = found.bytes } ∷ []) (lt-leb found.rounds.last round more)))
+    ∙ ap (λ f. taken_off flights at f round) (found_there flights at flight found here is)
+
+pub taken_off-remove : (flights : List InFlight) (at : ℕ) (flight found : InFlight) (round : ℕ) → slice_get flights at ≡ Some flight → found ≡ get_or flights at found → found.rounds.last ≤ round →
+    remove flights at ≡ taken_off flights at flight round
+taken_off-remove flights at flight found round here is over =
+    ap (λ k. take at flights ++ drop k flights) (sym (add-one at))
+    ∙ ap (λ rest. take at flights ++ (rest ++ drop (at + 1) flights)) (sym (cond-true (leb found.rounds.last round) [] (record { rounds = record { next = round + 1; last = found.rounds.last }; bytes = found.bytes } ∷ []) (le-leb found.rounds.last round over)))
+    ∙ ap (λ f. taken_off flights at f round) (found_there flights at flight found here is)

@@ -1,0 +1,12 @@
+//! The lossy world between an endpoint and the arbiter: what is lost, held back or repeated of the packets that go one way.
+#![tactic(auto)]
+
+mod fate;
+mod flight;
+mod laws;
+mod world;
+
+pub use fate::Fate;
+pub use laws::arrivals_are_given_in_order;
+pub use no_memory::NoMemory;
+pub use world::World;
