@@ -1,0 +1,240 @@
+use fastpass_run::run;
+use fp_edge::{MemSink, MemSource, OpenGate};
+use std::alloc::{AllocError, Global};
+use std::test::Fail;
+
+const PIECE: usize = 65_536;
+
+const THREE_FLOWS: &[u8] = b"net,1,4,1\nask,0,0,1,1\nask,0,0,2,1\nask,0,3,1,1\nend,1\n";
+
+const THREE_FLOWS_PLANNED: &[u8] =
+    b"batch,0,0,1,0,1\nbatch,0,0,2,0,1\nbatch,0,3,1,0,1\nslot,1,0,1,-\nslot,2,0,2,-\nslot,2,3,1,-\nflow,0,1,1,1,0\nflow,0,2,1,1,0\nflow,3,1,1,1,0\nend,1\n";
+
+/// How a run ended, and what its sinks got.
+#[derive(Drop)]
+struct Came {
+    status: u8,
+    out: MemSink,
+    notes: MemSink,
+}
+
+fn copied(alloc: Global, bytes: &[u8]) -> Result<Vec<u8>, AllocError> {
+    let mut copy = Vec::new(alloc);
+    copy.extend_from_slice(bytes)?;
+    Ok(copy)
+}
+
+fn sink(alloc: Global) -> Result<MemSink, Fail> {
+    Ok(MemSink::new(alloc, 1_000_000, PIECE, Vec::new(alloc))?)
+}
+
+fn source(alloc: Global, trace: &[u8]) -> Result<MemSource, AllocError> {
+    Ok(MemSource::new(copied(alloc, trace)?, PIECE, Vec::new(alloc)))
+}
+
+fn run_with(
+    alloc: Global,
+    words: &[&str],
+    mut src: MemSource,
+    mut out: MemSink,
+    mut notes: MemSink,
+) -> Came {
+    let status = run(&(), alloc, words, &mut src, &mut out, &mut notes, &OpenGate);
+    Came { status, out, notes }
+}
+
+fn run_on(alloc: Global, words: &[&str], trace: &[u8]) -> Result<Came, Fail> {
+    Ok(run_with(
+        alloc,
+        words,
+        source(alloc, trace)?,
+        sink(alloc)?,
+        sink(alloc)?,
+    ))
+}
+
+#[test]
+fn plans_are_written_whole(rt: HostRuntime) -> Result<(), Fail> {
+    let cases: [(&[&str], &[u8], &[u8]); 5] = [
+        (&["plan", "--batch", "2"], THREE_FLOWS, THREE_FLOWS_PLANNED),
+        // Nothing is asked for.
+        (&["plan"], b"net,1,2,1\nend,1\n", b"end,1\n"),
+        (
+            &["plan", "--batch", "1"],
+            b"net,1,2,1\nask,0,0,1,1\nend,1\n",
+            b"batch,0,0,1,0,1\nslot,1,0,1,-\nflow,0,1,1,1,0\nend,1\n",
+        ),
+        // Two flows of one source take turns.
+        (
+            &["plan", "--batch", "2"],
+            b"net,1,4,1\nask,0,0,1,4\nask,0,0,2,4\nend,4\n",
+            b"batch,0,0,1,0,4\nbatch,0,0,2,0,4\nslot,1,0,1,-\nslot,2,0,1,-\nslot,3,0,2,-\nslot,4,0,2,-\nslot,5,0,1,-\nslot,6,0,1,-\nslot,7,0,2,-\nslot,8,0,2,-\nflow,0,1,4,4,0\nflow,0,2,4,4,0\nend,4\n",
+        ),
+        // A later ask, of a flow that was never served, goes first.
+        (
+            &["plan", "--batch", "2"],
+            b"net,1,4,1\nask,0,0,1,4\nask,0,0,2,4\nask,1,0,3,1\nend,5\n",
+            b"batch,0,0,1,0,4\nbatch,0,0,2,0,4\nslot,1,0,1,-\nslot,2,0,1,-\nbatch,1,0,3,0,1\nslot,3,0,2,-\nslot,4,0,2,-\nslot,5,0,3,-\nslot,6,0,1,-\nslot,7,0,2,-\nslot,8,0,2,-\nslot,9,0,1,-\nflow,0,1,4,4,0\nflow,0,2,4,4,0\nflow,0,3,1,1,0\nend,5\n",
+        ),
+    ];
+    for (words, trace, text) in cases.iter() {
+        let came = run_on(rt.alloc(), words, trace)?;
+        assert_eq!(rt; came.status, 0);
+        assert!(rt; came.out.held() == *text);
+        assert!(rt; came.notes.held().is_empty());
+    }
+    Ok(())
+}
+
+// A batch of 64 slots, and the one slot more that the next round has, or that is left pending.
+#[test]
+fn a_batch_of_64_slots_leaves_the_rest(rt: HostRuntime) -> Result<(), Fail> {
+    let cases: [(&[u8], u32, &[u8]); 3] = [
+        (
+            b"net,1,2,1\nask,0,0,1,64\nend,1\n",
+            64,
+            b"flow,0,1,64,64,0\nend,1\n",
+        ),
+        (
+            b"net,1,2,1\nask,0,0,1,65\nend,1\n",
+            64,
+            b"flow,0,1,65,64,1\nend,1\n",
+        ),
+        (
+            b"net,1,2,1\nask,0,0,1,65\nend,2\n",
+            65,
+            b"flow,0,1,65,65,0\nend,2\n",
+        ),
+    ];
+    for (trace, slots, end) in cases.iter() {
+        let came = run_on(rt.alloc(), &["plan", "--batch", "64"], trace)?;
+        assert_eq!(rt; came.status, 0);
+        let mut lines = came.out.held().split(|byte| *byte == b'\n').skip(1);
+        for slot in 1..=*slots {
+            let line = format!(in rt.alloc(); "slot,{slot},0,1,-")?;
+            assert!(rt; lines.next() == Some(line.as_bytes()));
+        }
+        assert!(rt; came.out.held().ends_with(end));
+    }
+    Ok(())
+}
+
+#[test]
+fn other_words_are_refused(rt: HostRuntime) -> Result<(), Fail> {
+    let cases: [&[&str]; 9] = [
+        &[],
+        &["plan", "--batch", "0"],
+        &["plan", "--batch", "65"],
+        &["plan", "--batch", "2", "--batch", "2"],
+        &["plan", "--batch"],
+        &["plan", "--batch=2"],
+        &["plan", "--batch", "02"],
+        &["plans"],
+        &["plan", "--window", "2"],
+    ];
+    for words in cases.iter() {
+        let came = run_on(rt.alloc(), words, THREE_FLOWS)?;
+        assert_eq!(rt; came.status, 1);
+        assert!(rt; came.notes.held() == b"words\n".as_slice());
+        assert!(rt; came.out.held().is_empty());
+    }
+    Ok(())
+}
+
+#[test]
+fn faulty_traces_tell_row_and_fault(rt: HostRuntime) -> Result<(), Fail> {
+    let cases: [(&[u8], &[u8]); 17] = [
+        (b"", b"row,1,1\n"),
+        (b"ask,0,0,1,1\n", b"row,1,1\n"),
+        (b"net,1,2,1\ntask,0,0,1,1\n", b"row,2,2\n"),
+        (b"net,1,2,1\nask,0,0,1\n", b"row,2,3\n"),
+        (b"net,1,2,1\nask,0,0,1,007\n", b"row,2,4\n"),
+        (b"net,65,1,64\n", b"row,1,10\n"),
+        (b"net,64,64,64\n", b"row,1,10\n"),
+        (b"net,1,2,1\nask,0,0,2,1\n", b"row,2,5\n"),
+        (b"net,1,2,1\nask,0,0,1,0\n", b"row,2,5\n"),
+        (b"net,1,2,1\nask,0,1,1,1\n", b"row,2,6\n"),
+        (
+            b"net,1,2,1\nask,3,0,1,1\nask,2,0,1,1\nend,4\n",
+            b"row,3,7\n",
+        ),
+        (b"net,1,2,1\nask,3,0,1,1\nend,3\n", b"row,3,7\n"),
+        (b"net,1,2,1\nend,1\nask,0,0,1,1\n", b"row,3,7\n"),
+        (
+            b"net,1,2,1\nask,0,0,1,100000000\nask,0,0,1,1\nend,1\n",
+            b"row,3,8\n",
+        ),
+        (b"net,1,2,1\n", b"row,2,9\n"),
+        (b"net,1,2,1\nlose,0,0,up\n", b"row,2,10\n"),
+        (b"net,2,3,2\n", b"row,1,10\n"),
+    ];
+    for (trace, note) in cases.iter() {
+        let came = run_on(rt.alloc(), &["plan"], trace)?;
+        assert_eq!(rt; came.status, 2);
+        assert!(rt; came.notes.held() == *note);
+        assert!(rt; came.out.held().is_empty());
+    }
+    Ok(())
+}
+
+// The second write fails, and the first took at most 4 bytes.
+#[test]
+fn a_failed_write_leaves_a_front(rt: HostRuntime) -> Result<(), Fail> {
+    let alloc = rt.alloc();
+    let mut failing = Vec::new(alloc);
+    failing.push(2)?;
+    let out = MemSink::new(alloc, 1_000_000, 4, failing)?;
+    let words = ["plan", "--batch", "2"];
+    let came = run_with(
+        alloc,
+        &words,
+        source(alloc, THREE_FLOWS)?,
+        out,
+        sink(alloc)?,
+    );
+    assert_eq!(rt; came.status, 4);
+    assert!(rt; came.notes.held() == b"write\n".as_slice());
+    assert!(rt; came.out.held().len() <= 8);
+    assert!(rt; THREE_FLOWS_PLANNED.starts_with(came.out.held()));
+    Ok(())
+}
+
+#[test]
+fn a_failed_read_writes_nothing(rt: HostRuntime) -> Result<(), Fail> {
+    let alloc = rt.alloc();
+    let mut failing = Vec::new(alloc);
+    failing.push(1)?;
+    let src = MemSource::new(copied(alloc, THREE_FLOWS)?, 10, failing);
+    let words = ["plan", "--batch", "2"];
+    let came = run_with(alloc, &words, src, sink(alloc)?, sink(alloc)?);
+    assert_eq!(rt; came.status, 3);
+    assert!(rt; came.notes.held() == b"read\n".as_slice());
+    assert!(rt; came.out.held().is_empty());
+    Ok(())
+}
+
+#[test]
+fn an_input_above_the_limit_is_refused(rt: HostRuntime) -> Result<(), Fail> {
+    let alloc = rt.alloc();
+    let bytes = vec![in alloc; b'x'; 67_108_865]?;
+    let src = MemSource::new(bytes, PIECE, Vec::new(alloc));
+    let came = run_with(alloc, &["plan"], src, sink(alloc)?, sink(alloc)?);
+    assert_eq!(rt; came.status, 6);
+    assert!(rt; came.notes.held() == b"big\n".as_slice());
+    assert!(rt; came.out.held().is_empty());
+    Ok(())
+}
+
+#[test]
+fn a_fault_of_the_notes_changes_no_status(rt: HostRuntime) -> Result<(), Fail> {
+    let alloc = rt.alloc();
+    let mut failing = Vec::new(alloc);
+    for call in 0..8 {
+        failing.push(call)?;
+    }
+    let notes = MemSink::new(alloc, 1_000_000, PIECE, failing)?;
+    let came = run_with(alloc, &[], source(alloc, THREE_FLOWS)?, sink(alloc)?, notes);
+    assert_eq!(rt; came.status, 1);
+    assert!(rt; came.notes.held().is_empty());
+    Ok(())
+}

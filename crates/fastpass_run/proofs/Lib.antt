@@ -1,0 +1,11 @@
+pub mod PlainNumbers
+pub mod OutputLemmas
+pub mod AskLemmas
+pub mod TallyLemmas
+pub mod TextLemmas
+pub mod EntryLemmas
+pub mod RoundLemmas
+pub mod BatchTexts
+pub mod FlowLemmas
+pub mod PlanLemmas
+pub mod SoundLemmas

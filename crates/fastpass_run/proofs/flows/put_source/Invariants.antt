@@ -1,0 +1,9 @@
+use Rattle.fastpass_run.specs.Text.{text_of, each_destination}
+use Rattle.fastpass_run.specs.Reached.{told}
+use Rattle.fastpass_run.specs.Output.{Passed}
+use Rattle.fastpass_run.proofs.flows.put_source.Given as goal
+
+abbrev pub invariant-loop-dst : goal.invariant-loop-dst
+invariant-loop-dst g l =
+    Passed (g.K.Sink.held l.initial.sink) (g.K.Sink.held l.sink) (g.K.Sink.faults l.initial.sink) (g.K.Sink.faults l.sink) l.initial.gathered.items l.gathered.items
+    (text_of (each_destination (told l.endpoints l.asked l.pending) l.src 0 l.dst))

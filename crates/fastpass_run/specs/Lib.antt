@@ -1,0 +1,11 @@
+pub mod Transfer
+pub mod Words
+pub mod Batches
+pub mod Text
+pub mod Output
+pub mod Tallies
+pub mod Flows
+pub mod Reached
+pub mod Sound
+pub mod Run
+pub mod Failures

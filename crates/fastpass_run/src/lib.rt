@@ -1,0 +1,82 @@
+//! The whole program: words, trace, plan and text, over any source, sinks and gate.
+#![tactic(auto)]
+
+ghost use Rattle.std.specs.Prelude.{◌≡◌, ◌≢◌, ◌⊎◌, ◌↔◌, ◌+◌, ◌≤◌, map, None};
+ghost use Rattle.fp_edge.specs.Faults.{Rose};
+ghost use Rattle.greedy_rules.specs.Matching.{EverySlotIsAMaximalMatching};
+ghost use Rattle.fastpass_run.specs.Words.{batch_size_of};
+ghost use Rattle.fastpass_run.specs.Transfer.{Takes};
+ghost use Rattle.fastpass_run.specs.Run.{ComesTo, Plans, BeginsPlan, FaultyAtSome, IsUnwritten, Notes, Completes};
+ghost use Rattle.fastpass_run.specs.declared.transfer.TheConstants.{LIMIT};
+
+mod batches;
+mod flows;
+mod lines;
+mod outcome;
+mod output;
+mod plan;
+mod transfer;
+mod words;
+
+use crate::outcome::Failure;
+use fp_edge::{Gate, Sink, Source};
+use greedy_rules::every_slot_is_a_maximal_matching;
+use std::alloc::Global;
+use trace_text::{Command, read_trace};
+
+/// Does what the words ask for: reads the whole trace, and then writes the text. The status is 0, or 1 where the words are
+/// refused, 2 where a row is faulty, 3 and 4 where a read or a write failed, 5 for want of memory, and 6 where the trace
+/// has more than 67,108,864 bytes; all but 0 write a line to `notes`, whose own faults are passed over.
+pub fn run<R: Sync, S: Source, O: Sink, N: Sink, G: Gate + Sync>(
+    _rt: &R,
+    alloc: Global,
+    words: &[&str],
+    src: &mut S,
+    out: &mut O,
+    notes: &mut N,
+    _gate: &G,
+) -> u8
+    // What is written.
+    ensures planned { result ≡ 0 → Plans (map (λ word. word.now) words.now) (S.left src.old) (S.left src.new) (O.held out.old) (O.held out.new) }
+    ensures unwritten { result ≢ 0 → result ≢ 4 → result ≢ 5 → IsUnwritten (O.held out.old) (O.held out.new) (O.faults out.old) (O.faults out.new) }
+
+    // The schedule.
+    ensures schedule { EverySlotIsAMaximalMatching }
+
+    // When each status comes.
+    ensures statuses { result ≤ 6 }
+    ensures words { (result ≡ 1) ↔ (batch_size_of (map (λ word. word.now) words.now) ≡ None) }
+    ensures unread { result ≡ 1 → (S.left src.new ≡ S.left src.old) × (S.faults src.new ≡ S.faults src.old) }
+    ensures row { result ≡ 2 → FaultyAtSome (S.left src.old) (S.left src.new) }
+    ensures read { result ≡ 3 → Rose (S.faults src.old) (S.faults src.new) }
+    ensures write { result ≡ 4 → BeginsPlan (map (λ word. word.now) words.now) (S.left src.old) (S.left src.new) (O.held out.old) (O.held out.new) × Rose (O.faults out.old) (O.faults out.new) }
+    ensures memory { result ≡ 5 → IsUnwritten (O.held out.old) (O.held out.new) (O.faults out.old) (O.faults out.new) ⊎ BeginsPlan (map (λ word. word.now) words.now) (S.left src.old) (S.left src.new) (O.held out.old) (O.held out.new) }
+    ensures big { result ≡ 6 → Takes (S.left src.old) (S.left src.new) (λ n. n ≡ LIMIT + 1) }
+    ensures not_big { result ≢ 6 → Takes (S.left src.old) (S.left src.new) (λ n. n ≤ LIMIT) }
+    ensures complete { Completes (map (λ word. word.now) words.now) (S.left src.old) (S.faults src.old) (S.faults src.new) (O.faults out.old) (O.faults out.new) result }
+
+    // The note.
+    ensures noted { ¬ Rose (N.faults notes.old) (N.faults notes.new) → Notes result (S.left src.old) (S.left src.new) (N.held notes.old) (N.held notes.new) }
+{
+    every_slot_is_a_maximal_matching();
+    let outcome = perform(alloc, words, src, out);
+    let _ = outcome::note(notes, outcome);
+    outcome::status(outcome)
+}
+
+fn perform<S: Source, O: Sink>(
+    alloc: Global,
+    words: &[&str],
+    src: &mut S,
+    out: &mut O,
+) -> Result<(), Failure>
+    ensures { ComesTo (map (λ word. word.now) words.now) (S.left src.old) (S.left src.new) (S.faults src.old) (S.faults src.new) (O.held out.old) (O.held out.new) (O.faults out.old) (O.faults out.new) result }
+{
+    let Some(b) = words::batch_size(words) else {
+        return Err(Failure::Words);
+    };
+    let text = transfer::read_all(alloc, src)?;
+    let trace = read_trace(alloc, &text, Command::Plan)?;
+    plan::plan(alloc, &trace, b, out)?;
+    Ok(())
+}

@@ -1,0 +1,68 @@
+ghost use Rattle.std.specs.Prelude.{◌≡◌, ◌≤◌, ◌<◌, ◌+◌, length, IfOk, OnOk, OnErr, IsErrOf, IsErr};
+ghost use Rattle.std.specs.Io.KnownBytes.{Consumes, Appends, IsAtEnd};
+ghost use Rattle.fp_edge.specs.Faults.{Rose};
+ghost use Rattle.fastpass_run.specs.Transfer.{Takes, AppendsFront};
+ghost use Rattle.fastpass_run.specs.declared.transfer.TheConstants.{LIMIT};
+ghost use Rattle.fastpass_run.specs.declared.transfer.ReadRefused.TheVariants.{Memory};
+
+use fp_edge::{Failed, Sink, Source};
+use std::alloc::{AllocError, Global};
+
+/// The most bytes that an input may have.
+pub(crate) const LIMIT: usize = 67_108_864;
+
+/// The most bytes that are asked for at once.
+const PIECE: usize = 65_536;
+
+/// Why an input was not read to its end.
+#[derive(Clone, Copy, Debug, PartialEq, Eq)]
+pub(crate) enum ReadRefused {
+    Failed,
+    Big,
+    Memory,
+}
+
+impl From<AllocError> for ReadRefused {
+    ghost from_gives = { λ _ e. e ≡ Memory };
+
+    fn from(_refused: AllocError) -> Self {
+        ReadRefused::Memory
+    }
+}
+
+/// Reads to the end. It takes at most one byte more than the limit, and then answers Big.
+pub(crate) fn read_all<S: Source>(alloc: Global, source: &mut S) -> Result<Vec<u8>, ReadRefused>
+    ensures read { IfOk result (λ text. (length text.items ≤ LIMIT) × Consumes (S.left source.old) (S.left source.new) text.items × IsAtEnd (S.left source.new)) }
+    ensures failed { IsErrOf result ReadRefused.Failed → Rose (S.faults source.old) (S.faults source.new) }
+    ensures big { IsErrOf result ReadRefused.Big → Takes (S.left source.old) (S.left source.new) (λ n. n ≡ LIMIT + 1) }
+    ensures not_big { IsErr result → (IsErrOf result ReadRefused.Big → ⊥) → Takes (S.left source.old) (S.left source.new) (λ n. n ≤ LIMIT) }
+    ensures later { S.faults source.old ≤ S.faults source.new }
+{
+    let mut text = Vec::new(alloc);
+    let mut piece = [0; PIECE];
+    loop {
+        let room = PIECE.min(LIMIT + 1 - text.len());
+        let front = &mut piece[..room];
+        match source.read(front) {
+            Ok(0) => return Ok(text),
+            Ok(n) if n > LIMIT - text.len() => return Err(ReadRefused::Big),
+            Ok(n) => text.extend_from_slice(&front[..n])?,
+            Err(Failed) => return Err(ReadRefused::Failed),
+        }
+    }
+}
+
+/// Writes the whole piece; where the sink fails, its front is written.
+pub(crate) fn write_all<K: Sink>(sink: &mut K, piece: &[u8]) -> Result<(), Failed>
+    ensures written { OnOk result (Appends (K.held sink.old) (K.held sink.new) piece.now) }
+    ensures front { OnErr result (AppendsFront (K.held sink.old) (K.held sink.new) piece.now) }
+    ensures failed { OnErr result (Rose (K.faults sink.old) (K.faults sink.new)) }
+    ensures later { K.faults sink.old ≤ K.faults sink.new }
+{
+    let mut rest = piece;
+    while !rest.is_empty() {
+        let n = sink.write(rest)?;
+        rest = &rest[n..];
+    }
+    Ok(())
+}
