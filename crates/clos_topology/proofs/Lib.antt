@@ -1,0 +1,2 @@
+pub mod SlotWalk
+pub mod GraphLemmas

@@ -1,0 +1,5 @@
+pub mod Network
+pub mod Limits
+pub mod Links
+pub mod RackGraph
+pub mod Examples

@@ -1,0 +1,36 @@
+-- Which networks there are (this project's own profile).
+use Rattle.std.specs.Prelude.{◌≤◌, ℕ, ◌*◌, Bool, not, ◌&&◌, nat_lt, nat_le, Result, Ok, Err, if◌then◌else◌}
+use Rattle.clos_topology.specs.declared.net.NetRefused.{NetRefused}
+use Rattle.clos_topology.specs.declared.net.NetRefused.TheVariants.{Range, Cores}
+use Rattle.clos_topology.specs.Network.{Network, endpoints_of}
+
+abbrev pub is_size : ℕ → Bool
+is_size number = nat_le 1 number && nat_le number 64
+
+-- each number is 1 to 64, and there are at most 256 endpoints
+abbrev pub is_in_range : ℕ → ℕ → ℕ → Bool
+is_in_range racks hosts cores = is_size racks && is_size hosts && is_size cores && nat_le (racks * hosts) 256
+
+-- more hosts of a rack may send to other racks than there are cores
+abbrev pub lacks_cores : ℕ → ℕ → ℕ → Bool
+lacks_cores racks hosts cores = nat_le 2 racks && nat_lt cores hosts
+
+-- the network of three numbers, or why there is none
+abbrev pub network_of : ℕ → ℕ → ℕ → Result Network NetRefused
+network_of racks hosts cores =
+    if not (is_in_range racks hosts cores) then Err Range
+    else (if lacks_cores racks hosts cores then Err Cores
+    else Ok (record { racks = racks; hosts = hosts; cores = cores }))
+
+-- what holds of every network
+pub record IsNetwork (net : Network) : Type 0 where
+  pub some_rack : 1 ≤ net.racks
+  pub some_host : 1 ≤ net.hosts
+  pub some_core : 1 ≤ net.cores
+  pub most_racks : net.racks ≤ 64
+  pub most_hosts : net.hosts ≤ 64
+  pub most_cores : net.cores ≤ 64
+  pub most_endpoints : endpoints_of net ≤ 256
+
+abbrev pub HasEnoughCores : Network → Type 0
+HasEnoughCores net = 2 ≤ net.racks → net.hosts ≤ net.cores

@@ -1,0 +1,132 @@
+-- Masks of 64 bits, and the lowest core that a mask or two have free.
+use Rattle.std.proofs.Common.{◌≡◌, ◌≢◌, ◌<◌, ◌≤◌, ◌+◌, ◌-◌, ◌*◌, ◌%◌, ◌^◌, ℕ, List, length, get_or, set, replicate, Bool, true, false, not, ◌==◌, ◌&&◌, cond, min, Option, None, bit_and, bit_or, w64, refl, sym, ap, ◌∙◌, subst, arith, inl, inr}
+use Rattle.std.specs.Int.{bit_at, trailing_zeros}
+use Rattle.std.specs.Option.{is_some}
+use Rattle.std.proofs.lemmas.Bool.{cond-true, cond-false, cases_eq, eq-eqb, ne_eqb}
+use Rattle.std.proofs.lemmas.List.{get_or-replicate, get_or-set_same, get_or-set_other, get_or_read, length-replicate, length-set}
+use Rattle.std.proofs.lemmas.Nat.Bits.{bit_at_set_same, bit_at_set_other, bit_at_clear_same, bit_at_clear_other, bit_at-trailing_zeros, bit_at-zero, bit_at_ones, bit_at_and}
+use Rattle.edge_colouring.specs.Holders.{with_holder, is_free, IsRackOf, IsLowest, AreMasks}
+use Rattle.edge_colouring.proofs.HoldsLemmas.{get_or-no_holders}
+
+pub bit_set : (mask at i : ℕ) (bit : Bool) → at < 64 → bit ≡ true → bit_at (bit_or mask (1 * 2 ^ at % 2 ^ 64)) i ≡ cond (i == at) (cond bit 1 0) (bit_at mask i)
+bit_set mask at i bit small is =
+    elim (cases_eq i at) [
+      | inl here ↦
+          ap (bit_at (bit_or mask (1 * 2 ^ at % 2 ^ 64))) here
+          ∙ (bit_at_set_same w64 mask at small
+          ∙ sym (cond-true (i == at) (cond bit 1 0) (bit_at mask i) (eq-eqb i at here) ∙ cond-true bit 1 0 is))
+      | inr there ↦ bit_at_set_other w64 mask at small i there ∙ sym (cond-false (i == at) (cond bit 1 0) (bit_at mask i) (ne_eqb i at there))
+    ]
+
+pub bit_cleared : (mask at i : ℕ) (bit : Bool) → at < 64 → i < 64 → bit ≡ false → bit_at (bit_and mask (2 ^ 64 - 1 - 1 * 2 ^ at % 2 ^ 64)) i ≡ cond (i == at) (cond bit 1 0) (bit_at mask i)
+bit_cleared mask at i bit small below is =
+    elim (cases_eq i at) [
+      | inl here ↦
+          ap (bit_at (bit_and mask (2 ^ 64 - 1 - 1 * 2 ^ at % 2 ^ 64))) here
+          ∙ (bit_at_clear_same w64 mask at small
+          ∙ sym (cond-true (i == at) (cond bit 1 0) (bit_at mask i) (eq-eqb i at here) ∙ cond-false bit 1 0 is))
+      | inr there ↦ bit_at_clear_other w64 mask at small i below there ∙ sym (cond-false (i == at) (cond bit 1 0) (bit_at mask i) (ne_eqb i at there))
+    ]
+
+no_bits : trailing_zeros w64 0 ≡ 64
+unfolding lib.Count.count_trailing_zeros
+no_bits = refl
+
+pub lowest_of : (mask : ℕ) → mask < 2 ^ 64 → IsLowest (λ core. bit_at mask core == 1) (trailing_zeros w64 mask)
+lowest_of mask fits =
+    elim (cases_eq mask 0) [
+      | inl empty ↦ let all : trailing_zeros w64 0 ≡ 64 = no_bits in subst (λ m. IsLowest (λ core. bit_at m core == 1) (trailing_zeros w64 m)) (sym empty) (record {
+        bound = omega arith;
+        passes = λ lt. absurd (omega arith);
+        first = λ k lt. ap (λ (n : ℕ). n == 1) (bit_at-zero k);
+      })
+      | inr some ↦
+          let at = bit_at-trailing_zeros w64 mask (omega arith) fits in
+          record {
+            bound = omega (arith, at.0);
+            passes = λ lt. eq-eqb _ _ at.1;
+            first = λ k lt. ap (λ (n : ℕ). n == 1) (at.2 k lt);
+          }
+    ]
+
+-- two tests that agree on 64 cores have one lowest
+pub IsLowest-same : (p q : ℕ → Bool) (core : ℕ) → ((k : ℕ) → k < 64 → p k ≡ q k) → IsLowest p core → IsLowest q core
+IsLowest-same p q core agree is = record {
+  bound = is.bound;
+  passes = λ lt. sym (agree core lt) ∙ is.passes lt;
+  first = λ k lt. let b : core ≤ 64 = is.bound in sym (agree k (omega arith)) ∙ is.first k lt;
+}
+
+bit_test : (b : Bool) → (cond b 1 0 == 1) ≡ b
+bit_test true = refl
+bit_test false = refl
+
+both_test : (a b : Bool) → (min (cond a 1 0) (cond b 1 0) == 1) ≡ (a && b)
+both_test true true = refl
+both_test true false = refl
+both_test false true = refl
+both_test false false = refl
+
+pub lowest_free_is : (masks : List ℕ) (H : List (Option ℕ)) (rack core : ℕ) → AreMasks masks H → rack < length masks
+    → IsLowest (λ k. bit_at (get_or masks rack 0) k == 1) core → IsLowest (is_free H rack) core
+lowest_free_is masks H rack core are below is =
+    IsLowest-same (λ k. bit_at (get_or masks rack 0) k == 1) (is_free H rack) core (λ k lt. ap (λ (n : ℕ). n == 1) (are rack k below lt) ∙ bit_test (is_free H rack k)) is
+
+pub lowest_common_is : (masks other_masks : List ℕ) (H other : List (Option ℕ)) (rack other_rack core : ℕ) → AreMasks masks H → AreMasks other_masks other → rack < length masks → other_rack < length other_masks
+    → IsLowest (λ k. bit_at (bit_and (get_or masks rack 0) (get_or other_masks other_rack 0)) k == 1) core → IsLowest (λ k. is_free H rack k && is_free other other_rack k) core
+lowest_common_is masks other_masks H other rack other_rack core are others below other_below is =
+    IsLowest-same (λ k. bit_at (bit_and (get_or masks rack 0) (get_or other_masks other_rack 0)) k == 1) (λ k. is_free H rack k && is_free other other_rack k) core
+    (λ k lt.
+    ap (λ (n : ℕ). n == 1) (bit_at_and (get_or masks rack 0) (get_or other_masks other_rack 0) k)
+    ∙ (ap (λ (n : ℕ). min n (bit_at (get_or other_masks other_rack 0) k) == 1) (are rack k below lt)
+    ∙ (ap (λ (n : ℕ). min (cond (is_free H rack k) 1 0) n == 1) (others other_rack k other_below lt)
+    ∙ both_test (is_free H rack k) (is_free other other_rack k)))) is
+
+-- the same of masks as they are read
+pub lowest_common_read : (masks other_masks : List ℕ) (H other : List (Option ℕ)) (rack other_rack core m n : ℕ) → AreMasks masks H → AreMasks other_masks other → rack < length masks → other_rack < length other_masks
+    → m ≡ get_or masks rack m → n ≡ get_or other_masks other_rack n
+    → IsLowest (λ k. bit_at (bit_and m n) k == 1) core → IsLowest (λ k. is_free H rack k && is_free other other_rack k) core
+lowest_common_read masks other_masks H other rack other_rack core m n are others below other_below m_is n_is is =
+    let m_at : m ≡ get_or masks rack 0 = get_or_read masks rack m below m_is 0 in
+    let n_at : n ≡ get_or other_masks other_rack 0 = get_or_read other_masks other_rack n other_below n_is 0 in
+    lowest_common_is masks other_masks H other rack other_rack core are others below other_below
+    (subst (λ p. IsLowest (λ k. bit_at (bit_and (get_or masks rack 0) p) k == 1) core) n_at (subst (λ p. IsLowest (λ k. bit_at (bit_and p n) k == 1) core) m_at is))
+
+pub all_free : (n m : ℕ) → AreMasks (replicate n (2 ^ 64 - 1)) (replicate m None)
+all_free n m rack core below small =
+    let in_n : rack < n = omega (arith, length-replicate n (2 ^ 64 - 1)) in
+    ap (λ (mask : ℕ). bit_at mask core) (get_or-replicate n rack (2 ^ 64 - 1) 0 in_n)
+    ∙ (bit_at_ones 64 core small
+    ∙ sym (cond-true (is_free (replicate m None) rack core) 1 0 (ap (λ (o : Option ℕ). not (is_some o)) (get_or-no_holders m (rack * 64 + core)))))
+
+-- one core's holder and bit are written
+pub AreMasks-put : (masks : List ℕ) (H : List (Option ℕ)) (rack core bits : ℕ) (edge : Option ℕ) → AreMasks masks H → rack < length masks → core < 64 → IsRackOf H rack
+    → ((i : ℕ) → i < 64 → bit_at bits i ≡ cond (i == core) (cond (not (is_some edge)) 1 0) (bit_at (get_or masks rack 0) i))
+    → AreMasks (set masks rack bits) (with_holder H rack core edge)
+AreMasks-put masks H rack core bits edge are below small room bits_are r k r_below k_small =
+    let q : ℕ = rack * 64 + core in
+    let free_at : List (Option ℕ) → ℕ = λ holders. cond (is_free holders r k) 1 0 in
+    let in_masks : r < length masks = omega (arith, length-set masks rack bits) in
+    elim (cases_eq r rack) [
+      | inl same ↦
+          let mask_is : get_or (set masks rack bits) r 0 ≡ bits = ap (λ (i : ℕ). get_or (set masks rack bits) i 0) same ∙ get_or-set_same masks rack bits 0 below in
+          ap (λ (mask : ℕ). bit_at mask k) mask_is ∙ (bits_are k k_small
+          ∙ elim (cases_eq k core) [
+            | inl here ↦
+                let place_is : r * 64 + k ≡ q = omega arith in
+                let held : get_or (set H q edge) (r * 64 + k) None ≡ edge = ap (λ (p : ℕ). get_or (set H q edge) p None) place_is ∙ get_or-set_same H q edge None (omega arith) in
+                cond-true (k == core) (cond (not (is_some edge)) 1 0) (bit_at (get_or masks rack 0) k) (eq-eqb k core here)
+                ∙ sym (ap (λ (o : Option ℕ). cond (not (is_some o)) 1 0) held)
+            | inr there ↦
+                let place_is : r * 64 + k ≢ q = λ e. there (omega arith) in
+                let held : get_or (set H q edge) (r * 64 + k) None ≡ get_or H (r * 64 + k) None = get_or-set_other H q (r * 64 + k) edge None place_is in
+                cond-false (k == core) (cond (not (is_some edge)) 1 0) (bit_at (get_or masks rack 0) k) (ne_eqb k core there)
+                ∙ (ap (λ (i : ℕ). bit_at (get_or masks i 0) k) (sym same)
+                ∙ (are r k in_masks k_small ∙ sym (ap (λ (o : Option ℕ). cond (not (is_some o)) 1 0) held)))
+          ])
+      | inr other ↦
+          let place_is : r * 64 + k ≢ q = λ e. other (omega arith) in
+          let held : get_or (set H q edge) (r * 64 + k) None ≡ get_or H (r * 64 + k) None = get_or-set_other H q (r * 64 + k) edge None place_is in
+          ap (λ (mask : ℕ). bit_at mask k) (get_or-set_other masks rack r bits 0 other)
+          ∙ (are r k in_masks k_small ∙ sym (ap (λ (o : Option ℕ). cond (not (is_some o)) 1 0) held))
+    ]

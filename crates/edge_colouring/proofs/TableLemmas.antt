@@ -1,0 +1,111 @@
+-- From the cores of the edges to the cores of their sources.
+use Rattle.std.proofs.Common.{◌≡◌, ◌≢◌, ◌<◌, ◌≤◌, ◌+◌, ◌*◌, ℕ, List, [], ◌∷◌, length, get_or, set, replicate, Bool, true, false, Option, Some, None, IsSomeAnd, All, AllPairs, slice_get, refl, sym, ap, ◌∙◌, subst, arith, inl, inr}
+use Rattle.std.proofs.lemmas.Bool.{cases_eq}
+use Rattle.std.proofs.lemmas.List.{get_or-set_same, get_or-set_other, get_or-map}
+use Rattle.std.proofs.lemmas.List.Elements.{All-map, All-head, All-tail}
+use Rattle.greedy_rules.proofs.Pairs.{AllPairs-head, AllPairs-tail}
+use Rattle.std.proofs.lemmas.Option.{get_or_from_slice_get}
+use Rattle.clos_topology.specs.declared.graph.Edge.{Edge}
+use Rattle.clos_topology.specs.Network.{Network, endpoints_of}
+use Rattle.clos_topology.specs.RackGraph.{IsGraphOf, IsEdgeOf}
+use Rattle.edge_colouring.specs.Degrees.{rack_on, racks_on, HasRacksBelow}
+use Rattle.edge_colouring.specs.Colouring.{IsColouring}
+use Rattle.edge_colouring.specs.Cores.{core_in}
+use Rattle.edge_colouring.specs.Holders.{IsRackOf, Holds}
+use Rattle.edge_colouring.specs.Painted.{IsPainted, HasRacks, AreNamedBySource}
+use Rattle.edge_colouring.proofs.HoldsLemmas.{rack_at, get_or-no_holders, one_holder}
+use Rattle.edge_colouring.proofs.DegreeLemmas.{side_below}
+
+-- the first edges' sources have the edges' cores, and no other source has one
+pub record AreNamedUpTo (edges : List Edge) (colours cores : List (Option ℕ)) (n : ℕ) : Type 0 where
+  pub each : (at : ℕ) (edge : Edge) → at < n → core_in cores (get_or edges at edge).source ≡ core_in colours at
+  pub others : (source : ℕ) → ((at : ℕ) (edge : Edge) → at < n → (get_or edges at edge).source ≢ source) → core_in cores source ≡ None
+
+pub named_none : (edges : List Edge) (colours : List (Option ℕ)) (n : ℕ) → AreNamedUpTo edges colours (replicate n None) 0
+named_none edges colours n = record {
+  each = λ at edge lt. absurd (omega arith);
+  others = λ source apart. get_or-no_holders n source;
+}
+
+pub named_more : (edges : List Edge) (colours cores : List (Option ℕ)) (n source left right : ℕ) (colour : Option ℕ) → AllPairs (λ e f. e.source < f.source) edges → n < length edges
+    → slice_get edges n ≡ Some (record { source = source; left = left; right = right }) → All (λ edge. edge.source < length cores) edges → colour ≡ core_in colours n
+    → AreNamedUpTo edges colours cores n → AreNamedUpTo edges colours (set cores source colour) (n + 1)
+named_more edges colours cores n source left right colour rising below is sources colour_is old =
+    let at_n : (edge : Edge) → (get_or edges n edge).source ≡ source = λ edge. ap (λ (e : Edge). e.source) (get_or_from_slice_get edges n (record { source = source; left = left; right = right }) edge is) in
+    let in_cores : source < length cores = let bound : (get_or edges n (record { source = source; left = left; right = right })).source < length cores = sources n (record { source = source; left = left; right = right }) below in omega (arith, at_n (record { source = source; left = left; right = right })) in
+    record {
+      each = λ at edge lt. elim (cases_eq at n) [
+        | inl same ↦
+            let source_is : (get_or edges at edge).source ≡ source = ap (λ (k : ℕ). (get_or edges k edge).source) same ∙ at_n edge in
+            ap (core_in (set cores source colour)) source_is ∙ (get_or-set_same cores source colour None in_cores ∙ (colour_is ∙ ap (core_in colours) (sym same)))
+        | inr other ↦
+            let apart : (get_or edges at edge).source ≢ source = λ e. let lower : (get_or edges at edge).source < (get_or edges n edge).source = rising at n edge (omega arith) below in omega (arith, at_n edge) in
+            get_or-set_other cores source (get_or edges at edge).source colour None apart ∙ old.each at edge (omega arith)
+      ];
+      others = λ s apart.
+          let some : Edge = record { source = source; left = left; right = right } in
+          let other : s ≢ source = λ e. apart n some (omega arith) (at_n some ∙ sym e) in
+          get_or-set_other cores source s colour None other ∙ old.others s (λ at edge lt. apart at edge (omega arith));
+    }
+
+pub named_all : (edges : List Edge) (colours cores : List (Option ℕ)) (n : ℕ) → n ≡ length edges → AreNamedUpTo edges colours cores n → AreNamedBySource edges colours cores
+named_all edges colours cores n all are = record {
+  each = λ at edge lt. are.each at edge (omega arith);
+  others = λ source apart. are.others source (λ at edge lt. apart at edge (omega arith));
+}
+
+-- an edge list of a network on the two sides of its table
+pub graph_racks : (net : Network) (edges : List Edge) → IsGraphOf net edges → HasRacksBelow net.racks edges
+graph_racks net edges is = λ k d below. let edge : IsEdgeOf net (get_or edges k d) = is.each k d below in (edge.left, edge.right)
+
+pub has_racks : (left : Bool) (racks : ℕ) (edges : List Edge) (H : List (Option ℕ)) → HasRacksBelow racks edges → length H ≡ racks * 64 → HasRacks left edges H
+has_racks left racks edges H below size =
+    All-map (IsRackOf H) (rack_on left) edges (λ k d within. let rack : rack_on left (get_or edges k d) < racks = side_below left racks edges below k d within in omega arith)
+
+named_core : (most : ℕ) (o : Option ℕ) → IsSomeAnd o (λ core. core < most) → (x : ℕ) × (o ≡ Some x) × (x < most)
+named_core most None named = absurd named
+named_core most (Some x) named = (x, refl, named)
+
+-- two places whose edges have one core have different racks on a side
+apart_on : (left : Bool) (edges : List Edge) (most : ℕ) (colours H : List (Option ℕ)) (i j : ℕ) (d : Edge) → Holds (racks_on left edges) colours H → most ≤ 64 → i < j → j < length edges
+    → IsSomeAnd (core_in colours i) (λ core. core < most) → core_in colours i ≡ core_in colours j → rack_on left (get_or edges i d) ≢ rack_on left (get_or edges j d)
+apart_on left edges most colours H i j d held small lt below named same racks =
+    let core = named_core most (core_in colours i) named in
+    let rack_i : rack_at (racks_on left edges) i ≡ rack_on left (get_or edges i d) = get_or-map (rack_on left) edges i d 0 (omega arith) in
+    let rack_j : rack_at (racks_on left edges) j ≡ rack_on left (get_or edges j d) = get_or-map (rack_on left) edges j d 0 below in
+    let one : i ≡ j = one_holder (racks_on left edges) colours H i j core.0 held (omega (arith, core.2)) (rack_i ∙ (racks ∙ sym rack_j)) core.1 (sym same ∙ core.1) in
+    omega arith
+
+-- who holds what makes the named cores a colouring
+pub colouring_of : (edges : List Edge) (most : ℕ) (colours L R cores : List (Option ℕ)) → IsPainted edges most colours L R → most ≤ 64 → length colours ≡ length edges → AreNamedBySource edges colours cores
+    → IsColouring most edges (core_in cores)
+colouring_of edges most colours L R cores painted small count named = record {
+  named = λ k d below. let P : Option ℕ → Type 0 = λ o. IsSomeAnd o (λ core. core < most) in subst P (sym (named.each k d below)) (painted.named k None (omega arith));
+  proper = λ i j d lt below same.
+      let meet : core_in colours i ≡ core_in colours j = sym (named.each i d (omega arith)) ∙ (same ∙ named.each j d below) in
+      let core = painted.named i None (omega arith) in (
+        apart_on true edges most colours L i j d painted.left_side small lt below core meet,
+        apart_on false edges most colours R i j d painted.right_side small lt below core meet,
+      );
+  others = named.others;
+}
+
+-- edges with different sources are no more than the sources
+rising_fits : (edges : List Edge) (low n : ℕ) → AllPairs (λ e f. e.source < f.source) edges → All (λ edge. (low ≤ edge.source) × (edge.source < n)) edges → low ≤ n → length edges + low ≤ n
+rising_fits [] low n rising within below = omega arith
+rising_fits (e ∷ edges) low n rising within below =
+    let here : (low ≤ e.source) × (e.source < n) = All-head (λ edge. (low ≤ edge.source) × (edge.source < n)) e edges within in
+    let later : All (λ f. e.source < f.source) edges = AllPairs-head (λ e f. e.source < f.source) e edges rising in
+    let inside : All (λ edge. (low ≤ edge.source) × (edge.source < n)) edges = All-tail (λ edge. (low ≤ edge.source) × (edge.source < n)) e edges within in
+    let rest : length edges + (e.source + 1) ≤ n =
+    rising_fits edges (e.source + 1) n (AllPairs-tail (λ e f. e.source < f.source) e edges rising)
+    (λ k d lt. (omega (arith, later k d lt), (inside k d lt).1)) (omega arith) in
+    omega arith
+
+pub graph_fits : (net : Network) (edges : List Edge) → IsGraphOf net edges → length edges ≤ endpoints_of net
+graph_fits net edges is =
+    let fits : length edges + 0 ≤ endpoints_of net = rising_fits edges 0 (endpoints_of net) is.rising (λ k d below. let edge : IsEdgeOf net (get_or edges k d) = is.each k d below in (omega arith, edge.source)) (omega arith) in
+    omega arith
+
+pub graph_sources : (net : Network) (edges : List Edge) (n : ℕ) → IsGraphOf net edges → n ≡ endpoints_of net → All (λ edge. edge.source < n) edges
+graph_sources net edges n is same = λ k d below. let edge : IsEdgeOf net (get_or edges k d) = is.each k d below in omega (arith, edge.source)

@@ -1,0 +1,39 @@
+-- Who holds a core at a rack of one side. Only the parts of the colouring cite it; what a colouring is says `Colouring`.
+use Rattle.std.specs.Prelude.{◌≡◌, ◌<◌, ◌≤◌, ℕ, ◌+◌, ◌*◌, List, length, Bool, not, is_some, Option, Some, None, IsTrue, slice_index, slice_set, false, if◌then◌else◌}
+use Rattle.std.specs.List.{slice_index_or}
+use Rattle.std.specs.Int.{bit_at}
+use Rattle.edge_colouring.specs.Cores.{core_in}
+
+-- the holders of a side, 64 places for each rack: the edge that has the core, if one has
+abbrev pub Holders : Type 0
+Holders = List (Option ℕ)
+
+abbrev pub holder : Holders → ℕ → ℕ → Option ℕ
+holder holders rack core = slice_index_or holders (rack * 64 + core) None
+
+abbrev pub with_holder : Holders → ℕ → ℕ → Option ℕ → Holders
+with_holder holders rack core edge = slice_set holders (rack * 64 + core) edge
+
+abbrev pub is_free : Holders → ℕ → ℕ → Bool
+is_free holders rack core = not (is_some (holder holders rack core))
+
+-- a rack of a side
+abbrev pub IsRackOf : Holders → ℕ → Type 0
+IsRackOf holders rack = rack * 64 + 64 ≤ length holders
+
+-- the lowest of 64 cores that passes the test, and 64 where none does
+pub record IsLowest (test : ℕ → Bool) (core : ℕ) : Type 0 where
+  pub bound : core ≤ 64
+  pub passes : core < 64 → IsTrue (test core)
+  pub first : (k : ℕ) → k < core → test k ≡ false
+
+-- the masks of a side: at each rack a bit for each core, 1 where it is free
+abbrev pub AreMasks : List ℕ → Holders → Type 0
+AreMasks masks holders =
+    (rack core : ℕ) → rack < length masks → core < 64
+    → bit_at (slice_index masks rack) core ≡ (if is_free holders rack core then 1 else 0)
+
+-- each edge that has a core holds it at its rack, and nothing else is held
+pub record Holds (racks : List ℕ) (colours holders : List (Option ℕ)) : Type 0 where
+  pub held : (at core : ℕ) → core < 64 → core_in colours at ≡ Some core → holder holders (slice_index racks at) core ≡ Some at
+  pub holds : (rack core at : ℕ) → core < 64 → holder holders rack core ≡ Some at → (slice_index racks at ≡ rack) × (core_in colours at ≡ Some core)

@@ -1,0 +1,16 @@
+//! Core switches for the packets of a slot: an edge colouring of its graph of racks, by alternating paths.
+#![tactic(auto)]
+
+mod degrees;
+mod laws;
+mod painting;
+mod ports;
+mod table;
+
+pub use degrees::Degree;
+pub use laws::every_colouring_makes_a_matching_clean;
+pub use no_memory::NoMemory;
+pub use table::{Table, colour};
+
+#[cfg(test)]
+mod tests;

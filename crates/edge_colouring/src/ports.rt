@@ -1,0 +1,110 @@
+ghost use Rattle.std.specs.Prelude.{◌≡◌, ◌<◌, ◌≤◌, ◌+◌, ◌*◌, ◌^◌, ℕ, List, length, replicate, None, Bool, IfOk, ◌&&◌, ◌==◌, is_some, if◌then◌else◌};
+ghost use Rattle.std.specs.Int.{bit_at};
+ghost use Rattle.edge_colouring.specs.Holders.{holder, with_holder, is_free, IsRackOf, IsLowest};
+
+use no_memory::NoMemory;
+use std::alloc::Global;
+use std::marker::Model;
+
+/// How many cores a rack has places for.
+const CORES: usize = 64;
+
+/// One side's racks: at each, which cores are free, as a mask, and which edge holds each of the others.
+#[derive(Debug, Drop)]
+pub(crate) struct Ports {
+    free: Vec<u64>,
+    holders: Vec<Option<u16>>,
+}
+
+impl Model for Ports {
+    ghost use Rattle.std.specs.Prelude.{◌≡◌, ◌*◌, ℕ, List, Option, vec_len};
+    ghost use Rattle.edge_colouring.specs.Holders.{AreMasks};
+
+    ghost Value = { List (Option ℕ) };
+
+    ghost view = { λ p. p.holders.items };
+
+    ghost invariant = { λ p. (vec_len p.holders ≡ vec_len p.free * 64) × AreMasks p.free.items p.holders.items };
+}
+
+impl Ports {
+    /// So many racks, at which every core is free.
+    pub(crate) fn open(alloc: Global, racks: u16) -> Result<Ports, NoMemory>
+        ensures { IfOk result (λ ports. ports ≡ replicate (racks * 64) None) }
+    {
+        Ok(Ports {
+            free: vec![in alloc; u64::MAX; racks as usize]?,
+            holders: vec![in alloc; None; racks as usize * CORES]?,
+        })
+    }
+
+    /// Makes every core free.
+    pub(crate) fn clear(&mut self)
+        ensures { self.new ≡ replicate (length self.old) None }
+    {
+        self.free.fill(u64::MAX);
+        self.holders.fill(None);
+    }
+
+    /// The edge that holds the core at the rack.
+    pub(crate) fn holder(&self, rack: u16, core: u16) -> Option<u16>
+        requires rack { IsRackOf self.now rack }
+        requires core { core < 64 }
+        ensures { result ≡ holder self.now rack core }
+    {
+        self.holders[place(rack, core)]
+    }
+
+    /// Writes who holds the core at the rack; None makes it free.
+    pub(crate) fn put(&mut self, rack: u16, core: u16, edge: Option<u16>)
+        requires rack { IsRackOf self.old rack }
+        requires core { core < 64 }
+        ensures { self.new ≡ with_holder self.old rack core edge }
+    {
+        let mask = self.free[rack as usize];
+        self.free[rack as usize] = with_bit(mask, core, edge.is_none());
+        self.holders[place(rack, core)] = edge;
+    }
+
+    /// The lowest core that is free at the rack, or 64.
+    pub(crate) fn lowest_free(&self, rack: u16) -> u16
+        requires { IsRackOf self.now rack }
+        ensures { IsLowest (is_free self.now rack) result }
+    {
+        lowest(self.free[rack as usize])
+    }
+
+    /// The lowest core that is free at the rack and at one of the other side, or 64.
+    pub(crate) fn lowest_common(&self, rack: u16, other: &Ports, other_rack: u16) -> u16
+        requires rack { IsRackOf self.now rack }
+        requires other_rack { IsRackOf other.now other_rack }
+        ensures { IsLowest (λ core. is_free self.now rack core && is_free other.now other_rack core) result }
+    {
+        lowest(self.free[rack as usize] & other.free[other_rack as usize])
+    }
+}
+
+fn place(rack: u16, core: u16) -> usize
+    ensures { result ≡ rack * 64 + core }
+{
+    rack as usize * CORES + core as usize
+}
+
+/// The place of the lowest bit that is 1, or 64.
+fn lowest(mask: u64) -> u16
+    ensures { IsLowest (λ core. bit_at mask core == 1) result }
+{
+    mask.trailing_zeros() as u16
+}
+
+/// The mask with this bit.
+fn with_bit(mask: u64, at: u16, bit: bool) -> u64
+    requires { at < 64 }
+    ensures { (i : ℕ) → i < 64 → bit_at result i ≡ (if i == at then (if bit then 1 else 0) else bit_at mask i) }
+{
+    if bit {
+        mask | (1 << at)
+    } else {
+        mask & !(1 << at)
+    }
+}
