@@ -1,7 +1,7 @@
 use crate::{Line, read_line, write_line};
 use std::process::Abort;
 
-const LINES: [(Line, &str); 13] = [
+const LINES: [(Line, &str); 14] = [
     (
         Line::Batch {
             batch: 0,
@@ -84,6 +84,20 @@ const LINES: [(Line, &str); 13] = [
             pending: u32::MAX,
         },
         "flow,65535,65535,4294967295,4294967295,4294967295",
+    ),
+    (
+        Line::Count {
+            src: 0,
+            dst: 0,
+            demanded: 0,
+            acknowledged: 0,
+            flight: 0,
+            pending: 0,
+            lost: 0,
+            sent: 0,
+            missed: 0,
+        },
+        "count,0,0,0,0,0,0,0,0,0",
     ),
     (
         Line::Count {
