@@ -14,3 +14,4 @@ pub mod OnceLemmas
 pub mod BatchSlots
 pub mod NeedLemmas
 pub mod RoomLemmas
+pub mod RangeLemmas

@@ -57,7 +57,7 @@ once-append (x ∷ xs) ys once once' apart =
     AllPairs-cons Other x (xs ++ ys) (All-append (Other x) xs ys (AllPairs-head Other x xs once) (All-head (λ z. All (Other z) ys) x xs apart))
     (once-append xs ys (AllPairs-tail Other x xs once) once' (All-tail (λ z. All (Other z) ys) x xs apart))
 
-All-opened : (P : Flow → Type 0) (batch : List Entry) → All (λ entry. IsTrue entry.opens → P entry.flow) batch → All (λ item. P item.flow) (opened batch)
+pub All-opened : (P : Flow → Type 0) (batch : List Entry) → All (λ entry. IsTrue entry.opens → P entry.flow) batch → All (λ item. P item.flow) (opened batch)
 All-opened P [] all = All-nil (λ item. P item.flow)
 All-opened P (entry ∷ batch) all =
     let rest = All-opened P batch (All-tail (λ (e : Entry). IsTrue e.opens → P e.flow) entry batch all) in
@@ -105,7 +105,7 @@ once-after_batch batch list rising opens once =
     once-sort_by (λ item. item.last) (map (with_batch batch) list ++ opened batch)
     (once-append (map (with_batch batch) list) (opened batch) (once-map (with_batch batch) (λ x. refl) list once) (once-opened batch rising) apart)
 
-abbrev InRange : ℕ → Item → Type 0
+abbrev pub InRange : ℕ → Item → Type 0
 InRange endpoints item = (item.flow.src < endpoints) × (item.flow.dst < endpoints)
 
 All-map_front : (P : Item → Type 0) (f : Item → Item) → ((x : Item) → P x → P (f x)) → (xs ys : List Item) → All P (xs ++ ys) → All P (map f xs ++ ys)

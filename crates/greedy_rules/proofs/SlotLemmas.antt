@@ -37,7 +37,7 @@ pub any-chosen_after : (p : Flow → Bool) (bar : Bar) (slot : List Flow) (list 
 any-chosen_after p bar slot [] h = h
 any-chosen_after p bar slot (item ∷ list) h = any-chosen_after p bar (offered bar slot item) list (any-offered p bar slot item h)
 
-abbrev Apart : Flow → Flow → Type 0
+abbrev pub Apart : Flow → Flow → Type 0
 Apart f g = (f.src ≢ g.src) × (f.dst ≢ g.dst)
 
 pub apart_from_all : (slot : List Flow) (flow : Flow) → is_taken slot flow ≡ false → All (λ g. Apart g flow) slot
@@ -47,7 +47,7 @@ apart_from_all (g ∷ slot) flow free =
     let ends = or_parts (g.src == flow.src) (g.dst == flow.dst) parts.0 in
     All-cons (λ g. Apart g flow) g slot (eqb-false _ _ ends.0, eqb-false _ _ ends.1) (apart_from_all slot flow parts.1)
 
-All-slot_with : (P : Flow → Type 0) (flow : Flow) (slot : List Flow) → P flow → All P slot → All P (slot_with flow slot)
+pub All-slot_with : (P : Flow → Type 0) (flow : Flow) (slot : List Flow) → P flow → All P slot → All P (slot_with flow slot)
 All-slot_with P flow [] here there = All-cons P flow [] here there
 All-slot_with P flow (next ∷ slot) here there =
     elim (nat_lt next.src flow.src) as (λ b. All P (cond b (next ∷ slot_with flow slot) (flow ∷ (next ∷ slot)))) [

@@ -1,4 +1,4 @@
-ghost use Rattle.greedy_rules.specs.Matching.{EverySlotIsAMaximalMatching};
+ghost use Rattle.greedy_rules.specs.Matching.{EverySlotIsAMaximalMatching, EverySlotIsInRange};
 ghost use Rattle.greedy_rules.specs.Room.{FlowsFitPairs};
 ghost use Rattle.greedy_rules.specs.Examples.{ThreeFlowsFillTwoSlots, TwoFlowsOfOneSourceTakeTurns, ALaterAskGoesFirst, WhatABatchLeavesGoesIntoTheNext};
 
@@ -6,6 +6,11 @@ ghost use Rattle.greedy_rules.specs.Examples.{ThreeFlowsFillTwoSlots, TwoFlowsOf
 /// destination, and no waiting demand could join it.
 pub fn every_slot_is_a_maximal_matching()
     ensures { EverySlotIsAMaximalMatching }
+{}
+
+/// A law over every schedule: where all batches are of flows between so many endpoints, so are all slots.
+pub fn every_slot_is_in_range()
+    ensures { EverySlotIsInRange }
 {}
 
 /// A law on memory: a list with room for as many items as there are pairs of endpoints has room for each batch.

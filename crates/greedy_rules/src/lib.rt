@@ -11,7 +11,9 @@ mod slots;
 pub use batches::Batch;
 pub use demands::DemandList;
 pub use flows::{Entry, Flow, Item};
-pub use laws::{every_slot_is_a_maximal_matching, flows_fit_pairs, small_schedules};
+pub use laws::{
+    every_slot_is_a_maximal_matching, every_slot_is_in_range, flows_fit_pairs, small_schedules,
+};
 pub use no_memory::NoMemory;
 pub use plain::plain_batch;
 pub use slots::SlotTable;
