@@ -45,6 +45,17 @@ flows_from_edges P hosts (flow ∷ slot) all =
           (flows_from_edges P hosts slot (All-tail P (edge_of hosts flow) (rack_edges hosts slot) here))
     ]
 
+-- the edges of a matching have sources of their own
+pub own_sources : (hosts : ℕ) (slot : List Flow) → IsMatching slot → AllPairs (λ e f. e.source ≢ f.source) (rack_edges hosts slot)
+own_sources hosts [] matching = AllPairs-nil (λ (e : Edge) (f : Edge). e.source ≢ f.source)
+own_sources hosts (flow ∷ slot) matching =
+    let Other : Edge → Edge → Type 0 = λ e f. e.source ≢ f.source in
+    let Apart : Flow → Flow → Type 0 = λ f g. (f.src ≢ g.src) × (f.dst ≢ g.dst) in
+    let later : All (Apart flow) slot = AllPairs-head Apart flow slot matching in
+    let rest : AllPairs Other (rack_edges hosts slot) = own_sources hosts slot (AllPairs-tail Apart flow slot matching) in
+    cond_both (stays hosts flow) (rack_edges hosts slot) (edge_of hosts flow ∷ rack_edges hosts slot) (AllPairs Other) (λ same. rest)
+    (λ differ. AllPairs-cons Other (edge_of hosts flow) (rack_edges hosts slot) (edges_from_flows (Other (edge_of hosts flow)) hosts slot (λ k d below _. (later k d below).0)) rest)
+
 abbrev OnEdges : (Edge → Edge → Type 0) → ℕ → Flow → Flow → Type 0
 OnEdges R hosts f g = stays hosts f ≡ false → stays hosts g ≡ false → R (edge_of hosts f) (edge_of hosts g)
 

@@ -9,6 +9,10 @@ use Rattle.edge_colouring.specs.Holders.{holder, with_holder, IsRackOf, Holds}
 abbrev pub rack_at : List ℕ → ℕ → ℕ
 rack_at racks at = get_or racks at 0
 
+-- an edge of a rack has this core
+abbrev pub IsTakenAt : List ℕ → List (Option ℕ) → ℕ → ℕ → Type 0
+IsTakenAt racks c rack core = (at : ℕ) × (rack_at racks at ≡ rack) × (core_in c at ≡ Some core)
+
 pub get_or-no_holders : (n k : ℕ) → core_in (replicate n None) k ≡ None
 get_or-no_holders zero k = refl
 get_or-no_holders (suc n) zero = refl
@@ -167,7 +171,7 @@ one_holder racks c H f g x old small same f_has g_has =
     let meet : holder H (rack_at racks f) x ≡ holder H (rack_at racks g) x = ap (λ (r : ℕ). holder H r x) same in
     cc
 
-core_in_push : (c : List (Option ℕ)) (at : ℕ) → core_in (c ++ None ∷ []) at ≡ core_in c at
+pub core_in_push : (c : List (Option ℕ)) (at : ℕ) → core_in (c ++ None ∷ []) at ≡ core_in c at
 core_in_push [] zero = refl
 core_in_push [] (suc at) = refl
 core_in_push (o ∷ c) zero = refl

@@ -5,3 +5,5 @@ pub mod TurnLemmas
 pub mod PaintLemmas
 pub mod CleanLemmas
 pub mod TableLemmas
+pub mod PathLemmas
+pub mod ExistenceLemmas

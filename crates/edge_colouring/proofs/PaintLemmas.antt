@@ -11,14 +11,14 @@ use Rattle.edge_colouring.specs.Cores.{core_in}
 use Rattle.edge_colouring.specs.Holders.{holder, with_holder, is_free, IsRackOf, IsLowest, Holds}
 use Rattle.edge_colouring.specs.Turns.{IsTurned, AreTurned, BeginsPath}
 use Rattle.edge_colouring.specs.Painted.{AreNamed, HasRacks, IsPainted, Awaits}
-use Rattle.edge_colouring.proofs.HoldsLemmas.{rack_at, named-within, Holds-push}
+use Rattle.edge_colouring.proofs.HoldsLemmas.{rack_at, IsTakenAt, named-within, Holds-push}
 
 pub is_below : ℕ → Option ℕ → Bool
 is_below m None = false
 is_below m (Some core) = nat_lt core m
 
 -- how many edges at a rack have a core below m
-taken_below : ℕ → ℕ → List ℕ → List (Option ℕ) → ℕ
+pub taken_below : ℕ → ℕ → List ℕ → List (Option ℕ) → ℕ
 taken_below m t [] c = 0
 taken_below m t (r ∷ racks) [] = 0
 taken_below m t (r ∷ racks) (o ∷ c) = cond ((r == t) && is_below m o) 1 0 + taken_below m t racks c
@@ -71,7 +71,7 @@ taken_more m t (r ∷ racks) (o ∷ c) (suc at) within rack_is has =
     omega arith
 
 -- an edge that has no core yet is none of them
-taken_and_one : (left : Bool) (m t : ℕ) (edges : List Edge) (c : List (Option ℕ)) → length c < length edges → rack_at (racks_on left edges) (length c) ≡ t → taken_below m t (racks_on left edges) c + 1 ≤ degree_on left t edges
+pub taken_and_one : (left : Bool) (m t : ℕ) (edges : List Edge) (c : List (Option ℕ)) → length c < length edges → rack_at (racks_on left edges) (length c) ≡ t → taken_below m t (racks_on left edges) c + 1 ≤ degree_on left t edges
 unfolding taken_below
 taken_and_one left m t [] c short is = absurd (omega arith)
 taken_and_one left m t (e ∷ edges) [] short is =
@@ -95,18 +95,24 @@ pub nobody : (o : Option ℕ) → IsTrue (not (is_some o)) → o ≡ None
 nobody None free = refl
 nobody (Some at) free = cc
 
--- where the m lowest cores are held at a rack, so many edges there have them
-all_taken : (racks : List ℕ) (c H : List (Option ℕ)) (t m : ℕ) → Holds racks c H → length c ≤ length racks → m ≤ 64 → ((k : ℕ) → k < m → is_free H t k ≡ false) → m ≤ taken_below m t racks c
-all_taken racks c H t zero held count small taken = omega arith
-all_taken racks c H t (suc m) held count small taken =
-    let rest : m ≤ taken_below m t racks c = all_taken racks c H t m held count (omega arith) (λ k lt. taken k (omega arith)) in
-    let who = holder_of (holder H t m) (taken m (omega arith)) in
-    let is = held.holds t m who.0 (omega arith) who.1 in
-    let within : who.0 < length c = named-within c who.0 m is.1 in
-    let more : taken_below m t racks c + 1 ≤ taken_below (m + 1) t racks c = taken_more m t racks c who.0 (omega arith) is.0 is.1 in
+-- where edges of a rack have the m lowest cores, so many of its edges have one of them
+pub all_taken : (racks : List ℕ) (c : List (Option ℕ)) (t m : ℕ) → length c ≤ length racks → ((k : ℕ) → k < m → IsTakenAt racks c t k) → m ≤ taken_below m t racks c
+all_taken racks c t zero count taken = omega arith
+all_taken racks c t (suc m) count taken =
+    let rest : m ≤ taken_below m t racks c = all_taken racks c t m count (λ k lt. taken k (omega arith)) in
+    let who = taken m (omega arith) in
+    let within : who.0 < length c = named-within c who.0 m who.2 in
+    let more : taken_below m t racks c + 1 ≤ taken_below (m + 1) t racks c = taken_more m t racks c who.0 (omega arith) who.1 who.2 in
     let same : m + 1 ≡ suc m = omega arith in
     let P : ℕ → Type 0 = λ n. suc m ≤ taken_below n t racks c in
     subst P same (omega arith)
+
+-- who holds a core that is not free
+taken_by : (racks : List ℕ) (c H : List (Option ℕ)) (t k : ℕ) → Holds racks c H → k < 64 → is_free H t k ≡ false → IsTakenAt racks c t k
+taken_by racks c H t k held small taken =
+    let who = holder_of (holder H t k) taken in
+    let is = held.holds t k who.0 small who.1 in
+    (who.0, is.0, is.1)
 
 -- the lowest free core at the next edge's rack is below the degrees' bound
 pub free_below : (left : Bool) (edges : List Edge) (c H : List (Option ℕ)) (most t core : ℕ) → Holds (racks_on left edges) c H → length c < length edges → most ≤ 64
@@ -116,7 +122,7 @@ free_below left edges c H most t core held short small degree is lowest =
       | inl below ↦ below
       | inr above ↦
           let many : most ≤ taken_below most t (racks_on left edges) c =
-          all_taken (racks_on left edges) c H t most held (omega (arith, length-map edges (rack_on left))) small (λ k lt. lowest.first k (omega arith)) in
+          all_taken (racks_on left edges) c t most (omega (arith, length-map edges (rack_on left))) (λ k lt. taken_by (racks_on left edges) c H t k held (omega arith) (lowest.first k (omega arith))) in
           let few : taken_below most t (racks_on left edges) c + 1 ≤ degree_on left t edges = taken_and_one left most t edges c short is in
           absurd (omega arith)
     ]

@@ -7,13 +7,15 @@ use Rattle.greedy_rules.proofs.Pairs.{AllPairs-head, AllPairs-tail}
 use Rattle.std.proofs.lemmas.Option.{get_or_from_slice_get}
 use Rattle.clos_topology.specs.declared.graph.Edge.{Edge}
 use Rattle.clos_topology.specs.Network.{Network, endpoints_of}
+use Rattle.clos_topology.specs.Links.{CoreOf}
 use Rattle.clos_topology.specs.RackGraph.{IsGraphOf, IsEdgeOf}
 use Rattle.edge_colouring.specs.Degrees.{rack_on, racks_on, HasRacksBelow}
 use Rattle.edge_colouring.specs.Colouring.{IsColouring}
 use Rattle.edge_colouring.specs.Cores.{core_in}
-use Rattle.edge_colouring.specs.Holders.{IsRackOf, Holds}
-use Rattle.edge_colouring.specs.Painted.{IsPainted, HasRacks, AreNamedBySource}
-use Rattle.edge_colouring.proofs.HoldsLemmas.{rack_at, get_or-no_holders, one_holder}
+use Rattle.edge_colouring.specs.Holders.{IsRackOf}
+use Rattle.edge_colouring.specs.Painted.{AreNamed, IsPainted, HasRacks, AreNamedBySource}
+use Rattle.edge_colouring.proofs.HoldsLemmas.{rack_at, get_or-no_holders}
+use Rattle.edge_colouring.proofs.TurnLemmas.{HadOneEach, HadOneEach-from_held}
 use Rattle.edge_colouring.proofs.DegreeLemmas.{side_below}
 
 -- the first edges' sources have the edges' cores, and no other source has one
@@ -67,28 +69,38 @@ named_core most None named = absurd named
 named_core most (Some x) named = (x, refl, named)
 
 -- two places whose edges have one core have different racks on a side
-apart_on : (left : Bool) (edges : List Edge) (most : ℕ) (colours H : List (Option ℕ)) (i j : ℕ) (d : Edge) → Holds (racks_on left edges) colours H → most ≤ 64 → i < j → j < length edges
-    → IsSomeAnd (core_in colours i) (λ core. core < most) → core_in colours i ≡ core_in colours j → rack_on left (get_or edges i d) ≢ rack_on left (get_or edges j d)
-apart_on left edges most colours H i j d held small lt below named same racks =
-    let core = named_core most (core_in colours i) named in
+apart_on : (left : Bool) (edges : List Edge) (colours : List (Option ℕ)) (i j core : ℕ) (d : Edge) → HadOneEach (racks_on left edges) colours core → i < j → j < length edges
+    → core_in colours i ≡ Some core → core_in colours j ≡ Some core → rack_on left (get_or edges i d) ≢ rack_on left (get_or edges j d)
+apart_on left edges colours i j core d one lt below i_has j_has racks =
     let rack_i : rack_at (racks_on left edges) i ≡ rack_on left (get_or edges i d) = get_or-map (rack_on left) edges i d 0 (omega arith) in
     let rack_j : rack_at (racks_on left edges) j ≡ rack_on left (get_or edges j d) = get_or-map (rack_on left) edges j d 0 below in
-    let one : i ≡ j = one_holder (racks_on left edges) colours H i j core.0 held (omega (arith, core.2)) (rack_i ∙ (racks ∙ sym rack_j)) core.1 (sym same ∙ core.1) in
+    let same : i ≡ j = one i j (rack_i ∙ (racks ∙ sym rack_j)) i_has j_has in
     omega arith
+
+-- cores of edges, no two of a rack on a side the same, are a colouring once their sources have them
+pub colouring_by_source : (edges : List Edge) (most : ℕ) (colours : List (Option ℕ)) (core_of : CoreOf) → AreNamed most colours → length colours ≡ length edges
+    → ((core : ℕ) → core < most → HadOneEach (racks_on true edges) colours core) → ((core : ℕ) → core < most → HadOneEach (racks_on false edges) colours core)
+    → ((at : ℕ) (edge : Edge) → at < length edges → core_of (get_or edges at edge).source ≡ core_in colours at) → ((source : ℕ) → All (λ edge. edge.source ≢ source) edges → core_of source ≡ None)
+    → IsColouring most edges core_of
+colouring_by_source edges most colours core_of named count left_one right_one each others = record {
+  named = λ k d below. let P : Option ℕ → Type 0 = λ o. IsSomeAnd o (λ core. core < most) in subst P (sym (each k d below)) (named k None (omega arith));
+  proper = λ i j d lt below same.
+      let meet : core_in colours i ≡ core_in colours j = sym (each i d (omega arith)) ∙ (same ∙ each j d below) in
+      let core = named_core most (core_in colours i) (named i None (omega arith)) in (
+        apart_on true edges colours i j core.0 d (left_one core.0 core.2) lt below core.1 (sym meet ∙ core.1),
+        apart_on false edges colours i j core.0 d (right_one core.0 core.2) lt below core.1 (sym meet ∙ core.1),
+      );
+  others = others;
+}
 
 -- who holds what makes the named cores a colouring
 pub colouring_of : (edges : List Edge) (most : ℕ) (colours L R cores : List (Option ℕ)) → IsPainted edges most colours L R → most ≤ 64 → length colours ≡ length edges → AreNamedBySource edges colours cores
     → IsColouring most edges (core_in cores)
-colouring_of edges most colours L R cores painted small count named = record {
-  named = λ k d below. let P : Option ℕ → Type 0 = λ o. IsSomeAnd o (λ core. core < most) in subst P (sym (named.each k d below)) (painted.named k None (omega arith));
-  proper = λ i j d lt below same.
-      let meet : core_in colours i ≡ core_in colours j = sym (named.each i d (omega arith)) ∙ (same ∙ named.each j d below) in
-      let core = painted.named i None (omega arith) in (
-        apart_on true edges most colours L i j d painted.left_side small lt below core meet,
-        apart_on false edges most colours R i j d painted.right_side small lt below core meet,
-      );
-  others = named.others;
-}
+colouring_of edges most colours L R cores painted small count named =
+    colouring_by_source edges most colours (core_in cores) painted.named count
+    (λ core below. HadOneEach-from_held (racks_on true edges) colours L core painted.left_side (omega arith))
+    (λ core below. HadOneEach-from_held (racks_on false edges) colours R core painted.right_side (omega arith))
+    named.each named.others
 
 -- edges with different sources are no more than the sources
 rising_fits : (edges : List Edge) (low n : ℕ) → AllPairs (λ e f. e.source < f.source) edges → All (λ edge. (low ≤ edge.source) × (edge.source < n)) edges → low ≤ n → length edges + low ≤ n

@@ -42,16 +42,14 @@ abbrev pub HadOneEach : List ℕ → List (Option ℕ) → ℕ → Type 0
 HadOneEach racks c x = (k l : ℕ) → rack_at racks k ≡ rack_at racks l → core_in c k ≡ Some x → core_in c l ≡ Some x → k ≡ l
 
 -- who is displaced next has the core that it had in the beginning
-pub next_is_new : (far near : List ℕ) (x y : ℕ) (T N c c0 : List (Option ℕ)) (f g : ℕ) → IsDisplaced far near x y T N c f → y < 64 → x ≢ y → holder T (rack_at far f) y ≡ Some g
+pub next_is_new : (far : List ℕ) (x y : ℕ) (c c0 : List (Option ℕ)) (f g : ℕ) → x ≢ y → rack_at far g ≡ rack_at far f → core_in c f ≡ Some x → core_in c g ≡ Some y
     → HadOneEach far c0 x → core_in c0 f ≡ Some x → IsTurned x y (core_in c0 g) (core_in c g) → core_in c0 g ≡ Some y
-next_is_new far near x y T N c c0 f g is small_y differ taken one had turned =
-    let there = is.far_side.holds (rack_at far f) y g small_y taken in
-    let has : core_in c g ≡ Some y = there.1 in
+next_is_new far x y c c0 f g differ there now has one had turned =
     elim turned [
       | inl same ↦ sym same ∙ has
       | inr (inl to_y) ↦
-          let same : f ≡ g = one f g (sym there.0) had to_y.0 in
-          let meet : Some x ≡ Some y = sym is.now ∙ (ap (core_in c) same ∙ has) in
+          let same : f ≡ g = one f g (sym there) had to_y.0 in
+          let meet : Some x ≡ Some y = sym now ∙ (ap (core_in c) same ∙ has) in
           let equal : x ≡ y = cc in
           absurd (differ equal)
       | inr (inr to_x) ↦
@@ -88,9 +86,10 @@ pub path_step : {far near : List ℕ} {x y : ℕ} {c0 T T' N c c' : List (Option
 path_step {far} {near} {x} {y} {c0} {T} {T'} {N} {c} {c'} {f} {g} {o} path turn small_x small_y differ room one goes =
     let taken : holder T (rack_at far f) y ≡ Some g = sym turn.answer ∙ goes in
     let within : f < length c = named-within c f x path.displaced.now in
+    let there = path.displaced.far_side.holds (rack_at far f) y g small_y taken in
     let step : IsOnPath near far y x c0 N (handed_on far x y T f) (set c f (Some y)) g = record {
       displaced = path_goes_on far near x y T N c f g path.displaced small_x small_y differ room taken;
-      before = next_is_new far near x y T N c c0 f g path.displaced small_y differ taken one path.before (path.turned.each g);
+      before = next_is_new far x y c c0 f g differ there.0 path.displaced.now there.1 one path.before (path.turned.each g);
       turned = AreTurned-back x y c0 (set c f (Some y)) (AreTurned-more x y c0 c f path.turned path.before within);
     } in
     subst (λ k. IsOnPath near far y x c0 N T' k g) (sym turn.colours) (subst (λ h. IsOnPath near far y x c0 N h (set c f (Some y)) g) (sym turn.holders) step)
@@ -157,13 +156,18 @@ turn_is_smaller {far} {near} {x} {y} {c0} {T} {T'} {N} {c} {c'} {f} {o} path tur
 pub HadOneEach-from_held : (racks : List ℕ) (c0 H0 : List (Option ℕ)) (x : ℕ) → Holds racks c0 H0 → x < 64 → HadOneEach racks c0 x
 HadOneEach-from_held racks c0 H0 x held small = λ k l same k_has l_has. one_holder racks c0 H0 k l x held small same k_has l_has
 
--- the same on the side where the first edge is held at a already
-pub HadOneEach-from_first : (racks : List ℕ) (c0 H0 : List (Option ℕ)) (first a b : ℕ) → Holds racks (set c0 first (Some a)) H0 → a < 64 → a ≢ b → core_in c0 first ≡ Some b → HadOneEach racks c0 a
-HadOneEach-from_first racks c0 H0 first a b held small differ is k l same k_has l_has =
+-- nor without an edge that has this core later
+pub HadOneEach-from_set : (racks : List ℕ) (c0 : List (Option ℕ)) (first a b : ℕ) → HadOneEach racks (set c0 first (Some a)) a → a ≢ b → core_in c0 first ≡ Some b → HadOneEach racks c0 a
+HadOneEach-from_set racks c0 first a b one differ is k l same k_has l_has =
     let apart : (m : ℕ) → core_in c0 m ≡ Some a → m ≢ first = λ m has e. let meet : Some a ≡ Some b = sym has ∙ (ap (core_in c0) e ∙ is) in let equal : a ≡ b = cc in differ equal in
-    one_holder racks (set c0 first (Some a)) H0 k l a held small same
+    one k l same
     (get_or-set_other c0 first k (Some a) None (apart k k_has) ∙ k_has)
     (get_or-set_other c0 first l (Some a) None (apart l l_has) ∙ l_has)
+
+-- the same on the side where the first edge is held at a already
+pub HadOneEach-from_first : (racks : List ℕ) (c0 H0 : List (Option ℕ)) (first a b : ℕ) → Holds racks (set c0 first (Some a)) H0 → a < 64 → a ≢ b → core_in c0 first ≡ Some b → HadOneEach racks c0 a
+HadOneEach-from_first racks c0 H0 first a b held small differ is =
+    HadOneEach-from_set racks c0 first a b (HadOneEach-from_held racks (set c0 first (Some a)) H0 a held small) differ is
 
 -- a rack of a side that has kept its size
 pub room_at : (racks : List ℕ) (T0 T : List (Option ℕ)) (at : ℕ) → All (IsRackOf T0) racks → length T ≡ length T0 → at < length racks → IsRackOf T (rack_at racks at)

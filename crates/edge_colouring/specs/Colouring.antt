@@ -6,6 +6,7 @@ use Rattle.greedy_rules.specs.Matching.{IsMatching}
 use Rattle.clos_topology.specs.declared.graph.Edge.{Edge}
 use Rattle.clos_topology.specs.Links.{CoreOf, IsClean}
 use Rattle.clos_topology.specs.RackGraph.{rack_edges}
+use Rattle.edge_colouring.specs.Degrees.{HasDegreesWithin}
 
 -- edges of one core share no rack on a side
 abbrev pub AreApart : CoreOf → Edge → Edge → Type 0
@@ -27,3 +28,16 @@ abbrev pub EveryColouringMakesAMatchingClean : Type 0
 EveryColouringMakesAMatchingClean =
     (hosts colours : ℕ) (edges : List Edge) (core_of : CoreOf)
     → IsColouring colours edges core_of → MakesClean hosts colours edges core_of
+
+-- König's theorem: where each edge has a source of its own, and no rack has more edges on a side than this number, there is
+-- a colouring with so many cores
+abbrev pub EveryGraphHasAColouring : Type 0
+EveryGraphHasAColouring =
+    (colours : ℕ) (edges : List Edge) → AllPairs (λ e f. e.source ≢ f.source) edges → HasDegreesWithin colours edges
+    → (core_of : CoreOf) × IsColouring colours edges core_of
+
+-- so every matching has cores that make it clean
+abbrev pub EveryMatchingHasCleanCores : Type 0
+EveryMatchingHasCleanCores =
+    (hosts colours : ℕ) (slot : List Flow) → IsMatching slot → HasDegreesWithin colours (rack_edges hosts slot)
+    → (core_of : CoreOf) × IsClean hosts colours slot core_of
