@@ -3,6 +3,8 @@ use fp_edge::{MemSink, MemSource, OpenGate};
 use std::alloc::{AllocError, Global};
 use std::test::Fail;
 
+mod racks;
+
 const PIECE: usize = 65_536;
 
 const THREE_FLOWS: &[u8] = b"net,1,4,1\nask,0,0,1,1\nask,0,0,2,1\nask,0,3,1,1\nend,1\n";
@@ -149,8 +151,8 @@ fn faulty_traces_tell_row_and_fault(rt: HostRuntime) -> Result<(), Fail> {
         (b"net,1,2,1\ntask,0,0,1,1\n", b"row,2,2\n"),
         (b"net,1,2,1\nask,0,0,1\n", b"row,2,3\n"),
         (b"net,1,2,1\nask,0,0,1,007\n", b"row,2,4\n"),
-        (b"net,65,1,64\n", b"row,1,10\n"),
-        (b"net,64,64,64\n", b"row,1,10\n"),
+        (b"net,65,1,64\n", b"row,1,5\n"),
+        (b"net,64,64,64\n", b"row,1,5\n"),
         (b"net,1,2,1\nask,0,0,2,1\n", b"row,2,5\n"),
         (b"net,1,2,1\nask,0,0,1,0\n", b"row,2,5\n"),
         (b"net,1,2,1\nask,0,1,1,1\n", b"row,2,6\n"),
@@ -166,7 +168,7 @@ fn faulty_traces_tell_row_and_fault(rt: HostRuntime) -> Result<(), Fail> {
         ),
         (b"net,1,2,1\n", b"row,2,9\n"),
         (b"net,1,2,1\nlose,0,0,up\n", b"row,2,10\n"),
-        (b"net,2,3,2\n", b"row,1,10\n"),
+        (b"net,2,3,2\n", b"row,1,12\n"),
     ];
     for (trace, note) in cases.iter() {
         let came = run_on(rt.alloc(), &["plan"], trace)?;

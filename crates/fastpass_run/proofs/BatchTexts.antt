@@ -9,7 +9,7 @@ use Rattle.report_text.specs.declared.line.Line.{Line}
 use Rattle.trace_text.specs.Trace.{TraceContent}
 use Rattle.fastpass_run.specs.Sound.{IsSound}
 use Rattle.fastpass_run.specs.Batches.{Round, batch_after, batches_after, plan_batches}
-use Rattle.fastpass_run.specs.Text.{Cores, no_cores, text_of, batch_lines, batches_lines}
+use Rattle.fastpass_run.specs.Text.{Cores, text_of, batch_lines, batches_lines}
 use Rattle.fastpass_run.specs.Reached.{round_lines, rounds_lines}
 use Rattle.fastpass_run.proofs.TextLemmas.{text_of-append}
 use Rattle.fastpass_run.proofs.RoundLemmas.{batch_of}
@@ -33,8 +33,8 @@ batches_lines-append cores b slots k (x ∷ xs) ys =
     (batches_lines-append cores b slots (k + 1) xs ys ∙ ap (λ (n : ℕ). batches_lines cores b slots (k + 1) xs ++ batches_lines cores b slots n ys) on)
     ∙ sym (append_assoc (batch_lines cores b slots k x) (batches_lines cores b slots (k + 1) xs) (batches_lines cores b slots (k + suc (length xs)) ys))
 
-pub rounds_more : (b k : ℕ) (trace : TraceContent) → IsSound trace → k < trace.rounds → text_of (rounds_lines b (k + 1) trace) ≡ text_of (rounds_lines b k trace) ++ text_of (round_lines b k trace)
-rounds_more b k trace sound below =
+pub rounds_more : (cores : Cores) (b k : ℕ) (trace : TraceContent) → IsSound trace → k < trace.rounds → text_of (rounds_lines cores b (k + 1) trace) ≡ text_of (rounds_lines cores b k trace) ++ text_of (round_lines cores b k trace)
+rounds_more cores b k trace sound below =
     let slots : List (List Flow) = schedule is_taken b (plan_batches trace) in
     let batches : List (List Entry) = plan_batches trace in
     let within : k < length trace.asked = omega (arith, sound.rounds) in
@@ -42,26 +42,26 @@ rounds_more b k trace sound below =
     let place : 0 + length (take k batches) ≡ k = omega (arith, length-take k batches) in
     let none : List Entry = [] in
     let this : get_or batches k none ≡ batch_of trace k = batch_at [] trace.asked k within in
-    ap (λ (bs : List (List Entry)). text_of (batches_lines no_cores b slots 0 bs)) (take_more batches k none long)
-    ∙ (ap text_of (batches_lines-append no_cores b slots 0 (take k batches) (get_or batches k none ∷ []))
-    ∙ (text_of-append (batches_lines no_cores b slots 0 (take k batches)) (batches_lines no_cores b slots (0 + length (take k batches)) (get_or batches k none ∷ []))
-    ∙ ap (λ (t : List ℕ). text_of (rounds_lines b k trace) ++ t)
-    (ap (λ (n : ℕ). text_of (batches_lines no_cores b slots n (get_or batches k none ∷ []))) place
-    ∙ (ap text_of (append-nil (batch_lines no_cores b slots k (get_or batches k none)))
-    ∙ ap (λ (es : List Entry). text_of (batch_lines no_cores b slots k es)) this))))
+    ap (λ (bs : List (List Entry)). text_of (batches_lines cores b slots 0 bs)) (take_more batches k none long)
+    ∙ (ap text_of (batches_lines-append cores b slots 0 (take k batches) (get_or batches k none ∷ []))
+    ∙ (text_of-append (batches_lines cores b slots 0 (take k batches)) (batches_lines cores b slots (0 + length (take k batches)) (get_or batches k none ∷ []))
+    ∙ ap (λ (t : List ℕ). text_of (rounds_lines cores b k trace) ++ t)
+    (ap (λ (n : ℕ). text_of (batches_lines cores b slots n (get_or batches k none ∷ []))) place
+    ∙ (ap text_of (append-nil (batch_lines cores b slots k (get_or batches k none)))
+    ∙ ap (λ (es : List Entry). text_of (batch_lines cores b slots k es)) this))))
 
-abbrev pub later_lines : ℕ → ℕ → TraceContent → List Line
-later_lines b k trace =
-    batches_lines no_cores b (schedule is_taken b (plan_batches trace)) (0 + length (take (k + 1) (take trace.rounds (plan_batches trace)))) (drop (k + 1) (take trace.rounds (plan_batches trace)))
+abbrev pub later_lines : Cores → ℕ → ℕ → TraceContent → List Line
+later_lines cores b k trace =
+    batches_lines cores b (schedule is_taken b (plan_batches trace)) (0 + length (take (k + 1) (take trace.rounds (plan_batches trace)))) (drop (k + 1) (take trace.rounds (plan_batches trace)))
 
-pub rounds_whole : (b k : ℕ) (trace : TraceContent) → IsSound trace → k < trace.rounds
-    → text_of (rounds_lines b trace.rounds trace) ≡ (text_of (rounds_lines b k trace) ++ text_of (round_lines b k trace)) ++ text_of (later_lines b k trace)
-rounds_whole b k trace sound below =
+pub rounds_whole : (cores : Cores) (b k : ℕ) (trace : TraceContent) → IsSound trace → k < trace.rounds
+    → text_of (rounds_lines cores b trace.rounds trace) ≡ (text_of (rounds_lines cores b k trace) ++ text_of (round_lines cores b k trace)) ++ text_of (later_lines cores b k trace)
+rounds_whole cores b k trace sound below =
     let slots : List (List Flow) = schedule is_taken b (plan_batches trace) in
     let batches : List (List Entry) = take trace.rounds (plan_batches trace) in
-    ap (λ (bs : List (List Entry)). text_of (batches_lines no_cores b slots 0 bs)) (sym (take-append-drop (k + 1) batches))
-    ∙ (ap text_of (batches_lines-append no_cores b slots 0 (take (k + 1) batches) (drop (k + 1) batches))
-    ∙ (text_of-append (batches_lines no_cores b slots 0 (take (k + 1) batches)) (later_lines b k trace)
-    ∙ ap (λ (t : List ℕ). t ++ text_of (later_lines b k trace))
-    (ap (λ (bs : List (List Entry)). text_of (batches_lines no_cores b slots 0 bs)) (take-take (k + 1) trace.rounds (plan_batches trace) (omega arith))
-    ∙ rounds_more b k trace sound below)))
+    ap (λ (bs : List (List Entry)). text_of (batches_lines cores b slots 0 bs)) (sym (take-append-drop (k + 1) batches))
+    ∙ (ap text_of (batches_lines-append cores b slots 0 (take (k + 1) batches) (drop (k + 1) batches))
+    ∙ (text_of-append (batches_lines cores b slots 0 (take (k + 1) batches)) (later_lines cores b k trace)
+    ∙ ap (λ (t : List ℕ). t ++ text_of (later_lines cores b k trace))
+    (ap (λ (bs : List (List Entry)). text_of (batches_lines cores b slots 0 bs)) (take-take (k + 1) trace.rounds (plan_batches trace) (omega arith))
+    ∙ rounds_more cores b k trace sound below)))

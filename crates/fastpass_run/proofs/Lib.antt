@@ -4,6 +4,7 @@ pub mod AskLemmas
 pub mod TallyLemmas
 pub mod TextLemmas
 pub mod EntryLemmas
+pub mod CoreLemmas
 pub mod RoundLemmas
 pub mod BatchTexts
 pub mod FlowLemmas

@@ -113,6 +113,11 @@ Writes-start {T = T} a b f f' g g' text (Err e) none passed done = record {
   cause = passed.cause;
 }
 
+-- an output that stops for want of memory before it gives anything to the sink
+pub Writes-none : {T : Type 0} (a : Option (List ℕ)) (f : ℕ) (text : List ℕ) (r : Result T Stop) → IsErrAnd r (λ d. d ≡ Memory) → Writes {T = T} a a f f text r
+Writes-none a f text (Ok t) is = absurd is
+Writes-none a f text (Err e) is = record { later = omega arith; all = tt; front = ([], text, refl, Appends-nil a); cause = subst (IsCaused f f) (sym is) tt }
+
 pub never_ok : {T : Type 0} (P : Type 0) (e : Stop) (r : Result T Stop) → IsErrAnd r (λ d. d ≡ e) → OnOk r P
 never_ok P e (Ok t) is = absurd is
 never_ok P e (Err d) is = tt

@@ -14,6 +14,7 @@ use Rattle.greedy_rules.specs.Demands.{Demands, is_listed, item_of, need_in}
 use Rattle.greedy_rules.specs.Slot.{is_taken}
 use Rattle.greedy_rules.specs.Allocation.{slots_of}
 use Rattle.greedy_rules.specs.Schedule.{schedule, schedule_from, rest, rest_from}
+use Rattle.clos_topology.specs.Network.{endpoints_of}
 use Rattle.report_text.specs.declared.line.Line.{Line}
 use Rattle.report_text.specs.declared.line.Line.TheVariants as line
 use Rattle.report_text.specs.Lines.{line_bytes}
@@ -22,7 +23,7 @@ use Rattle.fastpass_run.specs.Sound.{total_asked, IsAskList, IsSound}
 use Rattle.trace_text.specs.Valid.{amount_for}
 use Rattle.fastpass_run.specs.Tallies.{place_of}
 use Rattle.fastpass_run.specs.Batches.{Round, asks_for, is_asked, batch_after, batches_after, plan_batches}
-use Rattle.fastpass_run.specs.Text.{has_entry, added, demanded, flow_lines_of, no_cores, batches_lines, each_source, plan_text, text_of}
+use Rattle.fastpass_run.specs.Text.{has_entry, added, demanded, flow_lines_of, Cores, batches_lines, each_source, plan_text, text_of}
 use Rattle.fastpass_run.specs.Run.{AllIsAllocatedOrPending}
 use Rattle.fastpass_run.specs.Reached.{batches_left, Reached, Needs, told, rounds_lines}
 use Rattle.fastpass_run.proofs.AskLemmas.{row_of, total_asked-zero}
@@ -35,7 +36,7 @@ none_listed : (k : ℕ) (xs : List Item) → xs ≡ [] → k < length xs → ⊥
 none_listed k xs none below = omega (arith, ap length none)
 
 -- before the first round nothing was asked for
-pub reached_none : (trace : TraceContent) (b : ℕ) (list : Demands) (table : List ℕ) (n : ℕ) → n ≡ trace.endpoints * trace.endpoints → table ≡ replicate n 0 → list.items ≡ [] → n ≤ list.spare
+pub reached_none : (trace : TraceContent) (b : ℕ) (list : Demands) (table : List ℕ) (n : ℕ) → n ≡ endpoints_of trace.net * endpoints_of trace.net → table ≡ replicate n 0 → list.items ≡ [] → n ≤ list.spare
     → Reached trace b 0 list table
 reached_none trace b list table n is zeros empty spare =
     let start : 0 * b ≡ 0 = omega arith in
@@ -43,7 +44,7 @@ reached_none trace b list table n is zeros empty spare =
     record {
       tallies = record {
         long = ap length zeros ∙ (length-replicate n 0 ∙ is);
-        at = λ src dst s d. ap (λ (t : List ℕ). get_or t (place_of trace.endpoints src dst) 0) zeros ∙ get_or-replicate n (place_of trace.endpoints src dst) 0 0 (omega (arith, mul-add-lt src trace.endpoints dst trace.endpoints s d));
+        at = λ src dst s d. ap (λ (t : List ℕ). get_or t (place_of (endpoints_of trace.net) src dst) 0) zeros ∙ get_or-replicate n (place_of (endpoints_of trace.net) src dst) 0 0 (omega (arith, mul-add-lt src (endpoints_of trace.net) dst (endpoints_of trace.net) s d));
       };
       once = λ i j d lt below. absurd (none_listed j list.items empty below);
       in_range = λ k d below. absurd (none_listed k list.items empty below);
@@ -106,63 +107,63 @@ all_slots trace b list asked sound reached =
     sym (append-nil (take n all)) ∙ (ap (λ (xs : List (List Flow)). take n all ++ xs) (sym ended) ∙ take-append-drop n all)
 
 -- what the tables tell of each flow
-pub asked_is : (trace : TraceContent) (b : ℕ) (list : Demands) (asked : List ℕ) (src dst : ℕ) → IsSound trace → Reached trace b trace.rounds list asked → src < trace.endpoints → dst < trace.endpoints
-    → get_or asked (place_of trace.endpoints src dst) 0 ≡ total_asked trace.asked src dst
+pub asked_is : (trace : TraceContent) (b : ℕ) (list : Demands) (asked : List ℕ) (src dst : ℕ) → IsSound trace → Reached trace b trace.rounds list asked → src < endpoints_of trace.net → dst < endpoints_of trace.net
+    → get_or asked (place_of (endpoints_of trace.net) src dst) 0 ≡ total_asked trace.asked src dst
 asked_is trace b list asked src dst sound reached s d = reached.tallies.at src dst s d ∙ ap (λ (rs : List Round). total_asked rs src dst) (all_asked trace sound)
 
-pub slots_and_needs : (trace : TraceContent) (b : ℕ) (list : Demands) (asked pending : List ℕ) (src dst : ℕ) → IsSound trace → Reached trace b trace.rounds list asked → Needs trace.endpoints list.items pending
-    → src < trace.endpoints → dst < trace.endpoints
-    → get_or pending (place_of trace.endpoints src dst) 0 + slots_of (flow_of src dst) (schedule is_taken b (plan_batches trace)) ≡ get_or asked (place_of trace.endpoints src dst) 0
+pub slots_and_needs : (trace : TraceContent) (b : ℕ) (list : Demands) (asked pending : List ℕ) (src dst : ℕ) → IsSound trace → Reached trace b trace.rounds list asked → Needs (endpoints_of trace.net) list.items pending
+    → src < endpoints_of trace.net → dst < endpoints_of trace.net
+    → get_or pending (place_of (endpoints_of trace.net) src dst) 0 + slots_of (flow_of src dst) (schedule is_taken b (plan_batches trace)) ≡ get_or asked (place_of (endpoints_of trace.net) src dst) 0
 slots_and_needs trace b list asked pending src dst sound reached needs s d =
     omega (arith, needs.at src dst s d, reached.balance (flow_of src dst), reached.tallies.at src dst s d, ap (slots_of (flow_of src dst)) (all_slots trace b list asked sound reached))
 
-told_is : (trace : TraceContent) (b : ℕ) (list : Demands) (asked pending : List ℕ) → IsSound trace → Reached trace b trace.rounds list asked → Needs trace.endpoints list.items pending
-    → (src dst : ℕ) → src < trace.endpoints → dst < trace.endpoints
-    → told trace.endpoints asked pending (flow_of src dst) ≡ flow_lines_of (plan_batches trace) (schedule is_taken b (plan_batches trace)) (rest is_taken b (plan_batches trace)) (flow_of src dst)
+told_is : (trace : TraceContent) (b : ℕ) (list : Demands) (asked pending : List ℕ) → IsSound trace → Reached trace b trace.rounds list asked → Needs (endpoints_of trace.net) list.items pending
+    → (src dst : ℕ) → src < endpoints_of trace.net → dst < endpoints_of trace.net
+    → told (endpoints_of trace.net) asked pending (flow_of src dst) ≡ flow_lines_of (plan_batches trace) (schedule is_taken b (plan_batches trace)) (rest is_taken b (plan_batches trace)) (flow_of src dst)
 told_is trace b list asked pending sound reached needs src dst s d =
     let batches : List (List Entry) = plan_batches trace in
     let slots : List (List Flow) = schedule is_taken b batches in
     let left : List Item = rest is_taken b batches in
     let flow : Flow = flow_of src dst in
-    let p : ℕ = place_of trace.endpoints src dst in
+    let p : ℕ = place_of (endpoints_of trace.net) src dst in
     let total : get_or asked p 0 ≡ total_asked trace.asked src dst = asked_is trace b list asked src dst sound reached s d in
     let sum = slots_and_needs trace b list asked pending src dst sound reached needs s d in
-    let demand : get_or asked p 0 ≡ demanded batches flow = total ∙ sym (demanded-is trace.endpoints [] trace.asked src dst sound.asks) in
+    let demand : get_or asked p 0 ≡ demanded batches flow = total ∙ sym (demanded-is (endpoints_of trace.net) [] trace.asked src dst sound.asks) in
     let need : get_or pending p 0 ≡ need_in (item_of left flow) = needs.at src dst s d ∙ ap (λ (items : List Item). need_in (item_of items flow)) (rest_is trace b list asked sound reached) in
     let given : get_or asked p 0 - get_or pending p 0 ≡ slots_of flow slots = omega arith in
     let named : nat_lt 0 (get_or asked p 0) ≡ has_entry batches flow =
     ap (nat_lt 0) total
     ∙ (positive (total_asked trace.asked src dst)
-    ∙ (ap not (total_asked-zero trace.endpoints trace.asked src dst sound.asks)
+    ∙ (ap not (total_asked-zero (endpoints_of trace.net) trace.asked src dst sound.asks)
     ∙ (not-not (is_asked trace.asked src dst)
     ∙ sym (has_entry-is [] trace.asked src dst)))) in
-    ap (λ p. cond p (line.Flow src dst (get_or asked (place_of trace.endpoints src dst) 0) (get_or asked (place_of trace.endpoints src dst) 0 - get_or pending (place_of trace.endpoints src dst) 0) (get_or pending (place_of trace.endpoints src dst) 0) ∷ []) []) named
+    ap (λ p. cond p (line.Flow src dst (get_or asked (place_of (endpoints_of trace.net) src dst) 0) (get_or asked (place_of (endpoints_of trace.net) src dst) 0 - get_or pending (place_of (endpoints_of trace.net) src dst) 0) (get_or pending (place_of (endpoints_of trace.net) src dst) 0) ∷ []) []) named
     ∙ (ap (λ (n : ℕ). cond (has_entry batches flow) (line.Flow src dst n (get_or asked p 0 - get_or pending p 0) (get_or pending p 0) ∷ []) []) demand
     ∙ (ap (λ (n : ℕ). cond (has_entry batches flow) (line.Flow src dst (demanded batches flow) n (get_or pending p 0) ∷ []) []) given
     ∙ ap (λ (n : ℕ). cond (has_entry batches flow) (line.Flow src dst (demanded batches flow) (slots_of flow slots) n ∷ []) []) need))
 
 -- the text of a plan in its three parts
 abbrev pub flows_lines : ℕ → TraceContent → List Line
-flows_lines b trace = each_source (flow_lines_of (plan_batches trace) (schedule is_taken b (plan_batches trace)) (rest is_taken b (plan_batches trace))) trace.endpoints 0 trace.endpoints
+flows_lines b trace = each_source (flow_lines_of (plan_batches trace) (schedule is_taken b (plan_batches trace)) (rest is_taken b (plan_batches trace))) (endpoints_of trace.net) 0 (endpoints_of trace.net)
 
 abbrev pub end_text : TraceContent → List ℕ
 end_text trace = line_bytes (line.End trace.rounds) ++ 10 ∷ []
 
-pub plan_parts : (trace : TraceContent) (b : ℕ) → IsSound trace → text_of (rounds_lines b trace.rounds trace) ++ (text_of (flows_lines b trace) ++ end_text trace) ≡ plan_text no_cores b trace
-plan_parts trace b sound =
+pub plan_parts : (cores : Cores) (trace : TraceContent) (b : ℕ) → IsSound trace → text_of (rounds_lines cores b trace.rounds trace) ++ (text_of (flows_lines b trace) ++ end_text trace) ≡ plan_text cores b trace
+plan_parts cores trace b sound =
     let batches : List (List Entry) = plan_batches trace in
-    let rounds : List Line = batches_lines no_cores b (schedule is_taken b batches) 0 batches in
+    let rounds : List Line = batches_lines cores b (schedule is_taken b batches) 0 batches in
     let all : take trace.rounds batches ≡ batches = take_long batches trace.rounds (omega (arith, sound.rounds, length-batches [] trace.asked)) in
-    ap (λ (bs : List (List Entry)). text_of (batches_lines no_cores b (schedule is_taken b batches) 0 bs) ++ (text_of (flows_lines b trace) ++ end_text trace)) all
+    ap (λ (bs : List (List Entry)). text_of (batches_lines cores b (schedule is_taken b batches) 0 bs) ++ (text_of (flows_lines b trace) ++ end_text trace)) all
     ∙ (sym (append_assoc (text_of rounds) (text_of (flows_lines b trace)) (end_text trace))
     ∙ (ap (λ (t : List ℕ). (text_of rounds ++ text_of (flows_lines b trace)) ++ t) (sym (text_of-one (line.End trace.rounds)))
     ∙ (ap (λ (t : List ℕ). t ++ text_of (line.End trace.rounds ∷ [])) (sym (text_of-append rounds (flows_lines b trace)))
     ∙ sym (text_of-append (rounds ++ flows_lines b trace) (line.End trace.rounds ∷ [])))))
 
-pub flows_told : (trace : TraceContent) (b : ℕ) (list : Demands) (asked pending : List ℕ) → IsSound trace → Reached trace b trace.rounds list asked → Needs trace.endpoints list.items pending
-    → text_of (each_source (told trace.endpoints asked pending) trace.endpoints 0 trace.endpoints) ≡ text_of (flows_lines b trace)
+pub flows_told : (trace : TraceContent) (b : ℕ) (list : Demands) (asked pending : List ℕ) → IsSound trace → Reached trace b trace.rounds list asked → Needs (endpoints_of trace.net) list.items pending
+    → text_of (each_source (told (endpoints_of trace.net) asked pending) (endpoints_of trace.net) 0 (endpoints_of trace.net)) ≡ text_of (flows_lines b trace)
 flows_told trace b list asked pending sound reached needs =
-    ap text_of (sources_same (told trace.endpoints asked pending) (flow_lines_of (plan_batches trace) (schedule is_taken b (plan_batches trace)) (rest is_taken b (plan_batches trace))) trace.endpoints 0 trace.endpoints (omega arith)
+    ap text_of (sources_same (told (endpoints_of trace.net) asked pending) (flow_lines_of (plan_batches trace) (schedule is_taken b (plan_batches trace)) (rest is_taken b (plan_batches trace))) (endpoints_of trace.net) 0 (endpoints_of trace.net) (omega arith)
     (told_is trace b list asked pending sound reached needs))
 
 -- each flow's demand was allocated or is pending
@@ -172,7 +173,7 @@ ledger_is trace b list asked sound reached src dst s d =
     let total : total_asked (take trace.rounds trace.asked) src dst ≡ total_asked trace.asked src dst = ap (λ (rs : List Round). total_asked rs src dst) (all_asked trace sound) in
     omega (
       arith,
-      demanded-is trace.endpoints [] trace.asked src dst sound.asks,
+      demanded-is (endpoints_of trace.net) [] trace.asked src dst sound.asks,
       total,
       reached.balance flow,
       ap (slots_of flow) (all_slots trace b list asked sound reached),

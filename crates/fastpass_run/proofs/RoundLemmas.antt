@@ -12,13 +12,15 @@ use Rattle.greedy_rules.specs.Flows.{same_flow}
 use Rattle.greedy_rules.specs.Batches.{IsBatch, entry_of}
 use Rattle.greedy_rules.specs.Demands.{Demands, HasEachFlowOnce, AreBelow, OpensNewFlows, opened, is_listed, item_of, need_in, need_with, after_batch}
 use Rattle.greedy_rules.specs.Slot.{Bar, is_taken, has_flow}
+use Rattle.greedy_rules.specs.Matching.{AreAmong}
 use Rattle.greedy_rules.specs.Allocation.{after_slot, batch_slots, list_after_slots, slots_of}
 use Rattle.greedy_rules.specs.Schedule.{first_slot, schedule, schedule_from, rest_from}
 use Rattle.greedy_rules.specs.Room.{FlowsFitPairs}
+use Rattle.clos_topology.specs.Network.{endpoints_of}
 use Rattle.trace_text.specs.Trace.{TraceContent, asked_at}
 use Rattle.fastpass_run.specs.Sound.{total_asked, IsSound}
 use Rattle.trace_text.specs.Valid.{amount_for}
-use Rattle.fastpass_run.specs.Tallies.{Tallies, place_of, added_in, AreAmong, Adds}
+use Rattle.fastpass_run.specs.Tallies.{Tallies, place_of, added_in, Adds}
 use Rattle.fastpass_run.specs.Batches.{Round, asks_for, is_asked, batch_after, batches_after, plan_batches}
 use Rattle.fastpass_run.specs.Reached.{batches_left, Reached}
 use Rattle.fastpass_run.proofs.AskLemmas.{row_at}
@@ -34,13 +36,13 @@ long : (trace : TraceContent) (k : ℕ) → IsSound trace → k < trace.rounds �
 long trace k sound below = omega (arith, sound.rounds)
 
 -- the entries of a batch are of flows between the trace's endpoints
-pub batch_among : (trace : TraceContent) (k : ℕ) → IsSound trace → k < trace.rounds → AreAmong trace.endpoints (batch_of trace k)
+pub batch_among : (trace : TraceContent) (k : ℕ) → IsSound trace → k < trace.rounds → AreAmong (endpoints_of trace.net) (batch_of trace k)
 batch_among trace k sound below =
-    let wide : length (round_of trace k) ≡ trace.endpoints = sound.sources k [] (long trace k sound below) in
-    all_entries (λ e. (e.flow.src < trace.endpoints) × (e.flow.dst < trace.endpoints)) (take k trace.asked) 0 (round_of trace k)
+    let wide : length (round_of trace k) ≡ endpoints_of trace.net = sound.sources k [] (long trace k sound below) in
+    all_entries (λ e. (e.flow.src < endpoints_of trace.net) × (e.flow.dst < endpoints_of trace.net)) (take k trace.asked) 0 (round_of trace k)
     (λ n within i d inside.
     let asks = row_at trace k n sound below in
-    let s : 0 + n < trace.endpoints = omega arith in
+    let s : 0 + n < endpoints_of trace.net = omega arith in
     let t : (get_or (asked_at trace k n) i d).1 ≡ (get_or (asked_at trace k n) i d).1 = refl in
     (s, asks.in_range i d inside))
 
@@ -53,13 +55,13 @@ total_more trace k src dst sound below = sum_by_more (λ (r : Round). amount_for
 pub total_fits : (trace : TraceContent) (k src dst : ℕ) → IsSound trace → total_asked (take k trace.asked) src dst < 2 ^ 32
 total_fits trace k src dst sound = omega (arith, sound.bounded src dst, sum_by-take-le (λ (r : Round). amount_for dst (get_or r src [])) trace.asked k)
 
-pub batch_fits : (trace : TraceContent) (k : ℕ) (table : List ℕ) → IsSound trace → k < trace.rounds → Tallies trace.endpoints (take k trace.asked) table
-    → (src dst : ℕ) → src < trace.endpoints → dst < trace.endpoints → get_or table (place_of trace.endpoints src dst) 0 + added_in src dst (batch_of trace k) < 2 ^ 32
+pub batch_fits : (trace : TraceContent) (k : ℕ) (table : List ℕ) → IsSound trace → k < trace.rounds → Tallies (endpoints_of trace.net) (take k trace.asked) table
+    → (src dst : ℕ) → src < endpoints_of trace.net → dst < endpoints_of trace.net → get_or table (place_of (endpoints_of trace.net) src dst) 0 + added_in src dst (batch_of trace k) < 2 ^ 32
 batch_fits trace k table sound below tallies src dst s t =
     omega (arith, tallies.at src dst s t, round_adds (take k trace.asked) (round_of trace k) src dst, total_more trace k src dst sound below, total_fits trace (k + 1) src dst sound)
 
-pub tallies_more : (trace : TraceContent) (k : ℕ) (old new : List ℕ) → IsSound trace → k < trace.rounds → Tallies trace.endpoints (take k trace.asked) old
-    → Adds trace.endpoints (batch_of trace k) old new → Tallies trace.endpoints (take (k + 1) trace.asked) new
+pub tallies_more : (trace : TraceContent) (k : ℕ) (old new : List ℕ) → IsSound trace → k < trace.rounds → Tallies (endpoints_of trace.net) (take k trace.asked) old
+    → Adds (endpoints_of trace.net) (batch_of trace k) old new → Tallies (endpoints_of trace.net) (take (k + 1) trace.asked) new
 tallies_more trace k old new sound below tallies adds = record {
   long = adds.long ∙ tallies.long;
   at = λ src dst s t. omega (arith, adds.at src dst s t, tallies.at src dst s t, round_adds (take k trace.asked) (round_of trace k) src dst, total_more trace k src dst sound below);
@@ -73,19 +75,19 @@ batch_opens trace b k list asked reached =
 
 -- list and opened flows lie within the trace's endpoints
 pub batch_below : (trace : TraceContent) (b k : ℕ) (list : Demands) (asked : List ℕ) → IsSound trace → k < trace.rounds → Reached trace b k list asked
-    → AreBelow trace.endpoints (list.items ++ opened (batch_of trace k))
+    → AreBelow (endpoints_of trace.net) (list.items ++ opened (batch_of trace k))
 batch_below trace b k list asked sound below reached =
-    let P : Item → Type 0 = λ item. (item.flow.src < trace.endpoints) × (item.flow.dst < trace.endpoints) in
+    let P : Item → Type 0 = λ item. (item.flow.src < endpoints_of trace.net) × (item.flow.dst < endpoints_of trace.net) in
     let opens : Entry → Item = λ entry. record { flow = entry.flow; need = entry.add; last = 0 } in
     let batch : List Entry = batch_of trace k in
     All-append P list.items (opened batch) reached.in_range
     (All-map P opens (filter (λ (e : Entry). e.opens) batch)
-    (All-filter (λ (e : Entry). e.opens) (λ (e : Entry). (e.flow.src < trace.endpoints) × (e.flow.dst < trace.endpoints)) batch (batch_among trace k sound below)))
+    (All-filter (λ (e : Entry). e.opens) (λ (e : Entry). (e.flow.src < endpoints_of trace.net) × (e.flow.dst < endpoints_of trace.net)) batch (batch_among trace k sound below)))
 
 pub batch_room : (trace : TraceContent) (b k : ℕ) (list : Demands) (asked : List ℕ) → IsSound trace → k < trace.rounds → Reached trace b k list asked → FlowsFitPairs → IsBatch (batch_of trace k)
     → length (opened (batch_of trace k)) ≤ list.spare
 batch_room trace b k list asked sound below reached fit rising =
-    omega (arith, reached.room, fit trace.endpoints (batch_of trace k) list.items rising (batch_opens trace b k list asked reached) reached.once (batch_below trace b k list asked sound below reached))
+    omega (arith, reached.room, fit (endpoints_of trace.net) (batch_of trace k) list.items rising (batch_opens trace b k list asked reached) reached.once (batch_below trace b k list asked sound below reached))
 
 -- in a list that has each flow once, an item's need is that of its flow
 need_of_item : (items : List Item) (at : ℕ) (d : Item) → HasEachFlowOnce items → at < length items → need_in (item_of items (get_or items at d).flow) ≡ (get_or items at d).need
@@ -105,7 +107,7 @@ batch_needs trace b k list asked sound below reached at d within =
     let item : Item = get_or list.items at d in
     let need = need_of_item list.items at d reached.once within in
     let more : need_with (entry_of (batch_of trace k) item.flow) item.need ≡ item.need + amount_for item.flow.dst (asked_at trace k item.flow.src) =
-    round_needs trace.endpoints (take k trace.asked) (round_of trace k) item.flow.src item.flow.dst item.need (row_at trace k item.flow.src sound below) in
+    round_needs (endpoints_of trace.net) (take k trace.asked) (round_of trace k) item.flow.src item.flow.dst item.need (row_at trace k item.flow.src sound below) in
     omega (arith, reached.balance item.flow, total_more trace k item.flow.src item.flow.dst sound below, total_fits trace (k + 1) item.flow.src item.flow.dst sound)
 
 -- the schedule, batch by batch
@@ -172,11 +174,11 @@ slots_of_more trace b k list asked flow sound below reached =
 
 -- what greedy allocation of the batch gives brings the plan a round further
 pub reached_more : (trace : TraceContent) (b k : ℕ) (old new : Demands) (asked asked' : List ℕ) → IsSound trace → k < trace.rounds → Reached trace b k old asked
-    → Tallies trace.endpoints (take (k + 1) trace.asked) asked'
+    → Tallies (endpoints_of trace.net) (take (k + 1) trace.asked) asked'
     → new.items ≡ list_then trace b k old.items
     → length new.items + new.spare ≡ length old.items + old.spare
     → HasEachFlowOnce new.items
-    → AreBelow trace.endpoints new.items
+    → AreBelow (endpoints_of trace.net) new.items
     → ((flow : Flow) → is_listed new.items flow ≡ (is_listed old.items flow || is_some (entry_of (batch_of trace k) flow)))
     → ((flow : Flow) → need_in (item_of new.items flow) + slots_of flow (slots_then trace b k old.items) ≡ need_with (entry_of (batch_of trace k) flow) (need_in (item_of old.items flow)))
     → Reached trace b (k + 1) new asked'
@@ -192,7 +194,7 @@ reached_more trace b k old new asked asked' sound below reached tallies items sp
       ∙ sym (list_any_more (asks_for flow.src flow.dst) trace.asked k [] (long trace k sound below))));
   balance = λ flow.
       let more : need_with (entry_of (batch_of trace k) flow) (need_in (item_of old.items flow)) ≡ need_in (item_of old.items flow) + amount_for flow.dst (asked_at trace k flow.src) =
-      round_needs trace.endpoints (take k trace.asked) (round_of trace k) flow.src flow.dst (need_in (item_of old.items flow)) (row_at trace k flow.src sound below) in
+      round_needs (endpoints_of trace.net) (take k trace.asked) (round_of trace k) flow.src flow.dst (need_in (item_of old.items flow)) (row_at trace k flow.src sound below) in
       omega (arith, balance flow, reached.balance flow, total_more trace k flow.src flow.dst sound below, slots_of_more trace b k old asked flow sound below reached);
   slots = ap (λ (list : List Item). schedule_from is_taken b (k + 1) list (batches_left trace (k + 1))) items ∙ slots_after trace b k old asked sound below reached;
   left = ap (λ (list : List Item). rest_from is_taken b (k + 1) list (batches_left trace (k + 1))) items

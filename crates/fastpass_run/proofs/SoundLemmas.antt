@@ -5,6 +5,7 @@ use Rattle.std.specs.List.Sorted.{IsStrictlyIncreasing}
 use Rattle.std.proofs.lemmas.List.{length-map, get_or-map}
 use Rattle.std.proofs.lemmas.List.Kept.{AllPairs-from_increasing}
 use Rattle.std.proofs.lemmas.List.Sums.{sum_by-cons}
+use Rattle.clos_topology.specs.Network.{endpoints_of}
 use Rattle.trace_text.specs.Trace.{TraceContent, asked_at}
 use Rattle.trace_text.specs.Valid.{AreAsked, IsTrace, amount_for}
 use Rattle.fastpass_run.specs.Batches.{Round}
@@ -41,15 +42,16 @@ pub sound : (trace : TraceContent) → IsTrace trace → IsSound trace
 sound trace valid =
     let none : Round = [] in
     record {
-      few_endpoints = valid.few;
+      net = valid.net;
+      enough_cores = valid.enough;
       few_rounds = valid.rounds;
       rounds = valid.by_round;
       sources = valid.by_source;
       asks = λ round r below src s inside.
           let same_round : get_or trace.asked round r ≡ get_or trace.asked round none = default_any trace.asked round r none below in
           let within : src < length (get_or trace.asked round none) = omega (arith, ap length same_round) in
-          let list : IsAskList trace.endpoints (asked_at trace round src) = ask_list trace.endpoints src (asked_at trace round src) (valid.asked round src) in
-          subst (IsAskList trace.endpoints) (default_any (get_or trace.asked round none) src [] s within ∙ ap (λ (row : Round). get_or row src s) (sym same_round)) list;
+          let list : IsAskList (endpoints_of trace.net) (asked_at trace round src) = ask_list (endpoints_of trace.net) src (asked_at trace round src) (valid.asked round src) in
+          subst (IsAskList (endpoints_of trace.net)) (default_any (get_or trace.asked round none) src [] s within ∙ ap (λ (row : Round). get_or row src s) (sym same_round)) list;
       bounded = λ src dst.
           let f : Round → ℕ = λ row. amount_for dst (get_or row src []) in
           let g : ℕ → ℕ = λ r. amount_for dst (asked_at trace r src) in

@@ -7,6 +7,7 @@ use Rattle.std.proofs.lemmas.List.Elements.{All-cons, All-head, All-tail, All-we
 use Rattle.greedy_rules.specs.declared.flows.Flow.{Flow}
 use Rattle.greedy_rules.specs.Schedule.{slot_in}
 use Rattle.greedy_rules.specs.SlotTable.{IsSlotOf, destination_of}
+use Rattle.clos_topology.specs.Links.{CoreOf}
 use Rattle.report_text.specs.declared.line.Line.{Line}
 use Rattle.report_text.specs.Lines.{line_bytes}
 use Rattle.fastpass_run.specs.Text.{Cores, slot_line, slots_lines, text_of}
@@ -110,10 +111,10 @@ flows_below-all endpoints slot is =
     ∙ below-all endpoints slot (All-weaker (λ (f : Flow). (f.src < endpoints) × (f.dst < endpoints)) (λ f. f.src < endpoints) (λ f within. within.0) slot is.in_range)
 
 -- one source more of a slot
-pub sources_more : (cores : Cores) (number : ℕ) (slot : List Flow) (src : ℕ)
-    → text_of (map (slot_line cores number) (flows_below slot (src + 1))) ≡ text_of (map (slot_line cores number) (flows_below slot src)) ++ text_of (map (slot_line cores number) (flows_at slot src))
-sources_more cores number slot src =
-    let line : Flow → Line = slot_line cores number in
+pub sources_more : (number : ℕ) (core_of : CoreOf) (slot : List Flow) (src : ℕ)
+    → text_of (map (slot_line number core_of) (flows_below slot (src + 1))) ≡ text_of (map (slot_line number core_of) (flows_below slot src)) ++ text_of (map (slot_line number core_of) (flows_at slot src))
+sources_more number core_of slot src =
+    let line : Flow → Line = slot_line number core_of in
     let next : src + 1 ≡ suc src = omega arith in
     ap (λ (n : ℕ). text_of (map line (flows_below slot n))) next
     ∙ (ap text_of (map-append line (flows_below slot src) (flows_at slot src)) ∙ text_of-append (map line (flows_below slot src)) (map line (flows_at slot src)))
@@ -131,28 +132,28 @@ flows_parts slot src (suc more) =
     ∙ (ap (λ (fs : List Flow). fs ++ flows_at slot (src + more)) (flows_parts slot src more) ∙ append_assoc (flows_below slot src) (flows_later slot src more) (flows_at slot (src + more)))
 
 -- the whole text of a slot, from the sources up to one of them on
-pub slot_whole : (cores : Cores) (endpoints number : ℕ) (slot : List Flow) (src : ℕ) → IsSlotOf endpoints slot → src < endpoints
-    → text_of (map (slot_line cores number) slot)
-    ≡ (text_of (map (slot_line cores number) (flows_below slot src)) ++ text_of (map (slot_line cores number) (flows_at slot src))) ++ text_of (map (slot_line cores number) (flows_later slot (src + 1) (endpoints - (src + 1))))
-slot_whole cores endpoints number slot src is lt =
-    let line : Flow → Line = slot_line cores number in
+pub slot_whole : (endpoints number : ℕ) (core_of : CoreOf) (slot : List Flow) (src : ℕ) → IsSlotOf endpoints slot → src < endpoints
+    → text_of (map (slot_line number core_of) slot)
+    ≡ (text_of (map (slot_line number core_of) (flows_below slot src)) ++ text_of (map (slot_line number core_of) (flows_at slot src))) ++ text_of (map (slot_line number core_of) (flows_later slot (src + 1) (endpoints - (src + 1))))
+slot_whole endpoints number core_of slot src is lt =
+    let line : Flow → Line = slot_line number core_of in
     let later : List Flow = flows_later slot (src + 1) (endpoints - (src + 1)) in
     let split : endpoints ≡ (src + 1) + (endpoints - (src + 1)) = omega arith in
     ap (λ (fs : List Flow). text_of (map line fs)) (sym (flows_below-all endpoints slot is) ∙ (ap (flows_below slot) split ∙ flows_parts slot (src + 1) (endpoints - (src + 1))))
     ∙ (ap text_of (map-append line (flows_below slot (src + 1)) later)
     ∙ (text_of-append (map line (flows_below slot (src + 1))) (map line later)
-    ∙ ap (λ (t : List ℕ). t ++ text_of (map line later)) (sources_more cores number slot src)))
+    ∙ ap (λ (t : List ℕ). t ++ text_of (map line later)) (sources_more number core_of slot src)))
 
 slots_lines-append : (cores : Cores) (number : ℕ) (xs ys : List (List Flow)) → slots_lines cores number (xs ++ ys) ≡ slots_lines cores number xs ++ slots_lines cores (number + length xs) ys
 slots_lines-append cores number [] ys = ap (λ (n : ℕ). slots_lines cores n ys) (omega arith)
 slots_lines-append cores number (x ∷ xs) ys =
     let on : number + 1 + length xs ≡ number + suc (length xs) = omega arith in
-    ap (λ (ls : List Line). map (slot_line cores number) x ++ ls) (slots_lines-append cores (number + 1) xs ys ∙ ap (λ (n : ℕ). slots_lines cores (number + 1) xs ++ slots_lines cores n ys) on)
-    ∙ sym (append_assoc (map (slot_line cores number) x) (slots_lines cores (number + 1) xs) (slots_lines cores (number + suc (length xs)) ys))
+    ap (λ (ls : List Line). map (slot_line number (cores number)) x ++ ls) (slots_lines-append cores (number + 1) xs ys ∙ ap (λ (n : ℕ). slots_lines cores (number + 1) xs ++ slots_lines cores n ys) on)
+    ∙ sym (append_assoc (map (slot_line number (cores number)) x) (slots_lines cores (number + 1) xs) (slots_lines cores (number + suc (length xs)) ys))
 
 -- one slot more of the slots
 pub slots_more : (cores : Cores) (first : ℕ) (slots : List (List Flow)) (place : ℕ) → place < length slots
-    → text_of (slots_lines cores first (take (place + 1) slots)) ≡ text_of (slots_lines cores first (take place slots)) ++ text_of (map (slot_line cores (first + place)) (get_or slots place []))
+    → text_of (slots_lines cores first (take (place + 1) slots)) ≡ text_of (slots_lines cores first (take place slots)) ++ text_of (map (slot_line (first + place) (cores (first + place))) (get_or slots place []))
 slots_more cores first slots place within =
     let slot : List Flow = get_or slots place [] in
     let at : first + length (take place slots) ≡ first + place = omega (arith, length-take place slots) in
@@ -160,7 +161,7 @@ slots_more cores first slots place within =
     ∙ (ap text_of (slots_lines-append cores first (take place slots) (slot ∷ []))
     ∙ (text_of-append (slots_lines cores first (take place slots)) (slots_lines cores (first + length (take place slots)) (slot ∷ []))
     ∙ ap (λ (t : List ℕ). text_of (slots_lines cores first (take place slots)) ++ t)
-    (ap (λ (n : ℕ). text_of (slots_lines cores n (slot ∷ []))) at ∙ ap text_of (append-nil (map (slot_line cores (first + place)) slot)))))
+    (ap (λ (n : ℕ). text_of (slots_lines cores n (slot ∷ []))) at ∙ ap text_of (append-nil (map (slot_line (first + place) (cores (first + place))) slot)))))
 
 pub slots_rest : (cores : Cores) (first : ℕ) (slots : List (List Flow)) (place : ℕ)
     → text_of (slots_lines cores first slots) ≡ text_of (slots_lines cores first (take place slots)) ++ text_of (slots_lines cores (first + length (take place slots)) (drop place slots))
@@ -169,21 +170,23 @@ slots_rest cores first slots place =
     ∙ (ap text_of (slots_lines-append cores first (take place slots) (drop place slots))
     ∙ text_of-append (slots_lines cores first (take place slots)) (slots_lines cores (first + length (take place slots)) (drop place slots)))
 
--- the slot at a place, by its number, after the slots before it
-pub slots_step : (cores : Cores) (first number : ℕ) (slots : List (List Flow)) (place at : ℕ) → place < length slots → at ≡ place → number ≡ first + place
-    → text_of (slots_lines cores first (take (place + 1) slots)) ≡ text_of (slots_lines cores first (take place slots)) ++ text_of (map (slot_line cores number) (slot_in slots at))
-slots_step cores first number slots place at within is counts =
+-- the slot at a place, by its number and with its cores, after the slots before it
+pub slots_step : (cores : Cores) (first number : ℕ) (slots : List (List Flow)) (place at : ℕ) (core_of : CoreOf) → place < length slots → at ≡ place → number ≡ first + place → core_of ≡ cores (first + place)
+    → text_of (slots_lines cores first (take (place + 1) slots)) ≡ text_of (slots_lines cores first (take place slots)) ++ text_of (map (slot_line number core_of) (slot_in slots at))
+slots_step cores first number slots place at core_of within is counts named =
+    let before : List ℕ = text_of (slots_lines cores first (take place slots)) in
     slots_more cores first slots place within
-    ∙ (ap (λ (n : ℕ). text_of (slots_lines cores first (take place slots)) ++ text_of (map (slot_line cores n) (get_or slots place []))) (sym counts)
-    ∙ ap (λ (n : ℕ). text_of (slots_lines cores first (take place slots)) ++ text_of (map (slot_line cores number) (slot_in slots n))) (sym is))
+    ∙ (ap (λ (n : ℕ). before ++ text_of (map (slot_line n (cores (first + place))) (get_or slots place []))) (sym counts)
+    ∙ (ap (λ (c : CoreOf). before ++ text_of (map (slot_line number c) (get_or slots place []))) (sym named)
+    ∙ ap (λ (n : ℕ). before ++ text_of (map (slot_line number core_of) (slot_in slots n))) (sym is)))
 
-pub slots_whole : (cores : Cores) (first number count : ℕ) (slots : List (List Flow)) (place at : ℕ) → place < count → count ≤ length slots → at ≡ place → number ≡ first + place
+pub slots_whole : (cores : Cores) (first number count : ℕ) (slots : List (List Flow)) (place at : ℕ) (core_of : CoreOf) → place < count → count ≤ length slots → at ≡ place → number ≡ first + place → core_of ≡ cores (first + place)
     → text_of (slots_lines cores first (take count slots))
-    ≡ (text_of (slots_lines cores first (take place slots)) ++ text_of (map (slot_line cores number) (slot_in slots at)))
+    ≡ (text_of (slots_lines cores first (take place slots)) ++ text_of (map (slot_line number core_of) (slot_in slots at)))
     ++ text_of (slots_lines cores (first + length (take (place + 1) (take count slots))) (drop (place + 1) (take count slots)))
-slots_whole cores first number count slots place at more within is counts =
+slots_whole cores first number count slots place at core_of more within is counts named =
     let rest : List ℕ = text_of (slots_lines cores (first + length (take (place + 1) (take count slots))) (drop (place + 1) (take count slots))) in
     slots_rest cores first (take count slots) (place + 1)
     ∙ ap (λ (t : List ℕ). t ++ rest)
     (ap (λ (xs : List (List Flow)). text_of (slots_lines cores first xs)) (take-take (place + 1) count slots (omega arith))
-    ∙ slots_step cores first number slots place at (omega arith) is counts)
+    ∙ slots_step cores first number slots place at core_of (omega arith) is counts named)

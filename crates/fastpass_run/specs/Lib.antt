@@ -2,6 +2,7 @@ pub mod Transfer
 pub mod Words
 pub mod Batches
 pub mod Text
+pub mod Scheduled
 pub mod Output
 pub mod Tallies
 pub mod Flows

@@ -7,12 +7,14 @@ use Rattle.greedy_rules.specs.Demands.{item_of, need_in}
 use Rattle.greedy_rules.specs.Slot.{is_taken}
 use Rattle.greedy_rules.specs.Allocation.{slots_of}
 use Rattle.greedy_rules.specs.Schedule.{schedule, rest}
+use Rattle.clos_topology.specs.Network.{endpoints_of}
 use Rattle.trace_text.specs.declared.command.Command.TheVariants.{Plan}
 use Rattle.trace_text.specs.declared.fault.Fault.{Fault}
 use Rattle.trace_text.specs.FaultNumbers.{fault_number}
 use Rattle.trace_text.specs.Trace.{TraceContent, FaultyRow, trace_of}
 use Rattle.fastpass_run.specs.Batches.{plan_batches}
-use Rattle.fastpass_run.specs.Text.{no_cores, demanded, plan_text}
+use Rattle.fastpass_run.specs.Text.{Cores, demanded, plan_text}
+use Rattle.fastpass_run.specs.Scheduled.{EverySlotIsScheduled}
 use Rattle.fastpass_run.specs.Transfer.{Takes, AppendsFront}
 use Rattle.fastpass_run.specs.Words.{batch_size_of}
 use Rattle.fastpass_run.specs.declared.outcome.Failure.{Failure}
@@ -26,17 +28,19 @@ IsRead left left' trace = (bytes : List ℕ) × Consumes left left' bytes × IsA
 -- each flow's demand was allocated or is pending
 abbrev pub AllIsAllocatedOrPending : ℕ → TraceContent → Type 0
 AllIsAllocatedOrPending b trace =
-    (src dst : ℕ) → src < trace.endpoints → dst < trace.endpoints
+    (src dst : ℕ) → src < endpoints_of trace.net → dst < endpoints_of trace.net
     → let flow : Flow = record { src = src; dst = dst } in
     demanded (plan_batches trace) flow ≡ slots_of flow (schedule is_taken b (plan_batches trace)) + need_in (item_of (rest is_taken b (plan_batches trace)) flow)
 
--- the plan of a trace was written, the whole or a front of it
+-- the plan of a trace was written, the whole or a front of it, with cores that make each of its slots clean
 pub record Plans (words : List (List ℕ)) (left left' held held' : Option (List ℕ)) : Type 0 where
   pub b : ℕ
   pub trace : TraceContent
   pub accepted : batch_size_of words ≡ Some b
   pub read : IsRead left left' (Ok trace)
-  pub written : Appends held held' (plan_text no_cores b trace)
+  pub cores : Cores
+  pub written : Appends held held' (plan_text cores b trace)
+  pub slots : EverySlotIsScheduled b trace cores
   pub ledger : AllIsAllocatedOrPending b trace
 
 pub record BeginsPlan (words : List (List ℕ)) (left left' held held' : Option (List ℕ)) : Type 0 where
@@ -44,7 +48,9 @@ pub record BeginsPlan (words : List (List ℕ)) (left left' held held' : Option 
   pub trace : TraceContent
   pub accepted : batch_size_of words ≡ Some b
   pub read : IsRead left left' (Ok trace)
-  pub written : AppendsFront held held' (plan_text no_cores b trace)
+  pub cores : Cores
+  pub written : AppendsFront held held' (plan_text cores b trace)
+  pub slots : EverySlotIsScheduled b trace cores
 
 -- a row of the trace is faulty, and the first such row is this one
 pub record HasFaultyRow (left left' : Option (List ℕ)) (row : ℕ) (fault : Fault) : Type 0 where

@@ -1,5 +1,5 @@
 -- What is kept of the rounds so far: the slots that were asked for of each flow, and the demand list that they left.
-use Rattle.std.specs.Prelude.{◌≡◌, ◌<◌, ℕ, ◌+◌, ◌*◌, List, length, slice_index, All, sum_by, if◌then◌else◌}
+use Rattle.std.specs.Prelude.{◌≡◌, ◌<◌, ℕ, ◌+◌, ◌*◌, List, length, slice_index, sum_by, if◌then◌else◌}
 use Rattle.greedy_rules.specs.declared.flows.Entry.{Entry}
 use Rattle.greedy_rules.specs.Flows.{same_flow}
 use Rattle.fastpass_run.specs.Sound.{total_asked}
@@ -20,10 +20,6 @@ added_for src dst entry = if same_flow entry.flow (record { src = src; dst = dst
 
 abbrev pub added_in : ℕ → ℕ → List Entry → ℕ
 added_in src dst entries = sum_by (added_for src dst) entries
-
--- the entries are of flows between so many endpoints
-abbrev pub AreAmong : ℕ → List Entry → Type 0
-AreAmong endpoints entries = All (λ entry. (entry.flow.src < endpoints) × (entry.flow.dst < endpoints)) entries
 
 -- the slots of the entries came on top of what the table held
 pub record Adds (endpoints : ℕ) (entries : List Entry) (old new : List ℕ) : Type 0 where

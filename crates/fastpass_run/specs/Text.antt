@@ -10,30 +10,28 @@ use Rattle.greedy_rules.specs.Demands.{item_of, need_in}
 use Rattle.greedy_rules.specs.Slot.{is_taken}
 use Rattle.greedy_rules.specs.Allocation.{slots_of}
 use Rattle.greedy_rules.specs.Schedule.{first_slot, schedule, rest}
+use Rattle.clos_topology.specs.Network.{endpoints_of}
+use Rattle.clos_topology.specs.Links.{CoreOf}
 use Rattle.report_text.specs.declared.line.Line.{Line}
 use Rattle.report_text.specs.declared.line.Line.TheVariants as line
 use Rattle.report_text.specs.Lines.{line_bytes}
 use Rattle.trace_text.specs.Trace.{TraceContent}
 use Rattle.fastpass_run.specs.Batches.{plan_batches}
 
--- the core that a slot's flow takes, where it leaves its rack
+-- for each slot, by its number, the core that each source's packet takes where it leaves its rack
 abbrev pub Cores : Type 0
-Cores = ℕ → Flow → Option ℕ
-
--- one rack has no use for cores
-abbrev pub no_cores : Cores
-no_cores slot flow = None
+Cores = ℕ → CoreOf
 
 abbrev pub entry_line : ℕ → Entry → Line
 entry_line k entry = line.Batch k entry.flow.src entry.flow.dst entry.clear entry.add
 
-abbrev pub slot_line : Cores → ℕ → Flow → Line
-slot_line cores number flow = line.Slot number flow.src flow.dst (cores number flow)
+abbrev pub slot_line : ℕ → CoreOf → Flow → Line
+slot_line number core_of flow = line.Slot number flow.src flow.dst (core_of flow.src)
 
 -- the slots from this number on
 abbrev pub slots_lines : Cores → ℕ → List (List Flow) → List Line
 slots_lines cores number [] = []
-slots_lines cores number (slot ∷ slots) = map (slot_line cores number) slot ++ slots_lines cores (number + 1) slots
+slots_lines cores number (slot ∷ slots) = map (slot_line number (cores number)) slot ++ slots_lines cores (number + 1) slots
 
 -- the slots of batch k among all slots
 abbrev pub slots_of_batch : ℕ → ℕ → List (List Flow) → List (List Flow)
@@ -82,7 +80,7 @@ abbrev pub plan_lines : Cores → ℕ → TraceContent → List Line
 plan_lines cores b trace =
     let batches = plan_batches trace in
     let slots = schedule is_taken b batches in
-    (batches_lines cores b slots 0 batches ++ each_source (flow_lines_of batches slots (rest is_taken b batches)) trace.endpoints 0 trace.endpoints)
+    (batches_lines cores b slots 0 batches ++ each_source (flow_lines_of batches slots (rest is_taken b batches)) (endpoints_of trace.net) 0 (endpoints_of trace.net))
     ++ line.End trace.rounds ∷ []
 
 -- each line with a line feed

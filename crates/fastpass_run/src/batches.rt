@@ -1,9 +1,11 @@
 ghost use Rattle.std.specs.Prelude.{◌≡◌, ◌<◌, ◌+◌, ◌*◌, ◌^◌, ℕ, [], ◌++◌, length, map, take, slice_index, IfOk, OnOk, All};
 ghost use Rattle.std.specs.List.{slice_index_or};
+ghost use Rattle.greedy_rules.specs.Matching.{AreAmong};
+ghost use Rattle.clos_topology.specs.Network.{endpoints_of};
 ghost use Rattle.trace_text.specs.Trace.{asked_at};
 ghost use Rattle.fastpass_run.specs.Sound.{IsSound};
 ghost use Rattle.fastpass_run.specs.Batches.{batch_after, entry_for};
-ghost use Rattle.fastpass_run.specs.Tallies.{Tallies, place_of, added_in, AreAmong, Adds};
+ghost use Rattle.fastpass_run.specs.Tallies.{Tallies, place_of, added_in, Adds};
 
 use greedy_rules::{Batch, Entry, Flow};
 use no_memory::NoMemory;
@@ -29,7 +31,7 @@ pub(crate) fn batch_of(
 ) -> Result<Batch, NoMemory>
     requires sound { IsSound trace.now }
     requires round { round < trace.now.rounds }
-    requires tallies { Tallies trace.now.endpoints (take round trace.now.asked) asked.now }
+    requires tallies { Tallies (endpoints_of trace.now.net) (take round trace.now.asked) asked.now }
     ensures { IfOk result (λ batch. batch ≡ batch_after (take round trace.now.asked) (slice_index_or trace.now.asked round [])) }
 {
     let mut batch = Batch::new(alloc);
@@ -49,8 +51,8 @@ fn add_source(
 ) -> Result<(), NoMemory>
     requires sound { IsSound trace.now }
     requires round { round < trace.now.rounds }
-    requires src { src < trace.now.endpoints }
-    requires tallies { Tallies trace.now.endpoints (take round trace.now.asked) asked.now }
+    requires src { src < endpoints_of trace.now.net }
+    requires tallies { Tallies (endpoints_of trace.now.net) (take round trace.now.asked) asked.now }
     requires earlier { All (λ entry. entry.flow.src < src) batch.old }
     ensures { OnOk result (batch.new ≡ batch.old ++ map (entry_for (take round trace.now.asked) src) (asked_at trace.now round src)) }
 {

@@ -3,7 +3,6 @@
 
 ghost use Rattle.std.specs.Prelude.{◌≡◌, ◌≢◌, ◌⊎◌, ◌↔◌, ◌+◌, ◌≤◌, map, None};
 ghost use Rattle.fp_edge.specs.Faults.{Rose};
-ghost use Rattle.greedy_rules.specs.Matching.{EverySlotIsAMaximalMatching};
 ghost use Rattle.fastpass_run.specs.Words.{batch_size_of};
 ghost use Rattle.fastpass_run.specs.Transfer.{Takes};
 ghost use Rattle.fastpass_run.specs.Run.{ComesTo, Plans, BeginsPlan, FaultyAtSome, IsUnwritten, Notes, Completes};
@@ -20,7 +19,6 @@ mod words;
 
 use crate::outcome::Failure;
 use fp_edge::{Gate, Sink, Source};
-use greedy_rules::every_slot_is_a_maximal_matching;
 use std::alloc::Global;
 use trace_text::{Command, read_trace};
 
@@ -28,20 +26,17 @@ use trace_text::{Command, read_trace};
 /// refused, 2 where a row is faulty, 3 and 4 where a read or a write failed, 5 for want of memory, and 6 where the trace
 /// has more than 67,108,864 bytes; all but 0 write a line to `notes`, whose own faults are passed over.
 pub fn run<R: Sync, S: Source, O: Sink, N: Sink, G: Gate + Sync>(
-    _rt: &R,
+    rt: &R,
     alloc: Global,
     words: &[&str],
     src: &mut S,
     out: &mut O,
     notes: &mut N,
-    _gate: &G,
+    gate: &G,
 ) -> u8
     // What is written.
     ensures planned { result ≡ 0 → Plans (map (λ word. word.now) words.now) (S.left src.old) (S.left src.new) (O.held out.old) (O.held out.new) }
     ensures unwritten { result ≢ 0 → result ≢ 4 → result ≢ 5 → IsUnwritten (O.held out.old) (O.held out.new) (O.faults out.old) (O.faults out.new) }
-
-    // The schedule.
-    ensures schedule { EverySlotIsAMaximalMatching }
 
     // When each status comes.
     ensures statuses { result ≤ 6 }
@@ -58,13 +53,14 @@ pub fn run<R: Sync, S: Source, O: Sink, N: Sink, G: Gate + Sync>(
     // The note.
     ensures noted { ¬ Rose (N.faults notes.old) (N.faults notes.new) → Notes result (S.left src.old) (S.left src.new) (N.held notes.old) (N.held notes.new) }
 {
-    every_slot_is_a_maximal_matching();
-    let outcome = perform(alloc, words, src, out);
+    let outcome = perform(rt, gate, alloc, words, src, out);
     let _ = outcome::note(notes, outcome);
     outcome::status(outcome)
 }
 
-fn perform<S: Source, O: Sink>(
+fn perform<R: Sync, S: Source, O: Sink, G: Gate + Sync>(
+    rt: &R,
+    gate: &G,
     alloc: Global,
     words: &[&str],
     src: &mut S,
@@ -77,6 +73,6 @@ fn perform<S: Source, O: Sink>(
     };
     let text = transfer::read_all(alloc, src)?;
     let trace = read_trace(alloc, &text, Command::Plan)?;
-    plan::plan(alloc, &trace, b, out)?;
+    plan::plan(rt, gate, alloc, &trace, b, out)?;
     Ok(())
 }

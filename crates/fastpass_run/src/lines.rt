@@ -1,12 +1,15 @@
 ghost use Rattle.std.specs.Prelude.{◌≡◌, ◌<◌, ◌≤◌, ◌+◌, ◌^◌, length, map, take};
 ghost use Rattle.greedy_rules.specs.Schedule.{slot_in};
-ghost use Rattle.fastpass_run.specs.Text.{text_of, entry_line, slot_line, slots_lines, no_cores};
+ghost use Rattle.path_workers.specs.CoreTable.{core_of};
+ghost use Rattle.fastpass_run.specs.Text.{text_of, entry_line, slot_line, slots_lines};
+ghost use Rattle.fastpass_run.specs.Scheduled.{cores_from};
 ghost use Rattle.fastpass_run.specs.Flows.{flows_at};
 ghost use Rattle.fastpass_run.specs.Output.{Passes};
 
 use crate::output::{Stop, put_line};
 use fp_edge::Sink;
 use greedy_rules::{Batch, Entry, SlotTable};
+use path_workers::CoreTable;
 use report_text::Line;
 
 fn line_of(round: u32, entry: Entry) -> Line
@@ -41,13 +44,16 @@ fn put_source<K: Sink>(
     sink: &mut K,
     gathered: &mut Vec<u8>,
     table: &SlotTable,
+    cores: &CoreTable,
     place: u16,
     number: u32,
     src: u16,
 ) -> Result<(), Stop>
     requires place { place < length table.now.slots }
     requires src { src < table.now.endpoints }
-    ensures { Passes (K.held sink.old) (K.held sink.new) (K.faults sink.old) (K.faults sink.new) gathered.old.items gathered.new.items (text_of (map (slot_line no_cores number) (flows_at (slot_in table.now.slots place) src))) result }
+    requires core_place { place < cores.now.slots }
+    requires core_src { src < cores.now.endpoints }
+    ensures { Passes (K.held sink.old) (K.held sink.new) (K.faults sink.old) (K.faults sink.new) gathered.old.items gathered.new.items (text_of (map (slot_line number (core_of cores.now place)) (flows_at (slot_in table.now.slots place) src))) result }
 {
     match table.to(place, src) {
         Some(dst) => put_line(
@@ -57,7 +63,7 @@ fn put_source<K: Sink>(
                 slot: number,
                 src,
                 dst,
-                core: None,
+                core: cores.core(place, src),
             },
         ),
         None => Ok(()),
@@ -69,36 +75,43 @@ fn put_slot<K: Sink>(
     sink: &mut K,
     gathered: &mut Vec<u8>,
     table: &SlotTable,
+    cores: &CoreTable,
     place: u16,
     number: u32,
 ) -> Result<(), Stop>
-    requires { place < length table.now.slots }
-    ensures { Passes (K.held sink.old) (K.held sink.new) (K.faults sink.old) (K.faults sink.new) gathered.old.items gathered.new.items (text_of (map (slot_line no_cores number) (slot_in table.now.slots place))) result }
+    requires place { place < length table.now.slots }
+    requires core_place { place < cores.now.slots }
+    requires core_endpoints { table.now.endpoints ≤ cores.now.endpoints }
+    ensures { Passes (K.held sink.old) (K.held sink.new) (K.faults sink.old) (K.faults sink.new) gathered.old.items gathered.new.items (text_of (map (slot_line number (core_of cores.now place)) (slot_in table.now.slots place))) result }
 {
     let _slots = table.slots();
     for src in 0..table.endpoints() {
-        put_source(sink, gathered, table, place, number, src)?;
+        put_source(sink, gathered, table, cores, place, number, src)?;
     }
     Ok(())
 }
 
-/// The packets of the first slots of the table, of which the first has this number.
+/// The packets of the first slots of the tables, of which the first has this number.
 pub(crate) fn put_slots<K: Sink>(
     sink: &mut K,
     gathered: &mut Vec<u8>,
     table: &SlotTable,
+    cores: &CoreTable,
     count: u8,
     first: u32,
 ) -> Result<(), Stop>
     requires count { count ≤ length table.now.slots }
     requires numbers { first + count ≤ 2 ^ 32 }
-    ensures { Passes (K.held sink.old) (K.held sink.new) (K.faults sink.old) (K.faults sink.new) gathered.old.items gathered.new.items (text_of (slots_lines no_cores first (take count table.now.slots))) result }
+    requires core_slots { count ≤ cores.now.slots }
+    requires core_endpoints { table.now.endpoints ≤ cores.now.endpoints }
+    ensures { Passes (K.held sink.old) (K.held sink.new) (K.faults sink.old) (K.faults sink.new) gathered.old.items gathered.new.items (text_of (slots_lines (cores_from first cores.now) first (take count table.now.slots))) result }
 {
     for place in 0..count {
         put_slot(
             sink,
             gathered,
             table,
+            cores,
             u16::from(place),
             first + u32::from(place),
         )?;

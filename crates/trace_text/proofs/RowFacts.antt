@@ -1,18 +1,28 @@
 -- What rows say together, where one row more stands at their end.
-use Rattle.std.proofs.Common.{◌≡◌, ℕ, ◌+◌, ◌≤◌, max, List, [], ◌∷◌, ◌++◌, length, Bool, true, false, Option, Some, None, refl, ap, ◌∙◌, arith, length-append}
+use Rattle.std.proofs.Common.{◌≡◌, ℕ, ◌+◌, ◌<◌, ◌≤◌, max, List, [], ◌∷◌, ◌++◌, length, Bool, true, false, Option, Some, None, IsSome, refl, ap, ◌∙◌, arith, length-append}
 use Rattle.std.specs.Prelude.{◌==◌, sum_by}
 use Rattle.std.specs.Option.{option_or}
 use Rattle.std.proofs.lemmas.List.Sums.{sum_by_push}
+use Rattle.std.proofs.lemmas.Bool.{false≢true}
 use Rattle.std.proofs.lemmas.Bool.Decides.{nat_tests}
+use Rattle.clos_topology.specs.Network.{Network}
 use Rattle.trace_text.specs.Rows.{Row, Ask}
-use Rattle.trace_text.specs.Earlier.{endpoints_in, endpoints_of, greatest_round, end_in, end_of, named_round, slots_of}
+use Rattle.trace_text.specs.Earlier.{greatest_round, end_in, end_of, named_round, slots_of}
+use Rattle.trace_text.specs.Standing.{IsNetOf, endpoints_kept}
 
 pub length-more : (before : List Row) (row : Row) → length (before ++ row ∷ []) ≡ length before + 1
 length-more before row = omega (arith, length-append before (row ∷ []))
 
-pub endpoints_of-more : (before : List Row) (row : Row) → endpoints_in row ≡ 0 → endpoints_of (before ++ row ∷ []) ≡ endpoints_of before
-endpoints_of-more [] row none = none
-endpoints_of-more (first ∷ rows) row none = refl
+-- a row after the first tells nothing of the net
+pub net-more : (before : List Row) (row : Row) (net : Option Network) → IsSome net → IsNetOf before net → IsNetOf (before ++ row ∷ []) net
+net-more before row None some is = absurd (false≢true some)
+net-more [] row (Some net) some is = absurd (omega (arith, is.0))
+net-more (first ∷ rows) row (Some net) some is = (omega (arith, length-append rows (row ∷ [])), is.1, is.2)
+
+-- where there is an endpoint, there is a net
+pub net-some : (net : Option Network) (endpoint : ℕ) → endpoint < endpoints_kept net → IsSome net
+net-some None endpoint below = absurd (omega arith)
+net-some (Some net) endpoint below = refl
 
 pub greatest_round-more : (before : List Row) (row : Row) → greatest_round (before ++ row ∷ []) ≡ max (greatest_round before) (named_round row)
 greatest_round-more [] row = omega arith

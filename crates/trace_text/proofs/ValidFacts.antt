@@ -9,10 +9,12 @@ use Rattle.std.proofs.lemmas.List.FromFn.{get_or-map-range_with_len, length-map-
 use Rattle.std.proofs.lemmas.List.Sums.{sum_by-cons}
 use Rattle.std.proofs.Math.ListN.{get_or-eq_default}
 use Rattle.std.proofs.lemmas.Bool.{ltb-false}
+use Rattle.clos_topology.specs.Network.{Network, endpoints_of}
 use Rattle.trace_text.specs.Rows.{Row, Net, Ask, Meets, Boot, Raw, End}
 use Rattle.trace_text.specs.Earlier.{slots_of, slots_in_round}
 use Rattle.trace_text.specs.Trace.{asked_at, content_by, each_below, some_below}
 use Rattle.trace_text.specs.Valid.{AreAsked, IsTrace, amount_for}
+use Rattle.trace_text.specs.Standing.{IsWhole}
 use Rattle.trace_text.proofs.ContentFacts.{asked_at-content_by}
 use mathlib.Core.Path.{fun_ext}
 
@@ -96,17 +98,20 @@ some-asked endpoints src f none = record {
 }
 
 -- outside the net and the rounds nothing is asked for
-asked_at-cases : (endpoints rounds : ℕ) (f : ℕ → ℕ → ℕ → ℕ) (round src : ℕ) (P : List (ℕ × ℕ) → Type 0) → P [] → P (some_below endpoints (f round src)) → P (asked_at (content_by endpoints rounds f) round src)
-asked_at-cases endpoints rounds f round src P none some = by (nat_lt round rounds) refl (nat_lt src endpoints) refl
+asked_at-cases : (net : Network) (rounds : ℕ) (f : ℕ → ℕ → ℕ → ℕ) (round src : ℕ) (P : List (ℕ × ℕ) → Type 0) → P [] → P (some_below (endpoints_of net) (f round src)) → P (asked_at (content_by net rounds f) round src)
+asked_at-cases net rounds f round src P none some = by (nat_lt round rounds) refl (nat_lt src (endpoints_of net)) refl
   where
+    endpoints : ℕ
+    endpoints = endpoints_of net
+
     row : ℕ → List (List (ℕ × ℕ))
     row r = each_below endpoints (λ s. some_below endpoints (f r s))
 
-    by : (a : Bool) → nat_lt round rounds ≡ a → (b : Bool) → nat_lt src endpoints ≡ b → P (asked_at (content_by endpoints rounds f) round src)
+    by : (a : Bool) → nat_lt round rounds ≡ a → (b : Bool) → nat_lt src endpoints ≡ b → P (asked_at (content_by net rounds f) round src)
     by true e true g =
         let low : round < rounds = grind (arith, nat_tests) in
         let low2 : src < endpoints = grind (arith, nat_tests) in
-        subst P (sym (asked_at-content_by endpoints rounds f round src low low2)) some
+        subst P (sym (asked_at-content_by net rounds f round src low low2)) some
     by true e false g =
         let low : round < rounds = grind (arith, nat_tests) in
         let high : length (row round) ≤ src = omega (arith, length-map-range_with_len (λ s. some_below endpoints (f round s)) 0 endpoints, ltb-false src endpoints g) in
@@ -177,20 +182,24 @@ none-asked endpoints src = record { rising = λ k lt. absurd (omega arith); each
 abbrev row : ℕ → (ℕ → ℕ → ℕ → ℕ) → ℕ → List (List (ℕ × ℕ))
 row endpoints f round = each_below endpoints (λ src. some_below endpoints (f round src))
 
-pub content_by-valid : (endpoints rounds : ℕ) (f : ℕ → ℕ → ℕ → ℕ) (rows : List Row) → endpoints ≤ 256 → rounds ≤ 100000 → ((round src : ℕ) → f round src src ≡ 0)
-    → ((round src dst : ℕ) → f round src dst ≡ sum_by (slots_in_round round src dst) rows) → ((src dst : ℕ) → sum_by (slots_of src dst) rows ≤ 100000000) → IsTrace (content_by endpoints rounds f)
-content_by-valid endpoints rounds f rows few short own is bounded = record {
-  few = few;
+pub content_by-valid : (net : Network) (rounds : ℕ) (f : ℕ → ℕ → ℕ → ℕ) (rows : List Row) → IsWhole net → rounds ≤ 100000 → ((round src : ℕ) → f round src src ≡ 0)
+    → ((round src dst : ℕ) → f round src dst ≡ sum_by (slots_in_round round src dst) rows) → ((src dst : ℕ) → sum_by (slots_of src dst) rows ≤ 100000000) → IsTrace (content_by net rounds f)
+content_by-valid net rounds f rows whole short own is bounded = record {
+  net = whole.0;
+  enough = whole.1;
   rounds = short;
   by_round = length-map-range_with_len (row endpoints f) 0 rounds;
   by_source = λ k d lt.
       let low : k < rounds = omega (arith, length-map-range_with_len (row endpoints f) 0 rounds) in
       ap length (get_or-map-range_with_len (row endpoints f) 0 rounds k k d low (omega arith)) ∙ length-map-range_with_len (λ src. some_below endpoints (f k src)) 0 endpoints;
-  asked = λ round src. asked_at-cases endpoints rounds f round src (AreAsked endpoints src) (none-asked endpoints src) (some-asked endpoints src (f round src) (own round src));
+  asked = λ round src. asked_at-cases net rounds f round src (AreAsked endpoints src) (none-asked endpoints src) (some-asked endpoints src (f round src) (own round src));
   bounded = λ round src dst.
-      let below : sum_by (λ r. amount_for dst (asked_at (content_by endpoints rounds f) r src)) (range_with_len 0 round) ≤ sum_by (λ r. f r src dst) (range_with_len 0 round) =
-      sum_by-below _ _ (range_with_len 0 round) (λ r. asked_at-cases endpoints rounds f r src (λ l. amount_for dst l ≤ f r src dst) (omega arith) (some-amount endpoints 0 (f r src) dst).0) in
+      let below : sum_by (λ r. amount_for dst (asked_at (content_by net rounds f) r src)) (range_with_len 0 round) ≤ sum_by (λ r. f r src dst) (range_with_len 0 round) =
+      sum_by-below _ _ (range_with_len 0 round) (λ r. asked_at-cases net rounds f r src (λ l. amount_for dst l ≤ f r src dst) (omega arith) (some-amount endpoints 0 (f r src) dst).0) in
       let same : sum_by (λ r. f r src dst) (range_with_len 0 round) ≡ sum_by (λ r. sum_by (slots_in_round r src dst) rows) (range_with_len 0 round) =
       ap (λ g. sum_by g (range_with_len 0 round)) (fun_ext (λ r. is r src dst)) in
       omega (arith, below, same, rounds-le round src dst rows, bounded src dst);
 }
+  where
+    endpoints : ℕ
+    endpoints = endpoints_of net

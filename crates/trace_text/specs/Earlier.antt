@@ -1,17 +1,22 @@
 -- What the rows of a trace up to some row say together. This project's own profile.
-use Rattle.std.specs.Prelude.{ℕ, ◌*◌, ◌==◌, ◌&&◌, max, List, [], ◌∷◌, Bool, true, false, not, Option, Some, None, if◌then◌else◌}
+use Rattle.std.specs.Prelude.{ℕ, ◌==◌, ◌&&◌, max, List, [], ◌∷◌, Bool, true, false, not, Option, Some, None, if◌then◌else◌}
 use Rattle.std.specs.Option.{option_or}
+use Rattle.clos_topology.specs.Network.{Network}
 use Rattle.trace_text.specs.Rows.{Row, Net, Ask, Meets, Boot, Raw, End}
 
--- the endpoints of a net
-abbrev pub endpoints_in : Row → ℕ
-endpoints_in (Net racks hosts cores) = racks * hosts
-endpoints_in row = 0
+-- no racks, no hosts and no cores
+abbrev pub no_net : Network
+no_net = record { racks = 0; hosts = 0; cores = 0 }
 
--- how many endpoints the net of the first row has
-abbrev pub endpoints_of : List Row → ℕ
-endpoints_of [] = 0
-endpoints_of (row ∷ rows) = endpoints_in row
+-- the net that a row tells
+abbrev pub net_in : Row → Network
+net_in (Net racks hosts cores) = record { racks = racks; hosts = hosts; cores = cores }
+net_in row = no_net
+
+-- the net of the first row
+abbrev pub net_of : List Row → Network
+net_of [] = no_net
+net_of (row ∷ rows) = net_in row
 
 -- the round that a row names, or 0
 abbrev pub named_round : Row → ℕ

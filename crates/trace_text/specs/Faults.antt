@@ -1,12 +1,14 @@
 -- When a row of a trace is faulty: each fault is a condition on the row and the rows before it, and the first whose
 -- condition holds is the row's. This project's own profile.
-use Rattle.std.specs.Prelude.{ℕ, ◌+◌, ◌*◌, ◌==◌, ◌&&◌, ◌||◌, List, length, Bool, true, false, not, nat_lt, nat_le, Option, Some, None, is_some, Result, Ok, Err, if◌then◌else◌, codes, sum_by}
+use Rattle.std.specs.Prelude.{ℕ, ◌+◌, ◌==◌, ◌&&◌, ◌||◌, List, length, Bool, true, false, not, nat_lt, nat_le, Option, Some, None, is_some, Result, Ok, Err, if◌then◌else◌, codes, sum_by}
 use Rattle.std.specs.List.{list_any}
 use Rattle.std.specs.Str.{bytes_eq}
+use Rattle.clos_topology.specs.Network.{endpoints_of}
+use Rattle.clos_topology.specs.Limits as limits
 use Rattle.trace_text.specs.Fields.{Record, field}
 use Rattle.trace_text.specs.Rows.{Row, Net, Ask, Meets, Boot, Raw, End, Fate, Hold, kind_of, field_count, is_readable, row_of}
-use Rattle.trace_text.specs.Stage.{is_here}
-use Rattle.trace_text.specs.Earlier.{endpoints_of, named_round, greatest_round, end_of, slots_of, gives_fate}
+use Rattle.trace_text.specs.Stage.{takes_kind}
+use Rattle.trace_text.specs.Earlier.{net_of, named_round, greatest_round, end_of, slots_of, gives_fate}
 use Rattle.trace_text.specs.declared.command.Command.{Command}
 use Rattle.trace_text.specs.declared.kind.Kind.{Kind}
 use Rattle.trace_text.specs.declared.fault.Fault.{Fault}
@@ -25,7 +27,7 @@ is_fate fate = true
 
 -- each field is in its range, in a net of so many endpoints; a byte of a packet takes two digits
 abbrev pub is_in_range : ℕ → Row → Bool
-is_in_range endpoints (Net racks hosts cores) = is_between 1 64 racks && is_between 1 64 hosts && is_between 1 64 cores && nat_le (racks * hosts) 256
+is_in_range endpoints (Net racks hosts cores) = limits.is_in_range racks hosts cores
 is_in_range endpoints (Ask round src dst slots) = is_round round && nat_lt src endpoints && nat_lt dst endpoints && is_between 1 100000000 slots
 is_in_range endpoints (Meets round endpoint down fate) = is_round round && nat_lt endpoint endpoints && is_fate fate
 is_in_range endpoints (Boot round endpoint) = is_round round && nat_lt endpoint endpoints
@@ -34,7 +36,7 @@ is_in_range endpoints (End rounds) = is_between 1 100000 rounds
 
 -- a net of several racks has more hosts in a rack than cores
 abbrev pub lacks_cores : Row → Bool
-lacks_cores (Net racks hosts cores) = nat_le 2 racks && nat_lt cores hosts
+lacks_cores (Net racks hosts cores) = limits.lacks_cores racks hosts cores
 lacks_cores row = false
 
 -- an endpoint asks for itself
@@ -66,7 +68,7 @@ has_two_fates before row = false
 -- the fault of a row that could be read, or the row
 unfoldable pub checked : List Row → Row → Result Row Fault
 checked before row =
-    if not (is_in_range (endpoints_of before) row) then Err fault.Range
+    if not (is_in_range (endpoints_of (net_of before)) row) then Err fault.Range
     else if lacks_cores row then Err fault.Cores
     else if is_self_flow row then Err fault.SelfFlow
     else if is_out_of_order before row then Err fault.Order
@@ -77,7 +79,7 @@ checked before row =
 -- the fault of a row of this kind, or the row
 unfoldable pub read_kind : Command → List Row → Record → Kind → Result Row Fault
 read_kind command before fields k =
-    if not (is_here command k fields) then Err fault.NotHere
+    if not (takes_kind command k) then Err fault.NotHere
     else if not (length fields == field_count k) then Err fault.Fields
     else if not (is_readable k fields) then Err fault.Number
     else checked before (row_of k fields)

@@ -1,10 +1,11 @@
 -- A text as a trace: its rows, or the first faulty one. This project's own profile.
 use Rattle.std.specs.Prelude.{◌≡◌, ⊤, ℕ, ◌+◌, List, [], ◌∷◌, ◌++◌, length, Option, Some, None, Result, Ok, Err, nat_lt, filter, sum_by, map, slice_index_or, unwrap_or}
 use Rattle.std.specs.List.{range_with_len}
+use Rattle.clos_topology.specs.Network.{Network, endpoints_of}
 use Rattle.csv.specs.Reading.{default_config, records, strip_bom}
 use Rattle.trace_text.specs.Fields.{Record}
 use Rattle.trace_text.specs.Rows.{Row}
-use Rattle.trace_text.specs.Earlier.{endpoints_of, end_of, slots_in_round}
+use Rattle.trace_text.specs.Earlier.{net_of, end_of, slots_in_round}
 use Rattle.trace_text.specs.Faults.{read_row}
 use Rattle.trace_text.specs.declared.command.Command.{Command}
 use Rattle.trace_text.specs.declared.fault.Fault.{Fault}
@@ -46,10 +47,10 @@ each_below bound f = map f (range_with_len 0 bound)
 abbrev pub some_below : ℕ → (ℕ → ℕ) → List (ℕ × ℕ)
 some_below bound amount = filter (λ p. nat_lt 0 p.1) (each_below bound (λ dst. (dst, amount dst)))
 
--- what a trace holds: how many endpoints and rounds it has, and for each round and source the destinations that are
--- asked for, rising, each with the sum of its asks in the round
+-- what a trace holds: its net, how many rounds it has, and for each round and source the destinations that are asked
+-- for, rising, each with the sum of its asks in the round
 pub record TraceContent : Type 0 where
-  pub endpoints : ℕ
+  pub net : Network
   pub rounds : ℕ
   pub asked : List (List (List (ℕ × ℕ)))
 
@@ -58,16 +59,16 @@ abbrev pub asked_at : TraceContent → ℕ → ℕ → List (ℕ × ℕ)
 asked_at trace round src = slice_index_or (slice_index_or trace.asked round []) src []
 
 -- a trace in which so much is asked for in a round by a source for a destination
-abbrev pub content_by : ℕ → ℕ → (ℕ → ℕ → ℕ → ℕ) → TraceContent
-content_by endpoints rounds amount = record {
-  endpoints = endpoints;
+abbrev pub content_by : Network → ℕ → (ℕ → ℕ → ℕ → ℕ) → TraceContent
+content_by net rounds amount = record {
+  net = net;
   rounds = rounds;
-  asked = each_below rounds (λ round. each_below endpoints (λ src. some_below endpoints (amount round src)));
+  asked = each_below rounds (λ round. each_below (endpoints_of net) (λ src. some_below (endpoints_of net) (amount round src)));
 }
 
 -- what these rows are together
 abbrev pub content_of : List Row → TraceContent
-content_of rows = content_by (endpoints_of rows) (unwrap_or (end_of rows) 0) (λ round src dst. sum_by (slots_in_round round src dst) rows)
+content_of rows = content_by (net_of rows) (unwrap_or (end_of rows) 0) (λ round src dst. sum_by (slots_in_round round src dst) rows)
 
 abbrev pub content_or_fault : Result (List Row) FaultyRow → Result TraceContent FaultyRow
 content_or_fault (Ok rows) = Ok (content_of rows)

@@ -2,6 +2,8 @@
 use Rattle.std.specs.Prelude.{◌≡◌, ◌≢◌, ℕ, ◌<◌, ◌≤◌, ◌==◌, List, length, map, sum_by, All, if◌then◌else◌}
 use Rattle.std.specs.List.{range_with_len}
 use Rattle.std.specs.List.Sorted.{IsStrictlyIncreasing}
+use Rattle.clos_topology.specs.Network.{endpoints_of}
+use Rattle.clos_topology.specs.Limits.{IsNetwork, HasEnoughCores}
 use Rattle.trace_text.specs.Trace.{TraceContent, asked_at}
 
 -- the destinations rise, each is an endpoint of the net other than the source, and some slots are asked for
@@ -19,9 +21,10 @@ asked_before trace round src dst = sum_by (λ r. amount_for dst (asked_at trace 
 
 -- the limits of a trace, with a list for each round and source, and what is asked for within them
 pub record IsTrace (trace : TraceContent) : Type 0 where
-  pub few : trace.endpoints ≤ 256
+  pub net : IsNetwork trace.net
+  pub enough : HasEnoughCores trace.net
   pub rounds : trace.rounds ≤ 100000
   pub by_round : length trace.asked ≡ trace.rounds
-  pub by_source : All (λ round. length round ≡ trace.endpoints) trace.asked
-  pub asked : (round src : ℕ) → AreAsked trace.endpoints src (asked_at trace round src)
+  pub by_source : All (λ round. length round ≡ endpoints_of trace.net) trace.asked
+  pub asked : (round src : ℕ) → AreAsked (endpoints_of trace.net) src (asked_at trace round src)
   pub bounded : (round src dst : ℕ) → asked_before trace round src dst ≤ 100000000

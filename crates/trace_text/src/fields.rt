@@ -1,9 +1,7 @@
 // The fields of a row.
-ghost use Rattle.std.specs.Prelude.{◌≡◌, true, false, not, ◌&&◌, nat_lt, MatchOption};
+ghost use Rattle.std.specs.Prelude.{◌≡◌, true, false, MatchOption};
 ghost use Rattle.csv.specs.Records.{fields_of};
 ghost use Rattle.trace_text.specs.Fields.{field, has_number, number_at};
-ghost use Rattle.trace_text.specs.Stage.{takes_net};
-ghost use Rattle.trace_text.specs.declared.kind.Kind.TheVariants as kind;
 
 use crate::number::read_number;
 use csv::ByteRecord;
@@ -23,14 +21,4 @@ pub fn number_at(fields: &ByteRecord, at: usize) -> Option<u32>
     ensures { MatchOption result (has_number (fields_of fields.now) at ≡ false) (λ n. (has_number (fields_of fields.now) at ≡ true) × (n ≡ number_at (fields_of fields.now) at)) }
 {
     read_number(field(fields, at))
-}
-
-/// Whether a net is one of racks that are not built yet.
-pub fn has_many_racks(fields: &ByteRecord) -> bool
-    ensures { takes_net kind.Net (fields_of fields.now) ≡ not result }
-{
-    match number_at(fields, 1) {
-        Some(racks) => racks > 1,
-        None => false,
-    }
 }

@@ -33,18 +33,17 @@ fn finish(rows: Rows) -> Result<Trace, TraceRefused>
     requires room { rows.count ≤ 67108864 }
     ensures { Finishes rows result }
 {
-    if rows.count == 0 {
+    let Some(net) = rows.net else {
         return Err(TraceRefused::Row {
             row: 1,
             fault: Fault::NoNet,
         });
-    }
+    };
     let Some(rounds) = rows.end else {
         return Err(TraceRefused::Row {
             row: rows.count + 1,
             fault: Fault::NoEnd,
         });
     };
-    let endpoints = rows.endpoints as u16;
-    Ok(Trace::of(rows.alloc, endpoints, rounds, rows.asks)?)
+    Ok(Trace::of(rows.alloc, net, rounds, rows.asks)?)
 }

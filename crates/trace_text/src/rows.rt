@@ -1,11 +1,10 @@
 // The rows of a trace so far, and the faults that rest on them.
-ghost use Rattle.std.specs.Prelude.{◌≡◌, ◌+◌, ◌*◌, ◌<◌, ◌≤◌, ◌∷◌, [], ◌++◌, List, ℕ, true, not, nat_lt, nat_le, is_some, slice_index, ◌||◌, IfNone, OnOk, IfOk};
-ghost use Rattle.std.specs.Bool.{OnTrue};
+ghost use Rattle.std.specs.Prelude.{◌≡◌, ◌+◌, ◌*◌, ◌<◌, ◌≤◌, ◌∷◌, [], ◌++◌, List, length, true, nat_lt, is_some, slice_index, ◌||◌, IfNone, IsSome, OnOk, IfOk};
 ghost use Rattle.csv.specs.Records.{fields_of};
 ghost use Rattle.trace_text.specs.Rows.{Row};
 ghost use Rattle.trace_text.specs.Rows as row;
-ghost use Rattle.trace_text.specs.Faults.{read_row, checked, is_in_range, lacks_cores};
-ghost use Rattle.trace_text.specs.Standing.{StandsFor, Stands, IsAllowed, row_value, as_rows, row_unless, TakesRow};
+ghost use Rattle.trace_text.specs.Faults.{read_row, checked, is_in_range};
+ghost use Rattle.trace_text.specs.Standing.{StandsFor, Stands, IsAllowed, IsWhole, HasWholeNet, is_net, endpoints_kept, row_value, as_rows, row_unless, TakesRow};
 ghost use Rattle.trace_text.specs.declared.plan_row.PlanRow.TheVariants as plan;
 
 use crate::ask::Ask;
@@ -13,6 +12,7 @@ use crate::fields::field;
 use crate::kind::Kind;
 use crate::plan_row::PlanRow;
 use crate::{Command, Fault, TraceRefused};
+use clos_topology::Net;
 use csv::ByteRecord;
 use no_memory::NoMemory;
 use std::alloc::Global;
@@ -21,8 +21,6 @@ const LAST_ROUND: u32 = 99_999;
 
 const MOST_ROUNDS: u32 = 100_000;
 
-const MOST_ENDPOINTS: u32 = 256;
-
 const MOST_ASKED: u32 = 100_000_000;
 
 /// What the rows so far say together.
@@ -30,7 +28,7 @@ const MOST_ASKED: u32 = 100_000_000;
 pub struct Rows {
     pub alloc: Global,
     pub count: u32,
-    pub endpoints: u32,
+    pub net: Option<Net>,
     pub round: u32,
     pub end: Option<u32>,
     // What each flow asked for, by source and then destination.
@@ -45,7 +43,7 @@ impl Rows {
         Rows {
             alloc,
             count: 0,
-            endpoints: 0,
+            net: None,
             round: 0,
             end: None,
             totals: Vec::new(alloc),
@@ -68,7 +66,7 @@ impl Rows {
             return Err(Fault::Kind);
         };
         let row = PlanRow::read(command, kind, fields)?;
-        match self.fault_of(row) {
+        match self.fault_of(&row) {
             Some(fault) => Err(fault),
             None => Ok(row),
         }
@@ -90,39 +88,32 @@ impl Rows {
     }
 
     // What is wrong with a row that could be read.
-    fn fault_of(&self, row: PlanRow) -> Option<Fault>
-        requires { Stands self.now }
-        ensures fault { (before : List Row) → StandsFor before self.now → checked before (row_value row) ≡ row_unless (row_value row) result }
-        ensures allowed { IfNone result (IsAllowed self.now row) }
+    fn fault_of(&self, row: &PlanRow) -> Option<Fault>
+        requires stands { Stands self.now }
+        requires whole { HasWholeNet row.now }
+        requires first { IfNone self.now.net (is_net row.now ≡ true) }
+        ensures fault { (before : List Row) → StandsFor before self.now → checked before (row_value row.now) ≡ row_unless (row_value row.now) result }
+        ensures allowed { IfNone result (IsAllowed self.now row.now) }
     {
         match row {
-            PlanRow::Net {
-                racks,
-                hosts,
-                cores,
-            } => self.net_fault(racks, hosts, cores),
+            PlanRow::Net(net) => self.net_fault(net),
             PlanRow::Ask {
                 round,
                 src,
                 dst,
                 slots,
-            } => self.ask_fault(round, src, dst, slots),
-            PlanRow::End { rounds } => self.end_fault(rounds),
+            } => self.ask_fault(*round, *src, *dst, *slots),
+            PlanRow::End { rounds } => self.end_fault(*rounds),
         }
     }
 
     #[tactic(auto, unfolding(crate::specs::Faults::checked))]
-    fn net_fault(&self, racks: u32, hosts: u32, cores: u32) -> Option<Fault>
-        ensures fault { (before : List Row) → StandsFor before self.now → checked before (row.Net racks hosts cores) ≡ row_unless (row.Net racks hosts cores) result }
-        ensures allowed { IfNone result (IsAllowed self.now (plan.Net racks hosts cores)) }
+    fn net_fault(&self, net: &Net) -> Option<Fault>
+        requires { IsWhole net.now }
+        ensures fault { (before : List Row) → StandsFor before self.now → checked before (row.Net net.now.racks net.now.hosts net.now.cores) ≡ row_unless (row.Net net.now.racks net.now.hosts net.now.cores) result }
+        ensures allowed { IfNone result (IsAllowed self.now (plan.Net net.now)) }
     {
-        if !is_net(racks, hosts, cores) {
-            return Some(Fault::Range);
-        }
-        if lacks_cores(racks, hosts, cores) {
-            return Some(Fault::Cores);
-        }
-        if self.count > 0 {
+        if self.net.is_some() {
             return Some(Fault::Order);
         }
         None
@@ -151,6 +142,7 @@ impl Rows {
 
     #[tactic(auto, unfolding(crate::specs::Faults::checked))]
     fn end_fault(&self, rounds: u32) -> Option<Fault>
+        requires { IsSome self.now.net }
         ensures allowed { IfNone result (IsAllowed self.now (plan.End rounds)) }
         ensures fault { (before : List Row) → StandsFor before self.now → checked before (row.End rounds) ≡ row_unless (row.End rounds) result }
     {
@@ -171,7 +163,7 @@ impl Rows {
         ensures { (before : List Row) → StandsFor before self.old → OnOk result (StandsFor (before ++ row_value row ∷ []) self.new) }
     {
         match row {
-            PlanRow::Net { racks, hosts, .. } => self.push_net(racks, hosts),
+            PlanRow::Net(net) => self.push_net(net),
             PlanRow::Ask {
                 round,
                 src,
@@ -186,15 +178,13 @@ impl Rows {
         }
     }
 
-    fn push_net(&mut self, racks: u32, hosts: u32) -> Result<(), NoMemory>
-        requires first { self.old.count ≡ 0 }
-        requires few { racks * hosts ≤ 256 }
-        ensures { (before : List Row) (cores : ℕ) → StandsFor before self.old → OnOk result (StandsFor (before ++ row.Net racks hosts cores ∷ []) self.new) }
+    fn push_net(&mut self, net: Net) -> Result<(), NoMemory>
+        requires { IsAllowed self.old (plan.Net net) }
+        ensures { (before : List Row) → StandsFor before self.old → OnOk result (StandsFor (before ++ row.Net net.racks net.hosts net.cores ∷ []) self.new) }
     {
-        let endpoints = racks * hosts;
-        let flows = endpoints as usize * endpoints as usize;
-        self.totals = vec![in self.alloc; 0; flows]?;
-        self.endpoints = endpoints;
+        let endpoints = usize::from(net.endpoints());
+        self.totals = vec![in self.alloc; 0; endpoints * endpoints]?;
+        self.net = Some(net);
         self.count = 1;
         Ok(())
     }
@@ -205,13 +195,13 @@ impl Rows {
         requires room { self.old.count < 4294967295 }
         ensures { (before : List Row) → StandsFor before self.old → OnOk result (StandsFor (before ++ row.Ask round src dst slots ∷ []) self.new) }
     {
+        let at = self.place_of(src, dst);
         self.asks.push(Ask {
             round,
             src: src as u16,
             dst: dst as u16,
             slots,
         })?;
-        let at = src as usize * self.endpoints as usize + dst as usize;
         self.totals[at] += slots;
         self.round = self.round.max(round);
         self.count += 1;
@@ -219,11 +209,12 @@ impl Rows {
     }
 
     fn is_ask(&self, round: u32, src: u32, dst: u32, slots: u32) -> bool
-        ensures { result ≡ is_in_range self.now.endpoints (row.Ask round src dst slots) }
+        ensures { result ≡ is_in_range (endpoints_kept self.now.net) (row.Ask round src dst slots) }
     {
+        let endpoints = self.endpoints();
         round <= LAST_ROUND
-            && src < self.endpoints
-            && dst < self.endpoints
+            && src < endpoints
+            && dst < endpoints
             && 1 <= slots
             && slots <= MOST_ASKED
     }
@@ -238,28 +229,33 @@ impl Rows {
     // What the flow asked for so far.
     fn total(&self, src: u32, dst: u32) -> u32
         requires stands { Stands self.now }
-        requires src { src < self.now.endpoints }
-        requires dst { dst < self.now.endpoints }
-        ensures value { result ≡ slice_index self.now.totals.items (src * self.now.endpoints + dst) }
+        requires src { src < endpoints_kept self.now.net }
+        requires dst { dst < endpoints_kept self.now.net }
+        ensures value { result ≡ slice_index self.now.totals.items (src * endpoints_kept self.now.net + dst) }
         ensures bounded { result ≤ 100000000 }
     {
-        self.totals[src as usize * self.endpoints as usize + dst as usize]
+        self.totals[self.place_of(src, dst)]
     }
-}
 
-fn is_net(racks: u32, hosts: u32, cores: u32) -> bool
-    ensures value { result ≡ is_in_range 0 (row.Net racks hosts cores) }
-    ensures few { OnTrue result (racks * hosts ≤ 256) }
-{
-    let counts = 1..=64;
-    counts.contains(&racks)
-        && counts.contains(&hosts)
-        && counts.contains(&cores)
-        && racks * hosts <= MOST_ENDPOINTS
-}
+    // Where the total of a flow stands.
+    fn place_of(&self, src: u32, dst: u32) -> usize
+        requires stands { Stands self.now }
+        requires src { src < endpoints_kept self.now.net }
+        requires dst { dst < endpoints_kept self.now.net }
+        ensures place { result ≡ src * endpoints_kept self.now.net + dst }
+        ensures within { result < length self.now.totals.items }
+    {
+        src as usize * self.endpoints() as usize + dst as usize
+    }
 
-fn lacks_cores(racks: u32, hosts: u32, cores: u32) -> bool
-    ensures { result ≡ lacks_cores (row.Net racks hosts cores) }
-{
-    racks >= 2 && cores < hosts
+    // How many endpoints the net has, where there is one.
+    fn endpoints(&self) -> u32
+        ensures number { result ≡ endpoints_kept self.now.net }
+        ensures few { result ≤ 256 }
+    {
+        match &self.net {
+            Some(net) => u32::from(net.endpoints()),
+            None => 0,
+        }
+    }
 }

@@ -16,7 +16,7 @@ fn fault_of(alloc: Global, text: &[u8]) -> Option<(u32, u8)> {
 
 #[test]
 fn each_faulty_trace_tells_its_first_row_and_fault(rt: HostRuntime) {
-    let cases: [(&[u8], u32, u8); 36] = [
+    let cases: [(&[u8], u32, u8); 38] = [
         (b"", 1, 1),
         (b"\n\r\n", 1, 1),
         (b"ask,0,0,1,1\n", 1, 1),
@@ -33,10 +33,12 @@ fn each_faulty_trace_tells_its_first_row_and_fault(rt: HostRuntime) {
         (b"net,1,2,1\nask,0,0,1,10000000000\n", 2, 4),
         (b"net,1,2,1\nask,0,0,1,\xff\n", 2, 4),
         (b"net,1,2,1\nask,0,0,1,+1\n", 2, 4),
-        (b"net,65,1,64\n", 1, 10),
-        (b"net,64,64,64\n", 1, 10),
-        (b"net,2,3,2\n", 1, 10),
-        (b"net,2\n", 1, 10),
+        (b"net,65,1,64\n", 1, 5),
+        (b"net,64,64,64\n", 1, 5),
+        (b"net,65537,1,1\n", 1, 5),
+        (b"net,2,3,2\n", 1, 12),
+        (b"net,2\n", 1, 3),
+        (b"net,2,3,x\n", 1, 4),
         (b"net,0,2,1\n", 1, 5),
         (b"net,1,65,1\n", 1, 5),
         (b"net,1,2,1\nask,0,0,2,1\n", 2, 5),
@@ -65,7 +67,7 @@ fn each_faulty_trace_tells_its_first_row_and_fault(rt: HostRuntime) {
 
 #[test]
 fn the_earlier_fault_of_a_row_and_the_earlier_row_are_told(rt: HostRuntime) {
-    let cases: [(&[u8], u32, u8); 9] = [
+    let cases: [(&[u8], u32, u8); 12] = [
         // Its kind is not taken, its fields are too few and its round is no number.
         (b"net,1,2,1\nhold,x\n", 2, 10),
         // Its fields are too few and no numbers.
@@ -88,8 +90,14 @@ fn the_earlier_fault_of_a_row_and_the_earlier_row_are_told(rt: HostRuntime) {
             4,
             8,
         ),
-        // A net of many racks comes late.
-        (b"net,1,2,1\nnet,2,1,1\n", 2, 10),
+        // Its hosts are out of range, and more than its cores.
+        (b"net,2,65,64\n", 1, 5),
+        // Its cores are out of range, and would be enough.
+        (b"net,2,3,65539\n", 1, 5),
+        // A net of several racks comes late, and lacks cores.
+        (b"net,1,2,1\nnet,2,3,2\n", 2, 12),
+        // A net of several racks comes late.
+        (b"net,1,2,1\nnet,2,2,2\n", 2, 7),
         // The last row is faulty, and no row ends the trace.
         (b"net,1,2,1\nask,0,0,1,1\nraw,0,\n", 3, 10),
     ];
@@ -130,6 +138,20 @@ fn asks_are_summed_by_round_and_flow(rt: HostRuntime) -> Result<(), Fail> {
     Ok(())
 }
 
+// Three racks of two hosts.
+#[test]
+fn endpoints_of_several_racks_ask(rt: HostRuntime) -> Result<(), Fail> {
+    let alloc = rt.alloc();
+    let text = b"net,3,2,2\nask,0,0,5,4\nask,0,4,1,2\nask,1,5,0,1\nend,2\n";
+    let trace = read_trace(alloc, text, Command::Plan)?;
+    let net = trace.net();
+    assert_eq!(rt; (net.racks(), net.hosts(), net.cores()), (3, 2, 2));
+    assert_eq!(rt; (trace.endpoints(), trace.rounds()), (6, 2));
+    let asks = [(0, 0, 5, 4), (0, 4, 1, 2), (1, 5, 0, 1)];
+    assert_eq!(rt; asks_of(alloc, &trace)?.as_slice(), asks.as_slice());
+    Ok(())
+}
+
 #[test]
 fn a_text_is_read_as_comma_separated_values(rt: HostRuntime) -> Result<(), Fail> {
     let alloc = rt.alloc();
@@ -160,5 +182,19 @@ fn the_limits_themselves_are_taken(rt: HostRuntime) -> Result<(), Fail> {
         asks_of(alloc, &trace)?.as_slice(),
         [(99_999, 63, 0, 100_000_000)].as_slice()
     );
+    Ok(())
+}
+
+#[test]
+fn the_greatest_nets_are_taken(rt: HostRuntime) -> Result<(), Fail> {
+    let cases: [(&[u8], u16); 3] = [
+        (b"net,1,64,1\nend,1\n", 64),
+        (b"net,64,4,4\nask,0,255,0,1\nend,1\n", 256),
+        (b"net,4,64,64\nask,0,0,255,1\nend,1\n", 256),
+    ];
+    for (text, endpoints) in cases {
+        let trace = read_trace(rt.alloc(), text, Command::Plan)?;
+        assert_eq!(rt; trace.endpoints(), endpoints);
+    }
     Ok(())
 }

@@ -1,20 +1,38 @@
 use Rattle.std.proofs.Common.{◌≡◌, []}
-use Rattle.fastpass_run.specs.Text.{no_cores, plan_text}
-use Rattle.fastpass_run.proofs.OutputLemmas.{Passes-cut, Passes-join, Writes-start, never_ok}
 use Rattle.std.proofs.lemmas.List.{append-nil}
+use Rattle.fastpass_run.specs.Text.{plan_text}
+use Rattle.fastpass_run.proofs.OutputLemmas.{Passes-cut, Passes-join, Writes-start, Writes-none, never_ok}
+use Rattle.fastpass_run.proofs.CoreLemmas.{plan_has_cores}
 use Rattle.fastpass_run.proofs.plan.plan.Goals as goal
 
-pub returns-in_err-put_plan-clause-writes : goal.returns-in_err-put_plan-clause-writes
-returns-in_err-put_plan-clause-writes g c =
-    let text = plan_text no_cores c.args.b c.args.trace.now in
-    Writes-start _ _ _ _ c.in_ok-gathered.gathered.items c.put_plan.new.gathered.items text c.from_residual-in_err-put_plan.result c.in_ok-gathered.ensures.items
-    (Passes-cut _ _ _ _ c.in_ok-gathered.gathered.items c.put_plan.new.gathered.items text [] text c.in_err-put_plan.field-0.0 c.from_residual-in_err-put_plan.result c.from_residual-in_err-put_plan.ensures.1
-    c.in_err-put_plan.ensures.passes (append-nil text))
-    (never_ok (c.put_plan.new.gathered.items ≡ []) c.in_err-put_plan.field-0.0 c.from_residual-in_err-put_plan.result c.from_residual-in_err-put_plan.ensures.1)
+pub put_lines-requires-clause-cores : goal.put_lines-requires-clause-cores
+put_lines-requires-clause-cores g c κs within =
+    plan_has_cores c.args.b c.args.trace.now c.requires.sound c.every_slot_is_a_maximal_matching.ensures c.every_slot_is_in_range.ensures c.every_matching_has_clean_paths.ensures
+
+pub returns-in_err-gathered-clause-writes : goal.returns-in_err-gathered-clause-writes
+returns-in_err-gathered-clause-writes g c =
+    let cores = plan_has_cores c.args.b c.args.trace.now c.requires.sound c.every_slot_is_a_maximal_matching.ensures c.every_slot_is_in_range.ensures c.every_matching_has_clean_paths.ensures in
+    (cores.0, cores.1, Writes-none (g.K.Sink.held c.args.sink.now) (g.K.Sink.faults c.args.sink.now) (plan_text cores.0 c.args.b c.args.trace.now) c.from_residual.result c.from_residual.ensures.1)
+
+pub returns-in_err-put_lines-clause-writes : goal.returns-in_err-put_lines-clause-writes
+returns-in_err-put_lines-clause-writes g c =
+    let (cores, scheduled, passes) = c.in_err-put_lines.ensures.passes in
+    let text = plan_text cores c.args.b c.args.trace.now in (
+      cores,
+      scheduled,
+      Writes-start _ _ _ _ c.in_ok-gathered.gathered.items c.put_lines.new.gathered.items text c.from_residual-in_err-put_lines.result c.in_ok-gathered.ensures.items
+          (Passes-cut _ _ _ _ c.in_ok-gathered.gathered.items c.put_lines.new.gathered.items text [] text c.in_err-put_lines.field-0.0 c.from_residual-in_err-put_lines.result c.from_residual-in_err-put_lines.ensures.1
+          passes (append-nil text))
+          (never_ok (c.put_lines.new.gathered.items ≡ []) c.in_err-put_lines.field-0.0 c.from_residual-in_err-put_lines.result c.from_residual-in_err-put_lines.ensures.1),
+    )
 
 pub returns-clause-writes : goal.returns-clause-writes
 returns-clause-writes g c =
-    let text = plan_text no_cores c.args.b c.args.trace.now in
-    Writes-start _ _ _ _ c.in_ok-gathered.gathered.items c.flush.new.gathered.items text c.flush.result c.in_ok-gathered.ensures.items
-    (Passes-join _ _ _ _ _ _ c.in_ok-gathered.gathered.items c.put_plan.new.gathered.items c.flush.new.gathered.items text [] text c.in_ok-put_plan.field-0 c.flush.result c.in_ok-put_plan.ensures.passes c.flush.ensures.passes (append-nil text))
-    c.flush.ensures.empty
+    let (cores, scheduled, passes) = c.in_ok-put_lines.ensures.passes in
+    let text = plan_text cores c.args.b c.args.trace.now in (
+      cores,
+      scheduled,
+      Writes-start _ _ _ _ c.in_ok-gathered.gathered.items c.flush.new.gathered.items text c.flush.result c.in_ok-gathered.ensures.items
+          (Passes-join _ _ _ _ _ _ c.in_ok-gathered.gathered.items c.put_lines.new.gathered.items c.flush.new.gathered.items text [] text c.in_ok-put_lines.field-0 c.flush.result passes c.flush.ensures.passes (append-nil text))
+          c.flush.ensures.empty,
+    )

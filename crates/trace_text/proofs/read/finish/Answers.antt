@@ -1,6 +1,7 @@
-use Rattle.std.proofs.Common.{◌≡◌, ◌≢◌, length, ℕ, sum_by, sym, ap, subst, ◌∙◌, Some, Ok, arith}
-use Rattle.trace_text.specs.Asks.{slots_asked}
-use Rattle.trace_text.specs.Earlier.{end_of, endpoints_of}
+use Rattle.std.proofs.Common.{◌≡◌, ◌≢◌, length, ℕ, sum_by, All, sym, ap, subst, ◌∙◌, Some, Ok, arith}
+use Rattle.clos_topology.specs.Network.{endpoints_of}
+use Rattle.trace_text.specs.Asks.{slots_asked, IsAmong}
+use Rattle.trace_text.specs.Earlier.{end_of, net_of}
 use Rattle.trace_text.specs.Trace.{content_by}
 use Rattle.trace_text.proofs.ContentFacts.{content_by-same}
 use Rattle.trace_text.specs.Valid.{IsTrace}
@@ -17,12 +18,14 @@ of-requires-clause-bounded c = λ round src dst.
 
 pub returns : goal.returns
 returns c = λ before stands.
-    let some : length before ≢ 0 = omega (arith, stands.count, c.if-rows-eq0.false) in
-    let end : end_of before ≡ Some c.in-Some.rounds = sym stands.ended ∙ c.in-Some.is in
+    let is = rw c.in-Some.is at stands.net in
+    let net = c.in-Some.net in
+    let rounds = c.in-Some-end.rounds in
+    let some : length before ≢ 0 = omega (arith, is.0) in
+    let end : end_of before ≡ Some rounds = sym stands.ended ∙ c.in-Some-end.is in
+    let among : All (IsAmong (endpoints_of net)) c.args.rows.asks.items = rw c.in-Some.is at stands.among in
     let amount : ℕ → ℕ → ℕ → ℕ = λ round src dst. sum_by (slots_asked round src dst) c.args.rows.asks.items in (
-      ended-some before c.in-Some.rounds some end
-          ∙ ap Ok (sym (c.in_ok-of.ensures ∙ ap (λ n. content_by n c.in-Some.rounds amount) stands.endpoints ∙ content_by-same (endpoints_of before) c.in-Some.rounds _ _ stands.asks)),
+      ended-some before rounds some end ∙ ap Ok (sym (c.in_ok-of.ensures ∙ ap (λ n. content_by n rounds amount) (sym is.1) ∙ content_by-same (net_of before) rounds _ _ stands.asks)),
       subst IsTrace (sym c.in_ok-of.ensures)
-          (content_by-valid c.args.rows.endpoints c.in-Some.rounds amount before stands.few (rw c.in-Some.is at stands.short)
-          (λ round src. own-none c.args.rows.endpoints round src c.args.rows.asks.items stands.among) stands.asks stands.bounded),
+          (content_by-valid net rounds amount before is.2 (rw c.in-Some-end.is at stands.short) (λ round src. own-none (endpoints_of net) round src c.args.rows.asks.items among) stands.asks stands.bounded),
     )

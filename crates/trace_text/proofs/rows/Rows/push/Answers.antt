@@ -1,8 +1,8 @@
-use Rattle.std.proofs.Common.{sym, ◌∙◌, arith, refl}
+use Rattle.std.proofs.Common.{arith, refl}
 use Rattle.std.proofs.lemmas.List.Sums.{sum_by_push}
 use Rattle.trace_text.specs.Rows.{End}
 use Rattle.trace_text.specs.Earlier.{slots_of, slots_in_round}
-use Rattle.trace_text.proofs.RowFacts.{length-more, endpoints_of-more, greatest_round-more, end_of-more}
+use Rattle.trace_text.proofs.RowFacts.{length-more, net-more, greatest_round-more, end_of-more}
 use Rattle.trace_text.proofs.rows.Rows.push.Goals as goal
 
 pub returns-in-End : goal.returns-in-End
@@ -11,11 +11,10 @@ returns-in-End c = λ before s.
     let allowed = rw c.in-End.is at c.requires.allowed in
     rw c.in-End.is (record {
       count = omega (arith, length-more before row, s.count);
-      endpoints = s.endpoints ∙ sym (endpoints_of-more before row refl);
-      few = s.few;
+      net = net-more before row c.args.self.now.net allowed.0 s.net;
       round = omega (arith, greatest_round-more before row, s.round);
-      ended = rw (end_of-more before row, ← s.ended, allowed.0) refl;
-      short = allowed.1;
+      ended = rw (end_of-more before row, ← s.ended, allowed.1) refl;
+      short = allowed.2;
       table = s.table;
       totals = λ src dst low low2. omega (arith, s.totals src dst low low2, sum_by_push (slots_of src dst) before row);
       bounded = λ src dst. omega (arith, s.bounded src dst, sum_by_push (slots_of src dst) before row);

@@ -1,6 +1,7 @@
 use Rattle.std.proofs.Common.{◌≡◌, ◌<◌, ◌+◌, get_or, sym, ◌∙◌, arith}
 use Rattle.std.proofs.lemmas.Grind.{common_steps}
 use Rattle.std.proofs.lemmas.List.Sorted.{IsNonDecreasingBy-drop, IsNonDecreasingBy-take}
+use Rattle.clos_topology.specs.Network.{endpoints_of}
 use Rattle.trace_text.specs.Asks.{rank_of}
 use Rattle.trace_text.proofs.AskFacts.{rising-sorted, round-part, round-asked}
 use Rattle.trace_text.proofs.ContentFacts.{asked_at-content_by}
@@ -11,14 +12,14 @@ slice_bounds-between-count c =
     let low : c.args.round < c.self.inside.rounds = rw (← c.self.view_is) at c.requires.round in
     let start : c.index-start.result.now ≡ get_or c.self.inside.starts.items c.args.round 0 = grind (arith, common_steps) in
     let end : c.index-end.result.now ≡ get_or c.self.inside.starts.items (c.args.round + 1) 0 = grind (arith, common_steps) in
-    (round-part c.self.inside.endpoints c.self.inside.rounds c.self.inside.asks.items c.self.inside.starts.items c.args.round _ _ c.self.invariant low start end).0
+    (round-part (endpoints_of c.self.inside.net) c.self.inside.rounds c.self.inside.asks.items c.self.inside.starts.items c.args.round _ _ c.self.invariant low start end).0
 
 pub slice_bounds-between-start : goal.slice_bounds-between-start
 slice_bounds-between-start c =
     let low : c.args.round < c.self.inside.rounds = rw (← c.self.view_is) at c.requires.round in
     let start : c.index-start.result.now ≡ get_or c.self.inside.starts.items c.args.round 0 = grind (arith, common_steps) in
     let end : c.index-end.result.now ≡ get_or c.self.inside.starts.items (c.args.round + 1) 0 = grind (arith, common_steps) in
-    (round-part c.self.inside.endpoints c.self.inside.rounds c.self.inside.asks.items c.self.inside.starts.items c.args.round _ _ c.self.invariant low start end).0
+    (round-part (endpoints_of c.self.inside.net) c.self.inside.rounds c.self.inside.asks.items c.self.inside.starts.items c.args.round _ _ c.self.invariant low start end).0
 
 pub between-requires-clause-sorted : goal.between-requires-clause-sorted
 between-requires-clause-sorted c =
@@ -28,9 +29,9 @@ between-requires-clause-sorted c =
 pub returns : goal.returns
 returns c =
     let low : c.args.round < c.self.inside.rounds = rw (← c.self.view_is) at c.requires.round in
-    let low2 : c.args.src < c.self.inside.endpoints = rw (← c.self.view_is) at c.requires.src in
+    let low2 : c.args.src < endpoints_of c.self.inside.net = rw (← c.self.view_is) at c.requires.src in
     let start : c.index-start.result.now ≡ get_or c.self.inside.starts.items c.args.round 0 = grind (arith, common_steps) in
     let end : c.index-end.result.now ≡ get_or c.self.inside.starts.items (c.args.round + 1) 0 = grind (arith, common_steps) in
     rw (← c.self.view_is, c.between.ensures, c.deref.ensures.value, c.from.ensures, c.from-2.ensures)
-    (round-asked c.self.inside.endpoints c.self.inside.rounds c.self.inside.asks.items c.self.inside.starts.items c.args.round c.args.src _ _ c.self.invariant low low2 start end
-    ∙ sym (asked_at-content_by c.self.inside.endpoints c.self.inside.rounds _ c.args.round c.args.src low low2))
+    (round-asked (endpoints_of c.self.inside.net) c.self.inside.rounds c.self.inside.asks.items c.self.inside.starts.items c.args.round c.args.src _ _ c.self.invariant low low2 start end
+    ∙ sym (asked_at-content_by c.self.inside.net c.self.inside.rounds _ c.args.round c.args.src low low2))

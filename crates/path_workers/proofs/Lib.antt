@@ -1,0 +1,3 @@
+pub mod EnoughLemmas
+pub mod RowLemmas
+pub mod TestLemmas

@@ -1,0 +1,76 @@
+-- From the table of one slot to its row, and from rows to the whole table.
+use Rattle.std.proofs.Common.{◌≡◌, ◌≢◌, ◌<◌, ◌≤◌, ◌+◌, ◌-◌, ◌*◌, ℕ, List, length, get_or, take, drop, true, false, Option, None, All, Result, Ok, Err, IfErr, OnOk, sym, ap, ◌∙◌, subst, arith, inl, inr}
+use Rattle.std.specs.Result.{is_ok}
+use Rattle.std.proofs.Math.Path.{fun_ext}
+use Rattle.std.proofs.lemmas.Bool.{cases_lt, cases_order}
+use Rattle.std.proofs.lemmas.List.{drop-take, length-take, length-drop}
+use Rattle.std.proofs.lemmas.Nat.{row_fits}
+use Rattle.std.proofs.lemmas.Slice.{take-put_mid_below, drop-put_mid, between-put_mid}
+use borrow.Rule.Slice.PartMut.{put_mid}
+use Rattle.greedy_rules.specs.declared.flows.Flow.{Flow}
+use Rattle.greedy_rules.specs.Matching.{IsMatching}
+use Rattle.clos_topology.specs.declared.graph.Edge.{Edge}
+use Rattle.clos_topology.specs.Network.{Network, endpoints_of}
+use Rattle.clos_topology.specs.Links.{CoreOf}
+use Rattle.clos_topology.specs.RackGraph.{rack_edges, IsEdgeOf, IsGraphOf}
+use Rattle.edge_colouring.specs.declared.degrees.Degree.{Degree}
+use Rattle.edge_colouring.specs.Degrees.{degree_on, HasDegreesWithin, IsFirstExcess}
+use Rattle.edge_colouring.specs.Colouring.{IsColouring, MakesClean}
+use Rattle.path_workers.specs.Coloured.{HasItsCores}
+use Rattle.path_workers.specs.CoreTable.{row_of}
+
+-- degrees within the bound are never refused
+pub no_excess : {X : Type 0} (result : Result X Degree) (most : ℕ) (edges : List Edge) → is_ok result ≡ false → HasDegreesWithin most edges → IfErr result (IsFirstExcess most edges) → ⊥
+no_excess (Ok x) most edges fails within excess = absurd (cc)
+no_excess (Err degree) most edges fails within excess =
+    let bound : degree_on degree.left degree.rack edges ≤ most = within degree.left degree.rack in
+    omega (arith, bound, excess.is, excess.excess)
+
+pub at_ok : {X E : Type 0} (result : Result X E) (P : Type 0) → is_ok result ≡ true → OnOk result P → P
+at_ok (Ok x) P ok holds = holds
+at_ok (Err e) P ok holds = absurd (cc)
+
+-- a row that has the table's cores below the endpoints, and none past them, names what the table names
+pub row-table : (net : Network) (edges : List Edge) (colours endpoints : ℕ) (table row : CoreOf) → IsGraphOf net edges → IsColouring colours edges table → endpoints ≡ endpoints_of net
+    → ((source : ℕ) → source < endpoints → row source ≡ table source) → ((source : ℕ) → endpoints ≤ source → row source ≡ None) → table ≡ row
+row-table net edges colours endpoints table row graph colouring all below above = fun_ext (λ source.
+    elim (cases_lt source endpoints) [
+      | inl inside ↦ sym (below source inside)
+      | inr outside ↦
+          colouring.others source (λ k d within same. let edge : IsEdgeOf net (get_or edges k d) = graph.each k d within in omega (arith, edge.source, same, all, outside))
+          ∙ sym (above source outside)
+    ])
+
+pub row_coloured : (net : Network) (slot : List Flow) (edges : List Edge) (table row : CoreOf) → IsMatching slot → edges ≡ rack_edges net.hosts slot → IsColouring net.cores edges table
+    → MakesClean net.hosts net.cores edges table → table ≡ row → HasItsCores net slot row
+row_coloured net slot edges table row matching is colouring clean same = subst (HasItsCores net slot) same (record {
+  clean = clean slot matching is;
+  others = λ source apart. colouring.others source (subst (All (λ edge. edge.source ≢ source)) (sym is) apart);
+})
+
+-- as many places as a row has
+pub length-row : (endpoints k from : ℕ) (cores : List (Option ℕ)) → k ≡ endpoints → from + endpoints ≤ length cores → length (take k (drop from cores)) ≡ endpoints
+length-row endpoints k from cores size within = omega (arith, length-take k (drop from cores), length-drop from cores)
+
+-- a row that is written: it holds what was written, and the others what they had
+pub row_same : (endpoints slot k : ℕ) (cores row : List (Option ℕ)) → k ≡ endpoints → length row ≡ endpoints → slot * endpoints ≤ length cores → row_of endpoints (put_mid (slot * endpoints) k cores row) slot ≡ row
+row_same endpoints slot k cores row size whole within =
+    let from : ℕ = slot * endpoints in
+    let count : endpoints ≡ (from + endpoints) - from = omega arith in
+    ap (λ (n : ℕ). take n (drop from (put_mid from k cores row))) count ∙ between-put_mid from k cores row (from + endpoints) within (omega (arith, whole))
+
+pub row_other : (endpoints slot k at : ℕ) (cores row : List (Option ℕ)) → k ≡ endpoints → length row ≡ endpoints → slot * endpoints ≤ length cores → at ≢ slot
+    → row_of endpoints (put_mid (slot * endpoints) k cores row) at ≡ row_of endpoints cores at
+row_other endpoints slot k at cores row size whole within other =
+    let from : ℕ = slot * endpoints in
+    let place : ℕ = at * endpoints in
+    elim (cases_order at slot) [
+      | inl same ↦ absurd (other same)
+      | inr (inl before) ↦
+          let fits : place + endpoints ≤ from = row_fits at endpoints slot endpoints before (omega arith) in
+          sym (drop-take place endpoints (put_mid from k cores row))
+          ∙ (ap (drop place) (take-put_mid_below from k cores row (place + endpoints) fits within) ∙ drop-take place endpoints cores)
+      | inr (inr after) ↦
+          let fits : from + endpoints ≤ place = row_fits slot endpoints at endpoints after (omega arith) in
+          ap (take endpoints) (drop-put_mid from k cores row place (omega (arith, fits, size)) within (omega (arith, whole, size)))
+    ]

@@ -1,0 +1,20 @@
+-- A slot whose packets have their cores (the SIGCOMM 2014 Fastpass paper): no link is shared, and a core is named for the
+-- sources of its packets between racks alone.
+use Rattle.std.specs.Prelude.{◌≡◌, ◌≢◌, ◌<◌, ℕ, List, None, All}
+use Rattle.greedy_rules.specs.declared.flows.Flow.{Flow}
+use Rattle.clos_topology.specs.Network.{Network, endpoints_of}
+use Rattle.clos_topology.specs.Links.{CoreOf, IsClean}
+use Rattle.clos_topology.specs.RackGraph.{rack_edges}
+
+-- a flow of a network
+abbrev pub IsFlowOf : Network → Flow → Type 0
+IsFlowOf net flow = (flow.src < endpoints_of net) × (flow.dst < endpoints_of net)
+
+-- a source that sends nothing to another rack has no core
+abbrev pub NamesNoOther : ℕ → List Flow → CoreOf → Type 0
+NamesNoOther hosts slot core_of =
+    (source : ℕ) → All (λ edge. edge.source ≢ source) (rack_edges hosts slot) → core_of source ≡ None
+
+pub record HasItsCores (net : Network) (slot : List Flow) (core_of : CoreOf) : Type 0 where
+  pub clean : IsClean net.hosts net.cores slot core_of
+  pub others : NamesNoOther net.hosts slot core_of

@@ -1,0 +1,4 @@
+pub mod CoreTable
+pub mod PathWork
+pub mod Coloured
+pub mod Enough
