@@ -51,7 +51,7 @@ once-map f keeps (x ∷ xs) once =
     (All-map (Other (f x)) f xs (All-weaker (Other x) (λ y. Other (f x) (f y)) (λ y other e. other (sym (keeps x) ∙ (e ∙ keeps y))) xs (AllPairs-head Other x xs once)))
     (once-map f keeps xs (AllPairs-tail Other x xs once))
 
-once-append : (xs ys : List Item) → HasEachFlowOnce xs → HasEachFlowOnce ys → All (λ x. All (Other x) ys) xs → HasEachFlowOnce (xs ++ ys)
+pub once-append : (xs ys : List Item) → HasEachFlowOnce xs → HasEachFlowOnce ys → All (λ x. All (Other x) ys) xs → HasEachFlowOnce (xs ++ ys)
 once-append [] ys once once' apart = once'
 once-append (x ∷ xs) ys once once' apart =
     AllPairs-cons Other x (xs ++ ys) (All-append (Other x) xs ys (AllPairs-head Other x xs once) (All-head (λ z. All (Other z) ys) x xs apart))
@@ -70,7 +70,7 @@ All-opened P (entry ∷ batch) all =
           (sym (cond-false entry.opens (entry ∷ filter (λ e. e.opens) batch) (filter (λ e. e.opens) batch) stays)) rest
     ]
 
-once-opened : (batch : List Entry) → IsBatch batch → HasEachFlowOnce (opened batch)
+pub once-opened : (batch : List Entry) → IsBatch batch → HasEachFlowOnce (opened batch)
 once-opened [] rising = AllPairs-nil Other
 once-opened (entry ∷ batch) rising =
     let Below : Entry → Entry → Type 0 = λ e f. IsTrue (flow_below e.flow f.flow) in

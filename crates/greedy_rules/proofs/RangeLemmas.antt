@@ -52,7 +52,7 @@ slot-greedy : (endpoints : ℕ) (list : List Item) → AreBelow endpoints list �
 slot-greedy endpoints list below =
     slot-chosen_after endpoints [] list below (record { rising = AllPairs-nil Earlier; in_range = All-nil (λ flow. (flow.src < endpoints) × (flow.dst < endpoints)) })
 
-slots-batch : (endpoints number count : ℕ) (list : List Item) → AreBelow endpoints list → All (IsSlotOf endpoints) (batch_slots is_taken number count list)
+pub slots-batch : (endpoints number count : ℕ) (list : List Item) → AreBelow endpoints list → All (IsSlotOf endpoints) (batch_slots is_taken number count list)
 slots-batch endpoints number zero list below = All-nil (IsSlotOf endpoints)
 slots-batch endpoints number (suc count) list below =
     All-cons (IsSlotOf endpoints) (greedy_slot is_taken list) (batch_slots is_taken (number + 1) count (after_slot is_taken number list)) (slot-greedy endpoints list below)

@@ -51,7 +51,8 @@ pairs_below endpoints (x ∷ xs) within q found =
       | inr there ↦ pairs_below endpoints xs (All-tail (InRange endpoints) x xs within) q there
     ]
 
-few : (endpoints : ℕ) (list : List Item) → HasEachFlowOnce list → All (InRange endpoints) list → length list ≤ endpoints * endpoints
+-- a list in which each flow stands once
+pub few : (endpoints : ℕ) (list : List Item) → HasEachFlowOnce list → All (InRange endpoints) list → length list ≤ endpoints * endpoints
 few endpoints list once within =
     omega (
       arith,

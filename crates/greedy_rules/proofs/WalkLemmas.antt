@@ -24,7 +24,7 @@ or_both false false true false = refl
 or_both false false false d = refl
 
 -- a slot takes a flow's source, or its destination
-taken_by_end : (slot : List Flow) (flow : Flow) → is_taken slot flow ≡ (list_any (λ f. f.src == flow.src) slot || list_any (λ f. f.dst == flow.dst) slot)
+pub taken_by_end : (slot : List Flow) (flow : Flow) → is_taken slot flow ≡ (list_any (λ f. f.src == flow.src) slot || list_any (λ f. f.dst == flow.dst) slot)
 taken_by_end [] flow = refl
 taken_by_end (g ∷ slot) flow =
     ap (λ b. ((g.src == flow.src) || (g.dst == flow.dst)) || b) (taken_by_end slot flow)

@@ -60,8 +60,8 @@ impl Batch {
         self.entries[at]
     }
 
-    /// The entry of a flow, by halving.
-    pub(crate) fn find(&self, flow: Flow) -> Option<Entry>
+    /// The batch's entry of a flow, by halving; None where it has none.
+    pub fn find(&self, flow: Flow) -> Option<Entry>
         ensures { result ≡ entry_of self.now flow }
     {
         match self.entries.binary_search_by_key(&flow, |entry| entry.flow) {

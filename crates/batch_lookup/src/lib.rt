@@ -1,0 +1,9 @@
+//! The entry of a flow in a batch.
+#![tactic(auto)]
+
+mod lookup;
+
+pub use lookup::BatchLookup;
+
+#[cfg(test)]
+mod tests;

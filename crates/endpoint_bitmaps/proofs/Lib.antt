@@ -1,0 +1,4 @@
+pub mod CountLemmas
+pub mod WordLemmas
+pub mod LowestLemmas
+pub mod MapLemmas

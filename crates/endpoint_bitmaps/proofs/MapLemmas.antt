@@ -1,0 +1,30 @@
+-- The maps of the endpoints, as lists of words.
+use Rattle.std.proofs.Common.{◌≡◌, ◌<◌, ◌-◌, ◌^◌, ℕ, List, length, get_or, set, Bool, not, ◌==◌, ◌&&◌, bit_and, refl, sym, ap, ◌∙◌, inl, inr}
+use Rattle.std.proofs.lemmas.Bool.{cases_eq, and_left, eq-eqb, ne_eqb}
+use Rattle.std.proofs.lemmas.List.{get_or-set_same, get_or-set_other, get_or_read}
+use Rattle.endpoint_bitmaps.specs.Slots.{has_slot}
+use Rattle.endpoint_bitmaps.proofs.WordLemmas.{has_slot-both, has_slot-without, and_true}
+
+-- what two endpoints have in common
+pub common_is : (senders receivers : List ℕ) (src dst s r slot : ℕ) → src < length senders → dst < length receivers → s ≡ get_or senders src s → r ≡ get_or receivers dst r
+    → has_slot (bit_and s r) slot ≡ (has_slot (get_or senders src 0) slot && has_slot (get_or receivers dst 0) slot)
+common_is senders receivers src dst s r slot src_below dst_below s_is r_is =
+    has_slot-both s r slot
+    ∙ (ap (λ (n : ℕ). has_slot n slot && has_slot r slot) (get_or_read senders src s src_below s_is 0)
+    ∙ ap (λ (n : ℕ). has_slot (get_or senders src 0) slot && has_slot n slot) (get_or_read receivers dst r dst_below r_is 0))
+
+-- slots are taken from the word of one endpoint
+pub without_taken : (words : List ℕ) (at word taken endpoint slot : ℕ) → at < length words → word < 2 ^ 64 → taken < 2 ^ 64 → word ≡ get_or words at word
+    → has_slot (get_or (set words at (bit_and word (2 ^ 64 - 1 - taken))) endpoint 0) slot ≡ (has_slot (get_or words endpoint 0) slot && not ((endpoint == at) && has_slot taken slot))
+without_taken words at word taken endpoint slot below fits taken_fits is = elim (cases_eq endpoint at) [
+  | inl here ↦
+      rw here
+      (ap (λ (n : ℕ). has_slot n slot) (get_or-set_same words at (bit_and word (2 ^ 64 - 1 - taken)) 0 below)
+      ∙ (has_slot-without word taken slot fits taken_fits
+      ∙ (ap (λ (n : ℕ). has_slot n slot && not (has_slot taken slot)) (get_or_read words at word below is 0)
+      ∙ ap (λ (b : Bool). has_slot (get_or words at 0) slot && not (b && has_slot taken slot)) (sym (eq-eqb at at refl)))))
+  | inr other ↦
+      ap (λ (n : ℕ). has_slot n slot) (get_or-set_other words at endpoint (bit_and word (2 ^ 64 - 1 - taken)) 0 other)
+      ∙ (sym (and_true (has_slot (get_or words endpoint 0) slot))
+      ∙ ap (λ (b : Bool). has_slot (get_or words endpoint 0) slot && not b) (sym (and_left _ _ (ne_eqb endpoint at other))))
+]

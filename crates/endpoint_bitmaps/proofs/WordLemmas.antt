@@ -1,0 +1,91 @@
+-- Words as sets of slots: both of two, one without another, without its lowest, the first ones, and how many.
+use Rattle.std.proofs.Common.{◌≡◌, ◌≢◌, ◌<◌, ◌≤◌, ◌-◌, ◌/◌, ◌%◌, ◌^◌, ℕ, zero, suc, Bool, true, false, not, ◌==◌, ◌&&◌, nat_lt, cond, min, bit_and, count_ones, w64, pow-suc, refl, sym, ap, ◌∙◌, arith, inl, inr}
+use Rattle.std.specs.Int.{bit_at}
+use Rattle.std.specs.Int.Count.{ones_step}
+use Rattle.std.proofs.lemmas.Bool.{cases_lt, cases_eq, and_left, and_right, lt-ltb, le-ltb, eq-eqb, ne_eqb}
+use Rattle.std.proofs.lemmas.Nat.Bits.{bit_at-lt, bit_at_lowest, bit_at-suc, bit_at-zero, bit_at_and, bit_at_not, bit_at_above, bit_at_ones, bit_at_ones_above}
+use Rattle.endpoint_bitmaps.specs.Slots.{has_slot, count_below}
+use Rattle.endpoint_bitmaps.proofs.CountLemmas.{count_below-same}
+
+both_bits : (x y : ℕ) → x < 2 → y < 2 → (min x y == 1) ≡ ((x == 1) && (y == 1))
+both_bits zero zero x_is y_is = refl
+both_bits zero (suc zero) x_is y_is = refl
+both_bits zero (suc (suc y)) x_is y_is = absurd (omega arith)
+both_bits (suc zero) zero x_is y_is = refl
+both_bits (suc zero) (suc zero) x_is y_is = refl
+both_bits (suc zero) (suc (suc y)) x_is y_is = absurd (omega arith)
+both_bits (suc (suc x)) y x_is y_is = absurd (omega arith)
+
+other_bit : (x : ℕ) → x < 2 → (1 - x == 1) ≡ not (x == 1)
+other_bit zero is = refl
+other_bit (suc zero) is = refl
+other_bit (suc (suc x)) is = absurd (omega arith)
+
+bit_counts : (x : ℕ) → x < 2 → cond (x == 1) 1 0 ≡ x
+bit_counts zero is = refl
+bit_counts (suc zero) is = refl
+bit_counts (suc (suc x)) is = absurd (omega arith)
+
+pub has_slot-both : (a b k : ℕ) → has_slot (bit_and a b) k ≡ (has_slot a k && has_slot b k)
+has_slot-both a b k = ap (λ (n : ℕ). n == 1) (bit_at_and a b k) ∙ both_bits (bit_at a k) (bit_at b k) (bit_at-lt a k) (bit_at-lt b k)
+
+pub has_slot-above : (a k : ℕ) → a < 2 ^ 64 → 64 ≤ k → has_slot a k ≡ false
+has_slot-above a k fits from = ap (λ (n : ℕ). n == 1) (bit_at_above a 64 k fits from)
+
+pub has_slot-without : (a b k : ℕ) → a < 2 ^ 64 → b < 2 ^ 64 → has_slot (bit_and a (2 ^ 64 - 1 - b)) k ≡ (has_slot a k && not (has_slot b k))
+has_slot-without a b k a_fits b_fits =
+    has_slot-both a (2 ^ 64 - 1 - b) k
+    ∙ elim (cases_lt k 64) [
+      | inl below ↦ ap (λ (n : ℕ). has_slot a k && (n == 1)) (bit_at_not w64 b k b_fits below) ∙ ap (λ (t : Bool). has_slot a k && t) (other_bit (bit_at b k) (bit_at-lt b k))
+      | inr from ↦ and_left _ _ (has_slot-above a k a_fits from) ∙ sym (and_left _ _ (has_slot-above a k a_fits from))
+    ]
+
+-- `n & (n - 1)` is n without its lowest 1, whose place is t
+lowest_gone : (n t : ℕ) → bit_at n t ≡ 1 → ((j : ℕ) → j < t → bit_at n j ≡ 0) → min (bit_at n t) (bit_at (n - 1) t) ≡ 0
+lowest_gone n zero is none = omega (arith, bit_at_lowest n, bit_at_lowest (n - 1))
+lowest_gone n (suc t) is none =
+    let even : n % 2 ≡ 0 = sym (bit_at_lowest n) ∙ none 0 (omega arith) in
+    let half : (n - 1) / 2 ≡ n / 2 - 1 = omega arith in
+    let rest = lowest_gone (n / 2) t (sym (bit_at-suc n t) ∙ is) (λ j below. sym (bit_at-suc n j) ∙ none (suc j) (omega arith)) in
+    omega (arith, rest, bit_at-suc n t, bit_at-suc (n - 1) t ∙ ap (λ (m : ℕ). bit_at m t) half)
+
+others_stay : (n t k : ℕ) → bit_at n t ≡ 1 → ((j : ℕ) → j < t → bit_at n j ≡ 0) → k ≢ t → min (bit_at n k) (bit_at (n - 1) k) ≡ bit_at n k
+others_stay n zero zero is none other = absurd (other refl)
+others_stay n zero (suc k) is none other =
+    let half : (n - 1) / 2 ≡ n / 2 = omega (arith, bit_at_lowest n) in
+    omega (arith, bit_at-suc n k, bit_at-suc (n - 1) k ∙ ap (λ (m : ℕ). bit_at m k) half)
+others_stay n (suc t) zero is none other = omega (arith, none 0 (omega arith))
+others_stay n (suc t) (suc k) is none other =
+    let even : n % 2 ≡ 0 = sym (bit_at_lowest n) ∙ none 0 (omega arith) in
+    let half : (n - 1) / 2 ≡ n / 2 - 1 = omega arith in
+    let rest = others_stay (n / 2) t k (sym (bit_at-suc n t) ∙ is) (λ j below. sym (bit_at-suc n j) ∙ none (suc j) (omega arith)) (λ e. other (ap suc e)) in
+    omega (arith, rest, bit_at-suc n k, bit_at-suc (n - 1) k ∙ ap (λ (m : ℕ). bit_at m k) half)
+
+pub and_true : (b : Bool) → (b && true) ≡ b
+and_true true = refl
+and_true false = refl
+
+pub has_slot-without_lowest : (n t k : ℕ) → bit_at n t ≡ 1 → ((j : ℕ) → j < t → bit_at n j ≡ 0) → has_slot (bit_and n (n - 1)) k ≡ (has_slot n k && not (k == t))
+has_slot-without_lowest n t k is none =
+    ap (λ (m : ℕ). m == 1) (bit_at_and n (n - 1) k)
+    ∙ elim (cases_eq k t) [
+      | inl here ↦ rw here (ap (λ (m : ℕ). m == 1) (lowest_gone n t is none) ∙ sym (and_right _ _ (ap not (eq-eqb t t refl))))
+      | inr there ↦ ap (λ (m : ℕ). m == 1) (others_stay n t k is none there) ∙ (sym (and_true (has_slot n k)) ∙ ap (λ (b : Bool). has_slot n k && not b) (sym (ne_eqb k t there)))
+    ]
+
+pub has_slot-first : (n k : ℕ) → has_slot (2 ^ n - 1) k ≡ nat_lt k n
+has_slot-first n k = elim (cases_lt k n) [
+  | inl below ↦ ap (λ (m : ℕ). m == 1) (bit_at_ones n k below) ∙ sym (lt-ltb k n below)
+  | inr from ↦ ap (λ (m : ℕ). m == 1) (bit_at_ones_above n k from) ∙ sym (le-ltb k n from)
+]
+
+pub has_slot-none : (k : ℕ) → has_slot 0 k ≡ false
+has_slot-none k = ap (λ (n : ℕ). n == 1) (bit_at-zero k)
+
+pub count_ones_is : (w n : ℕ) → n < 2 ^ w → count_ones n ≡ count_below (has_slot n) w
+unfolding lib.Count.ones
+count_ones_is zero n fits = let none : n ≡ 0 = omega arith in ap count_ones none
+count_ones_is (suc w) n fits =
+    let lowest : cond (has_slot n 0) 1 0 ≡ n % 2 = bit_counts (bit_at n 0) (bit_at-lt n 0) ∙ bit_at_lowest n in
+    let same = count_below-same (λ k. has_slot n (suc k)) (has_slot (n / 2)) w (λ k below. ap (λ (m : ℕ). m == 1) (bit_at-suc n k)) in
+    omega (arith, ones_step n, count_ones_is w (n / 2) (omega (arith, pow-suc 2 w)), lowest, same)

@@ -1,0 +1,10 @@
+//! Which endpoints are free in which slots of a batch, as maps of 64 bits.
+#![tactic(auto)]
+
+mod free_maps;
+
+pub use free_maps::FreeMaps;
+pub use no_memory::NoMemory;
+
+#[cfg(test)]
+mod tests;
