@@ -1,0 +1,59 @@
+-- What holds of the parts of a batch, flow by flow, as its items are taken up.
+use Rattle.std.proofs.Common.{◌≡◌, ◌≤◌, ◌+◌, ℕ, List, [], ◌∷◌, length, map, replicate, not, nat_lt, refl, ap, arith, inl, inr}
+use Rattle.std.specs.Prelude.{vec_capacity, vec_len}
+use Rattle.std.proofs.lemmas.List.{length-map}
+use Rattle.greedy_rules.specs.declared.flows.Flow.{Flow}
+use Rattle.greedy_rules.specs.declared.flows.Item.{Item}
+use Rattle.greedy_rules.proofs.RoomLemmas.{few}
+use Rattle.slot_batches.specs.FlowByFlow.{items_after}
+use Rattle.slot_batches.specs.Feeding.{unserved, newly_served}
+use Rattle.slot_batches.specs.Progress.{StandsAfter}
+use Rattle.slot_batches.specs.Filled.{HasRoom, HasTakenUp}
+use Rattle.slot_batches.specs.declared.filling.Filling.{Filling}
+use Rattle.slot_batches.proofs.TurnFacts.{length-items_after}
+use Rattle.std.proofs.lemmas.Bool.{cases_Bool, cond-true, cond-false}
+
+-- an item waits or was served
+parts_count : (number : ℕ) (items : List Item) → length (unserved number items) + length (newly_served number items) ≡ length items
+parts_count number [] = refl
+parts_count number (item ∷ items) =
+    let rest = parts_count number items in
+    elim (cases_Bool (nat_lt item.last number)) [
+      | inl low ↦ omega (
+        arith,
+        rest,
+        ap (λ (xs : List Item). length xs) (cond-true (nat_lt item.last number) (item ∷ unserved number items) (unserved number items) low),
+        ap (λ (xs : List Item). length xs) (cond-false (not (nat_lt item.last number)) (item ∷ newly_served number items) (newly_served number items) (ap not low)),
+      )
+      | inr high ↦ omega (
+        arith,
+        rest,
+        ap (λ (xs : List Item). length xs) (cond-false (nat_lt item.last number) (item ∷ unserved number items) (unserved number items) high),
+        ap (λ (xs : List Item). length xs) (cond-true (not (nat_lt item.last number)) (item ∷ newly_served number items) (newly_served number items) (ap not high)),
+      )
+    ]
+
+pub lengths_after : (number count : ℕ) (list : List Item) (slots : List (List Flow)) (waiting served : List Item) → StandsAfter number count list slots waiting served
+    → length waiting + length served ≡ length list
+lengths_after number count list slots waiting served stands =
+    let items : List Item = items_after number list (replicate count []) in
+    omega (
+      arith,
+      ap (λ (xs : List Item). length xs) stands.waiting_are,
+      ap (λ (xs : List Item). length xs) stands.served_are,
+      parts_count number items,
+      length-items_after number list (replicate count []),
+    )
+
+-- all that was taken up has room among what waits
+pub fits_waiting : (taken : List Item) (filling : Filling) → HasRoom filling → HasTakenUp taken filling → vec_len filling.waiting + vec_len filling.served ≤ vec_capacity filling.waiting
+fits_waiting taken filling room is =
+    omega (
+      arith,
+      lengths_after filling.first_slot filling.b taken filling.slots.slots filling.waiting.items (map (λ s. s.item) filling.served.items) is.stands,
+      few filling.endpoints taken is.may.once is.may.in_range,
+      filling.waiting.ok.0,
+      filling.served.ok.0,
+      length-map filling.served.items (λ s. s.item),
+      room.pairs,
+    )

@@ -1,0 +1,76 @@
+-- An element read from a list: what is true of all is true of it, and the front with it.
+use Rattle.std.proofs.Common.{◌≡◌, ◌<◌, ◌≤◌, ◌+◌, ℕ, zero, suc, List, [], ◌∷◌, ◌++◌, length, filter, take, drop, Bool, true, false, ◌||◌, Some, All, sym, ap, ◌∙◌, subst, arith, inl, inr, get_or}
+use Rattle.std.specs.Prelude.{slice_get}
+use Rattle.std.specs.List.{list_any}
+use Rattle.std.proofs.lemmas.Bool.{cases_Bool}
+use Rattle.std.proofs.lemmas.List.{take-append-drop, length-map}
+use Rattle.std.proofs.lemmas.List.Sums.{length-filter, count_by-le-length}
+use Rattle.greedy_rules.specs.declared.flows.Item.{Item}
+use Rattle.greedy_rules.specs.declared.flows.Entry.{Entry}
+use Rattle.greedy_rules.specs.Demands.{AreBelow, OpensNewFlows, opened}
+use Rattle.slot_batches.specs.NextList.{IsListBefore}
+use Rattle.slot_batches.specs.Stands.{MayBeFed}
+use Rattle.slot_batches.proofs.FedLemmas.{lists_may_be_fed}
+
+module _ {X : Type 0} where
+  take_read : (xs : List X) (at : ℕ) (x : X) → slice_get xs at ≡ Some x → take (suc at) xs ≡ take at xs ++ x ∷ []
+  take_read [] at x is = cc
+  take_read (y ∷ ys) zero x is = cc
+  take_read (y ∷ ys) (suc at) x is = ap (λ (zs : List X). y ∷ zs) (take_read ys at x is)
+
+  pub front_read : (xs : List X) (at : ℕ) (x : X) → slice_get xs at ≡ Some x → take (at + 1) xs ≡ take at xs ++ x ∷ []
+  front_read xs at x is =
+      let next : at + 1 ≡ suc at = omega arith in
+      ap (λ (n : ℕ). take n xs) next ∙ take_read xs at x is
+
+  read_is : (xs : List X) (at : ℕ) (x d : X) → at < length xs → slice_get xs at ≡ Some x → get_or xs at d ≡ x
+  read_is [] at x d below is = absurd (omega arith)
+  read_is (y ∷ ys) zero x d below is = cc
+  read_is (y ∷ ys) (suc at) x d below is = read_is ys at x d (omega arith) is
+
+  pub all_read : (P : X → Type 0) (xs : List X) (at : ℕ) (x : X) → at < length xs → slice_get xs at ≡ Some x → All P xs → P x
+  all_read P xs at x below is all = subst P (read_is xs at x x below is) (all at x below)
+
+  pub any_read : (p : X → Bool) (xs : List X) (at : ℕ) (x : X) → slice_get xs at ≡ Some x → p x ≡ true → list_any p xs ≡ true
+  any_read p [] at x is hit = cc
+  any_read p (y ∷ ys) zero x is hit = let here : p y ≡ true = (let same : y ≡ x = cc in ap p same ∙ hit) in ap (λ (b : Bool). b || list_any p ys) here
+  any_read p (y ∷ ys) (suc at) x is hit = elim (cases_Bool (p y)) [
+    | inl here ↦ ap (λ (b : Bool). b || list_any p ys) here
+    | inr miss ↦ ap (λ (b : Bool). b || list_any p ys) miss ∙ any_read p ys at x is hit
+  ]
+
+  pub none_more : (p : X → Bool) (xs : List X) (x : X) → list_any p xs ≡ false → p x ≡ false → list_any p (xs ++ x ∷ []) ≡ false
+  none_more p [] x none miss = ap (λ (b : Bool). b || false) miss
+  none_more p (y ∷ ys) x none last = elim (cases_Bool (p y)) [
+    | inl here ↦ let clash : (p y || list_any p ys) ≡ true = ap (λ (b : Bool). b || list_any p ys) here in cc
+    | inr miss ↦ ap (λ (b : Bool). b || list_any p (ys ++ x ∷ [])) miss ∙ none_more p ys x (sym (ap (λ (b : Bool). b || list_any p ys) miss) ∙ none) last
+  ]
+
+-- the next item of a list may be fed
+pub may_feed_next : (batch : List Entry) (endpoints number endpoints' number' at : ℕ) (list : List Item) (item : Item) → IsListBefore number list → AreBelow endpoints list → OpensNewFlows batch list
+    → slice_get list at ≡ Some item → endpoints' ≡ endpoints → number' ≡ number → MayBeFed batch endpoints' number' (take at list ++ item ∷ [])
+may_feed_next batch endpoints number endpoints' number' at list item before in_range opens is endpoints_are number_is =
+    let front : List Item = take at list ++ item ∷ [] in
+    let rest : List Item = drop (suc at) list in
+    let whole : list ≡ front ++ rest = sym (ap (λ (xs : List Item). xs ++ rest) (sym (take_read list at item is)) ∙ take-append-drop (suc at) list) in
+    subst (λ (n : ℕ). MayBeFed batch n number' front) (sym endpoints_are)
+    (subst (λ (n : ℕ). MayBeFed batch endpoints n front) (sym number_is)
+    (lists_may_be_fed batch endpoints number front rest (subst (IsListBefore number) whole before) (subst (AreBelow endpoints) whole in_range) (subst (OpensNewFlows batch) whole opens)))
+
+pub opened_few : (batch : List Entry) → length (opened batch) ≤ length batch
+opened_few batch =
+    let to_item : Entry → Item = λ e. record { flow = e.flow; need = e.add; last = 0 } in
+    omega (
+      arith,
+      length-map (filter (λ (e : Entry). e.opens) batch) to_item,
+      length-filter (λ (e : Entry). e.opens) batch,
+      count_by-le-length (λ (e : Entry). e.opens) batch,
+    )
+
+-- the empty list is one before every slot
+pub empty_before : (number : ℕ) → IsListBefore number []
+empty_before number = record {
+  in_order = λ i j d within below. absurd (omega arith);
+  below = λ k d below. absurd (omega arith);
+  once = λ i j d less below. absurd (omega arith);
+}

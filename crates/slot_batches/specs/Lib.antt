@@ -1,0 +1,12 @@
+pub mod FlowByFlow
+pub mod FreePlaces
+pub mod Laws
+pub mod Room
+pub mod Examples
+pub mod Feeding
+pub mod NextList
+pub mod Progress
+pub mod FeedingExamples
+pub mod Filled
+pub mod Stands
+pub mod Pieces

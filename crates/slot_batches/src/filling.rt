@@ -1,0 +1,140 @@
+ghost use Rattle.std.specs.Prelude.{◌≡◌, ◌≢◌, ◌<◌, ◌≤◌, ◌+◌, ◌-◌, ◌^◌, ℕ, List, [], ◌∷◌, ◌++◌, length, true, None, IfOk, count_ones, vec_len, vec_capacity, map};
+ghost use Rattle.endpoint_bitmaps.specs.Slots.{has_slot};
+ghost use Rattle.greedy_rules.specs.Schedule.{slot_in};
+ghost use Rattle.greedy_rules.specs.SlotTable.{destination_of};
+ghost use Rattle.greedy_rules.specs.Demands.{by_last};
+ghost use Rattle.slot_batches.specs.FreePlaces.{HasAdded};
+ghost use Rattle.slot_batches.specs.Filled.{HasRoom, HasTakenUp, MayBeTakenUp, IsSameBatch, IsGreatest};
+
+use crate::served::{Served, order_served};
+use endpoint_bitmaps::FreeMaps;
+use greedy_rules::{Flow, Item, SlotTable};
+use no_memory::NoMemory;
+use std::alloc::Global;
+
+/// The slots of a batch as its flows take them, one flow after the other.
+#[derive(Debug, Drop)]
+pub(crate) struct Filling {
+    pub(crate) endpoints: u16,
+    pub(crate) b: u8,
+    pub(crate) first_slot: u32,
+    pub(crate) maps: FreeMaps,
+    pub(crate) slots: SlotTable,
+    pub(crate) waiting: Vec<Item>,
+    pub(crate) served: Vec<Served>,
+    pub(crate) taken_up: u32,
+}
+
+impl Filling {
+    /// For batches of `b` slots between so many endpoints. No later call takes memory.
+    pub(crate) fn open(alloc: Global, endpoints: u16, b: u8) -> Result<Filling, NoMemory>
+        requires endpoints { endpoints ≤ 256 }
+        requires b { b ≤ 64 }
+        ensures room { IfOk result HasRoom }
+        ensures endpoints { IfOk result (λ filling. filling.endpoints ≡ endpoints) }
+        ensures b { IfOk result (λ filling. filling.b ≡ b) }
+    {
+        let pairs = endpoints as usize * endpoints as usize;
+        let places = b as usize * endpoints as usize;
+        Ok(Filling {
+            endpoints,
+            b,
+            first_slot: 1,
+            maps: FreeMaps::open(alloc, endpoints)?,
+            slots: SlotTable::open(alloc, u16::from(b), endpoints)?,
+            waiting: Vec::with_capacity(alloc, pairs)?,
+            served: Vec::with_capacity(alloc, places)?,
+            taken_up: 0,
+        })
+    }
+
+    /// Begins a batch: all its slots are empty.
+    pub(crate) fn begin(&mut self, first_slot: u32)
+        requires room { HasRoom self.old }
+        requires numbers { first_slot + self.old.b ≤ 2 ^ 32 }
+        ensures room { HasRoom self.new }
+        ensures same { IsSameBatch self.old.endpoints self.old.b first_slot self.new }
+        ensures empty { HasTakenUp [] self.new }
+    {
+        self.first_slot = first_slot;
+        self.maps.reset(self.b);
+        self.slots.clear();
+        self.waiting.clear();
+        self.served.clear();
+        self.taken_up = 0;
+    }
+
+    /// Lets the item take the lowest slots that are free for it, as many as it needs.
+    pub(crate) fn take_up(&mut self, item: Item)
+        requires room { HasRoom self.old }
+        requires may { (taken : List Item) × HasTakenUp taken self.old × MayBeTakenUp self.old.endpoints self.old.first_slot (taken ++ item ∷ []) }
+        ensures room { HasRoom self.new }
+        ensures same { IsSameBatch self.old.endpoints self.old.b self.old.first_slot self.new }
+        ensures taken_up { (taken : List Item) →
+            HasTakenUp taken self.old →
+            MayBeTakenUp self.old.endpoints self.old.first_slot (taken ++ item ∷ []) →
+            HasTakenUp (taken ++ item ∷ []) self.new }
+    {
+        let place = self.taken_up;
+        self.taken_up += 1;
+        let Flow { src, dst } = item.flow;
+        let places = self.maps.take_lowest(src, dst, item.need);
+        if places == 0 {
+            self.waiting.push_reserved(item);
+            return;
+        }
+        let greatest = put_flow(&mut self.slots, places, item.flow);
+        let item = Item {
+            flow: item.flow,
+            need: item.need - places.count_ones(),
+            last: self.first_slot + greatest,
+        };
+        self.served.push_reserved(Served { item, place });
+    }
+
+    /// Ends the batch: what was served follows what waits, by the last slots.
+    pub(crate) fn end(&mut self)
+        requires room { HasRoom self.old }
+        requires taken_up { (taken : List Item) × HasTakenUp taken self.old }
+        ensures room { HasRoom self.new }
+        ensures same { IsSameBatch self.old.endpoints self.old.b self.old.first_slot self.new }
+        ensures slots { self.new.slots ≡ self.old.slots }
+        ensures list { self.new.waiting.items ≡ self.old.waiting.items ++ by_last (map (λ s. s.item) self.old.served.items) }
+    {
+        order_served(&mut self.served);
+        append_items(&mut self.waiting, &self.served);
+    }
+}
+
+fn append_items(waiting: &mut Vec<Item>, served: &[Served])
+    requires { vec_len waiting.old + length served.now ≤ vec_capacity waiting.old }
+    ensures items { waiting.new.items ≡ waiting.old.items ++ map (λ s. s.item) served.now }
+    ensures capacity { vec_capacity waiting.new ≡ vec_capacity waiting.old }
+{
+    for entry in served {
+        waiting.push_reserved(entry.item);
+    }
+}
+
+/// Puts the flow into the slots at these places, and answers the greatest of them.
+fn put_flow(slots: &mut SlotTable, places: u64, flow: Flow) -> u32
+    requires some { places ≢ 0 }
+    requires src { flow.src < slots.old.endpoints }
+    requires dst { flow.dst < slots.old.endpoints }
+    requires within { (place : ℕ) → has_slot places place ≡ true → place < length slots.old.slots }
+    requires free { (place : ℕ) → has_slot places place ≡ true → destination_of (slot_in slots.old.slots place) flow.src ≡ None }
+    ensures slots { HasAdded flow (has_slot places) slots.old.slots slots.new.slots }
+    ensures endpoints { slots.new.endpoints ≡ slots.old.endpoints }
+    ensures greatest { IsGreatest (has_slot places) result }
+    ensures below { result < 64 }
+{
+    let mut rest = places;
+    loop {
+        let lowest = rest.trailing_zeros();
+        slots.put(lowest as u16, flow.src, flow.dst);
+        rest &= rest - 1;
+        if rest == 0 {
+            return lowest;
+        }
+    }
+}

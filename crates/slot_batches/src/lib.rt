@@ -1,0 +1,21 @@
+//! One batch of slots, flow by flow.
+#![tactic(auto)]
+
+mod filling;
+mod laws;
+mod opening;
+mod piece;
+mod served;
+mod stage;
+
+pub use laws::{
+    each_item_takes_its_lowest_free_places, every_batch_leaves_a_list, feeding_applies_the_batch,
+    feeding_examples, flow_by_flow_is_slot_by_slot, lists_may_be_fed, served_fit_places,
+    served_items_follow, small_batches,
+};
+pub use no_memory::NoMemory;
+pub use piece::Piece;
+pub use stage::Stage;
+
+#[cfg(test)]
+mod tests;
