@@ -14,10 +14,11 @@ use Rattle.greedy_rules.specs.Order.{insert_by, sort_by}
 use Rattle.greedy_rules.specs.Slot.{is_taken, has_flow, slot_with, offered, chosen_after, greedy_slot}
 use Rattle.greedy_rules.specs.Demands.{HasEachFlowOnce, AreBelow, OpensNewFlows, item_of, need_in, is_listed, need_with, with_batch, opened, after_batch}
 use Rattle.greedy_rules.specs.Allocation.{served, after_slot, batch_slots, list_through, list_after_slots, slots_of}
+use Rattle.greedy_rules.specs.Balance.{EveryBatchBalances}
 use Rattle.greedy_rules.proofs.FlowOrder.{same_flow-true, same_flow-refl, flow_below-not_same}
 use Rattle.greedy_rules.proofs.Pairs.{AllPairs-tail, AllPairs-head}
 use Rattle.greedy_rules.proofs.SlotLemmas.{any-slot_with}
-use Rattle.greedy_rules.proofs.OnceLemmas.{once-after_batch, once-after_slot, once-sort_by, below-after_slot, All-sort_by, served_flow}
+use Rattle.greedy_rules.proofs.OnceLemmas.{once-after_batch, below-after_batch, once-after_slot, once-sort_by, below-after_slot, All-sort_by, served_flow}
 
 -- the need of a flow over a whole list
 abbrev pub needed : Flow → List Item → ℕ
@@ -359,3 +360,14 @@ balance number count batch list flow rising opens once =
     let left = need_in-item_of (list_after_slots is_taken number count applied) flow (once-after_slots number count applied once') in
     omega (arith, left, needed-sort_by (λ item. item.last) flow (list_through is_taken number count applied), needed-through number count applied flow once')
     ∙ (needed-after_batch batch list flow rising opens once ∙ ap (need_with (entry_of batch flow)) (sym (need_in-item_of list flow once)))
+
+-- what the batch leaves
+pub every_batch : EveryBatchBalances
+every_batch endpoints number count batch list rising opens once below =
+    let applied : List Item = after_batch batch list in
+    record {
+      once = once-after_slots number count applied (once-after_batch batch list rising opens once);
+      in_range = below-after_slots endpoints number count applied (below-after_batch endpoints batch list below);
+      listed = λ flow. listed-after_slots number count applied flow ∙ listed-after_batch batch list flow rising opens;
+      balance = λ flow. balance number count batch list flow rising opens once;
+    }

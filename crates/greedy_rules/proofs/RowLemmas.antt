@@ -5,7 +5,7 @@ use Rattle.std.proofs.lemmas.Bool.{cond-true, cond-false, eq-eqb, ne_eqb, lt-ltb
 use Rattle.std.proofs.lemmas.List.Elements.{All-nil, All-cons, All-head, All-tail, All-weaker}
 use Rattle.greedy_rules.specs.declared.flows.Flow.{Flow}
 use Rattle.greedy_rules.specs.Slot.{slot_with}
-use Rattle.greedy_rules.specs.SlotTable.{flows_from, destination_of, IsSlotOf, IsRow}
+use Rattle.greedy_rules.specs.SlotTable.{flows_from, destination_of, IsSlotOf, AreCells}
 use Rattle.greedy_rules.proofs.Pairs.{AllPairs-nil, AllPairs-cons}
 
 pub destination-low : (k src : ℕ) (cells : List (Option ℕ)) → src < k → destination_of (flows_from k cells) src ≡ None
@@ -69,7 +69,7 @@ rising_from k (Some dst ∷ cells) =
     (All-weaker (λ flow. k + 1 ≤ flow.src) (λ flow. k < flow.src) (λ flow le. omega arith) (flows_from (k + 1) cells) (sources_from (k + 1) cells))
     (rising_from (k + 1) cells)
 
-in_range_from : (endpoints k : ℕ) (cells : List (Option ℕ)) → k + length cells ≤ endpoints → IsRow endpoints cells → All (λ flow. (flow.src < endpoints) × (flow.dst < endpoints)) (flows_from k cells)
+in_range_from : (endpoints k : ℕ) (cells : List (Option ℕ)) → k + length cells ≤ endpoints → AreCells endpoints cells → All (λ flow. (flow.src < endpoints) × (flow.dst < endpoints)) (flows_from k cells)
 in_range_from endpoints k [] within row = All-nil (λ flow. (flow.src < endpoints) × (flow.dst < endpoints))
 in_range_from endpoints k (None ∷ cells) within row = in_range_from endpoints (k + 1) cells (omega arith) (All-tail (λ cell. IfSome cell (λ dst. dst < endpoints)) None cells row)
 in_range_from endpoints k (Some dst ∷ cells) within row =
@@ -77,7 +77,7 @@ in_range_from endpoints k (Some dst ∷ cells) within row =
     (omega arith, All-head (λ cell. IfSome cell (λ dst. dst < endpoints)) (Some dst) cells row)
     (in_range_from endpoints (k + 1) cells (omega arith) (All-tail (λ cell. IfSome cell (λ dst. dst < endpoints)) (Some dst) cells row))
 
-pub slot_of_row : (endpoints : ℕ) (cells : List (Option ℕ)) → length cells ≡ endpoints → IsRow endpoints cells → IsSlotOf endpoints (flows_from 0 cells)
+pub slot_of_row : (endpoints : ℕ) (cells : List (Option ℕ)) → length cells ≤ endpoints → AreCells endpoints cells → IsSlotOf endpoints (flows_from 0 cells)
 slot_of_row endpoints cells full row = record {
   rising = rising_from 0 cells;
   in_range = in_range_from endpoints 0 cells (omega arith) row;

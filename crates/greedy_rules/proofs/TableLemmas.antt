@@ -1,115 +1,151 @@
--- The rows of a slot table, and the slots that contracts see.
-use Rattle.std.proofs.Common.{◌≡◌, ◌<◌, ◌+◌, ℕ, suc, List, [], ◌∷◌, ◌++◌, length, get_or, set, replicate, map, Option, Some, None, IfSome, take, drop, All, Vec, vec_len, refl, sym, ap, ◌∙◌, subst, arith, inl, inr}
-use Rattle.std.specs.declared.alloc.Global.{Global}
-use Rattle.std.specs.Vec.{with_item}
-use Rattle.std.proofs.lemmas.List.{get_or-map, get_or_default, map-set, length-map, length-replicate, map_push, replicate_more, get_or-set_same, get_or-set_other, take_at}
-use Rattle.std.proofs.lemmas.List.Elements.{All-map, All-weaker, All-set, All-push, All-replicate}
-use Rattle.std.proofs.lemmas.Bool.{cases_eq}
+-- The cells of a slot table, row after row, and the slots that contracts see.
+use Rattle.std.proofs.Common.{◌≡◌, ◌≢◌, ◌<◌, ◌≤◌, ◌+◌, ◌-◌, ◌*◌, ℕ, zero, suc, List, [], ◌∷◌, length, get_or, set, replicate, Option, Some, None, IfSome, take, drop, All, refl, sym, ap, ◌∙◌, arith, inl, inr, length-set}
+use Rattle.std.proofs.lemmas.List.{drop-take, drop-drop, take-replicate, drop-replicate, length-take, length-drop, get_or-take, get_or-drop, get_or_default, get_or-set_same, get_or-set_other, same_lists}
+use Rattle.std.proofs.lemmas.List.Elements.{All-nil, All-cons, All-take, All-drop, All-append}
+use Rattle.std.proofs.lemmas.Bool.{cases_eq, cases_order}
+use Rattle.std.proofs.lemmas.Nat.{row_fits}
+use Rattle.std.proofs.lemmas.Slice.{take-put_mid_below, drop-put_mid, between-put_mid}
+use borrow.Rule.Slice.PartMut.{put_mid, set_mid_at}
 use Rattle.greedy_rules.specs.declared.flows.Flow.{Flow}
 use Rattle.greedy_rules.specs.Slot.{slot_with}
 use Rattle.greedy_rules.specs.Schedule.{slot_in}
-use Rattle.greedy_rules.specs.SlotTable.{flows_from, destination_of, IsSlotOf, IsRow}
+use Rattle.greedy_rules.specs.SlotTable.{Slots, flows_from, table_slots, destination_of, IsSlotOf, AreCells}
 use Rattle.greedy_rules.proofs.RowLemmas.{destination-at, flows_from-set, flows_from-replicate, slot_of_row}
 
-abbrev pub Row : Type 0
-Row = Vec (Option ℕ) Global
+abbrev pub row_of : ℕ → List (Option ℕ) → ℕ → List (Option ℕ)
+row_of endpoints cells slot = take endpoints (drop (slot * endpoints) cells)
 
-abbrev pub row_flows : Row → List Flow
-row_flows row = flows_from 0 row.items
+abbrev pub IsCell : ℕ → Option ℕ → Type 0
+IsCell endpoints cell = IfSome cell (λ dst. dst < endpoints)
 
-abbrev pub IsFullRow : ℕ → Row → Type 0
-IsFullRow endpoints row = (vec_len row ≡ endpoints) × IsRow endpoints row.items
+pub length-table_slots : (endpoints count : ℕ) (cells : List (Option ℕ)) → length (table_slots endpoints count cells) ≡ count
+length-table_slots endpoints zero cells = refl
+length-table_slots endpoints (suc count) cells = omega (arith, length-table_slots endpoints count (drop endpoints cells))
 
-pub slots_of_rows : (endpoints : ℕ) (rows : List Row) → All (IsFullRow endpoints) rows → All (IsSlotOf endpoints) (map row_flows rows)
-slots_of_rows endpoints rows full =
-    All-map (IsSlotOf endpoints) row_flows rows
-    (All-weaker (IsFullRow endpoints) (λ row. IsSlotOf endpoints (row_flows row)) (λ row is. slot_of_row endpoints row.items (omega (arith, row.ok.0, is.0)) is.1) rows full)
+pub slots_of_cells : (endpoints count : ℕ) (cells : List (Option ℕ)) → AreCells endpoints cells → All (IsSlotOf endpoints) (table_slots endpoints count cells)
+slots_of_cells endpoints zero cells are = All-nil (IsSlotOf endpoints)
+slots_of_cells endpoints (suc count) cells are =
+    All-cons (IsSlotOf endpoints) (flows_from 0 (take endpoints cells)) (table_slots endpoints count (drop endpoints cells))
+    (slot_of_row endpoints (take endpoints cells) (omega (arith, length-take endpoints cells)) (All-take (IsCell endpoints) endpoints cells are))
+    (slots_of_cells endpoints count (drop endpoints cells) (All-drop (IsCell endpoints) endpoints cells are))
 
-slot_in-rows : (rows : List Row) (slot : ℕ) (row : Row) → slot < length rows → row ≡ get_or rows slot row → slot_in (map row_flows rows) slot ≡ row_flows row
-slot_in-rows rows slot row below is = get_or-map row_flows rows slot row [] below ∙ ap row_flows (sym is)
+-- a slot of a table is what its row holds
+pub slot_at_row : (endpoints count : ℕ) (cells : List (Option ℕ)) (slot : ℕ) (d : List Flow) → slot < count → get_or (table_slots endpoints count cells) slot d ≡ flows_from 0 (row_of endpoints cells slot)
+slot_at_row endpoints zero cells slot d below = absurd (omega arith)
+slot_at_row endpoints (suc count) cells zero d below =
+    let first : 0 ≡ 0 * endpoints = omega arith in
+    ap (λ (n : ℕ). flows_from 0 (take endpoints (drop n cells))) first
+slot_at_row endpoints (suc count) cells (suc slot) d below =
+    let next : endpoints + slot * endpoints ≡ suc slot * endpoints = omega arith in
+    slot_at_row endpoints count (drop endpoints cells) slot d (omega arith)
+    ∙ ap (λ (xs : List (Option ℕ)). flows_from 0 (take endpoints xs)) (drop-drop (slot * endpoints) endpoints cells ∙ ap (λ (n : ℕ). drop n cells) next)
 
--- a row of a table
-pub row_at : (endpoints : ℕ) (rows : List Row) (slot : ℕ) (row : Row) → All (IsFullRow endpoints) rows → slot < length (map row_flows rows) → row ≡ get_or rows slot row
-    → (slot < length rows) × (length row.items ≡ endpoints) × IsRow endpoints row.items
-row_at endpoints rows slot row full below is =
-    let within : slot < length rows = omega (arith, length-map rows row_flows) in
-    let P : Row → Type 0 = IsFullRow endpoints in
-    let it : IsFullRow endpoints row = subst P (sym is) (full slot row within) in
-    (within, omega (arith, row.ok.0, it.0), it.1)
+-- the row of each slot is whole
+pub fits : (endpoints count slot : ℕ) → slot < count → slot * endpoints + endpoints ≤ count * endpoints
+fits endpoints count slot below = row_fits slot endpoints count endpoints below (omega arith)
+
+pub length-row : (endpoints count : ℕ) (cells : List (Option ℕ)) (slot : ℕ) → slot < count → length cells ≡ count * endpoints → length (row_of endpoints cells slot) ≡ endpoints
+length-row endpoints count cells slot below full = omega (arith, length-take endpoints (drop (slot * endpoints) cells), length-drop (slot * endpoints) cells, fits endpoints count slot below)
+
+-- where contracts see a table, its slots and sources have their places
+pub slot_below : (endpoints count : ℕ) (cells : List (Option ℕ)) (seen : Slots) (slot : ℕ) → record { slots = table_slots endpoints count cells; endpoints = endpoints } ≡ seen → slot < length seen.slots → slot < count
+slot_below endpoints count cells seen slot is below = omega (arith, ap (λ (t : Slots). length t.slots) is, length-table_slots endpoints count cells)
+
+pub in_table : (endpoints count : ℕ) (cells : List (Option ℕ)) (seen : Slots) (slot src place : ℕ) → record { slots = table_slots endpoints count cells; endpoints = endpoints } ≡ seen
+    → length cells ≡ count * endpoints → slot < length seen.slots → src < seen.endpoints → place ≡ slot * seen.endpoints + src
+    → (slot < count) × (src < endpoints) × (place ≡ slot * endpoints + src) × (place < length cells)
+in_table endpoints count cells seen slot src place is full slot_in_range src_in_range at =
+    let below : slot < count = slot_below endpoints count cells seen slot is slot_in_range in
+    let here : src < endpoints = omega (arith, ap (λ (t : Slots). t.endpoints) is) in
+    let same : place ≡ slot * endpoints + src = at ∙ ap (λ (t : Slots). slot * t.endpoints + src) (sym is) in
+    (below, here, same, omega (arith, same, full, fits endpoints count slot below))
 
 -- what a table holds at a slot and a source is where the source sends
-pub to_is : (endpoints : ℕ) (rows : List Row) (slot src : ℕ) (row : Row) (cell : Option ℕ) → All (IsFullRow endpoints) rows → slot < length (map row_flows rows) → src < endpoints
-    → row ≡ get_or rows slot row → cell ≡ get_or row.items src cell → cell ≡ destination_of (slot_in (map row_flows rows) slot) src
-to_is endpoints rows slot src row cell full below here is held =
-    let at = row_at endpoints rows slot row full below is in
-    held ∙ (get_or_default row.items src cell None (omega (arith, at.1))
-    ∙ (sym (destination-at 0 src src row.items (omega arith))
-    ∙ ap (λ (flows : List Flow). destination_of flows src) (sym (slot_in-rows rows slot row at.0 is))))
+pub to_is : (endpoints count : ℕ) (cells : List (Option ℕ)) (slot src : ℕ) (cell : Option ℕ) → slot < count → src < endpoints → length cells ≡ count * endpoints
+    → cell ≡ get_or cells (slot * endpoints + src) cell → cell ≡ destination_of (slot_in (table_slots endpoints count cells) slot) src
+to_is endpoints count cells slot src cell below here full held =
+    let row = row_of endpoints cells slot in
+    held
+    ∙ (get_or_default cells (slot * endpoints + src) cell None (omega (arith, fits endpoints count slot below))
+    ∙ (sym (get_or-take endpoints (drop (slot * endpoints) cells) src None here ∙ get_or-drop (slot * endpoints) cells src None)
+    ∙ (sym (destination-at 0 src src row (omega arith))
+    ∙ ap (λ (flows : List Flow). destination_of flows src) (sym (slot_at_row endpoints count cells slot [] below)))))
 
--- a row is replaced, and with it the slot
-pub rows_with : (rows : List Row) (slot : ℕ) (row : Row) → map row_flows (set rows slot row) ≡ set (map row_flows rows) slot (row_flows row)
-rows_with rows slot row = map-set row_flows rows slot row
+-- a row that is written: it holds what was written, and the others what they had
+row_same : (endpoints slot k : ℕ) (cells row : List (Option ℕ)) → k ≡ endpoints → length row ≡ endpoints → slot * endpoints ≤ length cells → row_of endpoints (put_mid (slot * endpoints) k cells row) slot ≡ row
+row_same endpoints slot k cells row size whole within =
+    let from : ℕ = slot * endpoints in
+    let count : endpoints ≡ (from + endpoints) - from = omega arith in
+    ap (λ (n : ℕ). take n (drop from (put_mid from k cells row))) count ∙ between-put_mid from k cells row (from + endpoints) within (omega (arith, whole))
+
+row_other : (endpoints slot k at : ℕ) (cells row : List (Option ℕ)) → k ≡ endpoints → length row ≡ endpoints → slot * endpoints ≤ length cells → at ≢ slot
+    → row_of endpoints (put_mid (slot * endpoints) k cells row) at ≡ row_of endpoints cells at
+row_other endpoints slot k at cells row size whole within other =
+    let from : ℕ = slot * endpoints in
+    let place : ℕ = at * endpoints in
+    elim (cases_order at slot) [
+      | inl same ↦ absurd (other same)
+      | inr (inl before) ↦
+          let below : place + endpoints ≤ from = fits endpoints slot at before in
+          sym (drop-take place endpoints (put_mid from k cells row))
+          ∙ (ap (drop place) (take-put_mid_below from k cells row (place + endpoints) below within) ∙ drop-take place endpoints cells)
+      | inr (inr after) ↦
+          let above : from + endpoints ≤ place = fits endpoints at slot after in
+          ap (take endpoints) (drop-put_mid from k cells row place (omega (arith, above, size)) within (omega (arith, whole, size)))
+    ]
+
+-- a row is written, and with it the slot
+pub table_with : (endpoints count : ℕ) (cells : List (Option ℕ)) (slot k : ℕ) (row : List (Option ℕ)) → slot < count → length cells ≡ count * endpoints → k ≡ endpoints → length row ≡ endpoints
+    → table_slots endpoints count (put_mid (slot * endpoints) k cells row) ≡ set (table_slots endpoints count cells) slot (flows_from 0 row)
+table_with endpoints count cells slot k row below full size whole =
+    let old : List (List Flow) = table_slots endpoints count cells in
+    let written : List (Option ℕ) = put_mid (slot * endpoints) k cells row in
+    let flows : List Flow = flows_from 0 row in
+    let counts : length old ≡ count = length-table_slots endpoints count cells in
+    let within : slot * endpoints ≤ length cells = omega (arith, fits endpoints count slot below) in
+    same_lists (table_slots endpoints count written) (set old slot flows)
+    (omega (arith, counts, length-table_slots endpoints count written, length-set old slot flows))
+    (λ at d inside.
+    let at_below : at < count = omega (arith, inside, length-table_slots endpoints count written) in
+    slot_at_row endpoints count written at d at_below
+    ∙ elim (cases_eq at slot) [
+      | inl same ↦
+          ap (λ (n : ℕ). flows_from 0 (row_of endpoints written n)) same
+          ∙ (ap (flows_from 0) (row_same endpoints slot k cells row size whole within)
+          ∙ sym (ap (λ (n : ℕ). get_or (set old slot flows) n d) same ∙ get_or-set_same old slot flows d (omega (arith, counts))))
+      | inr other ↦
+          ap (flows_from 0) (row_other endpoints slot k at cells row size whole within other)
+          ∙ sym (get_or-set_other old slot at flows d other ∙ slot_at_row endpoints count cells at d at_below)
+    ])
+
+pub cells_with : (endpoints from k : ℕ) (cells row : List (Option ℕ)) → AreCells endpoints cells → AreCells endpoints row → AreCells endpoints (put_mid from k cells row)
+cells_with endpoints from k cells row old new =
+    All-append (IsCell endpoints) (take from cells) _ (All-take (IsCell endpoints) from cells old)
+    (All-append (IsCell endpoints) row (drop k (drop from cells)) new (All-drop (IsCell endpoints) k (drop from cells) (All-drop (IsCell endpoints) from cells old)))
 
 -- a destination is written where the source sends nothing
-pub put_is : (endpoints : ℕ) (rows : List Row) (slot src dst : ℕ) (row : Row) → All (IsFullRow endpoints) rows → slot < length (map row_flows rows) → src < endpoints
-    → row ≡ get_or rows slot row → destination_of (slot_in (map row_flows rows) slot) src ≡ None
-    → map row_flows (set rows slot (with_item row src (Some dst))) ≡ set (map row_flows rows) slot (slot_with (record { src = src; dst = dst }) (slot_in (map row_flows rows) slot))
-put_is endpoints rows slot src dst row full below here is free =
-    let at = row_at endpoints rows slot row full below is in
-    let held : slot_in (map row_flows rows) slot ≡ row_flows row = slot_in-rows rows slot row at.0 is in
-    let empty : get_or row.items src None ≡ None =
-    sym (destination-at 0 src src row.items (omega arith)) ∙ (ap (λ (flows : List Flow). destination_of flows src) (sym held) ∙ free) in
-    rows_with rows slot (with_item row src (Some dst))
-    ∙ ap (λ (flows : List Flow). set (map row_flows rows) slot flows)
-    (flows_from-set 0 src src dst row.items (omega arith) (omega (arith, at.1)) empty ∙ ap (slot_with (record { src = src; dst = dst })) (sym held))
+pub put_is : (endpoints count : ℕ) (cells : List (Option ℕ)) (slot src dst : ℕ) → slot < count → src < endpoints → length cells ≡ count * endpoints
+    → destination_of (slot_in (table_slots endpoints count cells) slot) src ≡ None
+    → table_slots endpoints count (set cells (slot * endpoints + src) (Some dst))
+    ≡ set (table_slots endpoints count cells) slot (slot_with (record { src = src; dst = dst }) (slot_in (table_slots endpoints count cells) slot))
+put_is endpoints count cells slot src dst below here full free =
+    let row = row_of endpoints cells slot in
+    let slots : List (List Flow) = table_slots endpoints count cells in
+    let whole : length row ≡ endpoints = length-row endpoints count cells slot below full in
+    let held : slot_in slots slot ≡ flows_from 0 row = slot_at_row endpoints count cells slot [] below in
+    let empty : get_or row src None ≡ None =
+    sym (destination-at 0 src src row (omega arith)) ∙ (ap (λ (flows : List Flow). destination_of flows src) (sym held) ∙ free) in
+    ap (table_slots endpoints count) (sym (set_mid_at (slot * endpoints) endpoints src cells (Some dst) (omega (arith, whole))))
+    ∙ (table_with endpoints count cells slot endpoints (set row src (Some dst)) below full refl (length-set row src (Some dst) ∙ whole)
+    ∙ ap (set slots slot) (flows_from-set 0 src src dst row (omega arith) (omega (arith, whole)) empty ∙ ap (slot_with (record { src = src; dst = dst })) (sym held)))
 
--- a row that sends nothing
-pub empty_row : (endpoints : ℕ) (row : Row) → row.items ≡ replicate endpoints None → IsFullRow endpoints row × (row_flows row ≡ [])
-empty_row endpoints row is = (
-  (
-    omega (arith, row.ok.0, ap length is, length-replicate {A = Option ℕ} endpoints None),
-    subst (IsRow endpoints) (sym is) (All-replicate (λ cell. IfSome cell (λ dst. dst < endpoints)) endpoints None tt),
-  ),
-  ap (flows_from 0) is ∙ flows_from-replicate 0 endpoints,
-)
-
--- rows that send nothing, one more
-pub opened_more : (endpoints n : ℕ) (rows : List Row) (row : Row) → map row_flows rows ≡ replicate n [] → All (IsFullRow endpoints) rows → row.items ≡ replicate endpoints None
-    → (map row_flows (rows ++ row ∷ []) ≡ replicate (n + 1) []) × All (IsFullRow endpoints) (rows ++ row ∷ [])
-opened_more endpoints n rows row so_far full is =
-    let it = empty_row endpoints row is in
-    let none : List Flow = [] in (
-      map_push row_flows rows row
-          ∙ (ap (λ (flows : List Flow). map row_flows rows ++ flows ∷ []) it.1
-          ∙ (ap (λ (slots : List (List Flow)). slots ++ none ∷ []) so_far
-          ∙ replicate_more n none)),
-      All-push (IsFullRow endpoints) rows row full it.0,
-    )
-
-abbrev pub EmptyBelow : ℕ → List Row → Type 0
-EmptyBelow n rows = (k : ℕ) (d : Row) → k < n → row_flows (get_or rows k d) ≡ []
-
-pub emptied_more : (endpoints i : ℕ) (rows : List Row) (old row : Row) → i < length rows → All (IsFullRow endpoints) rows → EmptyBelow i rows → row.items ≡ replicate (vec_len (get_or rows i old)) None
-    → All (IsFullRow endpoints) (set rows i row) × EmptyBelow (i + 1) (set rows i row)
-emptied_more endpoints i rows old row within full so_far is =
-    let it = empty_row endpoints row (is ∙ ap (λ (n : ℕ). replicate n None) (full i old within).0) in (
-      All-set (IsFullRow endpoints) rows i row it.0 full,
-      λ k d below. elim (cases_eq k i) [
-        | inl here ↦ rw here (ap row_flows (get_or-set_same rows i row d within) ∙ it.1)
-        | inr other ↦ ap row_flows (get_or-set_other rows i k row d other) ∙ so_far k d (omega arith)
-      ],
-    )
-
-all_empty : (rows : List Row) → EmptyBelow (length rows) rows → map row_flows rows ≡ replicate (length rows) []
-all_empty [] empty = refl
-all_empty (row ∷ rows) empty =
-    ap (λ (flows : List Flow). flows ∷ map row_flows rows) (empty 0 row (omega arith))
-    ∙ ap (λ (slots : List (List Flow)). [] ∷ slots) (all_empty rows (λ k d below. empty (suc k) d (omega arith)))
-
-pub emptied : (rows emptied_rows : List Row) (n : ℕ) → n ≡ length rows → length emptied_rows ≡ length rows → EmptyBelow (length emptied_rows) emptied_rows
-    → map row_flows (take n (emptied_rows ++ drop (length emptied_rows) rows)) ≡ replicate (length (map row_flows rows)) []
-emptied rows emptied_rows n is as_long empty =
-    let count : length emptied_rows ≡ length (map row_flows rows) = omega (arith, length-map rows row_flows) in
+-- a table that sends nothing
+pub empty_table : (endpoints count places : ℕ) → places ≡ count * endpoints → table_slots endpoints count (replicate places None) ≡ replicate count []
+empty_table endpoints zero places is = refl
+empty_table endpoints (suc count) places is =
+    let rest : places - endpoints ≡ count * endpoints = omega (arith, is) in
     let none : List Flow = [] in
-    ap (map row_flows) (take_at emptied_rows (drop (length emptied_rows) rows) n (omega arith))
-    ∙ (all_empty emptied_rows empty ∙ ap (λ (m : ℕ). replicate m none) count)
+    ap (λ (flows : List Flow). flows ∷ table_slots endpoints count (drop endpoints (replicate places None)))
+    (ap (flows_from 0) (take-replicate endpoints places None (omega (arith, is))) ∙ flows_from-replicate 0 endpoints)
+    ∙ ap (λ (slots : List (List Flow)). none ∷ slots)
+    (ap (table_slots endpoints count) (drop-replicate endpoints places None) ∙ empty_table endpoints count (places - endpoints) rest)

@@ -8,5 +8,6 @@ pub mod Allocation
 pub mod Walk
 pub mod Schedule
 pub mod Matching
+pub mod Balance
 pub mod Examples
 pub mod Room

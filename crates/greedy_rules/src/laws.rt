@@ -1,5 +1,6 @@
 ghost use Rattle.greedy_rules.specs.Matching.{EverySlotIsAMaximalMatching, EverySlotIsInRange};
 ghost use Rattle.greedy_rules.specs.Room.{FlowsFitPairs};
+ghost use Rattle.greedy_rules.specs.Balance.{EveryBatchBalances};
 ghost use Rattle.greedy_rules.specs.Examples.{ThreeFlowsFillTwoSlots, TwoFlowsOfOneSourceTakeTurns, ALaterAskGoesFirst, WhatABatchLeavesGoesIntoTheNext};
 
 /// A law over every schedule (the SIGCOMM 2014 Fastpass paper): no two packets of a slot share a source or a
@@ -16,6 +17,12 @@ pub fn every_slot_is_in_range()
 /// A law on memory: a list with room for as many items as there are pairs of endpoints has room for each batch.
 pub fn flows_fit_pairs()
     ensures { FlowsFitPairs }
+{}
+
+/// A law on what a batch leaves: what a flow still needs, and the slots that it got, are what it needed once the batch
+/// had added to it; the list that is left has each flow once, of the list before or the batch.
+pub fn every_batch_balances()
+    ensures { EveryBatchBalances }
 {}
 
 /// Small schedules, which the definitions compute.

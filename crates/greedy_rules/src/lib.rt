@@ -12,7 +12,8 @@ pub use batches::Batch;
 pub use demands::DemandList;
 pub use flows::{Entry, Flow, Item};
 pub use laws::{
-    every_slot_is_a_maximal_matching, every_slot_is_in_range, flows_fit_pairs, small_schedules,
+    every_batch_balances, every_slot_is_a_maximal_matching, every_slot_is_in_range,
+    flows_fit_pairs, small_schedules,
 };
 pub use no_memory::NoMemory;
 pub use plain::plain_batch;

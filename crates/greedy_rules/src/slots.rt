@@ -1,4 +1,4 @@
-ghost use Rattle.std.specs.Prelude.{◌≡◌, ◌≢◌, ◌<◌, ◌≤◌, ◌+◌, ◌^◌, List, [], length, replicate, None, IfOk, All, slice_set, vec_len};
+ghost use Rattle.std.specs.Prelude.{◌≡◌, ◌<◌, ◌+◌, ◌*◌, List, [], length, replicate, None, IfOk, All, slice_set};
 ghost use Rattle.greedy_rules.specs.Slot.{slot_with};
 ghost use Rattle.greedy_rules.specs.Schedule.{slot_in};
 ghost use Rattle.greedy_rules.specs.SlotTable.{destination_of, IsSlotOf};
@@ -10,19 +10,20 @@ use std::marker::Model;
 /// Timeslots of a window, counted from 0: in each, where each endpoint sends.
 #[derive(Debug, Drop)]
 pub struct SlotTable {
-    pub(crate) rows: Vec<Vec<Option<u16>>>,
-    endpoints: u16,
+    pub(crate) cells: Vec<Option<u16>>,
+    slots: u16,
+    pub(crate) endpoints: u16,
 }
 
 impl Model for SlotTable {
-    ghost use Rattle.std.specs.Prelude.{◌≡◌, ◌<◌, ◌^◌, map, vec_len, All};
-    ghost use Rattle.greedy_rules.specs.SlotTable.{Slots, IsRow, flows_from};
+    ghost use Rattle.std.specs.Prelude.{◌≡◌, ◌*◌, vec_len};
+    ghost use Rattle.greedy_rules.specs.SlotTable.{Slots, AreCells, table_slots};
 
     ghost Value = { Slots };
 
-    ghost view = { λ t. record { slots = map (λ row. flows_from 0 row.items) t.rows.items; endpoints = t.endpoints } };
+    ghost view = { λ t. record { slots = table_slots t.endpoints t.slots t.cells.items; endpoints = t.endpoints } };
 
-    ghost invariant = { λ t. (vec_len t.rows < 2 ^ 16) × All (λ row. (vec_len row ≡ t.endpoints) × IsRow t.endpoints row.items) t.rows.items };
+    ghost invariant = { λ t. (vec_len t.cells ≡ t.slots * t.endpoints) × AreCells t.endpoints t.cells.items };
 }
 
 impl SlotTable {
@@ -31,11 +32,11 @@ impl SlotTable {
         ensures slots { IfOk result (λ table. table.slots ≡ replicate slots []) }
         ensures endpoints { IfOk result (λ table. table.endpoints ≡ endpoints) }
     {
-        let mut rows = Vec::with_capacity(alloc, slots as usize)?;
-        for _ in 0..slots {
-            rows.push(open_row(alloc, endpoints)?)?;
-        }
-        Ok(SlotTable { rows, endpoints })
+        Ok(SlotTable {
+            cells: vec![in alloc; None; slots as usize * endpoints as usize]?,
+            slots,
+            endpoints,
+        })
     }
 
     /// How many slots there are.
@@ -43,7 +44,7 @@ impl SlotTable {
         ensures count { result ≡ length self.now.slots }
         ensures each { All (IsSlotOf self.now.endpoints) self.now.slots }
     {
-        self.rows.len() as u16
+        self.slots
     }
 
     /// How many endpoints the table serves.
@@ -59,7 +60,7 @@ impl SlotTable {
         requires src_in_range { src < self.now.endpoints }
         ensures { result ≡ destination_of (slot_in self.now.slots slot) src }
     {
-        self.rows[slot as usize][src as usize]
+        self.cells[self.place(slot, src)]
     }
 
     /// Empties every slot.
@@ -67,9 +68,7 @@ impl SlotTable {
         ensures slots { self.new.slots ≡ replicate (length self.old.slots) [] }
         ensures endpoints { self.new.endpoints ≡ self.old.endpoints }
     {
-        for row in self.rows.iter_mut() {
-            clear_row(row);
-        }
+        self.cells.fill(None);
     }
 
     /// Lets the source, which sends nothing in the slot, send to this destination.
@@ -81,20 +80,14 @@ impl SlotTable {
         ensures slots { self.new.slots ≡ slice_set self.old.slots slot (slot_with (record { src = src; dst = dst }) (slot_in self.old.slots slot)) }
         ensures endpoints { self.new.endpoints ≡ self.old.endpoints }
     {
-        let row = &mut self.rows[slot as usize];
-        row[src as usize] = Some(dst);
+        let place = self.place(slot, src);
+        self.cells[place] = Some(dst);
     }
-}
 
-/// A row that sends nothing: a place for each source, with its destination.
-fn open_row(alloc: Global, endpoints: u16) -> Result<Vec<Option<u16>>, NoMemory>
-    ensures { IfOk result (λ row. row.items ≡ replicate endpoints None) }
-{
-    Ok(vec![in alloc; None; endpoints as usize]?)
-}
-
-fn clear_row(row: &mut Vec<Option<u16>>)
-    ensures { row.new.items ≡ replicate (vec_len row.old) None }
-{
-    row.fill(None);
+    /// Where a source has its cell in a slot.
+    fn place(&self, slot: u16, src: u16) -> usize
+        ensures { result ≡ slot * self.now.endpoints + src }
+    {
+        slot as usize * self.endpoints as usize + src as usize
+    }
 }

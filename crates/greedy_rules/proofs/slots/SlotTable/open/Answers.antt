@@ -1,9 +1,9 @@
-use Rattle.std.proofs.Common.{◌≡◌, [], ◌∷◌, ◌++◌, arith}
-use Rattle.greedy_rules.proofs.TableLemmas.{opened_more}
+use Rattle.std.proofs.Common.{rules, ap, ◌∙◌, arith}
+use Rattle.greedy_rules.specs.SlotTable.{table_slots}
+use Rattle.greedy_rules.proofs.TableLemmas.{empty_table}
 use Rattle.greedy_rules.proofs.slots.SlotTable.open.Goals as goal
 
-pub loop-preserved : goal.loop-preserved
-loop-preserved c =
-    let more = opened_more c.args.endpoints c.loop.counter c.loop.rows.items c.in_ok-open_row.field-0 c.loop.invariant.0 c.loop.invariant.1 c.in_ok-open_row.ensures in
-    let after : c.push.new.self.items ≡ c.loop.rows.items ++ c.in_ok-open_row.field-0 ∷ [] = c.in_ok-push.ensures.items in
-    (rw after more.0, rw after more.1, omega (arith, c.in_ok-push.ensures.len))
+pub returns-clause-slots : goal.returns-clause-slots
+returns-clause-slots c =
+    ap (table_slots c.args.endpoints c.args.slots) (c.in_ok-vec.ensures.items_if_clones_equal (λ y cloned. search rules))
+    ∙ empty_table c.args.endpoints c.args.slots _ (omega arith)

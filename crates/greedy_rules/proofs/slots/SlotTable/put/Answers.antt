@@ -1,15 +1,25 @@
-use Rattle.std.proofs.Common.{◌≡◌, ◌<◌, length, map, ap, ◌∙◌, arith, None}
+use Rattle.std.proofs.Common.{◌≡◌, ◌*◌, length, set, Some, None, ℕ, ap, ◌∙◌, arith}
 use Rattle.greedy_rules.specs.Schedule.{slot_in}
-use Rattle.greedy_rules.specs.SlotTable.{Slots, destination_of}
-use Rattle.greedy_rules.proofs.TableLemmas.{put_is, row_flows}
+use Rattle.greedy_rules.specs.SlotTable.{Slots, table_slots, destination_of}
+use Rattle.greedy_rules.proofs.TableLemmas.{in_table, put_is}
 use Rattle.greedy_rules.proofs.slots.SlotTable.put.Goals as goal
+
+pub index_mut-requires : goal.index_mut-requires
+index_mut-requires c =
+    let table = c.self.inside in
+    let full : length table.cells.items ≡ table.slots * table.endpoints = omega (arith, table.cells.ok.0, c.self.invariant.0) in
+    let at =
+    in_table table.endpoints table.slots table.cells.items c.args.self.now c.args.slot c.args.src c.place-place.result c.self.view_is full c.requires.slot_in_range c.requires.src_in_range c.place-place.ensures in
+    omega (arith, at.3, table.cells.ok.0)
 
 pub returns-clause-slots : goal.returns-clause-slots
 returns-clause-slots c =
     let table = c.self.inside in
-    let below : c.args.slot < length (map row_flows table.rows.items) = omega (arith, ap (λ (t : Slots). length t.slots) c.self.view_is) in
-    let here : c.args.src < table.endpoints = omega (arith, ap (λ (t : Slots). t.endpoints) c.self.view_is) in
-    let free : destination_of (slot_in (map row_flows table.rows.items) c.args.slot) c.args.src ≡ None =
+    let full : length table.cells.items ≡ table.slots * table.endpoints = omega (arith, table.cells.ok.0, c.self.invariant.0) in
+    let at =
+    in_table table.endpoints table.slots table.cells.items c.args.self.now c.args.slot c.args.src c.place-place.result c.self.view_is full c.requires.slot_in_range c.requires.src_in_range c.place-place.ensures in
+    let free : destination_of (slot_in (table_slots table.endpoints table.slots table.cells.items) c.args.slot) c.args.src ≡ None =
     ap (λ (t : Slots). destination_of (slot_in t.slots c.args.slot) c.args.src) c.self.view_is ∙ c.requires.free in
     rw (← c.self.view_is)
-    (put_is table.endpoints table.rows.items c.args.slot c.args.src c.args.dst c.index_mut-row.result.now c.self.invariant.1 below here c.index_mut-row.ensures.value free)
+    (ap (λ (n : ℕ). table_slots table.endpoints table.slots (set table.cells.items n (Some c.args.dst))) at.2
+    ∙ put_is table.endpoints table.slots table.cells.items c.args.slot c.args.src c.args.dst at.0 at.1 full free)
