@@ -1,67 +1,147 @@
--- The text of a plan's rounds, one round after another.
-use Rattle.std.proofs.Common.{◌≡◌, ◌<◌, ◌+◌, ℕ, zero, suc, List, [], ◌∷◌, ◌++◌, length, get_or, take, drop, refl, sym, ap, ◌∙◌, arith}
-use Rattle.std.proofs.lemmas.List.{take_more, append-nil, append_assoc, take-append-drop, take-take, length-take}
+-- The text of batches with their slots, one after another.
+use Rattle.std.proofs.Common.{◌≡◌, ◌<◌, ◌≤◌, ◌+◌, ◌-◌, ◌*◌, ℕ, suc, List, [], ◌∷◌, ◌++◌, length, get_or, map, take, drop, sym, ap, ◌∙◌, arith}
+use Rattle.std.proofs.lemmas.List.{append-nil, append_assoc, take-append-drop, take-take, take_all, length-take, drop-drop, drop-take, drop_more}
 use Rattle.greedy_rules.specs.declared.flows.Flow.{Flow}
 use Rattle.greedy_rules.specs.declared.flows.Entry.{Entry}
 use Rattle.greedy_rules.specs.Slot.{is_taken}
-use Rattle.greedy_rules.specs.Schedule.{schedule}
+use Rattle.greedy_rules.specs.SlotTable.{Slots}
+use Rattle.greedy_rules.specs.Schedule.{first_slot, schedule}
+use Rattle.path_workers.specs.CoreTable.{CoreSlots}
 use Rattle.report_text.specs.declared.line.Line.{Line}
 use Rattle.trace_text.specs.Trace.{TraceContent}
-use Rattle.fastpass_run.specs.Sound.{IsSound}
-use Rattle.fastpass_run.specs.Batches.{Round, batch_after, batches_after, plan_batches}
-use Rattle.fastpass_run.specs.Text.{Cores, text_of, batch_lines, batches_lines}
-use Rattle.fastpass_run.specs.Reached.{round_lines, rounds_lines}
+use Rattle.window_engine.specs.Batches.{plan_batches}
+use Rattle.window_engine.specs.Scheduled.{Cores, cores_from}
+use Rattle.window_engine.specs.Step.{StepContent}
+use Rattle.fastpass_run.specs.Text.{text_of, entry_line, slots_lines, batch_lines, batches_lines}
+use Rattle.fastpass_run.specs.Progress.{window_lines, rounds_lines, cores_of_step}
 use Rattle.fastpass_run.proofs.TextLemmas.{text_of-append}
-use Rattle.fastpass_run.proofs.RoundLemmas.{batch_of}
 
-pub length-batches : (before rounds : List Round) → length (batches_after before rounds) ≡ length rounds
-length-batches before [] = refl
-length-batches before (round ∷ rounds) = ap suc (length-batches (before ++ round ∷ []) rounds)
+times_more : (n b : ℕ) → suc n * b ≡ b + n * b
+times_more n b = grind arith
 
-batch_at : (before rounds : List Round) (k : ℕ) → k < length rounds → get_or (batches_after before rounds) k [] ≡ batch_after (before ++ take k rounds) (get_or rounds k [])
-batch_at before [] k below = absurd (omega arith)
-batch_at before (round ∷ rounds) zero below = ap (λ (rs : List Round). batch_after rs round) (sym (append-nil before))
-batch_at before (round ∷ rounds) (suc k) below =
-    batch_at (before ++ round ∷ []) rounds k (omega arith) ∙ ap (λ (rs : List Round). batch_after rs (get_or rounds k [])) (append_assoc before (round ∷ []) (take k rounds))
-
-batches_lines-append : (cores : Cores) (b : ℕ) (slots : List (List Flow)) (k : ℕ) (xs ys : List (List Entry))
-    → batches_lines cores b slots k (xs ++ ys) ≡ batches_lines cores b slots k xs ++ batches_lines cores b slots (k + length xs) ys
-batches_lines-append cores b slots k [] ys = ap (λ (n : ℕ). batches_lines cores b slots n ys) (omega arith)
-batches_lines-append cores b slots k (x ∷ xs) ys =
+batches_lines-append : (cores : Cores) (b k : ℕ) (xs ys : List (List Entry)) (slots : List (List Flow))
+    → batches_lines cores b k (xs ++ ys) slots ≡ batches_lines cores b k xs (take (length xs * b) slots) ++ batches_lines cores b (k + length xs) ys (drop (length xs * b) slots)
+batches_lines-append cores b k [] ys slots =
+    let none : 0 * b ≡ 0 = omega arith in
+    ap (λ (n : ℕ). batches_lines cores b n ys slots) (omega arith) ∙ ap (λ (n : ℕ). batches_lines cores b (k + 0) ys (drop n slots)) (sym none)
+batches_lines-append cores b k (x ∷ xs) ys slots =
+    let n : ℕ = length xs * b in
     let on : k + 1 + length xs ≡ k + suc (length xs) = omega arith in
-    ap (λ (ls : List Line). batch_lines cores b slots k x ++ ls)
-    (batches_lines-append cores b slots (k + 1) xs ys ∙ ap (λ (n : ℕ). batches_lines cores b slots (k + 1) xs ++ batches_lines cores b slots n ys) on)
-    ∙ sym (append_assoc (batch_lines cores b slots k x) (batches_lines cores b slots (k + 1) xs) (batches_lines cores b slots (k + suc (length xs)) ys))
+    let all : suc (length xs) * b ≡ b + n = times_more (length xs) b in
+    let own : List (List Flow) = take (suc (length xs) * b) slots in
+    let first : take b own ≡ take b slots = take-take b (suc (length xs) * b) slots (omega arith) in
+    let others : drop b own ≡ take n (drop b slots) = ap (λ (m : ℕ). drop b (take m slots)) all ∙ drop-take b n slots in
+    let later : drop n (drop b slots) ≡ drop (suc (length xs) * b) slots = drop-drop n b slots ∙ ap (λ (m : ℕ). drop m slots) (sym all) in
+    let tail : List Line = batches_lines cores b (k + suc (length xs)) ys (drop (suc (length xs) * b) slots) in
+    ap (λ (ls : List Line). batch_lines cores b k x (take b slots) ++ ls)
+    (batches_lines-append cores b (k + 1) xs ys (drop b slots)
+    ∙ (ap (λ (xss : List (List Flow)). batches_lines cores b (k + 1) xs xss ++ batches_lines cores b (k + 1 + length xs) ys (drop n (drop b slots))) (sym others)
+    ∙ (ap (λ (m : ℕ). batches_lines cores b (k + 1) xs (drop b own) ++ batches_lines cores b m ys (drop n (drop b slots))) on
+    ∙ ap (λ (xss : List (List Flow)). batches_lines cores b (k + 1) xs (drop b own) ++ batches_lines cores b (k + suc (length xs)) ys xss) later)))
+    ∙ (sym (append_assoc (batch_lines cores b k x (take b slots)) (batches_lines cores b (k + 1) xs (drop b own)) tail)
+    ∙ ap (λ (xss : List (List Flow)). (batch_lines cores b k x xss ++ batches_lines cores b (k + 1) xs (drop b own)) ++ tail) (sym first))
 
-pub rounds_more : (cores : Cores) (b k : ℕ) (trace : TraceContent) → IsSound trace → k < trace.rounds → text_of (rounds_lines cores b (k + 1) trace) ≡ text_of (rounds_lines cores b k trace) ++ text_of (round_lines cores b k trace)
-rounds_more cores b k trace sound below =
+-- so many batches with their slots, and so many after them
+take-plus : {X : Type 0} (m n : ℕ) (xs : List X) → take (m + n) xs ≡ take m xs ++ take n (drop m xs)
+take-plus m n xs =
+    sym (take-append-drop m (take (m + n) xs))
+    ∙ (ap (λ ys. ys ++ drop m (take (m + n) xs)) (take-take m (m + n) xs (omega arith)) ∙ ap (λ ys. take m xs ++ ys) (drop-take m n xs))
+
+places : (k n b : ℕ) → (k + n) * b ≡ k * b + n * b
+places k n b = grind arith
+
+front_more : (cores : Cores) (b j k n : ℕ) (batches : List (List Entry)) (slots : List (List Flow)) → k + n ≤ length batches
+    → batches_lines cores b j (take (k + n) batches) (take ((k + n) * b) slots)
+    ≡ batches_lines cores b j (take k batches) (take (k * b) slots) ++ batches_lines cores b (j + k) (take n (drop k batches)) (take (n * b) (drop (k * b) slots))
+front_more cores b j k n batches slots within =
+    let xs : List (List Entry) = take k batches in
+    let ys : List (List Entry) = take n (drop k batches) in
+    let here : List (List Flow) = take ((k + n) * b) slots in
+    let count : length xs ≡ k = omega (arith, length-take k batches) in
+    let size : length xs * b ≡ k * b = ap (λ (m : ℕ). m * b) count in
+    let all : (k + n) * b ≡ k * b + n * b = places k n b in
+    let at : j + length xs ≡ j + k = omega arith in
+    let first : take (k * b) here ≡ take (k * b) slots = take-take (k * b) ((k + n) * b) slots (omega arith) in
+    let rest : drop (k * b) here ≡ take (n * b) (drop (k * b) slots) = ap (λ (m : ℕ). drop (k * b) (take m slots)) all ∙ drop-take (k * b) (n * b) slots in
+    ap (λ (bs : List (List Entry)). batches_lines cores b j bs here) (take-plus k n batches)
+    ∙ (batches_lines-append cores b j xs ys here
+    ∙ (ap (λ (m : ℕ). batches_lines cores b j xs (take m here) ++ batches_lines cores b (j + length xs) ys (drop m here)) size
+    ∙ (ap (λ (m : ℕ). batches_lines cores b j xs (take (k * b) here) ++ batches_lines cores b m ys (drop (k * b) here)) at
+    ∙ (ap (λ (s : List (List Flow)). batches_lines cores b j xs s ++ batches_lines cores b (j + k) ys (drop (k * b) here)) first
+    ∙ ap (λ (s : List (List Flow)). batches_lines cores b j xs (take (k * b) slots) ++ batches_lines cores b (j + k) ys s) rest))))
+
+pub rounds_more : (cores : Cores) (b k n : ℕ) (trace : TraceContent) → k + n ≤ length (plan_batches trace)
+    → text_of (rounds_lines cores b (k + n) trace) ≡ text_of (rounds_lines cores b k trace) ++ text_of (window_lines cores b k n trace)
+rounds_more cores b k n trace within =
+    let same : 0 + k ≡ k = omega arith in
     let slots : List (List Flow) = schedule is_taken b (plan_batches trace) in
-    let batches : List (List Entry) = plan_batches trace in
-    let within : k < length trace.asked = omega (arith, sound.rounds) in
-    let long : k < length batches = omega (arith, length-batches [] trace.asked) in
-    let place : 0 + length (take k batches) ≡ k = omega (arith, length-take k batches) in
+    ap text_of (front_more cores b 0 k n (plan_batches trace) slots within
+    ∙ ap (λ (m : ℕ). rounds_lines cores b k trace ++ batches_lines cores b m (take n (drop k (plan_batches trace))) (take (n * b) (drop (k * b) slots))) same)
+    ∙ text_of-append (rounds_lines cores b k trace) (window_lines cores b k n trace)
+
+-- all rounds, of which these are done
+pub rounds_whole : (cores : Cores) (b k n all : ℕ) (trace : TraceContent) → k + n ≤ all → all ≤ length (plan_batches trace)
+    → text_of (rounds_lines cores b all trace) ≡ (text_of (rounds_lines cores b k trace) ++ text_of (window_lines cores b k n trace)) ++ text_of (window_lines cores b (k + n) (all - (k + n)) trace)
+rounds_whole cores b k n all trace more within =
+    let rest : ℕ = all - (k + n) in
+    let parts : all ≡ (k + n) + rest = omega arith in
+    ap (λ (m : ℕ). text_of (rounds_lines cores b m trace)) parts
+    ∙ (rounds_more cores b (k + n) rest trace (omega arith)
+    ∙ ap (λ (t : List ℕ). t ++ text_of (window_lines cores b (k + n) rest trace)) (rounds_more cores b k n trace (omega arith)))
+
+-- one batch more of a step
+one_batch : (cores : Cores) (b j k : ℕ) (batches : List (List Entry)) (slots : List (List Flow)) → k < length batches
+    → batches_lines cores b (j + k) (take 1 (drop k batches)) (take (1 * b) (drop (k * b) slots)) ≡ batch_lines cores b (j + k) (get_or batches k []) (take b (drop (k * b) slots))
+one_batch cores b j k batches slots below =
     let none : List Entry = [] in
-    let this : get_or batches k none ≡ batch_of trace k = batch_at [] trace.asked k within in
-    ap (λ (bs : List (List Entry)). text_of (batches_lines cores b slots 0 bs)) (take_more batches k none long)
-    ∙ (ap text_of (batches_lines-append cores b slots 0 (take k batches) (get_or batches k none ∷ []))
-    ∙ (text_of-append (batches_lines cores b slots 0 (take k batches)) (batches_lines cores b slots (0 + length (take k batches)) (get_or batches k none ∷ []))
-    ∙ ap (λ (t : List ℕ). text_of (rounds_lines cores b k trace) ++ t)
-    (ap (λ (n : ℕ). text_of (batches_lines cores b slots n (get_or batches k none ∷ []))) place
-    ∙ (ap text_of (append-nil (batch_lines cores b slots k (get_or batches k none)))
-    ∙ ap (λ (es : List Entry). text_of (batch_lines cores b slots k es)) this))))
+    let rest : List (List Flow) = drop (k * b) slots in
+    let size : 1 * b ≡ b = omega arith in
+    ap (λ (bs : List (List Entry)). batches_lines cores b (j + k) (take 1 bs) (take (1 * b) rest)) (drop_more batches k none below)
+    ∙ (append-nil (batch_lines cores b (j + k) (get_or batches k none) (take b (take (1 * b) rest)))
+    ∙ ap (batch_lines cores b (j + k) (get_or batches k none)) (ap (λ (m : ℕ). take b (take m rest)) size ∙ take-take b b rest (omega arith)))
 
-abbrev pub later_lines : Cores → ℕ → ℕ → TraceContent → List Line
-later_lines cores b k trace =
-    batches_lines cores b (schedule is_taken b (plan_batches trace)) (0 + length (take (k + 1) (take trace.rounds (plan_batches trace)))) (drop (k + 1) (take trace.rounds (plan_batches trace)))
+pub batches_more : (cores : Cores) (b j k : ℕ) (batches : List (List Entry)) (slots : List (List Flow)) → k < length batches
+    → text_of (batches_lines cores b j (take (k + 1) batches) (take ((k + 1) * b) slots))
+    ≡ text_of (batches_lines cores b j (take k batches) (take (k * b) slots)) ++ text_of (batch_lines cores b (j + k) (get_or batches k []) (take b (drop (k * b) slots)))
+batches_more cores b j k batches slots below =
+    let before : List Line = batches_lines cores b j (take k batches) (take (k * b) slots) in
+    ap text_of (front_more cores b j k 1 batches slots (omega arith) ∙ ap (λ (ls : List Line). before ++ ls) (one_batch cores b j k batches slots below))
+    ∙ text_of-append before (batch_lines cores b (j + k) (get_or batches k []) (take b (drop (k * b) slots)))
 
-pub rounds_whole : (cores : Cores) (b k : ℕ) (trace : TraceContent) → IsSound trace → k < trace.rounds
-    → text_of (rounds_lines cores b trace.rounds trace) ≡ (text_of (rounds_lines cores b k trace) ++ text_of (round_lines cores b k trace)) ++ text_of (later_lines cores b k trace)
-rounds_whole cores b k trace sound below =
-    let slots : List (List Flow) = schedule is_taken b (plan_batches trace) in
-    let batches : List (List Entry) = take trace.rounds (plan_batches trace) in
-    ap (λ (bs : List (List Entry)). text_of (batches_lines cores b slots 0 bs)) (sym (take-append-drop (k + 1) batches))
-    ∙ (ap text_of (batches_lines-append cores b slots 0 (take (k + 1) batches) (drop (k + 1) batches))
-    ∙ (text_of-append (batches_lines cores b slots 0 (take (k + 1) batches)) (later_lines cores b k trace)
-    ∙ ap (λ (t : List ℕ). t ++ text_of (later_lines cores b k trace))
-    (ap (λ (bs : List (List Entry)). text_of (batches_lines cores b slots 0 bs)) (take-take (k + 1) trace.rounds (plan_batches trace) (omega arith))
-    ∙ rounds_more cores b k trace sound below)))
+pub batches_whole : (cores : Cores) (b j k : ℕ) (batches : List (List Entry)) (slots : List (List Flow)) → k < length batches → length slots ≡ length batches * b
+    → text_of (batches_lines cores b j batches slots)
+    ≡ (text_of (batches_lines cores b j (take k batches) (take (k * b) slots)) ++ text_of (batch_lines cores b (j + k) (get_or batches k []) (take b (drop (k * b) slots))))
+    ++ text_of (batches_lines cores b (j + (k + 1)) (take (length batches - (k + 1)) (drop (k + 1) batches)) (take ((length batches - (k + 1)) * b) (drop ((k + 1) * b) slots)))
+batches_whole cores b j k batches slots below long =
+    let n : ℕ = length batches in
+    let size : ℕ = n * b in
+    let rest : ℕ = n - (k + 1) in
+    let parts : n ≡ (k + 1) + rest = omega arith in
+    let all_batches : batches ≡ take n batches = sym (take_all n batches (omega arith)) in
+    let all_slots : slots ≡ take size slots = sym (take_all size slots (omega arith)) in
+    let later : List Line = batches_lines cores b (j + (k + 1)) (take rest (drop (k + 1) batches)) (take (rest * b) (drop ((k + 1) * b) slots)) in
+    ap (λ (bs : List (List Entry)). text_of (batches_lines cores b j bs slots)) all_batches
+    ∙ (ap (λ (xs : List (List Flow)). text_of (batches_lines cores b j (take n batches) xs)) all_slots
+    ∙ (ap (λ (m : ℕ). text_of (batches_lines cores b j (take m batches) (take (m * b) slots))) parts
+    ∙ (ap text_of (front_more cores b j (k + 1) rest batches slots (omega arith))
+    ∙ (text_of-append (batches_lines cores b j (take (k + 1) batches) (take ((k + 1) * b) slots)) later
+    ∙ ap (λ (t : List ℕ). t ++ text_of later) (batches_more cores b j k batches slots below)))))
+
+-- a batch of a step: its entries and then its slots
+pub batch_text : (b at k base from : ℕ) (step : StepContent) (batch : List Entry) (table : Slots) (cores : CoreSlots) → k ≡ step.first_allocated + at → batch ≡ get_or step.batches at [] → base ≡ first_slot b step.first_allocated
+    → from ≡ at * b → table ≡ step.slots → cores ≡ step.cores
+    → text_of (map (entry_line k) batch) ++ text_of (slots_lines (cores_from base cores) (base + from) (take b (drop from table.slots)))
+    ≡ text_of (batch_lines (cores_of_step b step) b (step.first_allocated + at) (get_or step.batches at []) (take b (drop (at * b) step.slots.slots)))
+batch_text b at k base from step batch table cores k_is batch_is base_is from_is table_is cores_are =
+    let n : ℕ = step.first_allocated + at in
+    let entries : List Line = map (entry_line n) (get_or step.batches at []) in
+    let number : base + from ≡ first_slot b n = omega (arith, places step.first_allocated at b) in
+    let Slots_of : ℕ → CoreSlots → ℕ → ℕ → Slots → List ℕ = λ f c m low t. text_of (slots_lines (cores_from f c) m (take b (drop low t.slots))) in
+    ap (λ (m : ℕ). text_of (map (entry_line m) batch) ++ Slots_of base cores (base + from) from table) k_is
+    ∙ (ap (λ (es : List Entry). text_of (map (entry_line n) es) ++ Slots_of base cores (base + from) from table) batch_is
+    ∙ (ap (λ (m : ℕ). text_of entries ++ Slots_of base cores m from table) number
+    ∙ (ap (λ (m : ℕ). text_of entries ++ Slots_of m cores (first_slot b n) from table) base_is
+    ∙ (ap (λ (m : ℕ). text_of entries ++ Slots_of (first_slot b step.first_allocated) cores (first_slot b n) m table) from_is
+    ∙ (ap (λ (t : Slots). text_of entries ++ Slots_of (first_slot b step.first_allocated) cores (first_slot b n) (at * b) t) table_is
+    ∙ (ap (λ (c : CoreSlots). text_of entries ++ Slots_of (first_slot b step.first_allocated) c (first_slot b n) (at * b) step.slots) cores_are
+    ∙ sym (text_of-append entries (slots_lines (cores_of_step b step) (first_slot b n) (take b (drop (at * b) step.slots.slots))))))))))

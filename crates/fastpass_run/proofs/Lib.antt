@@ -1,12 +1,8 @@
 pub mod PlainNumbers
 pub mod OutputLemmas
-pub mod AskLemmas
-pub mod TallyLemmas
 pub mod TextLemmas
-pub mod EntryLemmas
-pub mod CoreLemmas
-pub mod RoundLemmas
 pub mod BatchTexts
+pub mod CoreLemmas
 pub mod FlowLemmas
 pub mod PlanLemmas
-pub mod SoundLemmas
+pub mod StepLemmas

@@ -1,11 +1,13 @@
 -- A word that `parse` reads as a number, and that begins with no sign and no zero.
-use Rattle.std.proofs.Common.{◌≡◌, ◌<◌, ◌≤◌, ◌^◌, ℕ, Bool, true, false, ◌&&◌, nat_le, List, length, get_or, Some, None, Result, Ok, Err, sym, ap, ◌∙◌, arith, inl, inr}
+use Rattle.std.proofs.Common.{◌≡◌, ◌<◌, ◌≤◌, ◌^◌, ℕ, Bool, true, false, ◌&&◌, nat_le, List, [], ◌∷◌, length, get_or, Option, Some, None, IfSome, Result, Ok, Err, sym, ap, ◌∙◌, subst, arith, inl, inr}
+use Rattle.std.specs.Char.{digit_value}
 use Rattle.std.specs.Str.{all_ascii_digits}
 use Rattle.std.specs.Str.Parse.{digits_value, ParsesUnsigned}
 use Rattle.std.specs.Result.{OkIff}
 use Rattle.std.specs.Bool.{then_some}
 use Rattle.std.proofs.lemmas.Bool.{cond-true, cond-false, cases_Bool, and_from, and_right, and_parts, leb-false, le-leb, lt-leb, leb-true}
-use Rattle.std.proofs.lemmas.Str.Parse.{parse_plain, numerals_by_value, tells_all_ascii_digits}
+use Rattle.std.proofs.lemmas.Bool.Decides.{nat_tests}
+use Rattle.std.proofs.lemmas.Str.Parse.{parse_plain, numerals_by_value, tells_all_ascii_digits, digits_value-take-le}
 use Rattle.fastpass_run.specs.Words.{plain_up_to}
 
 abbrev all_digits : List ℕ → Type 0
@@ -52,4 +54,22 @@ some_number most n word plain read =
     elim (cases_Bool (nat_le n most)) [
       | inl within ↦ ap (λ b. then_some b n) within ∙ number_within most n word plain is.0.0 is.1 (leb-true n most within)
       | inr above ↦ ap (λ b. then_some b n) above ∙ number_above most n word is.1 (leb-false n most above)
+    ]
+
+-- a number that begins with no zero is none
+pub begins_above : (word : List ℕ) → BeginsPlain word → 0 < digits_value 10 word
+begins_above [] plain = absurd (omega (arith, plain.0))
+begins_above (d ∷ ds) plain =
+    let low : 49 ≤ d = plain.0 in
+    let high : d ≤ 57 = plain.1 in
+    let digit : 0 < digit_value d = grind (arith, nat_tests) in
+    omega (arith, digit, digits_value-take-le 10 (d ∷ ds) 1 (omega arith))
+
+pub number_bounds : (most n : ℕ) (word : List ℕ) → BeginsPlain word → ParsesUnsigned {E = ℕ} 8 10 word (Ok n) → IfSome (then_some (nat_le n most) n) (λ m. (0 < m) × (m ≤ most))
+number_bounds most n word plain read =
+    let is = read_plain {E = ℕ} word (Ok n) plain read in
+    let P : Option ℕ → Type 0 = λ o. IfSome o (λ m. (0 < m) × (m ≤ most)) in
+    elim (cases_Bool (nat_le n most)) [
+      | inl within ↦ subst P (sym (ap (λ b. then_some b n) within)) (omega (arith, is.1, begins_above word plain), leb-true n most within)
+      | inr above ↦ subst P (sym (ap (λ b. then_some b n) above)) tt
     ]

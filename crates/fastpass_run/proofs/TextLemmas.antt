@@ -3,6 +3,7 @@ use Rattle.std.proofs.Common.{◌≡◌, ◌≢◌, ◌<◌, ◌≤◌, ◌+◌,
 use Rattle.std.specs.Option.{option_map}
 use Rattle.std.proofs.lemmas.Bool.{cond-true, cond-false, cases_order, eq-eqb, ne_eqb, lt-ltb, le-ltb}
 use Rattle.std.proofs.lemmas.List.{append_assoc, append-nil, map-append, map_more, take_more, take-append-drop, length-take, take-take}
+use Rattle.std.proofs.lemmas.Option.{get_or_from_slice_get}
 use Rattle.std.proofs.lemmas.List.Elements.{All-cons, All-head, All-tail, All-weaker}
 use Rattle.greedy_rules.specs.declared.flows.Flow.{Flow}
 use Rattle.greedy_rules.specs.Schedule.{slot_in}
@@ -10,9 +11,9 @@ use Rattle.greedy_rules.specs.SlotTable.{IsSlotOf, destination_of}
 use Rattle.clos_topology.specs.Links.{CoreOf}
 use Rattle.report_text.specs.declared.line.Line.{Line}
 use Rattle.report_text.specs.Lines.{line_bytes}
-use Rattle.fastpass_run.specs.Text.{Cores, slot_line, slots_lines, text_of}
+use Rattle.window_engine.specs.Scheduled.{Cores}
+use Rattle.fastpass_run.specs.Text.{slot_line, slots_lines, text_of}
 use Rattle.fastpass_run.specs.Flows.{flow_list, flows_at, flows_below}
-use Rattle.fastpass_run.proofs.AskLemmas.{read_at}
 
 pub text_of-append : (xs ys : List Line) → text_of (xs ++ ys) ≡ text_of xs ++ text_of ys
 text_of-append [] ys = refl
@@ -28,7 +29,7 @@ pub text_more : {X : Type 0} (f : X → Line) (xs : List X) (i : ℕ) (x : X) �
 text_more f xs i x below is =
     ap text_of (map_more f xs i x below)
     ∙ (text_of-append (map f (take i xs)) (f (get_or xs i x) ∷ [])
-    ∙ ap (λ (t : List ℕ). text_of (map f (take i xs)) ++ t) (text_of-one (f (get_or xs i x)) ∙ ap (λ (l : Line). line_bytes l ++ 10 ∷ []) (ap f (read_at xs i x x below is))))
+    ∙ ap (λ (t : List ℕ). text_of (map f (take i xs)) ++ t) (text_of-one (f (get_or xs i x)) ∙ ap (λ (l : Line). line_bytes l ++ 10 ∷ []) (ap f (get_or_from_slice_get xs i x x is))))
 
 pub text_rest : {X : Type 0} (f : X → Line) (xs : List X) (i : ℕ) → text_of (map f xs) ≡ text_of (map f (take i xs)) ++ text_of (map f (drop i xs))
 text_rest f xs i =
@@ -171,22 +172,22 @@ slots_rest cores first slots place =
     ∙ text_of-append (slots_lines cores first (take place slots)) (slots_lines cores (first + length (take place slots)) (drop place slots)))
 
 -- the slot at a place, by its number and with its cores, after the slots before it
-pub slots_step : (cores : Cores) (first number : ℕ) (slots : List (List Flow)) (place at : ℕ) (core_of : CoreOf) → place < length slots → at ≡ place → number ≡ first + place → core_of ≡ cores (first + place)
-    → text_of (slots_lines cores first (take (place + 1) slots)) ≡ text_of (slots_lines cores first (take place slots)) ++ text_of (map (slot_line number core_of) (slot_in slots at))
-slots_step cores first number slots place at core_of within is counts named =
+pub slots_step : (cores : Cores) (first number : ℕ) (slots : List (List Flow)) (place : ℕ) (slot : List Flow) (core_of : CoreOf) → place < length slots → slot ≡ slot_in slots place → number ≡ first + place → core_of ≡ cores (first + place)
+    → text_of (slots_lines cores first (take (place + 1) slots)) ≡ text_of (slots_lines cores first (take place slots)) ++ text_of (map (slot_line number core_of) slot)
+slots_step cores first number slots place slot core_of within is counts named =
     let before : List ℕ = text_of (slots_lines cores first (take place slots)) in
     slots_more cores first slots place within
     ∙ (ap (λ (n : ℕ). before ++ text_of (map (slot_line n (cores (first + place))) (get_or slots place []))) (sym counts)
     ∙ (ap (λ (c : CoreOf). before ++ text_of (map (slot_line number c) (get_or slots place []))) (sym named)
-    ∙ ap (λ (n : ℕ). before ++ text_of (map (slot_line number core_of) (slot_in slots n))) (sym is)))
+    ∙ ap (λ (x : List Flow). before ++ text_of (map (slot_line number core_of) x)) (sym is)))
 
-pub slots_whole : (cores : Cores) (first number count : ℕ) (slots : List (List Flow)) (place at : ℕ) (core_of : CoreOf) → place < count → count ≤ length slots → at ≡ place → number ≡ first + place → core_of ≡ cores (first + place)
+pub slots_whole : (cores : Cores) (first number count : ℕ) (slots : List (List Flow)) (place : ℕ) (slot : List Flow) (core_of : CoreOf) → place < count → count ≤ length slots → slot ≡ slot_in slots place → number ≡ first + place → core_of ≡ cores (first + place)
     → text_of (slots_lines cores first (take count slots))
-    ≡ (text_of (slots_lines cores first (take place slots)) ++ text_of (map (slot_line number core_of) (slot_in slots at)))
+    ≡ (text_of (slots_lines cores first (take place slots)) ++ text_of (map (slot_line number core_of) slot))
     ++ text_of (slots_lines cores (first + length (take (place + 1) (take count slots))) (drop (place + 1) (take count slots)))
-slots_whole cores first number count slots place at core_of more within is counts named =
+slots_whole cores first number count slots place slot core_of more within is counts named =
     let rest : List ℕ = text_of (slots_lines cores (first + length (take (place + 1) (take count slots))) (drop (place + 1) (take count slots))) in
     slots_rest cores first (take count slots) (place + 1)
     ∙ ap (λ (t : List ℕ). t ++ rest)
     (ap (λ (xs : List (List Flow)). text_of (slots_lines cores first xs)) (take-take (place + 1) count slots (omega arith))
-    ∙ slots_step cores first number slots place at core_of (omega arith) is counts named)
+    ∙ slots_step cores first number slots place slot core_of (omega arith) is counts named)

@@ -1,12 +1,9 @@
 pub mod Transfer
 pub mod Words
-pub mod Batches
 pub mod Text
 pub mod Scheduled
 pub mod Output
-pub mod Tallies
 pub mod Flows
-pub mod Reached
-pub mod Sound
+pub mod Progress
 pub mod Run
 pub mod Failures

@@ -1,20 +1,14 @@
 -- What a run comes to: the words, the bytes read, the text written and the note (this project's own profile).
-use Rattle.std.specs.Prelude.{◌≡◌, ◌≢◌, ◌⊎◌, ℕ, ◌+◌, ◌<◌, ◌≤◌, List, [], ◌∷◌, ◌++◌, length, Option, Some, None, Result, Ok, Err, codes, decimal, slice_index_or}
+use Rattle.std.specs.Prelude.{◌≡◌, ◌≢◌, ◌⊎◌, ℕ, ◌+◌, ◌≤◌, List, [], ◌∷◌, ◌++◌, length, Option, Some, None, Result, Ok, Err, codes, decimal, slice_index_or}
 use Rattle.std.specs.Io.KnownBytes.{Consumes, Appends, IsAtEnd}
 use Rattle.fp_edge.specs.Faults.{Rose}
-use Rattle.greedy_rules.specs.declared.flows.Flow.{Flow}
-use Rattle.greedy_rules.specs.Demands.{item_of, need_in}
-use Rattle.greedy_rules.specs.Slot.{is_taken}
-use Rattle.greedy_rules.specs.Allocation.{slots_of}
-use Rattle.greedy_rules.specs.Schedule.{schedule, rest}
-use Rattle.clos_topology.specs.Network.{endpoints_of}
 use Rattle.trace_text.specs.declared.command.Command.TheVariants.{Plan}
 use Rattle.trace_text.specs.declared.fault.Fault.{Fault}
 use Rattle.trace_text.specs.FaultNumbers.{fault_number}
 use Rattle.trace_text.specs.Trace.{TraceContent, FaultyRow, trace_of}
-use Rattle.fastpass_run.specs.Batches.{plan_batches}
-use Rattle.fastpass_run.specs.Text.{Cores, demanded, plan_text}
-use Rattle.fastpass_run.specs.Scheduled.{EverySlotIsScheduled}
+use Rattle.window_engine.specs.Counts.{AllIsAllocatedOrPending}
+use Rattle.window_engine.specs.Scheduled.{Cores, EverySlotIsScheduled}
+use Rattle.fastpass_run.specs.Text.{plan_text}
 use Rattle.fastpass_run.specs.Transfer.{Takes, AppendsFront}
 use Rattle.fastpass_run.specs.Words.{batch_size_of}
 use Rattle.fastpass_run.specs.declared.outcome.Failure.{Failure}
@@ -24,13 +18,6 @@ use Rattle.fastpass_run.specs.declared.transfer.TheConstants.{LIMIT}
 -- the source was read to its end, and its bytes, at most the limit, are so read as a trace
 abbrev pub IsRead : Option (List ℕ) → Option (List ℕ) → Result TraceContent FaultyRow → Type 0
 IsRead left left' trace = (bytes : List ℕ) × Consumes left left' bytes × IsAtEnd left' × (length bytes ≤ LIMIT) × (trace_of Plan bytes ≡ trace)
-
--- each flow's demand was allocated or is pending
-abbrev pub AllIsAllocatedOrPending : ℕ → TraceContent → Type 0
-AllIsAllocatedOrPending b trace =
-    (src dst : ℕ) → src < endpoints_of trace.net → dst < endpoints_of trace.net
-    → let flow : Flow = record { src = src; dst = dst } in
-    demanded (plan_batches trace) flow ≡ slots_of flow (schedule is_taken b (plan_batches trace)) + need_in (item_of (rest is_taken b (plan_batches trace)) flow)
 
 -- the plan of a trace was written, the whole or a front of it, with cores that make each of its slots clean
 pub record Plans (words : List (List ℕ)) (left left' held held' : Option (List ℕ)) : Type 0 where

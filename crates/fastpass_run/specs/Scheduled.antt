@@ -1,45 +1,15 @@
--- What each slot of a plan is: a matching that no waiting demand could join, on paths that share no link
--- (the SIGCOMM 2014 Fastpass paper).
-use Rattle.std.specs.Prelude.{◌<◌, ◌≤◌, ◌+◌, ◌-◌, ℕ, List, length}
-use Rattle.greedy_rules.specs.declared.flows.Flow.{Flow}
-use Rattle.greedy_rules.specs.Slot.{is_taken}
-use Rattle.greedy_rules.specs.Matching.{IsMatching, IsMaximal}
-use Rattle.greedy_rules.specs.Schedule.{first_slot, schedule, slot_in, slot_at, need_before}
-use Rattle.clos_topology.specs.Network.{Network}
-use Rattle.clos_topology.specs.Links.{CoreOf, IsClean}
-use Rattle.path_workers.specs.CoreTable.{CoreSlots, core_of}
+-- What is told of the cores of a plan: that each slot is a matching that no waiting demand could join, on paths that share no
+-- link (the SIGCOMM 2014 Fastpass paper), and what was written with them.
+use Rattle.std.specs.Prelude.{ℕ}
+use Rattle.greedy_rules.specs.Schedule.{first_slot}
 use Rattle.trace_text.specs.Trace.{TraceContent}
-use Rattle.fastpass_run.specs.Batches.{plan_batches}
-use Rattle.fastpass_run.specs.Text.{Cores, slots_of_batch}
+use Rattle.window_engine.specs.Scheduled.{Cores, EverySlotIsScheduled, AreClean}
+use Rattle.window_engine.specs.Step.{window_slots}
 
-pub record IsScheduled (net : Network) (need : Flow → ℕ) (slot : List Flow) (core_of : CoreOf) : Type 0 where
-  pub matching : IsMatching slot
-  pub maximal : IsMaximal is_taken need slot
-  pub clean : IsClean net.hosts net.cores slot core_of
-
--- so is every slot of the trace's schedule with these cores
-abbrev pub EverySlotIsScheduled : ℕ → TraceContent → Cores → Type 0
-EverySlotIsScheduled b trace cores =
-    (number : ℕ) → 0 < number → number ≤ length (schedule is_taken b (plan_batches trace))
-    → IsScheduled trace.net (need_before is_taken b (plan_batches trace) number) (slot_at (schedule is_taken b (plan_batches trace)) number) (cores number)
-
--- there are cores that do that
-abbrev pub HasCores : ℕ → TraceContent → Type 0
-HasCores b trace = (cores : Cores) × EverySlotIsScheduled b trace cores
-
--- and what is told of them holds
+-- with some cores every slot of the trace's schedule is so, and what is told of them holds
 abbrev pub WithCores : ℕ → TraceContent → (Cores → Type 0) → Type 0
 WithCores b trace holds = (cores : Cores) × EverySlotIsScheduled b trace cores × holds cores
 
--- slots from this number on, each clean with its cores
-abbrev pub AreClean : Network → Cores → ℕ → List (List Flow) → Type 0
-AreClean net cores first slots = (at : ℕ) → at < length slots → IsClean net.hosts net.cores (slot_in slots at) (cores (first + at))
-
--- some cores make the slots of batch k clean, and what is told of them holds
-abbrev pub WithCoresOfBatch : ℕ → ℕ → TraceContent → (Cores → Type 0) → Type 0
-WithCoresOfBatch b k trace holds =
-    (cores : Cores) × AreClean trace.net cores (first_slot b k) (slots_of_batch b k (schedule is_taken b (plan_batches trace))) × holds cores
-
--- the cores of a table whose first slot has this number
-abbrev pub cores_from : ℕ → CoreSlots → Cores
-cores_from first table number = core_of table (number - first)
+-- some cores make the slots of so many batches from this one on clean, and what is told of them holds
+abbrev pub WithCoresOfWindow : ℕ → ℕ → ℕ → TraceContent → (Cores → Type 0) → Type 0
+WithCoresOfWindow b first count trace holds = (cores : Cores) × AreClean trace.net cores (first_slot b first) (window_slots b trace first count) × holds cores

@@ -1,59 +1,38 @@
-ghost use Rattle.std.specs.Prelude.{◌≡◌, ◌<◌, ◌≤◌, ◌*◌, ℕ, length, slice_index, IfOk};
-ghost use Rattle.greedy_rules.specs.Demands.{HasEachFlowOnce, AreBelow};
-ghost use Rattle.fastpass_run.specs.Reached.{Needs, told, told_of};
-ghost use Rattle.fastpass_run.specs.Tallies.{place_of};
-ghost use Rattle.fastpass_run.specs.Text.{text_of, each_destination, each_source};
+ghost use Rattle.std.specs.Prelude.{◌≡◌, ◌<◌};
+ghost use Rattle.clos_topology.specs.Network.{endpoints_of};
+ghost use Rattle.window_engine.specs.Counts.{counts_of};
+ghost use Rattle.window_engine.specs.Standing.{Stands};
+ghost use Rattle.fastpass_run.specs.Text.{text_of, flow_lines_of, flows_lines, each_destination};
 ghost use Rattle.fastpass_run.specs.Output.{Passes};
 
-use crate::batches::place;
 use crate::output::{Stop, put_line};
 use fp_edge::Sink;
-use greedy_rules::{DemandList, Flow};
-use no_memory::NoMemory;
+use greedy_rules::Flow;
 use report_text::Line;
-use std::alloc::Global;
-
-/// The need of each flow in the list, by source and then destination.
-pub(crate) fn pending_of(
-    alloc: Global,
-    endpoints: u16,
-    list: &DemandList,
-) -> Result<Vec<u32>, NoMemory>
-    requires once { HasEachFlowOnce list.now.items }
-    requires below { AreBelow endpoints list.now.items }
-    ensures { IfOk result (λ table. Needs endpoints list.now.items table.items) }
-{
-    let mut table = vec![in alloc; 0; endpoints as usize * endpoints as usize]?;
-    for at in 0..list.len() {
-        let item = list.item(at);
-        table[place(endpoints, item.flow)] = item.need;
-    }
-    Ok(table)
-}
+use trace_text::Trace;
+use window_engine::{Counts, Engine};
 
 /// What became of one flow's demand, if there was any.
 fn put_flow<K: Sink>(
     sink: &mut K,
     gathered: &mut Vec<u8>,
     flow: Flow,
-    asked: u32,
-    pending: u32,
+    counts: Option<Counts>,
 ) -> Result<(), Stop>
-    requires { pending ≤ asked }
-    ensures { Passes (K.held sink.old) (K.held sink.new) (K.faults sink.old) (K.faults sink.new) gathered.old.items gathered.new.items (text_of (told_of flow asked pending)) result }
+    ensures { Passes (K.held sink.old) (K.held sink.new) (K.faults sink.old) (K.faults sink.new) gathered.old.items gathered.new.items (text_of (flow_lines_of flow counts)) result }
 {
-    if asked == 0 {
+    let Some(counts) = counts else {
         return Ok(());
-    }
+    };
     put_line(
         sink,
         gathered,
         &Line::Flow {
             src: flow.src,
             dst: flow.dst,
-            demanded: asked,
-            allocated: asked - pending,
-            pending,
+            demanded: counts.demanded,
+            allocated: counts.allocated,
+            pending: counts.pending,
         },
     )
 }
@@ -62,21 +41,18 @@ fn put_flow<K: Sink>(
 fn put_source<K: Sink>(
     sink: &mut K,
     gathered: &mut Vec<u8>,
-    endpoints: u16,
-    asked: &[u32],
-    pending: &[u32],
+    trace: &Trace,
+    engine: &Engine,
     src: u16,
 ) -> Result<(), Stop>
-    requires src { src < endpoints }
-    requires asked { length asked.now ≡ endpoints * endpoints }
-    requires pending { length pending.now ≡ endpoints * endpoints }
-    requires less { (src dst : ℕ) → src < endpoints → dst < endpoints → slice_index pending.now (place_of endpoints src dst) ≤ slice_index asked.now (place_of endpoints src dst) }
-    ensures { Passes (K.held sink.old) (K.held sink.new) (K.faults sink.old) (K.faults sink.new) gathered.old.items gathered.new.items (text_of (each_destination (told endpoints asked.now pending.now) src 0 endpoints)) result }
+    requires stands { Stands trace.now engine.now }
+    requires done { engine.now.round ≡ engine.now.rounds }
+    requires src { src < endpoints_of trace.now.net }
+    ensures { Passes (K.held sink.old) (K.held sink.new) (K.faults sink.old) (K.faults sink.new) gathered.old.items gathered.new.items (text_of (each_destination (λ flow. flow_lines_of flow (counts_of engine.now.b trace.now flow)) src 0 (endpoints_of trace.now.net))) result }
 {
-    for dst in 0..endpoints {
+    for dst in 0..trace.endpoints() {
         let flow = Flow { src, dst };
-        let at = place(endpoints, flow);
-        put_flow(sink, gathered, flow, asked[at], pending[at])?;
+        put_flow(sink, gathered, flow, engine.counts(flow))?;
     }
     Ok(())
 }
@@ -85,17 +61,15 @@ fn put_source<K: Sink>(
 pub(crate) fn put_flows<K: Sink>(
     sink: &mut K,
     gathered: &mut Vec<u8>,
-    endpoints: u16,
-    asked: &[u32],
-    pending: &[u32],
+    trace: &Trace,
+    engine: &Engine,
 ) -> Result<(), Stop>
-    requires asked { length asked.now ≡ endpoints * endpoints }
-    requires pending { length pending.now ≡ endpoints * endpoints }
-    requires less { (src dst : ℕ) → src < endpoints → dst < endpoints → slice_index pending.now (place_of endpoints src dst) ≤ slice_index asked.now (place_of endpoints src dst) }
-    ensures { Passes (K.held sink.old) (K.held sink.new) (K.faults sink.old) (K.faults sink.new) gathered.old.items gathered.new.items (text_of (each_source (told endpoints asked.now pending.now) endpoints 0 endpoints)) result }
+    requires stands { Stands trace.now engine.now }
+    requires done { engine.now.round ≡ engine.now.rounds }
+    ensures { Passes (K.held sink.old) (K.held sink.new) (K.faults sink.old) (K.faults sink.new) gathered.old.items gathered.new.items (text_of (flows_lines engine.now.b trace.now)) result }
 {
-    for src in 0..endpoints {
-        put_source(sink, gathered, endpoints, asked, pending, src)?;
+    for src in 0..trace.endpoints() {
+        put_source(sink, gathered, trace, engine, src)?;
     }
     Ok(())
 }

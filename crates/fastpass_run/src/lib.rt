@@ -8,7 +8,6 @@ ghost use Rattle.fastpass_run.specs.Transfer.{Takes};
 ghost use Rattle.fastpass_run.specs.Run.{ComesTo, Plans, BeginsPlan, FaultyAtSome, IsUnwritten, Notes, Completes};
 ghost use Rattle.fastpass_run.specs.declared.transfer.TheConstants.{LIMIT};
 
-mod batches;
 mod flows;
 mod lines;
 mod outcome;

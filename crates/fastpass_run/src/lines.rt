@@ -1,8 +1,10 @@
-ghost use Rattle.std.specs.Prelude.{◌≡◌, ◌<◌, ◌≤◌, ◌+◌, ◌^◌, length, map, take};
+ghost use Rattle.std.specs.Prelude.{◌≡◌, ◌<◌, ◌≤◌, ◌+◌, ◌*◌, ◌^◌, [], length, map, take, drop};
+ghost use Rattle.std.specs.List.{slice_index_or};
 ghost use Rattle.greedy_rules.specs.Schedule.{slot_in};
 ghost use Rattle.path_workers.specs.CoreTable.{core_of};
-ghost use Rattle.fastpass_run.specs.Text.{text_of, entry_line, slot_line, slots_lines};
-ghost use Rattle.fastpass_run.specs.Scheduled.{cores_from};
+ghost use Rattle.window_engine.specs.Scheduled.{cores_from};
+ghost use Rattle.fastpass_run.specs.Text.{text_of, entry_line, slot_line, slots_lines, batch_lines, batches_lines};
+ghost use Rattle.fastpass_run.specs.Progress.{IsWindow, cores_of_step};
 ghost use Rattle.fastpass_run.specs.Flows.{flows_at};
 ghost use Rattle.fastpass_run.specs.Output.{Passes};
 
@@ -11,6 +13,7 @@ use fp_edge::Sink;
 use greedy_rules::{Batch, Entry, SlotTable};
 use path_workers::CoreTable;
 use report_text::Line;
+use window_engine::Step;
 
 fn line_of(round: u32, entry: Entry) -> Line
     ensures { result ≡ entry_line round entry }
@@ -25,7 +28,7 @@ fn line_of(round: u32, entry: Entry) -> Line
 }
 
 /// A line for each entry of a round's batch.
-pub(crate) fn put_entries<K: Sink>(
+fn put_entries<K: Sink>(
     sink: &mut K,
     gathered: &mut Vec<u8>,
     round: u32,
@@ -91,30 +94,62 @@ fn put_slot<K: Sink>(
     Ok(())
 }
 
-/// The packets of the first slots of the tables, of which the first has this number.
-pub(crate) fn put_slots<K: Sink>(
+/// The packets of so many slots of the tables from this place on; the slot at place 0 has the number `base`.
+fn put_slots<K: Sink>(
     sink: &mut K,
     gathered: &mut Vec<u8>,
     table: &SlotTable,
     cores: &CoreTable,
+    from: u16,
     count: u8,
-    first: u32,
+    base: u32,
 ) -> Result<(), Stop>
-    requires count { count ≤ length table.now.slots }
-    requires numbers { first + count ≤ 2 ^ 32 }
-    requires core_slots { count ≤ cores.now.slots }
+    requires count { from + count ≤ length table.now.slots }
+    requires places { from + count < 2 ^ 16 }
+    requires numbers { base + (from + count) ≤ 2 ^ 32 }
+    requires core_slots { from + count ≤ cores.now.slots }
     requires core_endpoints { table.now.endpoints ≤ cores.now.endpoints }
-    ensures { Passes (K.held sink.old) (K.held sink.new) (K.faults sink.old) (K.faults sink.new) gathered.old.items gathered.new.items (text_of (slots_lines (cores_from first cores.now) first (take count table.now.slots))) result }
+    ensures { Passes (K.held sink.old) (K.held sink.new) (K.faults sink.old) (K.faults sink.new) gathered.old.items gathered.new.items (text_of (slots_lines (cores_from base cores.now) (base + from) (take count (drop from table.now.slots)))) result }
 {
-    for place in 0..count {
-        put_slot(
-            sink,
-            gathered,
-            table,
-            cores,
-            u16::from(place),
-            first + u32::from(place),
-        )?;
+    for place in from..from + u16::from(count) {
+        put_slot(sink, gathered, table, cores, place, base + u32::from(place))?;
+    }
+    Ok(())
+}
+
+/// One batch of a step, counted from 0, with its slots.
+fn put_batch<K: Sink>(
+    sink: &mut K,
+    gathered: &mut Vec<u8>,
+    step: &Step,
+    b: u8,
+    at: u32,
+) -> Result<(), Stop>
+    requires b { (0 < b) × (b ≤ 64) }
+    requires window { IsWindow b step.now }
+    requires at { at < step.now.allocated }
+    ensures { Passes (K.held sink.old) (K.held sink.new) (K.faults sink.old) (K.faults sink.new) gathered.old.items gathered.new.items (text_of (batch_lines (cores_of_step b step.now) b (step.now.first_allocated + at) (slice_index_or step.now.batches at []) (take b (drop (at * b) step.now.slots.slots)))) result }
+{
+    let first = step.first_allocated();
+    put_entries(sink, gathered, first + at, &step.batches()[at as usize])?;
+    let from = at as u16 * u16::from(b);
+    let base = first * u32::from(b) + 1;
+    put_slots(sink, gathered, step.slots(), step.cores(), from, b, base)
+}
+
+/// The batches of a step, each with its slots.
+pub(crate) fn put_window<K: Sink>(
+    sink: &mut K,
+    gathered: &mut Vec<u8>,
+    step: &Step,
+    b: u8,
+) -> Result<(), Stop>
+    requires b { (0 < b) × (b ≤ 64) }
+    requires window { IsWindow b step.now }
+    ensures { Passes (K.held sink.old) (K.held sink.new) (K.faults sink.old) (K.faults sink.new) gathered.old.items gathered.new.items (text_of (batches_lines (cores_of_step b step.now) b step.now.first_allocated step.now.batches step.now.slots.slots)) result }
+{
+    for at in 0..step.allocated() {
+        put_batch(sink, gathered, step, b, at)?;
     }
     Ok(())
 }

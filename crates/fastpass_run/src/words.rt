@@ -1,4 +1,4 @@
-ghost use Rattle.std.specs.Prelude.{◌≡◌, map};
+ghost use Rattle.std.specs.Prelude.{◌≡◌, ◌<◌, ◌≤◌, map, IfSome};
 ghost use Rattle.fastpass_run.specs.Words.{batch_size_of, batch_option_of, plain_up_to};
 
 /// The batch size where nothing else is asked for.
@@ -9,7 +9,8 @@ const MOST_BATCH: u8 = 64;
 
 /// The batch size that the words set: `plan`, and `--batch n` at most once. None where they are refused.
 pub(crate) fn batch_size(words: &[&str]) -> Option<u8>
-    ensures { result ≡ batch_size_of (map (λ word. word.now) words.now) }
+    ensures option { result ≡ batch_size_of (map (λ word. word.now) words.now) }
+    ensures within { IfSome result (λ b. (0 < b) × (b ≤ 64)) }
 {
     match words {
         [command, options @ ..] if *command == "plan" => batch_option(options),
@@ -18,7 +19,8 @@ pub(crate) fn batch_size(words: &[&str]) -> Option<u8>
 }
 
 fn batch_option(options: &[&str]) -> Option<u8>
-    ensures { result ≡ batch_option_of (map (λ word. word.now) options.now) }
+    ensures option { result ≡ batch_option_of (map (λ word. word.now) options.now) }
+    ensures within { IfSome result (λ b. (0 < b) × (b ≤ 64)) }
 {
     match options {
         [] => Some(DEFAULT_BATCH),
@@ -29,7 +31,8 @@ fn batch_option(options: &[&str]) -> Option<u8>
 
 /// A number from 1 to `most`, in plain decimal without a leading zero.
 fn plain_number(word: &str, most: u8) -> Option<u8>
-    ensures { result ≡ plain_up_to most word.now }
+    ensures number { result ≡ plain_up_to most word.now }
+    ensures within { IfSome result (λ n. (0 < n) × (n ≤ most)) }
 {
     let bytes = word.as_bytes();
     if bytes.is_empty() || bytes[0] < b'1' || bytes[0] > b'9' {

@@ -2,21 +2,16 @@ use Rattle.std.proofs.Common.{◌≡◌, []}
 use Rattle.std.proofs.lemmas.List.{append-nil}
 use Rattle.fastpass_run.specs.Text.{plan_text}
 use Rattle.fastpass_run.proofs.OutputLemmas.{Passes-cut, Passes-join, Writes-start, Writes-none, never_ok}
-use Rattle.fastpass_run.proofs.CoreLemmas.{plan_has_cores}
 use Rattle.fastpass_run.proofs.plan.plan.Goals as goal
-
-pub put_lines-requires-clause-cores : goal.put_lines-requires-clause-cores
-put_lines-requires-clause-cores g c κs within =
-    plan_has_cores c.args.b c.args.trace.now c.requires.sound c.every_slot_is_a_maximal_matching.ensures c.every_slot_is_in_range.ensures c.every_matching_has_clean_paths.ensures
 
 pub returns-in_err-gathered-clause-writes : goal.returns-in_err-gathered-clause-writes
 returns-in_err-gathered-clause-writes g c =
-    let cores = plan_has_cores c.args.b c.args.trace.now c.requires.sound c.every_slot_is_a_maximal_matching.ensures c.every_slot_is_in_range.ensures c.every_matching_has_clean_paths.ensures in
+    let cores = c.every_plan_has_cores.ensures c.args.b c.args.trace.now c.requires.accepted in
     (cores.0, cores.1, Writes-none (g.K.Sink.held c.args.sink.now) (g.K.Sink.faults c.args.sink.now) (plan_text cores.0 c.args.b c.args.trace.now) c.from_residual.result c.from_residual.ensures.1)
 
 pub returns-in_err-put_lines-clause-writes : goal.returns-in_err-put_lines-clause-writes
 returns-in_err-put_lines-clause-writes g c =
-    let (cores, scheduled, passes) = c.in_err-put_lines.ensures.passes in
+    let (cores, scheduled, passes) = c.in_err-put_lines.ensures in
     let text = plan_text cores c.args.b c.args.trace.now in (
       cores,
       scheduled,
@@ -28,7 +23,7 @@ returns-in_err-put_lines-clause-writes g c =
 
 pub returns-clause-writes : goal.returns-clause-writes
 returns-clause-writes g c =
-    let (cores, scheduled, passes) = c.in_ok-put_lines.ensures.passes in
+    let (cores, scheduled, passes) = c.in_ok-put_lines.ensures in
     let text = plan_text cores c.args.b c.args.trace.now in (
       cores,
       scheduled,

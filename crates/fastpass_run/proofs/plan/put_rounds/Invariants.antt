@@ -1,12 +1,19 @@
+use Rattle.std.proofs.Common.{◌≡◌, ◌-◌}
+use Rattle.window_engine.specs.Standing.{Stands}
 use Rattle.fastpass_run.specs.Text.{text_of}
-use Rattle.fastpass_run.specs.Scheduled.{WithCores}
-use Rattle.fastpass_run.specs.Reached.{Reached, HasRoom, rounds_lines}
 use Rattle.fastpass_run.specs.Output.{Passed}
+use Rattle.fastpass_run.specs.Progress.{rounds_lines}
+use Rattle.fastpass_run.specs.Scheduled.{WithCores}
 use Rattle.fastpass_run.proofs.plan.put_rounds.Given as goal
 
-abbrev pub invariant-loop-round : goal.invariant-loop-round
-invariant-loop-round g l =
-    WithCores l.b l.trace
-    (λ cores. Passed (g.K.Sink.held l.initial.sink) (g.K.Sink.held l.sink) (g.K.Sink.faults l.initial.sink) (g.K.Sink.faults l.sink) l.initial.gathered.items l.gathered.items
-    (text_of (rounds_lines cores l.b l.round l.trace)))
-    × Reached l.trace l.b l.round l.state.list l.state.asked.items × HasRoom l.trace.net l.b l.state.table l.state.paths l.state.cores
+abbrev pub invariant-loop-engine : goal.invariant-loop-engine
+invariant-loop-engine g l = record {
+  stands : Stands l.trace l.engine;
+  size : l.engine.b ≡ l.b;
+  passed : WithCores l.b l.trace (λ cores.
+      Passed (g.K.Sink.held l.initial.sink) (g.K.Sink.held l.sink) (g.K.Sink.faults l.initial.sink) (g.K.Sink.faults l.sink) l.initial.gathered.items l.gathered.items
+      (text_of (rounds_lines cores l.b l.engine.round l.trace)));
+}
+
+abbrev pub decreases-loop-engine : goal.decreases-loop-engine
+decreases-loop-engine g l = l.trace.rounds - l.engine.round

@@ -1,6 +1,0 @@
-use Rattle.std.proofs.Common.{◌≡◌, [], take, get_or}
-use Rattle.fastpass_run.specs.Batches.{entries_from}
-use Rattle.fastpass_run.proofs.batches.batch_of.Given as goal
-
-abbrev pub invariant-loop-src : goal.invariant-loop-src
-invariant-loop-src l = l.batch ≡ entries_from (take l.round l.trace.asked) 0 (take l.src (get_or l.trace.asked l.round []))

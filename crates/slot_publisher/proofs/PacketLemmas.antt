@@ -1,0 +1,120 @@
+-- The packets of a slot, and what each source sends in it.
+use Rattle.std.proofs.Common.{◌≡◌, ◌≢◌, ◌<◌, ◌≤◌, ◌+◌, ℕ, zero, suc, List, [], ◌∷◌, ◌==◌, find, Option, Some, None, IfSome, All, AllPairs, length, refl, sym, ap, ◌∙◌, subst, arith, inl, inr}
+use Rattle.std.specs.Option.{option_map}
+use Rattle.std.specs.List.{cons_option}
+use Rattle.std.proofs.lemmas.Bool.{cond-true, cond-false, cases_eq, eq-eqb, ne_eqb}
+use Rattle.std.proofs.lemmas.List.Elements.{All-nil, All-cons, All-head, All-tail, All-weaker}
+use Rattle.greedy_rules.specs.declared.flows.Flow.{Flow}
+use Rattle.greedy_rules.specs.SlotTable.{destination_of, IsSlotOf}
+use Rattle.greedy_rules.specs.Schedule.{slot_in}
+use Rattle.path_workers.specs.CoreTable.{CoreSlots, core_of}
+use Rattle.greedy_rules.proofs.Pairs.{AllPairs-head, AllPairs-tail}
+use Rattle.slot_publisher.specs.declared.publisher.Hop.{Hop}
+use Rattle.slot_publisher.specs.Window.{Packet, with_cores, NamesCores}
+use Rattle.slot_publisher.specs.Told.{packet_from}
+use Rattle.slot_publisher.specs.Places.{hop_of, packet_by, packets_by}
+
+-- ---- the packet of a source
+
+other_packet : (src endpoint : ℕ) (cell : Option Hop) (packets : List Packet) → src ≢ endpoint → packet_from endpoint (cons_option (option_map (packet_by src) cell) packets) ≡ packet_from endpoint packets
+other_packet src endpoint None packets other = refl
+other_packet src endpoint (Some hop) packets other = cond-false (src == endpoint) (Some (packet_by src hop)) (packet_from endpoint packets) (ne_eqb src endpoint other)
+
+this_packet : (src : ℕ) (cell : Option Hop) (packets : List Packet) → packet_from src packets ≡ None → packet_from src (cons_option (option_map (packet_by src) cell) packets) ≡ option_map (packet_by src) cell
+this_packet src None packets none = none
+this_packet src (Some hop) packets none = cond-true (src == src) (Some (packet_by src hop)) (packet_from src packets) (eq-eqb src src refl)
+
+packet_from-none : (cell : ℕ → Option Hop) (src n endpoint : ℕ) → endpoint < src → packet_from endpoint (packets_by cell src n) ≡ None
+packet_from-none cell src zero endpoint low = refl
+packet_from-none cell src (suc n) endpoint low =
+    other_packet src endpoint (cell src) (packets_by cell (src + 1) n) (λ same. omega arith) ∙ packet_from-none cell (src + 1) n endpoint (omega arith)
+
+pub packet_from-at : (cell : ℕ → Option Hop) (src n endpoint : ℕ) → src ≤ endpoint → endpoint < src + n → packet_from endpoint (packets_by cell src n) ≡ option_map (packet_by endpoint) (cell endpoint)
+packet_from-at cell src zero endpoint low high = absurd (omega arith)
+packet_from-at cell src (suc n) endpoint low high = elim (cases_eq src endpoint) [
+  | inl here ↦
+      ap (λ (s : ℕ). packet_from s (packets_by cell src (suc n))) (sym here)
+      ∙ (this_packet src (cell src) (packets_by cell (src + 1) n) (packet_from-none cell (src + 1) n src (omega arith))
+      ∙ ap (λ (s : ℕ). option_map (packet_by s) (cell s)) here)
+  | inr other ↦ other_packet src endpoint (cell src) (packets_by cell (src + 1) n) other ∙ packet_from-at cell (src + 1) n endpoint (omega arith) (omega arith)
+]
+
+-- ---- the packets of a slot are its flows
+
+other_source : (source : ℕ) (flow : Flow) (slot : List Flow) → flow.src ≢ source → destination_of (flow ∷ slot) source ≡ destination_of slot source
+other_source source flow slot other =
+    ap (option_map (λ (f : Flow). f.dst)) (cond-false (flow.src == source) (Some flow) (find (λ f. f.src == source) slot) (ne_eqb _ _ other))
+
+this_source : (source : ℕ) (flow : Flow) (slot : List Flow) → flow.src ≡ source → destination_of (flow ∷ slot) source ≡ Some flow.dst
+this_source source flow slot same =
+    ap (option_map (λ (f : Flow). f.dst)) (cond-true (flow.src == source) (Some flow) (find (λ f. f.src == source) slot) (eq-eqb _ _ same))
+
+no_source : (source : ℕ) (slot : List Flow) → All (λ flow. source < flow.src) slot → destination_of slot source ≡ None
+no_source source [] above = refl
+no_source source (flow ∷ slot) above =
+    let first : source < flow.src = All-head (λ f. source < f.src) flow slot above in
+    other_source source flow slot (λ same. omega arith) ∙ no_source source slot (All-tail (λ f. source < f.src) flow slot above)
+
+abbrev Rises : List Flow → Type 0
+Rises slot = AllPairs (λ f g. f.src < g.src) slot
+
+-- what each source sends gives the packets of a slot whose flows rise
+pub packets_by-slot : (core_of_source : ℕ → Option ℕ) (slot : List Flow) (cell : ℕ → Option Hop) (src n : ℕ) → Rises slot → All (λ flow. src ≤ flow.src) slot → All (λ flow. flow.src < src + n) slot
+    → ((source : ℕ) → src ≤ source → source < src + n → cell source ≡ hop_of core_of_source slot source) → packets_by cell src n ≡ with_cores core_of_source slot
+packets_by-slot core_of_source [] cell src zero rises above below same = refl
+packets_by-slot core_of_source (flow ∷ slot) cell src zero rises above below same =
+    let low : src ≤ flow.src = All-head (λ f. src ≤ f.src) flow slot above in
+    let high : flow.src < src + 0 = All-head (λ f. f.src < src + 0) flow slot below in
+    absurd (omega arith)
+packets_by-slot core_of_source [] cell src (suc n) rises above below same =
+    let none : cell src ≡ None = same src (omega arith) (omega arith) in
+    ap (λ (c : Option Hop). cons_option (option_map (packet_by src) c) (packets_by cell (src + 1) n)) none
+    ∙ packets_by-slot core_of_source [] cell (src + 1) n rises (All-nil (λ flow. src + 1 ≤ flow.src)) (All-nil (λ flow. flow.src < (src + 1) + n)) (λ source low high. same source (omega arith) (omega arith))
+packets_by-slot core_of_source (flow ∷ slot) cell src (suc n) rises above below same =
+    let first : src ≤ flow.src = All-head (λ f. src ≤ f.src) flow slot above in
+    let later : All (λ f. flow.src < f.src) slot = AllPairs-head (λ f g. f.src < g.src) flow slot rises in
+    let hop_at : ℕ → ℕ → Hop = λ source dst. record { dst = dst; core = core_of_source source } in
+    let hop : ℕ → Hop = hop_at src in
+    elim (cases_eq flow.src src) [
+      | inl here ↦
+          let found : cell src ≡ Some (hop flow.dst) = same src (omega arith) (omega arith) ∙ ap (option_map hop) (this_source src flow slot here) in
+          let rest : packets_by cell (src + 1) n ≡ with_cores core_of_source slot =
+          packets_by-slot core_of_source slot cell (src + 1) n (AllPairs-tail (λ f g. f.src < g.src) flow slot rises)
+          (All-weaker (λ f. flow.src < f.src) (λ f. src + 1 ≤ f.src) (λ f lt. omega arith) slot later)
+          (All-weaker (λ f. f.src < src + suc n) (λ f. f.src < (src + 1) + n) (λ f lt. omega arith) slot (All-tail (λ f. f.src < src + suc n) flow slot below))
+          (λ source low high.
+          same source (omega arith) (omega arith)
+          ∙ ap (option_map (hop_at source)) (other_source source flow slot (λ e. omega arith))) in
+          ap (λ (c : Option Hop). cons_option (option_map (packet_by src) c) (packets_by cell (src + 1) n)) found
+          ∙ (ap (λ (packets : List Packet). packet_by src (hop flow.dst) ∷ packets) rest
+          ∙ ap (λ (s : ℕ). record { flow = record { src = s; dst = flow.dst }; core = core_of_source s } ∷ with_cores core_of_source slot) (sym here))
+      | inr other ↦
+          let all : All (λ f. src < f.src) (flow ∷ slot) =
+          All-cons (λ f. src < f.src) flow slot (omega arith) (All-weaker (λ f. flow.src < f.src) (λ f. src < f.src) (λ f lt. omega arith) slot later) in
+          let none : cell src ≡ None = same src (omega arith) (omega arith) ∙ ap (option_map hop) (no_source src (flow ∷ slot) all) in
+          ap (λ (c : Option Hop). cons_option (option_map (packet_by src) c) (packets_by cell (src + 1) n)) none
+          ∙ packets_by-slot core_of_source (flow ∷ slot) cell (src + 1) n rises
+          (All-weaker (λ f. src < f.src) (λ f. src + 1 ≤ f.src) (λ f lt. omega arith) (flow ∷ slot) all)
+          (All-weaker (λ f. f.src < src + suc n) (λ f. f.src < (src + 1) + n) (λ f lt. omega arith) (flow ∷ slot) below) (λ source low high. same source (omega arith) (omega arith))
+    ]
+
+-- ---- what is known of a flow of a slot is known of what its source sends
+
+sent_flow : (P : Flow → Type 0) (slot : List Flow) (source dst : ℕ) → All P slot → destination_of slot source ≡ Some dst → (flow : Flow) × (flow.src ≡ source) × (flow.dst ≡ dst) × P flow
+sent_flow P [] source dst all sent = absurd (cc)
+sent_flow P (flow ∷ slot) source dst all sent = elim (cases_eq flow.src source) [
+  | inl here ↦ let first : Some flow.dst ≡ Some dst = sym (this_source source flow slot here) ∙ sent in (flow, here, cc, All-head P flow slot all)
+  | inr other ↦ sent_flow P slot source dst (All-tail P flow slot all) (sym (other_source source flow slot other) ∙ sent)
+]
+
+pub named_core : (slots : List (List Flow)) (cores : CoreSlots) (slot source dst : ℕ) → slot < length slots → NamesCores slots cores → destination_of (slot_in slots slot) source ≡ Some dst
+    → IfSome (core_of cores slot source) (λ core. core < 64)
+named_core slots cores slot source dst below named sent =
+    let Named : ℕ → Type 0 = λ src. IfSome (core_of cores slot src) (λ core. core < 64) in
+    let found = sent_flow (λ flow. Named flow.src) (slot_in slots slot) source dst (named slot below) sent in
+    subst Named found.1 found.3
+
+pub sent_in_range : (endpoints : ℕ) (slot : List Flow) (source dst : ℕ) → IsSlotOf endpoints slot → destination_of slot source ≡ Some dst → dst < endpoints
+sent_in_range endpoints slot source dst is sent =
+    let found = sent_flow (λ flow. (flow.src < endpoints) × (flow.dst < endpoints)) slot source dst is.in_range sent in
+    omega (arith, found.2, found.3.1)

@@ -1,0 +1,4 @@
+pub mod Window
+pub mod Told
+pub mod Places
+pub mod Examples

@@ -1,0 +1,15 @@
+pub mod AskLemmas
+pub mod EntryLemmas
+pub mod TallyLemmas
+pub mod SoundLemmas
+pub mod PlanBatches
+pub mod PlanSchedule
+pub mod PlanLists
+pub mod PlanCores
+pub mod NeedTable
+pub mod CountLemmas
+pub mod WindowLemmas
+pub mod EngineLemmas
+pub mod CopiedSlots
+pub mod FedLists
+pub mod JoinedPieces

@@ -1,0 +1,9 @@
+pub mod Batches
+pub mod Sound
+pub mod Tallies
+pub mod Counts
+pub mod Scheduled
+pub mod Step
+pub mod Standing
+pub mod Settings
+pub mod Allocated

@@ -1,0 +1,20 @@
+//! The rounds of a trace, window after window: what is asked for is collected into batches, and these get their slots and
+//! cores.
+#![tactic(auto)]
+
+mod allocation;
+mod collection;
+mod counts;
+mod engine;
+mod laws;
+mod needs;
+mod setting;
+mod step;
+mod window;
+
+pub use counts::Counts;
+pub use engine::Engine;
+pub use laws::{every_plan_balances, every_plan_has_cores, every_plan_has_its_slots};
+pub use no_memory::NoMemory;
+pub use setting::Setting;
+pub use step::Step;
