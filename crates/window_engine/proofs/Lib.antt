@@ -10,6 +10,7 @@ pub mod NeedTable
 pub mod CountLemmas
 pub mod WindowLemmas
 pub mod EngineLemmas
+pub mod StepCounts
 pub mod CopiedSlots
 pub mod FedLists
 pub mod JoinedPieces

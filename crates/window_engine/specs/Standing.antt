@@ -1,5 +1,5 @@
 -- What an engine stands for: a trace, of which some rounds are collected and allocated (this project's own profile).
-use Rattle.std.specs.Prelude.{◌≡◌, ◌<◌, ◌≤◌, ℕ, ◌+◌, ◌-◌, ◌*◌, List, length, take, slice_index, min}
+use Rattle.std.specs.Prelude.{◌≡◌, ◌↔◌, ◌<◌, ◌≤◌, ℕ, zero, suc, ◌+◌, ◌-◌, ◌*◌, ◌/◌, List, length, take, slice_index, min}
 use Rattle.greedy_rules.specs.declared.flows.Item.{Item}
 use Rattle.greedy_rules.specs.Demands.{Demands, item_of, need_in}
 use Rattle.greedy_rules.specs.Slot.{is_taken}
@@ -58,3 +58,12 @@ pub record IsSamePlan (old new : EngineState) : Type 0 where
 -- the rounds of the next window
 abbrev pub window_of : EngineState → ℕ
 window_of engine = min engine.g (engine.rounds - engine.round)
+
+-- the rounds that are done after so many steps
+abbrev pub rounds_after : ℕ → ℕ → ℕ → ℕ
+rounds_after g rounds zero = 0
+rounds_after g rounds (suc steps) = rounds_after g rounds steps + min g (rounds - rounds_after g rounds steps)
+
+-- all are done exactly after as many steps as there are windows of g rounds, the last of which may be shorter
+abbrev pub EveryPlanTakesItsSteps : Type 0
+EveryPlanTakesItsSteps = (g rounds steps : ℕ) → 0 < g → (rounds_after g rounds steps ≡ rounds) ↔ ((rounds + g - 1) / g ≤ steps)

@@ -1,5 +1,6 @@
 ghost use Rattle.window_engine.specs.Counts.{EveryPlanBalances};
 ghost use Rattle.window_engine.specs.Scheduled.{EveryPlanHasCores};
+ghost use Rattle.window_engine.specs.Standing.{EveryPlanTakesItsSteps};
 ghost use Rattle.window_engine.specs.Step.{EveryPlanHasItsSlots};
 
 use greedy_rules::{
@@ -29,4 +30,9 @@ pub fn every_plan_has_cores()
 /// A law over every trace and batch size: a batch for each round, and so many slots for each batch.
 pub fn every_plan_has_its_slots()
     ensures { EveryPlanHasItsSlots }
+{}
+
+/// A law over every number of rounds: an engine is done exactly after as many steps as there are windows.
+pub fn every_plan_takes_its_steps()
+    ensures { EveryPlanTakesItsSteps }
 {}

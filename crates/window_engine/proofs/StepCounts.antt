@@ -1,0 +1,33 @@
+-- How many rounds are done after so many steps.
+use Rattle.std.proofs.Common.{◌≡◌, ◌<◌, ◌≤◌, ◌+◌, ◌-◌, ◌*◌, ◌/◌, ℕ, zero, suc, min, nat_le, arith, inl, inr}
+use Rattle.std.proofs.lemmas.Bool.{cases_Bool, leb-true, leb-false}
+use Rattle.std.proofs.lemmas.Nat.{div_below, le-div}
+use Rattle.window_engine.specs.Standing.{rounds_after, EveryPlanTakesItsSteps}
+
+one_more : (steps g : ℕ) → suc steps * g ≡ steps * g + g
+one_more steps g = grind arith
+
+rounds_are : (g rounds steps : ℕ) → rounds_after g rounds steps ≡ min (steps * g) rounds
+rounds_are g rounds zero = let none : 0 * g ≡ 0 = omega arith in omega arith
+rounds_are g rounds (suc steps) = omega (arith, rounds_are g rounds steps, one_more steps g)
+
+enough : (g rounds steps : ℕ) → 0 < g → rounds ≤ steps * g → (rounds + g - 1) / g ≤ steps
+enough g rounds steps some within =
+    let below : (rounds + g - 1) / g < suc steps = div_below (rounds + g - 1) g (suc steps) some (omega (arith, one_more steps g)) in
+    omega arith
+
+within_steps : (g rounds steps : ℕ) → 0 < g → (rounds + g - 1) / g ≤ steps → rounds ≤ steps * g
+within_steps g rounds steps some many =
+    elim (cases_Bool (nat_le rounds (steps * g))) [
+      | inl within ↦ leb-true rounds (steps * g) within
+      | inr more ↦
+          let above : steps * g < rounds = leb-false rounds (steps * g) more in
+          let too_many : suc steps ≤ (rounds + g - 1) / g = le-div (suc steps) (rounds + g - 1) g some (omega (arith, one_more steps g)) in
+          absurd (omega arith)
+    ]
+
+pub done_after : EveryPlanTakesItsSteps
+done_after g rounds steps some = (
+  λ done. enough g rounds steps some (omega (arith, rounds_are g rounds steps)),
+  λ many. omega (arith, rounds_are g rounds steps, within_steps g rounds steps some many),
+)
