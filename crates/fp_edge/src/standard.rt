@@ -1,8 +1,8 @@
 // The real outside: a reader and a writer of std. Nothing is promised of the bytes themselves.
-ghost use Rattle.std.specs.Prelude.{◌≡◌, ◌≤◌, ◌-◌, ◌^◌, take, None, IfOk};
-ghost use Rattle.std.specs.Io.KnownBytes.{Appends, WriteAppends};
-ghost use Rattle.fp_edge.specs.Faults.{HasCause};
-ghost use Rattle.fp_edge.specs.Transfers.{AtMostAll, TakesSome};
+ghost use Rattle.std.specs.Prelude.{◌≡◌, ◌≤◌, ◌-◌, ◌^◌, take, None, IfOk, OnErr};
+ghost use Rattle.std.specs.Io.KnownBytes.{Appends, ReadConsumes, WriteAppends};
+ghost use Rattle.fp_edge.specs.Faults.{HasCause, CountsErrors};
+ghost use Rattle.fp_edge.specs.Transfers.{AtMostAll, TakesSome, WritesFrontOnly, GrowsByFront};
 
 use crate::{Failed, Sink, Source};
 use std::io::{Read, Write};
@@ -32,7 +32,13 @@ impl<T: Read> Source for StdSource<T> {
 
     ghost faults = { λ s. s.faults };
 
-    fn read(&mut self, buf: &mut [u8]) -> Result<usize, Failed> {
+    fn read(&mut self, buf: &mut [u8]) -> Result<usize, Failed>
+        ensures bound { AtMostAll result buf.old }
+        ensures bytes { ReadConsumes (⟦<StdSource<T> as Source>⟧.left self.old) (⟦<StdSource<T> as Source>⟧.left self.new) result buf.new }
+        ensures rest { WritesFrontOnly buf.old buf.new result }
+        ensures cause { HasCause (⟦<StdSource<T> as Source>⟧.faults self.old) (⟦<StdSource<T> as Source>⟧.faults self.new) result }
+        ensures counted { CountsErrors (⟦<StdSource<T> as Source>⟧.faults self.old) (⟦<StdSource<T> as Source>⟧.faults self.new) result }
+    {
         // What a reader does to the rest of its buffer is not known, so it gets one of its own.
         let mut piece = [0; PIECE];
         let room = buf.len().min(PIECE);
@@ -78,6 +84,7 @@ fn write_through<T: Write>(inner: &mut T, piece: &[u8]) -> Result<usize, Failed>
     ensures bound { AtMostAll result piece.now }
     ensures some { TakesSome result piece.now }
     ensures bytes { IfOk result (λ n. Appends (T.contents inner.old) (T.contents inner.new) (take n piece.now)) }
+    ensures failed { OnErr result (GrowsByFront (T.contents inner.old) (T.contents inner.new) piece.now) }
 {
     let Ok(n) = inner.write(piece) else {
         return Err(Failed);
@@ -103,6 +110,8 @@ impl<T: Write> Sink for StdSink<T> {
 
         // What is taken is the front of the piece, where the writer tells what it holds.
         ensures written { IfOk result (λ n. Appends (T.contents (writer_of self.old)) (T.contents (writer_of self.new)) (take n piece.now)) }
+        ensures failed { OnErr result (GrowsByFront (T.contents (writer_of self.old)) (T.contents (writer_of self.new)) piece.now) }
+        ensures counted { CountsErrors (⟦<StdSink<T> as Sink>⟧.faults self.old) (⟦<StdSink<T> as Sink>⟧.faults self.new) result }
     {
         match write_through(&mut self.inner, piece) {
             Ok(n) => Ok(n),

@@ -26,40 +26,44 @@ impl Read for Careless {
 
 #[test]
 fn a_reader_of_std_is_a_source(rt: HostRuntime) {
-    let mut source = StdSource::new(Careless { calls: 0 });
+    let mut reader = Careless { calls: 0 };
+    let mut source = StdSource::new(&mut reader);
     let mut buf = *b"....";
     let cases = [(Err(Failed), b"...."), (Ok(2), b"ab.."), (Ok(0), b"ab..")];
     for (answer, after) in cases {
         assert_eq!(rt; source.read(&mut buf), answer);
         assert_eq!(rt; buf.as_slice(), after.as_slice());
     }
+    assert_eq!(rt; reader.calls, 3);
 }
 
-// A writer that takes two bytes a call. One call takes none, one fails, and one can't be flushed.
+// A writer that takes a piece whole, then none of one, then fails; its second flush fails; from then on it takes two bytes
+// at most.
 #[derive(Drop)]
 struct Unsteady {
     calls: u32,
+    flushes: u32,
     taken: Vec<u8>,
 }
 
 impl Write for Unsteady {
     fn write(&mut self, buf: &[u8]) -> io::Result<usize> {
         self.calls = self.calls.saturating_add(1);
-        match buf {
-            _ if self.calls == 2 => Ok(0),
-            _ if self.calls == 3 => Err(ErrorKind::Other.into()),
-            [first, second, ..] => {
-                if self.taken.extend_from_slice(&[*first, *second]).is_err() {
-                    return Err(ErrorKind::OutOfMemory.into());
-                }
-                Ok(2)
-            }
-            _ => Ok(0),
+        let amount = match self.calls {
+            2 => 0,
+            3 => return Err(ErrorKind::Other.into()),
+            5 => buf.len().min(2),
+            _ => buf.len(),
+        };
+        if self.taken.extend_from_slice(&buf[..amount]).is_err() {
+            return Err(ErrorKind::OutOfMemory.into());
         }
+        Ok(amount)
     }
 
     fn flush(&mut self) -> io::Result<()> {
-        if self.calls == 4 {
+        self.flushes = self.flushes.saturating_add(1);
+        if self.flushes == 2 {
             return Err(ErrorKind::Other.into());
         }
         Ok(())
@@ -70,21 +74,25 @@ impl Write for Unsteady {
 fn a_writer_of_std_is_a_sink(rt: HostRuntime) {
     let mut writer = Unsteady {
         calls: 0,
+        flushes: 0,
         taken: Vec::new(rt.alloc()),
     };
     let mut sink = StdSink::new(&mut writer);
-    let cases: [(&[u8], Result<usize, Failed>); 6] = [
-        (b"abc", Ok(2)),
-        (b"cde", Err(Failed)),
-        (b"cde", Err(Failed)),
-        (b"fgh", Err(Failed)),
-        (b"ijk", Ok(2)),
+    let cases: [(&[u8], Result<usize, Failed>); 7] = [
+        (b"abc", Ok(3)),
+        (b"de", Err(Failed)),
+        (b"de", Err(Failed)),
+        (b"de", Err(Failed)),
+        (b"fghij", Ok(2)),
         (b"", Ok(0)),
+        (b"h", Ok(1)),
     ];
     for (piece, answer) in cases {
         assert_eq!(rt; sink.write(piece), answer);
     }
-    assert_eq!(rt; writer.taken.as_slice(), b"abfgij".as_slice());
+    // Nothing was tried again, and each write that took something was flushed once.
+    assert_eq!(rt; (writer.calls, writer.flushes), (7, 5));
+    assert_eq!(rt; writer.taken.as_slice(), b"abcdefgh".as_slice());
 }
 
 // What six reads into three bytes answer, 9 for a failure, and what came of them.
