@@ -9,7 +9,7 @@ pub struct BatchLookup;
 impl BatchLookup {
     /// The batch's entry of the flow, by halving; None where the batch has none.
     pub fn find(batch: &Batch, flow: Flow) -> Option<Entry>
-        ensures { result ≡ entry_of batch.now flow }
+        ensures { result ≡ entry_of batch.now.entries flow }
     {
         batch.find(flow)
     }

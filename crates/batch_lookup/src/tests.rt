@@ -1,9 +1,14 @@
 ghost use Rattle.std.specs.Prelude.{◌≡◌, true, false};
 
 use crate::BatchLookup;
-use greedy_rules::{Batch, Entry, Flow};
+use greedy_rules::{Batch, Entry, Flow, Limits};
 use std::process::Abort;
 use std::test::Fail;
+
+const ONE_RACK: Limits = Limits {
+    hosts: 64,
+    cores: 1,
+};
 
 fn opening(src: u16, dst: u16, add: u32) -> Entry
     ensures { result ≡ record { flow = record { src = src; dst = dst }; opens = true; clear = false; add = add } }
@@ -28,7 +33,7 @@ fn check(rt: &impl Abort, batch: &Batch, src: u16, dst: u16, add: Option<u32>) {
 // Each flow of the batch has its own entry, and its neighbours in the order of flows have none.
 #[test]
 fn each_flow_has_its_own_entry(rt: HostRuntime) -> Result<(), Fail> {
-    let mut batch = Batch::new(rt.alloc());
+    let mut batch = Batch::with_limits(rt.alloc(), ONE_RACK);
     batch.push(opening(0, 1, 10))?;
     batch.push(opening(0, 3, 20))?;
     batch.push(opening(2, 0, 30))?;
@@ -57,7 +62,7 @@ fn each_flow_has_its_own_entry(rt: HostRuntime) -> Result<(), Fail> {
 
 #[test]
 fn an_empty_batch_has_no_entry(rt: HostRuntime) -> Result<(), Fail> {
-    let batch = Batch::new(rt.alloc());
+    let batch = Batch::with_limits(rt.alloc(), ONE_RACK);
     check(&rt, &batch, 0, 1, None);
     Ok(())
 }

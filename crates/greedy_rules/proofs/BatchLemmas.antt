@@ -6,7 +6,7 @@ use Rattle.greedy_rules.specs.declared.flows.Entry.{Entry}
 use Rattle.greedy_rules.specs.Flows.{flow_below}
 use Rattle.greedy_rules.specs.Batches.{IsBatch, IsAboveLast}
 use Rattle.greedy_rules.proofs.FlowOrder.{flow_below-trans}
-use Rattle.greedy_rules.proofs.Pairs.{AllPairs-nil, AllPairs-cons, AllPairs-head, AllPairs-tail}
+use Rattle.list_facts.proofs.Pairs.{AllPairs-nil, AllPairs-cons, AllPairs-head, AllPairs-tail}
 
 abbrev Below : Entry → Entry → Type 0
 Below e f = IsTrue (flow_below e.flow f.flow)

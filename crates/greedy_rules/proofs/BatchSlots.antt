@@ -3,7 +3,7 @@ use Rattle.std.proofs.Common.{◌≡◌, ◌≤◌, ◌<◌, ◌+◌, ◌-◌, �
 use Rattle.std.proofs.lemmas.List.{drop-set-lt, take_more_set, drop_more, append_assoc}
 use Rattle.greedy_rules.specs.declared.flows.Flow.{Flow}
 use Rattle.greedy_rules.specs.declared.flows.Item.{Item}
-use Rattle.greedy_rules.specs.Slot.{Bar, is_taken, greedy_slot}
+use Rattle.greedy_rules.specs.Slot.{Bar, greedy_slot}
 use Rattle.greedy_rules.specs.Schedule.{slot_in}
 use Rattle.greedy_rules.specs.Allocation.{after_slot, batch_slots, list_through, list_after_slots}
 use Rattle.greedy_rules.specs.Demands.{by_last}
@@ -45,8 +45,8 @@ empty_more offset n slots slot within more left =
     (head, drop-set-lt (offset + 1) slots offset slot (omega arith) ∙ tail)
 
 -- once no slot is left, the list is the batch's but for its order
-pub all_taken : (first offset b : ℕ) (list begun applied : List Item) → b ≤ offset → list_through is_taken (first + offset) (b - offset) list ≡ list_through is_taken first b begun → begun ≡ applied
-    → by_last list ≡ list_after_slots is_taken first b applied
-all_taken first offset b list begun applied ended through is =
+pub all_taken : (bar : Bar) (first offset b : ℕ) (list begun applied : List Item) → b ≤ offset → list_through bar (first + offset) (b - offset) list ≡ list_through bar first b begun → begun ≡ applied
+    → by_last list ≡ list_after_slots bar first b applied
+all_taken bar first offset b list begun applied ended through is =
     let none_left : 0 ≡ b - offset = omega arith in
-    ap by_last (ap (λ (n : ℕ). list_through is_taken (first + offset) n list) none_left ∙ through) ∙ ap (list_after_slots is_taken first b) is
+    ap by_last (ap (λ (n : ℕ). list_through bar (first + offset) n list) none_left ∙ through) ∙ ap (list_after_slots bar first b) is

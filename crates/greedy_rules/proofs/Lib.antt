@@ -1,17 +1,22 @@
-pub mod FlowOrder
-pub mod Pairs
-pub mod Search
-pub mod BatchLemmas
-pub mod SlotLemmas
-pub mod ScheduleLemmas
-pub mod StableSort
-pub mod RowLemmas
-pub mod TableLemmas
-pub mod WalkLemmas
-pub mod FillLemmas
-pub mod ApplyLemmas
-pub mod OnceLemmas
-pub mod BatchSlots
-pub mod NeedLemmas
-pub mod RoomLemmas
-pub mod RangeLemmas
+mod FlowOrder
+mod Search
+mod BatchLemmas
+mod SlotLemmas
+mod BarLemmas
+mod KeptLemmas
+mod ScheduleLemmas
+mod RowLemmas
+mod TableLemmas
+mod WalkLemmas
+mod FillLemmas
+mod ApplyLemmas
+mod OnceLemmas
+mod BatchSlots
+mod NeedLemmas
+mod FrontLemmas
+mod BalanceLemmas
+mod RoomLemmas
+mod RangeLemmas
+mod SlotSources
+mod RecordedLemmas
+pub mod Facts

@@ -10,15 +10,16 @@ use Rattle.greedy_rules.specs.declared.flows.Item.{Item}
 use Rattle.greedy_rules.specs.declared.flows.Entry.{Entry}
 use Rattle.greedy_rules.specs.Flows.{same_flow, flow_below}
 use Rattle.greedy_rules.specs.Batches.{IsBatch, entry_of}
-use Rattle.greedy_rules.specs.Order.{insert_by, sort_by}
-use Rattle.greedy_rules.specs.Slot.{is_taken, has_flow, slot_with, offered, chosen_after, greedy_slot}
+use Rattle.list_facts.specs.Order.{insert_by, sort_by}
+use Rattle.greedy_rules.specs.Slot.{Bar, has_flow, slot_with, offered, chosen_after, greedy_slot}
+use Rattle.greedy_rules.specs.Limits.{is_barred}
 use Rattle.greedy_rules.specs.Demands.{HasEachFlowOnce, AreBelow, OpensNewFlows, item_of, need_in, is_listed, need_with, with_batch, opened, after_batch}
 use Rattle.greedy_rules.specs.Allocation.{served, after_slot, batch_slots, list_through, list_after_slots, slots_of}
 use Rattle.greedy_rules.specs.Balance.{EveryBatchBalances}
 use Rattle.greedy_rules.proofs.FlowOrder.{same_flow-true, same_flow-refl, flow_below-not_same}
-use Rattle.greedy_rules.proofs.Pairs.{AllPairs-tail, AllPairs-head}
+use Rattle.list_facts.proofs.Pairs.{AllPairs-tail, AllPairs-head}
 use Rattle.greedy_rules.proofs.SlotLemmas.{any-slot_with}
-use Rattle.greedy_rules.proofs.OnceLemmas.{once-after_batch, below-after_batch, once-after_slot, once-sort_by, below-after_slot, All-sort_by, served_flow}
+use Rattle.greedy_rules.proofs.OnceLemmas.{once-after_batch, below-after_batch, once-after_slot, once-sort_by, flows-after_slots, served_flow}
 
 -- the need of a flow over a whole list
 abbrev pub needed : Flow → List Item → ℕ
@@ -259,23 +260,23 @@ listed-after_batch batch list flow rising opens =
     ∙ listed_part batch list flow (entry_of batch flow) refl opens)))
 
 -- a flow that the walk chooses has a need
-chosen_needs : (slot : List Flow) (list : List Item) (flow : Flow) → has_flow slot flow ≡ false → has_flow (chosen_after is_taken slot list) flow ≡ true → 0 < needed flow list
-chosen_needs slot [] flow out chosen = absurd (both_ways (has_flow slot flow) out chosen)
-chosen_needs slot (item ∷ list) flow out chosen =
-    let fits : Bool = nat_lt 0 item.need && not (is_taken slot item.flow) in
-    elim (cases_Bool (has_flow (offered is_taken slot item) flow)) [
+chosen_needs : (bar : Bar) (slot : List Flow) (list : List Item) (flow : Flow) → has_flow slot flow ≡ false → has_flow (chosen_after bar slot list) flow ≡ true → 0 < needed flow list
+chosen_needs bar slot [] flow out chosen = absurd (both_ways (has_flow slot flow) out chosen)
+chosen_needs bar slot (item ∷ list) flow out chosen =
+    let fits : Bool = nat_lt 0 item.need && not (bar slot item.flow) in
+    elim (cases_Bool (has_flow (offered bar slot item) flow)) [
       | inl now ↦ elim (cases_Bool fits) [
         | inl ready ↦
             let added : (same_flow item.flow flow || has_flow slot flow) ≡ true =
             sym (any-slot_with (λ f. same_flow f flow) item.flow slot) ∙ (ap (λ (s : List Flow). has_flow s flow) (sym (cond-true fits (slot_with item.flow slot) slot ready)) ∙ now) in
-            let needs : 0 < item.need = ltb-true 0 item.need (and_parts (nat_lt 0 item.need) (not (is_taken slot item.flow)) ready).0 in
+            let needs : 0 < item.need = ltb-true 0 item.need (and_parts (nat_lt 0 item.need) (not (bar slot item.flow)) ready).0 in
             elim (or_cases (same_flow item.flow flow) (has_flow slot flow) added) [
               | inl same ↦ omega (arith, needed-hit flow item list same)
               | inr before ↦ absurd (both_ways (has_flow slot flow) out before)
             ]
         | inr unready ↦ absurd (both_ways (has_flow slot flow) out (ap (λ (s : List Flow). has_flow s flow) (sym (cond-false fits (slot_with item.flow slot) slot unready)) ∙ now))
       ]
-      | inr later ↦ omega (arith, chosen_needs (offered is_taken slot item) list flow later chosen)
+      | inr later ↦ omega (arith, chosen_needs bar (offered bar slot item) list flow later chosen)
     ]
 
 -- one slot takes one from the need of each of its flows
@@ -314,60 +315,56 @@ needed-served number slot (item ∷ list) flow once needs =
     ]
 
 -- what the slots of a batch take of a flow's need
-needed-through : (number count : ℕ) (list : List Item) (flow : Flow) → HasEachFlowOnce list
-    → needed flow (list_through is_taken number count list) + slots_of flow (batch_slots is_taken number count list) ≡ needed flow list
-needed-through number zero list flow once = omega arith
-needed-through number (suc count) list flow once =
-    let slot : List Flow = greedy_slot is_taken list in
-    let later : List Item = after_slot is_taken number list in
-    let rest = needed-through (number + 1) count later flow (once-after_slot is_taken number list once) in
-    let taken = needed-served number slot list flow once (chosen_needs [] list flow refl) in
-    let first = sum_by-cons (λ (s : List Flow). cond (has_flow s flow) 1 0) slot (batch_slots is_taken (number + 1) count later) in
+needed-through : (bar : Bar) (number count : ℕ) (list : List Item) (flow : Flow) → HasEachFlowOnce list
+    → needed flow (list_through bar number count list) + slots_of flow (batch_slots bar number count list) ≡ needed flow list
+needed-through bar number zero list flow once = omega arith
+needed-through bar number (suc count) list flow once =
+    let slot : List Flow = greedy_slot bar list in
+    let later : List Item = after_slot bar number list in
+    let rest = needed-through bar (number + 1) count later flow (once-after_slot bar number list once) in
+    let taken = needed-served number slot list flow once (chosen_needs bar [] list flow refl) in
+    let first = sum_by-cons (λ (s : List Flow). cond (has_flow s flow) 1 0) slot (batch_slots bar (number + 1) count later) in
     omega (arith, rest, taken, first)
 
-listed-through : (number count : ℕ) (list : List Item) (flow : Flow) → is_listed (list_through is_taken number count list) flow ≡ is_listed list flow
-listed-through number zero list flow = refl
-listed-through number (suc count) list flow =
-    listed-through (number + 1) count (after_slot is_taken number list) flow
-    ∙ listed-map (served number (greedy_slot is_taken list)) (served_flow number (greedy_slot is_taken list)) flow list
+listed-through : (bar : Bar) (number count : ℕ) (list : List Item) (flow : Flow) → is_listed (list_through bar number count list) flow ≡ is_listed list flow
+listed-through bar number zero list flow = refl
+listed-through bar number (suc count) list flow =
+    listed-through bar (number + 1) count (after_slot bar number list) flow
+    ∙ listed-map (served number (greedy_slot bar list)) (served_flow number (greedy_slot bar list)) flow list
 
-once-through : (number count : ℕ) (list : List Item) → HasEachFlowOnce list → HasEachFlowOnce (list_through is_taken number count list)
-once-through number zero list once = once
-once-through number (suc count) list once = once-through (number + 1) count (after_slot is_taken number list) (once-after_slot is_taken number list once)
-
-below-through : (endpoints number count : ℕ) (list : List Item) → AreBelow endpoints list → AreBelow endpoints (list_through is_taken number count list)
-below-through endpoints number zero list below = below
-below-through endpoints number (suc count) list below = below-through endpoints (number + 1) count (after_slot is_taken number list) (below-after_slot endpoints is_taken number list below)
+once-through : (bar : Bar) (number count : ℕ) (list : List Item) → HasEachFlowOnce list → HasEachFlowOnce (list_through bar number count list)
+once-through bar number zero list once = once
+once-through bar number (suc count) list once = once-through bar (number + 1) count (after_slot bar number list) (once-after_slot bar number list once)
 
 -- what a whole batch does
 
-pub once-after_slots : (number count : ℕ) (list : List Item) → HasEachFlowOnce list → HasEachFlowOnce (list_after_slots is_taken number count list)
-once-after_slots number count list once = once-sort_by (λ item. item.last) (list_through is_taken number count list) (once-through number count list once)
+pub once-after_slots : (bar : Bar) (number count : ℕ) (list : List Item) → HasEachFlowOnce list → HasEachFlowOnce (list_after_slots bar number count list)
+once-after_slots bar number count list once = once-sort_by (λ item. item.last) (list_through bar number count list) (once-through bar number count list once)
 
-pub below-after_slots : (endpoints number count : ℕ) (list : List Item) → AreBelow endpoints list → AreBelow endpoints (list_after_slots is_taken number count list)
-below-after_slots endpoints number count list below =
-    All-sort_by (λ (item : Item). (item.flow.src < endpoints) × (item.flow.dst < endpoints)) (λ item. item.last) (list_through is_taken number count list) (below-through endpoints number count list below)
+pub below-after_slots : (bar : Bar) (endpoints number count : ℕ) (list : List Item) → AreBelow endpoints list → AreBelow endpoints (list_after_slots bar number count list)
+below-after_slots bar endpoints number count list below = flows-after_slots (λ flow. (flow.src < endpoints) × (flow.dst < endpoints)) bar number count list below
 
-pub listed-after_slots : (number count : ℕ) (list : List Item) (flow : Flow) → is_listed (list_after_slots is_taken number count list) flow ≡ is_listed list flow
-listed-after_slots number count list flow = listed-sort_by (λ item. item.last) flow (list_through is_taken number count list) ∙ listed-through number count list flow
+pub listed-after_slots : (bar : Bar) (number count : ℕ) (list : List Item) (flow : Flow) → is_listed (list_after_slots bar number count list) flow ≡ is_listed list flow
+listed-after_slots bar number count list flow = listed-sort_by (λ item. item.last) flow (list_through bar number count list) ∙ listed-through bar number count list flow
 
-pub balance : (number count : ℕ) (batch : List Entry) (list : List Item) (flow : Flow) → IsBatch batch → OpensNewFlows batch list → HasEachFlowOnce list
-    → need_in (item_of (list_after_slots is_taken number count (after_batch batch list)) flow) + slots_of flow (batch_slots is_taken number count (after_batch batch list))
+pub balance : (bar : Bar) (number count : ℕ) (batch : List Entry) (list : List Item) (flow : Flow) → IsBatch batch → OpensNewFlows batch list → HasEachFlowOnce list
+    → need_in (item_of (list_after_slots bar number count (after_batch batch list)) flow) + slots_of flow (batch_slots bar number count (after_batch batch list))
     ≡ need_with (entry_of batch flow) (need_in (item_of list flow))
-balance number count batch list flow rising opens once =
+balance bar number count batch list flow rising opens once =
     let applied : List Item = after_batch batch list in
     let once' : HasEachFlowOnce applied = once-after_batch batch list rising opens once in
-    let left = need_in-item_of (list_after_slots is_taken number count applied) flow (once-after_slots number count applied once') in
-    omega (arith, left, needed-sort_by (λ item. item.last) flow (list_through is_taken number count applied), needed-through number count applied flow once')
+    let left = need_in-item_of (list_after_slots bar number count applied) flow (once-after_slots bar number count applied once') in
+    omega (arith, left, needed-sort_by (λ item. item.last) flow (list_through bar number count applied), needed-through bar number count applied flow once')
     ∙ (needed-after_batch batch list flow rising opens once ∙ ap (need_with (entry_of batch flow)) (sym (need_in-item_of list flow once)))
 
 -- what the batch leaves
 pub every_batch : EveryBatchBalances
-every_batch endpoints number count batch list rising opens once below =
-    let applied : List Item = after_batch batch list in
+every_batch limits endpoints number count entries list rising opens once below =
+    let bar : Bar = is_barred limits in
+    let applied : List Item = after_batch entries list in
     record {
-      once = once-after_slots number count applied (once-after_batch batch list rising opens once);
-      in_range = below-after_slots endpoints number count applied (below-after_batch endpoints batch list below);
-      listed = λ flow. listed-after_slots number count applied flow ∙ listed-after_batch batch list flow rising opens;
-      balance = λ flow. balance number count batch list flow rising opens once;
+      once = once-after_slots bar number count applied (once-after_batch entries list rising opens once);
+      in_range = below-after_slots bar endpoints number count applied (below-after_batch endpoints entries list below);
+      listed = λ flow. listed-after_slots bar number count applied flow ∙ listed-after_batch entries list flow rising opens;
+      balance = λ flow. balance bar number count entries list flow rising opens once;
     }

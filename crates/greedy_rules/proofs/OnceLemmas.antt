@@ -1,33 +1,22 @@
 -- Each flow stands once in the list, whatever a batch and its slots do to it, and its endpoints stay in range.
-use Rattle.std.proofs.Common.{◌≡◌, ◌≢◌, ◌<◌, ◌-◌, ℕ, List, [], ◌∷◌, ◌++◌, map, filter, true, false, not, nat_lt, IsTrue, All, refl, sym, ap, ◌∙◌, subst, inl, inr}
+use Rattle.std.proofs.Common.{◌≡◌, ◌≢◌, ◌<◌, ◌+◌, ◌-◌, ℕ, zero, suc, List, [], ◌∷◌, ◌++◌, map, filter, true, false, not, nat_lt, IsTrue, All, refl, sym, ap, ◌∙◌, subst, inl, inr}
 use Rattle.std.proofs.lemmas.Bool.{cond-true, cond-false, cond_both, cases_Bool, or_parts, not-true}
-use Rattle.std.proofs.lemmas.List.Elements.{All-nil, All-cons, All-head, All-tail, All-append, All-map, All-weaker}
+use Rattle.std.proofs.lemmas.List.Elements.{All-nil, All-cons, All-head, All-tail, All-map, All-weaker}
 use Rattle.greedy_rules.specs.declared.flows.Flow.{Flow}
 use Rattle.greedy_rules.specs.declared.flows.Item.{Item}
 use Rattle.greedy_rules.specs.declared.flows.Entry.{Entry}
 use Rattle.greedy_rules.specs.Flows.{same_flow, flow_below}
 use Rattle.greedy_rules.specs.Batches.{IsBatch}
-use Rattle.greedy_rules.specs.Order.{insert_by, sort_by}
+use Rattle.list_facts.specs.Order.{insert_by, sort_by}
 use Rattle.greedy_rules.specs.Slot.{Bar, has_flow, greedy_slot}
 use Rattle.greedy_rules.specs.Demands.{HasEachFlowOnce, AreBelow, OpensNewFlows, is_listed, with_batch, opened, after_batch}
-use Rattle.greedy_rules.specs.Allocation.{served, after_slot}
+use Rattle.greedy_rules.specs.Allocation.{served, after_slot, list_through, list_after_slots}
 use Rattle.greedy_rules.proofs.FlowOrder.{same_flow-refl, flow_below-not_same}
-use Rattle.greedy_rules.proofs.Pairs.{AllPairs-nil, AllPairs-cons, AllPairs-head, AllPairs-tail}
+use Rattle.list_facts.proofs.Pairs.{AllPairs-nil, AllPairs-cons, AllPairs-head, AllPairs-tail, AllPairs-append}
+use Rattle.list_facts.proofs.StableSort.{All-insert_by, All-sort_by}
 
 abbrev Other : Item → Item → Type 0
 Other i j = i.flow ≢ j.flow
-
-module _ {X : Type 0} (P : X → Type 0) (number : X → ℕ) where
-  pub All-insert_by : (x : X) (xs : List X) → P x → All P xs → All P (insert_by number x xs)
-  All-insert_by x [] here there = All-cons P x [] here there
-  All-insert_by x (y ∷ ys) here there =
-      cond_both (nat_lt (number y) (number x)) (y ∷ insert_by number x ys) (x ∷ (y ∷ ys)) (All P)
-      (λ _. All-cons P y (insert_by number x ys) (All-head P y ys there) (All-insert_by x ys here (All-tail P y ys there)))
-      (λ _. All-cons P x (y ∷ ys) here there)
-
-  pub All-sort_by : (xs : List X) → All P xs → All P (sort_by number xs)
-  All-sort_by [] all = all
-  All-sort_by (x ∷ xs) all = All-insert_by x (sort_by number xs) (All-head P x xs all) (All-sort_by xs (All-tail P x xs all))
 
 once-insert_by : (number : Item → ℕ) (x : Item) (xs : List Item) → All (Other x) xs → HasEachFlowOnce xs → HasEachFlowOnce (insert_by number x xs)
 once-insert_by number x [] others once = AllPairs-cons Other x [] others once
@@ -50,12 +39,6 @@ once-map f keeps (x ∷ xs) once =
     AllPairs-cons Other (f x) (map f xs)
     (All-map (Other (f x)) f xs (All-weaker (Other x) (λ y. Other (f x) (f y)) (λ y other e. other (sym (keeps x) ∙ (e ∙ keeps y))) xs (AllPairs-head Other x xs once)))
     (once-map f keeps xs (AllPairs-tail Other x xs once))
-
-pub once-append : (xs ys : List Item) → HasEachFlowOnce xs → HasEachFlowOnce ys → All (λ x. All (Other x) ys) xs → HasEachFlowOnce (xs ++ ys)
-once-append [] ys once once' apart = once'
-once-append (x ∷ xs) ys once once' apart =
-    AllPairs-cons Other x (xs ++ ys) (All-append (Other x) xs ys (AllPairs-head Other x xs once) (All-head (λ z. All (Other z) ys) x xs apart))
-    (once-append xs ys (AllPairs-tail Other x xs once) once' (All-tail (λ z. All (Other z) ys) x xs apart))
 
 pub All-opened : (P : Flow → Type 0) (batch : List Entry) → All (λ entry. IsTrue entry.opens → P entry.flow) batch → All (λ item. P item.flow) (opened batch)
 All-opened P [] all = All-nil (λ item. P item.flow)
@@ -103,20 +86,24 @@ once-after_batch batch list rising opens once =
     let apart : All (λ x. All (Other x) (opened batch)) (map (with_batch batch) list) =
     All-map (λ x. All (Other x) (opened batch)) (with_batch batch) list (λ k d below j e within. fresh j e within k d below) in
     once-sort_by (λ item. item.last) (map (with_batch batch) list ++ opened batch)
-    (once-append (map (with_batch batch) list) (opened batch) (once-map (with_batch batch) (λ x. refl) list once) (once-opened batch rising) apart)
+    (AllPairs-append Other (map (with_batch batch) list) (opened batch) (once-map (with_batch batch) (λ x. refl) list once) (once-opened batch rising) apart)
 
-abbrev pub InRange : ℕ → Item → Type 0
-InRange endpoints item = (item.flow.src < endpoints) × (item.flow.dst < endpoints)
+-- what holds of the flows of a list
+abbrev pub FlowsAre : (Flow → Type 0) → List Item → Type 0
+FlowsAre P list = All (λ item. P item.flow) list
 
 All-map_front : (P : Item → Type 0) (f : Item → Item) → ((x : Item) → P x → P (f x)) → (xs ys : List Item) → All P (xs ++ ys) → All P (map f xs ++ ys)
 All-map_front P f keeps [] ys all = all
 All-map_front P f keeps (x ∷ xs) ys all =
     All-cons P (f x) (map f xs ++ ys) (keeps x (All-head P x (xs ++ ys) all)) (All-map_front P f keeps xs ys (All-tail P x (xs ++ ys) all))
 
+pub flows-after_batch : (P : Flow → Type 0) (batch : List Entry) (list : List Item) → FlowsAre P (list ++ opened batch) → FlowsAre P (after_batch batch list)
+flows-after_batch P batch list are =
+    All-sort_by (λ (x : Item). P x.flow) (λ item. item.last) (map (with_batch batch) list ++ opened batch)
+    (All-map_front (λ (x : Item). P x.flow) (with_batch batch) (λ x holds. holds) list (opened batch) are)
+
 pub below-after_batch : (endpoints : ℕ) (batch : List Entry) (list : List Item) → AreBelow endpoints (list ++ opened batch) → AreBelow endpoints (after_batch batch list)
-below-after_batch endpoints batch list below =
-    All-sort_by (InRange endpoints) (λ item. item.last) (map (with_batch batch) list ++ opened batch)
-    (All-map_front (InRange endpoints) (with_batch batch) (λ x in_range. in_range) list (opened batch) below)
+below-after_batch endpoints batch list below = flows-after_batch (λ flow. (flow.src < endpoints) × (flow.dst < endpoints)) batch list below
 
 pub served_flow : (number : ℕ) (slot : List Flow) (item : Item) → (served number slot item).flow ≡ item.flow
 served_flow number slot item =
@@ -126,9 +113,22 @@ served_flow number slot item =
 pub once-after_slot : (bar : Bar) (number : ℕ) (list : List Item) → HasEachFlowOnce list → HasEachFlowOnce (after_slot bar number list)
 once-after_slot bar number list once = once-map (served number (greedy_slot bar list)) (served_flow number (greedy_slot bar list)) list once
 
-pub below-after_slot : (endpoints : ℕ) (bar : Bar) (number : ℕ) (list : List Item) → AreBelow endpoints list → AreBelow endpoints (after_slot bar number list)
-below-after_slot endpoints bar number list below =
+pub flows-after_slot : (P : Flow → Type 0) (bar : Bar) (number : ℕ) (list : List Item) → FlowsAre P list → FlowsAre P (after_slot bar number list)
+flows-after_slot P bar number list are =
     let f : Item → Item = served number (greedy_slot bar list) in
-    All-map (InRange endpoints) f list
-    (All-weaker (InRange endpoints) (λ x. InRange endpoints (f x))
-    (λ x in_range. let P : Flow → Type 0 = λ flow. (flow.src < endpoints) × (flow.dst < endpoints) in subst P (sym (served_flow number (greedy_slot bar list) x)) in_range) list below)
+    All-map (λ (x : Item). P x.flow) f list
+    (All-weaker (λ (x : Item). P x.flow) (λ x. P (f x).flow) (λ x holds. subst P (sym (served_flow number (greedy_slot bar list) x)) holds) list are)
+
+pub below-after_slot : (endpoints : ℕ) (bar : Bar) (number : ℕ) (list : List Item) → AreBelow endpoints list → AreBelow endpoints (after_slot bar number list)
+below-after_slot endpoints bar number list below = flows-after_slot (λ flow. (flow.src < endpoints) × (flow.dst < endpoints)) bar number list below
+
+pub flows-through : (P : Flow → Type 0) (bar : Bar) (number count : ℕ) (list : List Item) → FlowsAre P list → FlowsAre P (list_through bar number count list)
+flows-through P bar number zero list are = are
+flows-through P bar number (suc count) list are = flows-through P bar (number + 1) count (after_slot bar number list) (flows-after_slot P bar number list are)
+
+pub flows-after_slots : (P : Flow → Type 0) (bar : Bar) (number count : ℕ) (list : List Item) → FlowsAre P list → FlowsAre P (list_after_slots bar number count list)
+flows-after_slots P bar number count list are =
+    All-sort_by (λ (x : Item). P x.flow) (λ item. item.last) (list_through bar number count list) (flows-through P bar number count list are)
+
+abbrev pub InRange : ℕ → Item → Type 0
+InRange endpoints item = (item.flow.src < endpoints) × (item.flow.dst < endpoints)

@@ -1,20 +1,21 @@
--- The slots of a schedule rise by source, and their flows are between the endpoints of the batches' flows.
-use Rattle.std.proofs.Common.{◌≢◌, ◌<◌, ◌+◌, ℕ, zero, suc, List, [], ◌∷◌, not, ◌&&◌, nat_lt, IsTrue, All, AllPairs, arith}
-use Rattle.std.proofs.lemmas.Bool.{cond_both, and_parts, not-true, ltb-true, ltb-false}
-use Rattle.std.proofs.lemmas.List.Elements.{All-nil, All-cons, All-head, All-tail, All-append, All-weaker}
+-- The slots of a schedule rise by source, and are of the flows of the batches' entries.
+use Rattle.std.proofs.Common.{◌≢◌, ◌<◌, ℕ, List, [], ◌∷◌, nat_lt, IsTrue, All, AllPairs, arith}
+use Rattle.std.proofs.lemmas.Bool.{cond_both, ltb-true, ltb-false}
+use Rattle.std.proofs.lemmas.List.Elements.{All-nil, All-cons, All-head, All-tail, All-weaker}
 use Rattle.greedy_rules.specs.declared.flows.Flow.{Flow}
 use Rattle.greedy_rules.specs.declared.flows.Item.{Item}
-use Rattle.greedy_rules.specs.declared.flows.Entry.{Entry}
-use Rattle.greedy_rules.specs.Demands.{AreBelow, opened, after_batch}
-use Rattle.greedy_rules.specs.Slot.{is_taken, slot_with, offered, chosen_after, greedy_slot}
+use Rattle.greedy_rules.specs.declared.limits.Limits.{Limits}
+use Rattle.greedy_rules.specs.Batches.{DemandBatch}
+use Rattle.greedy_rules.specs.Demands.{AreBelow}
+use Rattle.greedy_rules.specs.Slot.{slot_with}
+use Rattle.greedy_rules.specs.Limits.{is_barred}
 use Rattle.greedy_rules.specs.SlotTable.{IsSlotOf}
-use Rattle.greedy_rules.specs.Allocation.{after_slot, batch_slots, list_after_slots}
-use Rattle.greedy_rules.specs.Schedule.{first_slot, schedule_from}
-use Rattle.greedy_rules.specs.Matching.{AreAmong, EverySlotIsInRange}
-use Rattle.greedy_rules.proofs.Pairs.{AllPairs-nil, AllPairs-cons, AllPairs-head, AllPairs-tail}
-use Rattle.greedy_rules.proofs.SlotLemmas.{Apart, apart_from_all, All-slot_with}
-use Rattle.greedy_rules.proofs.OnceLemmas.{InRange, All-opened, below-after_batch, below-after_slot}
-use Rattle.greedy_rules.proofs.NeedLemmas.{below-after_slots}
+use Rattle.greedy_rules.specs.Allocation.{batch_slots}
+use Rattle.greedy_rules.specs.Matching.{AreAmong, HoldsOfEntries, EverySlotIsInRange, EverySlotsFlowsAreOfEntries, EveryFlowLeftIsOfEntries}
+use Rattle.list_facts.proofs.Pairs.{AllPairs-nil, AllPairs-cons, AllPairs-head, AllPairs-tail}
+use Rattle.greedy_rules.proofs.SlotLemmas.{Apart, apart_from_all, All-slot_with, Keeps}
+use Rattle.greedy_rules.proofs.BarLemmas.{not_taken}
+use Rattle.greedy_rules.proofs.KeptLemmas.{All-batch_slots, All-schedule, flows-rest_from}
 
 abbrev Earlier : Flow → Flow → Type 0
 Earlier f g = f.src < g.src
@@ -34,41 +35,34 @@ rising-slot_with flow (next ∷ slot) free rising =
     AllPairs-cons Earlier flow (next ∷ slot)
     (All-cons (Earlier flow) next slot first (All-weaker (Earlier next) (Earlier flow) (λ g lt. omega arith) slot later)) rising)
 
-slot-offered : (endpoints : ℕ) (slot : List Flow) (item : Item) → InRange endpoints item → IsSlotOf endpoints slot → IsSlotOf endpoints (offered is_taken slot item)
-slot-offered endpoints slot item below is =
-    cond_both (nat_lt 0 item.need && not (is_taken slot item.flow)) (slot_with item.flow slot) slot (IsSlotOf endpoints)
-    (λ fits. record {
-      rising = rising-slot_with item.flow slot (apart_from_all slot item.flow (not-true (is_taken slot item.flow) (and_parts (nat_lt 0 item.need) (not (is_taken slot item.flow)) fits).1)) is.rising;
-      in_range = All-slot_with (λ flow. (flow.src < endpoints) × (flow.dst < endpoints)) item.flow slot below is.in_range;
-    })
-    (λ passed. is)
+abbrev IsBetween : ℕ → Flow → Type 0
+IsBetween endpoints flow = (flow.src < endpoints) × (flow.dst < endpoints)
 
-slot-chosen_after : (endpoints : ℕ) (slot : List Flow) (list : List Item) → AreBelow endpoints list → IsSlotOf endpoints slot → IsSlotOf endpoints (chosen_after is_taken slot list)
-slot-chosen_after endpoints slot [] below is = is
-slot-chosen_after endpoints slot (item ∷ list) below is =
-    slot-chosen_after endpoints (offered is_taken slot item) list (All-tail (InRange endpoints) item list below) (slot-offered endpoints slot item (All-head (InRange endpoints) item list below) is)
+keeps_slots : (limits : Limits) (endpoints : ℕ) → Keeps (is_barred limits) (IsBetween endpoints) (IsSlotOf endpoints)
+keeps_slots limits endpoints slot flow below free is = record {
+  rising = rising-slot_with flow slot (apart_from_all slot flow (not_taken limits slot flow free)) is.rising;
+  in_range = All-slot_with (IsBetween endpoints) flow slot below is.in_range;
+}
 
-slot-greedy : (endpoints : ℕ) (list : List Item) → AreBelow endpoints list → IsSlotOf endpoints (greedy_slot is_taken list)
-slot-greedy endpoints list below =
-    slot-chosen_after endpoints [] list below (record { rising = AllPairs-nil Earlier; in_range = All-nil (λ flow. (flow.src < endpoints) × (flow.dst < endpoints)) })
+empty_slot : (endpoints : ℕ) → IsSlotOf endpoints []
+empty_slot endpoints = record { rising = AllPairs-nil Earlier; in_range = All-nil (IsBetween endpoints) }
 
-pub slots-batch : (endpoints number count : ℕ) (list : List Item) → AreBelow endpoints list → All (IsSlotOf endpoints) (batch_slots is_taken number count list)
-slots-batch endpoints number zero list below = All-nil (IsSlotOf endpoints)
-slots-batch endpoints number (suc count) list below =
-    All-cons (IsSlotOf endpoints) (greedy_slot is_taken list) (batch_slots is_taken (number + 1) count (after_slot is_taken number list)) (slot-greedy endpoints list below)
-    (slots-batch endpoints (number + 1) count (after_slot is_taken number list) (below-after_slot endpoints is_taken number list below))
-
-slots-schedule : (endpoints b k : ℕ) (list : List Item) (batches : List (List Entry)) → AreBelow endpoints list → All (AreAmong endpoints) batches → All (IsSlotOf endpoints) (schedule_from is_taken b k list batches)
-slots-schedule endpoints b k list [] below among = All-nil (IsSlotOf endpoints)
-slots-schedule endpoints b k list (batch ∷ batches) below among =
-    let P : Flow → Type 0 = λ flow. (flow.src < endpoints) × (flow.dst < endpoints) in
-    let opening : AreBelow endpoints (opened batch) =
-    All-opened P batch (All-weaker (λ (entry : Entry). P entry.flow) (λ entry. IsTrue entry.opens → P entry.flow) (λ entry in_range yes. in_range) batch (All-head (AreAmong endpoints) batch batches among)) in
-    let applied : AreBelow endpoints (after_batch batch list) = below-after_batch endpoints batch list (All-append (InRange endpoints) list (opened batch) below opening) in
-    All-append (IsSlotOf endpoints) (batch_slots is_taken (first_slot b k) b (after_batch batch list)) _
-    (slots-batch endpoints (first_slot b k) b (after_batch batch list) applied)
-    (slots-schedule endpoints b (k + 1) (list_after_slots is_taken (first_slot b k) b (after_batch batch list)) batches
-    (below-after_slots endpoints (first_slot b k) b (after_batch batch list) applied) (All-tail (AreAmong endpoints) batch batches among))
+pub slots-batch : (limits : Limits) (endpoints number count : ℕ) (list : List Item) → AreBelow endpoints list → All (IsSlotOf endpoints) (batch_slots (is_barred limits) number count list)
+slots-batch limits endpoints number count list below =
+    All-batch_slots (is_barred limits) (IsBetween endpoints) (IsSlotOf endpoints) (keeps_slots limits endpoints) (empty_slot endpoints) number count list below
 
 pub every_slot_in_range : EverySlotIsInRange
-every_slot_in_range endpoints b batches among = slots-schedule endpoints b 0 [] batches (All-nil (InRange endpoints)) among
+every_slot_in_range endpoints b batches among =
+    All-schedule (IsBetween endpoints) (IsSlotOf endpoints) (empty_slot endpoints) b batches
+    (All-weaker (λ (batch : DemandBatch). AreAmong endpoints batch.entries) (λ batch. All (λ entry. IsBetween endpoints entry.flow) batch.entries × Keeps (is_barred batch.limits) (IsBetween endpoints) (IsSlotOf endpoints))
+    (λ batch within. (within, keeps_slots batch.limits endpoints)) batches among)
+
+pub every_slots_flows : EverySlotsFlowsAreOfEntries
+every_slots_flows test b batches hold =
+    let Q : Flow → Type 0 = λ flow. IsTrue (test flow) in
+    All-schedule Q (All Q) (All-nil Q) b batches
+    (All-weaker (λ (batch : DemandBatch). HoldsOfEntries test batch.entries) (λ batch. All (λ entry. Q entry.flow) batch.entries × Keeps (is_barred batch.limits) Q (All Q))
+    (λ batch holds. (holds, λ slot flow here free there. All-slot_with Q flow slot here there)) batches hold)
+
+pub every_flow_left : EveryFlowLeftIsOfEntries
+every_flow_left test b batches hold = flows-rest_from (λ flow. IsTrue (test flow)) b 0 [] batches hold (All-nil (λ (item : Item). IsTrue (test item.flow)))

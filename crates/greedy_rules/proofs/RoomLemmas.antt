@@ -1,16 +1,16 @@
 -- Flows as the numbers below the square of the endpoints, of which no two are one.
-use Rattle.std.proofs.Common.{◌≡◌, ◌≢◌, ◌<◌, ◌≤◌, ◌+◌, ◌*◌, ℕ, List, [], ◌∷◌, ◌++◌, length, map, true, false, nat_eq, nat_lt, inl, inr, All, refl, ap, ◌∙◌, arith, length-append}
+use Rattle.std.proofs.Common.{◌≡◌, ◌≢◌, ◌<◌, ◌≤◌, ◌+◌, ◌*◌, ℕ, List, [], ◌∷◌, ◌++◌, length, map, true, false, nat_eq, inl, inr, All, ap, ◌∙◌, arith, length-append}
 use Rattle.std.specs.List.{list_any, IsDistinct, AllByRecursion}
 use Rattle.std.proofs.lemmas.List.{length-map}
 use Rattle.std.proofs.lemmas.List.Elements.{All-head, All-tail}
 use Rattle.std.proofs.lemmas.Map.Steps.{length-le_from_distinct_below}
-use Rattle.std.proofs.lemmas.Bool.{ne_eqb, eqb-true, or_cases, cond_both}
+use Rattle.std.proofs.lemmas.Bool.{ne_eqb, eqb-true, or_cases}
 use Rattle.std.proofs.lemmas.Nat.{same_from_place, mul-add-lt}
 use Rattle.greedy_rules.specs.declared.flows.Item.{Item}
 use Rattle.greedy_rules.specs.Demands.{HasEachFlowOnce, after_batch, with_batch, opened}
-use Rattle.greedy_rules.specs.Order.{insert_by, sort_by}
 use Rattle.greedy_rules.specs.Room.{FlowsFitPairs}
-use Rattle.greedy_rules.proofs.Pairs.{AllPairs-head, AllPairs-tail}
+use Rattle.list_facts.proofs.Pairs.{AllPairs-head, AllPairs-tail}
+use Rattle.list_facts.proofs.StableSort.{length-sort_by}
 use Rattle.greedy_rules.proofs.OnceLemmas.{once-after_batch, below-after_batch}
 
 abbrev pair_number : ℕ → Item → ℕ
@@ -59,16 +59,6 @@ few endpoints list once within =
       length-map list (pair_number endpoints),
       length-le_from_distinct_below (map (pair_number endpoints) list) (endpoints * endpoints) (pairs_distinct endpoints list once within) (pairs_below endpoints list within),
     )
-
-length-insert_by : (number : Item → ℕ) (x : Item) (xs : List Item) → length (insert_by number x xs) ≡ length (x ∷ xs)
-length-insert_by number x [] = refl
-length-insert_by number x (y ∷ ys) =
-    cond_both (nat_lt (number y) (number x)) (y ∷ insert_by number x ys) (x ∷ (y ∷ ys)) (λ zs. length zs ≡ length (x ∷ (y ∷ ys)))
-    (λ _. omega (arith, length-insert_by number x ys)) (λ _. refl)
-
-length-sort_by : (number : Item → ℕ) (xs : List Item) → length (sort_by number xs) ≡ length xs
-length-sort_by number [] = refl
-length-sort_by number (x ∷ xs) = length-insert_by number x (sort_by number xs) ∙ omega (arith, length-sort_by number xs)
 
 pub flows_fit : FlowsFitPairs
 flows_fit endpoints batch list rising opens once below =

@@ -6,7 +6,7 @@ use Rattle.std.proofs.lemmas.List.Elements.{All-nil, All-cons, All-head, All-tai
 use Rattle.greedy_rules.specs.declared.flows.Flow.{Flow}
 use Rattle.greedy_rules.specs.Slot.{slot_with}
 use Rattle.greedy_rules.specs.SlotTable.{flows_from, destination_of, IsSlotOf, AreCells}
-use Rattle.greedy_rules.proofs.Pairs.{AllPairs-nil, AllPairs-cons}
+use Rattle.list_facts.proofs.Pairs.{AllPairs-nil, AllPairs-cons}
 
 pub destination-low : (k src : ℕ) (cells : List (Option ℕ)) → src < k → destination_of (flows_from k cells) src ≡ None
 destination-low k src [] low = refl

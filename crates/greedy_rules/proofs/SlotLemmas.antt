@@ -1,16 +1,18 @@
--- The greedy choice of a slot only adds flows, adds none that is taken, and passes over none that it could add.
-use Rattle.std.proofs.Common.{◌≡◌, ◌≢◌, ◌<◌, List, [], ◌∷◌, Bool, true, false, not, ◌==◌, ◌&&◌, ◌||◌, nat_lt, cond, Option, Some, All, refl, sym, ap, ◌∙◌, subst, arith, inl, inr}
-use Rattle.std.specs.List.{list_any}
-use Rattle.std.proofs.lemmas.Bool.{cond-true, cond-false, cases_Bool, or_left, or_right, or_parts, and_parts, and_from, cond_both, lt-ltb, not_from_false, eqb-false, eq-eqb, not-true}
+-- The greedy choice of a slot: what each flow that is let in keeps true, and who is barred at its end.
+use Rattle.std.proofs.Common.{◌≡◌, ◌≢◌, ◌<◌, ◌+◌, ℕ, List, [], ◌∷◌, Bool, true, false, not, ◌==◌, ◌&&◌, ◌||◌, nat_lt, cond, Option, Some, All, refl, sym, ap, ◌∙◌, subst, arith, inl, inr}
+use Rattle.std.specs.List.{list_any, count_by}
+use Rattle.std.proofs.lemmas.Bool.{cond-true, cond-false, cases_Bool, or_left, or_parts, and_parts, and_from, cond_both, lt-ltb, not_from_false, eqb-false, eq-eqb, not-true}
 use Rattle.std.proofs.lemmas.List.Elements.{All-cons, All-head, All-tail, All-weaker}
+use Rattle.std.proofs.lemmas.List.Sums.{sum_by-cons}
 use Rattle.greedy_rules.specs.declared.flows.Flow.{Flow}
 use Rattle.greedy_rules.specs.declared.flows.Item.{Item}
 use Rattle.greedy_rules.specs.Flows.{same_flow}
 use Rattle.greedy_rules.specs.Demands.{item_of, need_in}
-use Rattle.greedy_rules.specs.Slot.{Bar, is_taken, slot_with, offered, chosen_after, greedy_slot}
+use Rattle.greedy_rules.specs.Slot.{Bar, is_taken, slot_with, offered, chosen_after, BarsTheTaken, BarsForGood}
 use Rattle.greedy_rules.specs.Matching.{IsMatching}
 use Rattle.greedy_rules.proofs.FlowOrder.{same_flow-true}
-use Rattle.greedy_rules.proofs.Pairs.{AllPairs-nil, AllPairs-cons, AllPairs-head, AllPairs-tail}
+use Rattle.greedy_rules.proofs.OnceLemmas.{FlowsAre}
+use Rattle.list_facts.proofs.Pairs.{AllPairs-nil, AllPairs-cons, AllPairs-head, AllPairs-tail}
 
 or_swap : (a b c : Bool) → (a || (b || c)) ≡ (b || (a || c))
 or_swap true true c = refl
@@ -24,18 +26,6 @@ any-slot_with p flow (next ∷ slot) =
       | true ↦ ap (λ b. p next || b) (any-slot_with p flow slot) ∙ or_swap (p next) (p flow) (list_any p slot)
       | false ↦ refl
     ]
-
--- what stands in a slot stays in it
-pub any-offered : (p : Flow → Bool) (bar : Bar) (slot : List Flow) (item : Item) → list_any p slot ≡ true → list_any p (offered bar slot item) ≡ true
-any-offered p bar slot item h =
-    elim (nat_lt 0 item.need && not (bar slot item.flow)) as (λ b. list_any p (cond b (slot_with item.flow slot) slot) ≡ true) [
-      | true ↦ any-slot_with p item.flow slot ∙ or_right (p item.flow) (list_any p slot) h
-      | false ↦ h
-    ]
-
-pub any-chosen_after : (p : Flow → Bool) (bar : Bar) (slot : List Flow) (list : List Item) → list_any p slot ≡ true → list_any p (chosen_after bar slot list) ≡ true
-any-chosen_after p bar slot [] h = h
-any-chosen_after p bar slot (item ∷ list) h = any-chosen_after p bar (offered bar slot item) list (any-offered p bar slot item h)
 
 abbrev pub Apart : Flow → Flow → Type 0
 Apart f g = (f.src ≢ g.src) × (f.dst ≢ g.dst)
@@ -66,42 +56,58 @@ IsMatching-slot_with flow (next ∷ slot) free pairs =
           (All-weaker (λ g. Apart g flow) (Apart flow) (λ g apart. ((λ e. apart.0 (sym e)), (λ e. apart.1 (sym e)))) (next ∷ slot) free) pairs
     ]
 
-IsMatching-offered : (slot : List Flow) (item : Item) → IsMatching slot → IsMatching (offered is_taken slot item)
-IsMatching-offered slot item pairs =
-    cond_both (nat_lt 0 item.need && not (is_taken slot item.flow)) (slot_with item.flow slot) slot IsMatching
-    (λ fits. IsMatching-slot_with item.flow slot
-    (apart_from_all slot item.flow (not-true (is_taken slot item.flow) (and_parts (nat_lt 0 item.need) (not (is_taken slot item.flow)) fits).1)) pairs)
-    (λ passed. pairs)
-
-IsMatching-chosen_after : (slot : List Flow) (list : List Item) → IsMatching slot → IsMatching (chosen_after is_taken slot list)
-IsMatching-chosen_after slot [] pairs = pairs
-IsMatching-chosen_after slot (item ∷ list) pairs = IsMatching-chosen_after (offered is_taken slot item) list (IsMatching-offered slot item pairs)
-
-pub IsMatching-greedy_slot : (list : List Item) → IsMatching (greedy_slot is_taken list)
-IsMatching-greedy_slot list = IsMatching-chosen_after [] list (AllPairs-nil Apart)
-
--- an item with a need has its flow taken once it had its turn, by itself or by others
-taken-offered : (slot : List Flow) (item : Item) → 0 < item.need → is_taken (offered is_taken slot item) item.flow ≡ true
-taken-offered slot item needs =
-    let touches : Flow → Bool = λ chosen. (chosen.src == item.flow.src) || (chosen.dst == item.flow.dst) in
-    elim (cases_Bool (is_taken slot item.flow)) [
-      | inl taken ↦ any-offered touches is_taken slot item taken
-      | inr free ↦
-          let fits : (nat_lt 0 item.need && not (is_taken slot item.flow)) ≡ true = and_from _ _ (lt-ltb 0 item.need needs) (not_from_false _ free) in
-          ap (λ (s : List Flow). is_taken s item.flow) (cond-true (nat_lt 0 item.need && not (is_taken slot item.flow)) (slot_with item.flow slot) slot fits)
-          ∙ (any-slot_with touches item.flow slot ∙ or_left _ _ (or_left _ _ (eq-eqb item.flow.src item.flow.src refl)))
+-- a flow more counts where it passes the test
+pub count-slot_with : (p : Flow → Bool) (flow : Flow) (slot : List Flow) → count_by p (slot_with flow slot) ≡ cond (p flow) 1 0 + count_by p slot
+count-slot_with p flow [] = sum_by-cons (λ (f : Flow). cond (p f) 1 0) flow []
+count-slot_with p flow (next ∷ slot) =
+    let one : Flow → ℕ = λ f. cond (p f) 1 0 in
+    elim (nat_lt next.src flow.src) as (λ b. count_by p (cond b (next ∷ slot_with flow slot) (flow ∷ (next ∷ slot))) ≡ cond (p flow) 1 0 + count_by p (next ∷ slot)) [
+      | true ↦ omega (arith, sum_by-cons one next (slot_with flow slot), sum_by-cons one next slot, count-slot_with p flow slot)
+      | false ↦ sum_by-cons one flow (next ∷ slot)
     ]
 
-pub taken-chosen_after : (slot : List Flow) (list : List Item) (flow : Flow) → 0 < need_in (item_of list flow) → is_taken (chosen_after is_taken slot list) flow ≡ true
-taken-chosen_after slot [] flow needs = absurd (omega arith)
-taken-chosen_after slot (item ∷ list) flow needs =
+-- what a flow that nothing keeps out leaves true of a slot
+abbrev pub Keeps : Bar → (Flow → Type 0) → (List Flow → Type 0) → Type 0
+Keeps bar Q P = (slot : List Flow) (flow : Flow) → Q flow → bar slot flow ≡ false → P slot → P (slot_with flow slot)
+
+pub holds-chosen_after : (bar : Bar) (Q : Flow → Type 0) (P : List Flow → Type 0) → Keeps bar Q P → (slot : List Flow) (list : List Item) → FlowsAre Q list → P slot → P (chosen_after bar slot list)
+holds-chosen_after bar Q P keeps slot [] are holds = holds
+holds-chosen_after bar Q P keeps slot (item ∷ list) are holds =
+    holds-chosen_after bar Q P keeps (offered bar slot item) list (All-tail (λ (x : Item). Q x.flow) item list are)
+    (cond_both (nat_lt 0 item.need && not (bar slot item.flow)) (slot_with item.flow slot) slot P
+    (λ fits. keeps slot item.flow (All-head (λ (x : Item). Q x.flow) item list are) (not-true (bar slot item.flow) (and_parts (nat_lt 0 item.need) (not (bar slot item.flow)) fits).1) holds)
+    (λ passed. holds))
+
+-- who is barred stays so to the end of the walk
+barred-offered : (bar : Bar) → BarsForGood bar → (slot : List Flow) (item : Item) (flow : Flow) → bar slot flow ≡ true → bar (offered bar slot item) flow ≡ true
+barred-offered bar stays slot item flow barred =
+    cond_both (nat_lt 0 item.need && not (bar slot item.flow)) (slot_with item.flow slot) slot (λ s. bar s flow ≡ true) (λ _. stays slot flow item.flow barred) (λ _. barred)
+
+barred-to_the_end : (bar : Bar) → BarsForGood bar → (slot : List Flow) (list : List Item) (flow : Flow) → bar slot flow ≡ true → bar (chosen_after bar slot list) flow ≡ true
+barred-to_the_end bar stays slot [] flow barred = barred
+barred-to_the_end bar stays slot (item ∷ list) flow barred = barred-to_the_end bar stays (offered bar slot item) list flow (barred-offered bar stays slot item flow barred)
+
+-- an item with a need has its flow barred once it had its turn, by itself or by others
+barred-turn : (bar : Bar) → BarsTheTaken bar → BarsForGood bar → (slot : List Flow) (item : Item) → 0 < item.need → bar (offered bar slot item) item.flow ≡ true
+barred-turn bar taken stays slot item needs =
+    let touches : Flow → Bool = λ chosen. (chosen.src == item.flow.src) || (chosen.dst == item.flow.dst) in
+    elim (cases_Bool (bar slot item.flow)) [
+      | inl barred ↦ barred-offered bar stays slot item item.flow barred
+      | inr free ↦
+          let fits : (nat_lt 0 item.need && not (bar slot item.flow)) ≡ true = and_from _ _ (lt-ltb 0 item.need needs) (not_from_false _ free) in
+          ap (λ (s : List Flow). bar s item.flow) (cond-true (nat_lt 0 item.need && not (bar slot item.flow)) (slot_with item.flow slot) slot fits)
+          ∙ taken (slot_with item.flow slot) item.flow (any-slot_with touches item.flow slot ∙ or_left _ _ (or_left _ _ (eq-eqb item.flow.src item.flow.src refl)))
+    ]
+
+pub barred-chosen_after : (bar : Bar) → BarsTheTaken bar → BarsForGood bar → (slot : List Flow) (list : List Item) (flow : Flow) → 0 < need_in (item_of list flow) → bar (chosen_after bar slot list) flow ≡ true
+barred-chosen_after bar taken stays slot [] flow needs = absurd (omega arith)
+barred-chosen_after bar taken stays slot (item ∷ list) flow needs =
     let P : Option Item → Type 0 = λ o. 0 < need_in o in
     elim (cases_Bool (same_flow item.flow flow)) [
       | inl same ↦
           let here : 0 < item.need = subst P (cond-true (same_flow item.flow flow) (Some item) (item_of list flow) same) needs in
-          let Q : Flow → Type 0 = λ f. is_taken (offered is_taken slot item) f ≡ true in
-          any-chosen_after (λ chosen. (chosen.src == flow.src) || (chosen.dst == flow.dst)) is_taken (offered is_taken slot item) list
-          (subst Q (same_flow-true item.flow flow same) (taken-offered slot item here))
-      | inr other ↦ taken-chosen_after (offered is_taken slot item) list flow
+          let Q : Flow → Type 0 = λ f. bar (offered bar slot item) f ≡ true in
+          barred-to_the_end bar stays (offered bar slot item) list flow (subst Q (same_flow-true item.flow flow same) (barred-turn bar taken stays slot item here))
+      | inr other ↦ barred-chosen_after bar taken stays (offered bar slot item) list flow
           (subst P (cond-false (same_flow item.flow flow) (Some item) (item_of list flow) other) needs)
     ]

@@ -7,7 +7,7 @@ use Rattle.greedy_rules.specs.declared.flows.Item.{Item}
 use Rattle.greedy_rules.specs.declared.flows.Entry.{Entry}
 use Rattle.greedy_rules.specs.Flows.{same_flow}
 use Rattle.greedy_rules.specs.Batches.{entry_of}
-use Rattle.greedy_rules.specs.Order.{sort_by}
+use Rattle.list_facts.specs.Order.{sort_by}
 
 -- what contracts see of a demand list: its items in order, and for how many more there is room
 pub record Demands : Type 0 where

@@ -1,9 +1,9 @@
--- Small schedules in full.
-use Rattle.std.specs.Prelude.{◌≡◌, ℕ, true, false, [], ◌∷◌, ◌++◌, replicate}
+-- Small schedules in full (this project's own profile).
+use Rattle.std.specs.Prelude.{◌≡◌, ℕ, true, false, List, [], ◌∷◌, ◌++◌, replicate}
 use Rattle.greedy_rules.specs.declared.flows.Flow.{Flow}
 use Rattle.greedy_rules.specs.declared.flows.Item.{Item}
 use Rattle.greedy_rules.specs.declared.flows.Entry.{Entry}
-use Rattle.greedy_rules.specs.Slot.{is_taken}
+use Rattle.greedy_rules.specs.Batches.{DemandBatch}
 use Rattle.greedy_rules.specs.Schedule.{schedule, rest}
 
 abbrev pub flow : ℕ → ℕ → Flow
@@ -15,28 +15,60 @@ opening src dst add = record { flow = flow src dst; opens = true; clear = false;
 abbrev pub waiting : ℕ → ℕ → ℕ → ℕ → Item
 waiting src dst need last = record { flow = flow src dst; need = need; last = last }
 
+-- a batch of racks with so many hosts, and so many cores
+abbrev pub in_racks : ℕ → ℕ → List Entry → DemandBatch
+in_racks hosts cores entries = record { entries = entries; limits = record { hosts = hosts; cores = cores } }
+
+-- a batch of one rack of four hosts
+abbrev pub in_one_rack : List Entry → DemandBatch
+in_one_rack entries = in_racks 4 1 entries
+
 -- Endpoint 0 can send to 1 or to 2 in a slot, and 3 can send to 1 beside the second.
 abbrev pub ThreeFlowsFillTwoSlots : Type 0
 ThreeFlowsFillTwoSlots =
-    schedule is_taken 2 ((opening 0 1 1 ∷ opening 0 2 1 ∷ opening 3 1 1 ∷ []) ∷ [])
+    schedule 2 (in_one_rack (opening 0 1 1 ∷ opening 0 2 1 ∷ opening 3 1 1 ∷ []) ∷ [])
     ≡ (flow 0 1 ∷ []) ∷ (flow 0 2 ∷ flow 3 1 ∷ []) ∷ []
 
 -- Two flows of one source take turns, a batch each.
 abbrev pub TwoFlowsOfOneSourceTakeTurns : Type 0
 TwoFlowsOfOneSourceTakeTurns =
-    schedule is_taken 2 ((opening 0 1 4 ∷ opening 0 2 4 ∷ []) ∷ [] ∷ [] ∷ [] ∷ [])
+    schedule 2 (in_one_rack (opening 0 1 4 ∷ opening 0 2 4 ∷ []) ∷ in_one_rack [] ∷ in_one_rack [] ∷ in_one_rack [] ∷ [])
     ≡ (flow 0 1 ∷ []) ∷ (flow 0 1 ∷ []) ∷ (flow 0 2 ∷ []) ∷ (flow 0 2 ∷ [])
     ∷ (flow 0 1 ∷ []) ∷ (flow 0 1 ∷ []) ∷ (flow 0 2 ∷ []) ∷ (flow 0 2 ∷ []) ∷ []
 
 -- A flow that was never served goes before one that was, and after one that has waited longer.
 abbrev pub ALaterAskGoesFirst : Type 0
 ALaterAskGoesFirst =
-    schedule is_taken 2 ((opening 0 1 4 ∷ opening 0 2 4 ∷ []) ∷ (opening 0 3 1 ∷ []) ∷ [] ∷ [] ∷ [] ∷ [])
+    schedule 2 (in_one_rack (opening 0 1 4 ∷ opening 0 2 4 ∷ []) ∷ in_one_rack (opening 0 3 1 ∷ []) ∷ in_one_rack [] ∷ in_one_rack [] ∷ in_one_rack [] ∷ [])
     ≡ (flow 0 1 ∷ []) ∷ (flow 0 1 ∷ []) ∷ (flow 0 2 ∷ []) ∷ (flow 0 2 ∷ []) ∷ (flow 0 3 ∷ [])
     ∷ (flow 0 1 ∷ []) ∷ (flow 0 2 ∷ []) ∷ (flow 0 2 ∷ []) ∷ (flow 0 1 ∷ []) ∷ [] ∷ []
 
 -- 65 asked: 64 slots in the first batch, and the one that is left in the next.
 abbrev pub WhatABatchLeavesGoesIntoTheNext : Type 0
 WhatABatchLeavesGoesIntoTheNext =
-    (schedule is_taken 64 ((opening 0 1 65 ∷ []) ∷ [] ∷ []) ≡ replicate 65 (flow 0 1 ∷ []) ++ replicate 63 [])
-    × (rest is_taken 64 ((opening 0 1 65 ∷ []) ∷ []) ≡ waiting 0 1 1 64 ∷ [])
+    (schedule 64 (in_one_rack (opening 0 1 65 ∷ []) ∷ in_one_rack [] ∷ []) ≡ replicate 65 (flow 0 1 ∷ []) ++ replicate 63 [])
+    × (rest 64 (in_one_rack (opening 0 1 65 ∷ []) ∷ []) ≡ waiting 0 1 1 64 ∷ [])
+
+-- Two racks of four hosts and two cores: two of four packets between the racks, and two more in the next slot.
+abbrev pub TwoCoresCarryTwoPackets : Type 0
+TwoCoresCarryTwoPackets =
+    schedule 2 (in_racks 4 2 (opening 0 4 1 ∷ opening 1 5 1 ∷ opening 2 6 1 ∷ opening 3 7 1 ∷ []) ∷ [])
+    ≡ (flow 0 4 ∷ flow 1 5 ∷ []) ∷ (flow 2 6 ∷ flow 3 7 ∷ []) ∷ []
+
+-- A packet within a rack needs no core.
+abbrev pub WithinARackNoCoreIsNeeded : Type 0
+WithinARackNoCoreIsNeeded =
+    schedule 2 (in_racks 4 2 (opening 0 1 1 ∷ opening 0 4 1 ∷ opening 1 5 1 ∷ opening 2 6 1 ∷ opening 3 7 1 ∷ []) ∷ [])
+    ≡ (flow 0 1 ∷ flow 1 5 ∷ flow 2 6 ∷ []) ∷ (flow 0 4 ∷ flow 3 7 ∷ []) ∷ []
+
+-- Three racks of two hosts and one core: rack 0 sends one packet in a slot, also to two different racks.
+abbrev pub ARackSendsOneForEachCore : Type 0
+ARackSendsOneForEachCore =
+    schedule 2 (in_racks 2 1 (opening 0 2 1 ∷ opening 1 4 1 ∷ opening 3 5 1 ∷ []) ∷ [])
+    ≡ (flow 0 2 ∷ flow 3 5 ∷ []) ∷ (flow 1 4 ∷ []) ∷ []
+
+-- And rack 2 receives one packet in a slot, also from two different racks.
+abbrev pub ARackReceivesOneForEachCore : Type 0
+ARackReceivesOneForEachCore =
+    schedule 2 (in_racks 2 1 (opening 0 4 1 ∷ opening 2 5 1 ∷ opening 3 0 1 ∷ []) ∷ [])
+    ≡ (flow 0 4 ∷ flow 3 0 ∷ []) ∷ (flow 2 5 ∷ []) ∷ []

@@ -1,13 +1,15 @@
 pub mod Flows
 pub mod Batches
-pub mod Order
 pub mod Demands
 pub mod Slot
+pub mod Limits
 pub mod SlotTable
 pub mod Allocation
 pub mod Walk
 pub mod Schedule
+pub mod Fronts
 pub mod Matching
 pub mod Balance
 pub mod Examples
 pub mod Room
+pub mod Recorded

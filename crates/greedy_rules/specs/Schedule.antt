@@ -1,54 +1,68 @@
--- The schedule of a list of batches and the demand that is left: batch after batch from the empty list
--- (one-thread greedy allocation). Batch k, counted from 0, has the b slots from k * b + 1 on.
-use Rattle.std.specs.Prelude.{ℕ, ◌+◌, ◌-◌, ◌*◌, List, [], ◌∷◌, ◌++◌}
+-- The schedule of a list of batches and the demand that is left: batch after batch from the empty list, each by its own
+-- limits (one-thread greedy allocation). Batch k, counted from 0, has the b slots from k * b + 1 on.
+use Rattle.std.specs.Prelude.{ℕ, ◌+◌, ◌-◌, ◌*◌, List, [], ◌∷◌, ◌++◌, replicate}
 use Rattle.std.specs.List.{slice_index_or}
 use Rattle.greedy_rules.specs.declared.flows.Flow.{Flow}
 use Rattle.greedy_rules.specs.declared.flows.Item.{Item}
-use Rattle.greedy_rules.specs.declared.flows.Entry.{Entry}
+use Rattle.greedy_rules.specs.declared.limits.Limits.{Limits}
+use Rattle.greedy_rules.specs.Batches.{DemandBatch}
 use Rattle.greedy_rules.specs.Demands.{item_of, need_in, after_batch}
-use Rattle.greedy_rules.specs.Slot.{Bar}
+use Rattle.greedy_rules.specs.Limits.{is_barred}
 use Rattle.greedy_rules.specs.Allocation.{batch_slots, batch_lists, list_after_slots}
 
 abbrev pub first_slot : ℕ → ℕ → ℕ
 first_slot b k = k * b + 1
 
+-- the slots of batch k, the list before each, and the list after them, where the batch finds this list
+abbrev pub slots_then : ℕ → ℕ → DemandBatch → List Item → List (List Flow)
+slots_then b k batch list = batch_slots (is_barred batch.limits) (first_slot b k) b (after_batch batch.entries list)
+
+abbrev pub lists_then : ℕ → ℕ → DemandBatch → List Item → List (List Item)
+lists_then b k batch list = batch_lists (is_barred batch.limits) (first_slot b k) b (after_batch batch.entries list)
+
+abbrev pub list_then : ℕ → ℕ → DemandBatch → List Item → List Item
+list_then b k batch list = list_after_slots (is_barred batch.limits) (first_slot b k) b (after_batch batch.entries list)
+
 -- from batch k on, with the list that it finds
-abbrev pub schedule_from : Bar → ℕ → ℕ → List Item → List (List Entry) → List (List Flow)
-schedule_from bar b k list [] = []
-schedule_from bar b k list (batch ∷ batches) =
-    batch_slots bar (first_slot b k) b (after_batch batch list)
-    ++ schedule_from bar b (k + 1) (list_after_slots bar (first_slot b k) b (after_batch batch list)) batches
+abbrev pub schedule_from : ℕ → ℕ → List Item → List DemandBatch → List (List Flow)
+schedule_from b k list [] = []
+schedule_from b k list (batch ∷ batches) = slots_then b k batch list ++ schedule_from b (k + 1) (list_then b k batch list) batches
 
-abbrev pub lists_from : Bar → ℕ → ℕ → List Item → List (List Entry) → List (List Item)
-lists_from bar b k list [] = []
-lists_from bar b k list (batch ∷ batches) =
-    batch_lists bar (first_slot b k) b (after_batch batch list)
-    ++ lists_from bar b (k + 1) (list_after_slots bar (first_slot b k) b (after_batch batch list)) batches
+abbrev pub lists_from : ℕ → ℕ → List Item → List DemandBatch → List (List Item)
+lists_from b k list [] = []
+lists_from b k list (batch ∷ batches) = lists_then b k batch list ++ lists_from b (k + 1) (list_then b k batch list) batches
 
-abbrev pub rest_from : Bar → ℕ → ℕ → List Item → List (List Entry) → List Item
-rest_from bar b k list [] = list
-rest_from bar b k list (batch ∷ batches) =
-    rest_from bar b (k + 1) (list_after_slots bar (first_slot b k) b (after_batch batch list)) batches
+abbrev pub rest_from : ℕ → ℕ → List Item → List DemandBatch → List Item
+rest_from b k list [] = list
+rest_from b k list (batch ∷ batches) = rest_from b (k + 1) (list_then b k batch list) batches
 
 -- every slot, the one of number 1 first
-abbrev pub schedule : Bar → ℕ → List (List Entry) → List (List Flow)
-schedule bar b batches = schedule_from bar b 0 [] batches
+abbrev pub schedule : ℕ → List DemandBatch → List (List Flow)
+schedule b batches = schedule_from b 0 [] batches
 
 -- the demand that is left
-abbrev pub rest : Bar → ℕ → List (List Entry) → List Item
-rest bar b batches = rest_from bar b 0 [] batches
+abbrev pub rest : ℕ → List DemandBatch → List Item
+rest b batches = rest_from b 0 [] batches
+
+-- the limits of each slot: those of its batch
+abbrev pub slot_limits : ℕ → List DemandBatch → List Limits
+slot_limits b [] = []
+slot_limits b (batch ∷ batches) = replicate b batch.limits ++ slot_limits b batches
 
 -- the slot at a place, counted from 0
 abbrev pub slot_in : List (List Flow) → ℕ → List Flow
 slot_in slots at = slice_index_or slots at []
 
--- the slot of a number, and the list when it is taken
+-- the slot of a number, the list when it is taken, and its limits
 abbrev pub slot_at : List (List Flow) → ℕ → List Flow
 slot_at slots number = slot_in slots (number - 1)
 
-abbrev pub list_before : Bar → ℕ → List (List Entry) → ℕ → List Item
-list_before bar b batches number = slice_index_or (lists_from bar b 0 [] batches) (number - 1) []
+abbrev pub list_before : ℕ → List DemandBatch → ℕ → List Item
+list_before b batches number = slice_index_or (lists_from b 0 [] batches) (number - 1) []
+
+abbrev pub limits_at : ℕ → List DemandBatch → ℕ → Limits
+limits_at b batches number = slice_index_or (slot_limits b batches) (number - 1) (record { hosts = 0; cores = 0 })
 
 -- a flow's need before the slot of a number
-abbrev pub need_before : Bar → ℕ → List (List Entry) → ℕ → Flow → ℕ
-need_before bar b batches number flow = need_in (item_of (list_before bar b batches number) flow)
+abbrev pub need_before : ℕ → List DemandBatch → ℕ → Flow → ℕ
+need_before b batches number flow = need_in (item_of (list_before b batches number) flow)

@@ -1,6 +1,6 @@
 -- The greedy choice of one timeslot (the SIGCOMM 2014 Fastpass paper): demands are taken in the list's order, and one is
 -- allocated where nothing chosen before it keeps it out. A slot is the list of its flows, rising by source.
-use Rattle.std.specs.Prelude.{Bool, ◌==◌, ◌&&◌, ◌||◌, not, nat_lt, List, [], ◌∷◌, if◌then◌else◌}
+use Rattle.std.specs.Prelude.{◌≡◌, Bool, true, ◌==◌, ◌&&◌, ◌||◌, not, nat_lt, List, [], ◌∷◌, if◌then◌else◌}
 use Rattle.std.specs.List.{list_any}
 use Rattle.greedy_rules.specs.declared.flows.Flow.{Flow}
 use Rattle.greedy_rules.specs.declared.flows.Item.{Item}
@@ -33,3 +33,11 @@ chosen_after bar slot (item ∷ list) = chosen_after bar (offered bar slot item)
 
 abbrev pub greedy_slot : Bar → List Item → List Flow
 greedy_slot bar list = chosen_after bar [] list
+
+-- what makes the slots of a bar matchings: whoever is taken is barred
+abbrev pub BarsTheTaken : Bar → Type 0
+BarsTheTaken bar = (slot : List Flow) (flow : Flow) → is_taken slot flow ≡ true → bar slot flow ≡ true
+
+-- and what makes them maximal: who is barred stays barred as the slot grows
+abbrev pub BarsForGood : Bar → Type 0
+BarsForGood bar = (slot : List Flow) (flow other : Flow) → bar slot flow ≡ true → bar (slot_with other slot) flow ≡ true

@@ -5,18 +5,24 @@ mod batches;
 mod demands;
 mod flows;
 mod laws;
+mod limits;
+mod marks;
 mod plain;
+mod recorded;
 mod slots;
 
 pub use batches::Batch;
 pub use demands::DemandList;
 pub use flows::{Entry, Flow, Item};
 pub use laws::{
-    every_batch_balances, every_slot_is_a_maximal_matching, every_slot_is_in_range,
-    flows_fit_pairs, small_schedules,
+    every_batch_balances, every_schedule_balances, every_slot_is_a_maximal_matching,
+    every_slot_is_in_range, every_slot_keeps_its_limits, every_slots_flows_are_of_entries,
+    flows_fit_pairs, schedules_go_on, small_schedules, small_schedules_between_racks,
 };
+pub use limits::Limits;
 pub use no_memory::NoMemory;
 pub use plain::plain_batch;
+pub use recorded::{every_recorded_slot, recorded_batches_may_be_applied};
 pub use slots::SlotTable;
 
 #[cfg(test)]

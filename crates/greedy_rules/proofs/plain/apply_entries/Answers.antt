@@ -8,7 +8,7 @@ use Rattle.greedy_rules.proofs.plain.apply_entries.Goals as goal
 pub apply_entry-requires : goal.apply_entry-requires
 apply_entry-requires c =
     let d : Item = record { flow = record { src = 0; dst = 0 }; need = 0; last = 0 } in
-    let P : Item → Type 0 = λ item. need_with (entry_of c.args.batch.now item.flow) item.need < 2 ^ 32 in
+    let P : Item → Type 0 = λ item. need_with (entry_of c.args.batch.now.entries item.flow) item.need < 2 ^ 32 in
     let within : c.loop-item.item-index < length c.args.items.now = omega arith in
     subst P (sym (left_at c.loop-item.items c.args.items.now c.loop-item.item-index d c.loop-item.invariant.left)) (c.requires c.loop-item.item-index d within)
 
@@ -21,6 +21,6 @@ loop-item-preserved c =
     let below : i < length items = omega arith in
     let within : i < length initial = omega arith in
     record {
-      done = applied_more c.args.batch.now items initial i d c.apply_entry.new.item below within c.loop-item.invariant.done c.loop-item.invariant.left c.apply_entry.ensures;
+      done = applied_more c.args.batch.now.entries items initial i d c.apply_entry.new.item below within c.loop-item.invariant.done c.loop-item.invariant.left c.apply_entry.ensures;
       left = left_more items initial i c.apply_entry.new.item below within c.loop-item.invariant.left;
     }

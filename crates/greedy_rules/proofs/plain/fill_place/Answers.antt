@@ -3,9 +3,13 @@ use Rattle.std.proofs.lemmas.List.{with_items_is}
 use Rattle.std.proofs.lemmas.List.Elements.{All-take, All-drop}
 use borrow.Rule.Slice.PartMut.{put_mid, same_len_mid}
 use Rattle.greedy_rules.specs.declared.flows.Flow.{Flow}
+use Rattle.greedy_rules.specs.declared.flows.Item.{Item}
 use Rattle.greedy_rules.specs.Demands.{Demands}
 use Rattle.greedy_rules.specs.Schedule.{slot_in}
-use Rattle.greedy_rules.specs.Slot.{is_taken, greedy_slot}
+use Rattle.greedy_rules.specs.Slot.{Bar, greedy_slot}
+use Rattle.greedy_rules.specs.declared.limits.Limits.{Limits}
+use Rattle.greedy_rules.specs.Limits.{is_barred}
+use Rattle.greedy_rules.specs.Allocation.{after_slot}
 use Rattle.greedy_rules.specs.SlotTable.{Slots, flows_from, table_slots, AreCells}
 use Rattle.greedy_rules.proofs.TableLemmas.{IsCell, fits, slot_below, slot_at_row, length-row, table_with, cells_with}
 use Rattle.greedy_rules.proofs.plain.fill_place.Goals as goal
@@ -36,7 +40,12 @@ invariant_of-out c =
     let cells = c.deref_mut.result.now in
     let row = c.fill_slot.new.sends in
     let kept : length (put_mid from size cells row) ≡ table.cells.len = omega (arith, same_len_mid from size cells row c.fill_slot.auto.sends, c.deref_mut.ensures.len) in
-    let marks : length c.fill.new.self ≡ endpoints = omega (arith, c.fill.ensures.len, c.requires.endpoints, ap (λ (t : Slots). t.endpoints) c.out.view_is) in
+    let full : length table.cells.items ≡ table.slots * endpoints = omega (arith, table.cells.ok.0, c.out.invariant.0) in
+    let below : c.args.place < table.slots = slot_below endpoints table.slots table.cells.items c.args.out.now c.args.place c.out.view_is c.requires.place in
+    let is : size ≡ endpoints = omega arith in
+    let marks : length (take size (drop from cells)) ≡ endpoints =
+    ap (λ (xs : List (Option ℕ)). length (take size (drop from xs))) c.deref_mut.ensures.value
+    ∙ (ap (λ (n : ℕ). length (take n (drop from table.cells.items))) is ∙ length-row endpoints table.slots table.cells.items c.args.place below full) in
     let old : AreCells endpoints cells = subst (AreCells endpoints) (sym c.deref_mut.ensures.value) c.out.invariant.1 in
     let was : AreCells endpoints (take size (drop from cells)) = All-take (IsCell endpoints) size (drop from cells) (All-drop (IsCell endpoints) from cells old) in
     let new : AreCells endpoints row =
@@ -60,10 +69,24 @@ returns-clause-slots c =
     c.fill_slot.auto.sends
     ∙ (ap (λ (xs : List (Option ℕ)). length (take size (drop from xs))) c.deref_mut.ensures.value
     ∙ (ap (λ (n : ℕ). length (take n (drop from table.cells.items))) is ∙ length-row endpoints table.slots table.cells.items place below full)) in
-    let chosen : flows_from 0 row ≡ greedy_slot is_taken c.args.list.now.items =
-    c.fill_slot.ensures.slot ∙ (ap (greedy_slot is_taken) c.deref_mut-2.ensures.value ∙ ap (λ (l : Demands). greedy_slot is_taken l.items) c.list.view_is) in
+    let bar : Bar = is_barred c.args.marks.now.limits in
+    let chosen : flows_from 0 row ≡ greedy_slot bar c.args.list.now.items =
+    c.fill_slot.ensures.slot
+    ∙ (ap (λ (l : Limits). greedy_slot (is_barred l) c.deref_mut-2.result.now) c.clear.ensures.limits
+    ∙ (ap (greedy_slot bar) c.deref_mut-2.ensures.value ∙ ap (λ (l : Demands). greedy_slot bar l.items) c.list.view_is)) in
     ap (table_slots endpoints table.slots) (with_items_is table.cells (put_mid from size cells row) kept)
     ∙ (ap (λ (xs : List (Option ℕ)). table_slots endpoints table.slots (put_mid from size xs row)) c.deref_mut.ensures.value
     ∙ (table_with endpoints table.slots table.cells.items place size row below full is whole
     ∙ (ap (λ (flows : List Flow). set (table_slots endpoints table.slots table.cells.items) place flows) chosen
-    ∙ ap (λ (t : Slots). set t.slots place (greedy_slot is_taken c.args.list.now.items)) c.out.view_is)))
+    ∙ ap (λ (t : Slots). set t.slots place (greedy_slot bar c.args.list.now.items)) c.out.view_is)))
+
+pub returns-clause-items : goal.returns-clause-items
+returns-clause-items c =
+    let items : List Item = c.fill_slot.new.items in
+    let number : ℕ = c.args.number in
+    let bar : Bar = is_barred c.args.marks.now.limits in
+    let kept : length items ≡ c.list.inside.items.len = omega (arith, c.fill_slot.auto.items, c.deref_mut-2.ensures.len) in
+    with_items_is c.list.inside.items items kept
+    ∙ (c.fill_slot.ensures.items
+    ∙ (ap (λ (l : Limits). after_slot (is_barred l) number c.deref_mut-2.result.now) c.clear.ensures.limits
+    ∙ (ap (after_slot bar number) c.deref_mut-2.ensures.value ∙ ap (λ (l : Demands). after_slot bar number l.items) c.list.view_is)))

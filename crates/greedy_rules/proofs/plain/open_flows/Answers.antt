@@ -6,14 +6,14 @@ use Rattle.greedy_rules.proofs.plain.open_flows.Goals as goal
 
 pub open_flow-requires : goal.open_flow-requires
 open_flow-requires c =
-    let batch = c.args.batch.now in
+    let batch = c.args.batch.now.entries in
     let at = c.loop-at.at in
     let below : at < length batch = omega (arith, c.len-at-end.ensures.entries) in
     omega (arith, c.loop-at.invariant.spare, opened_fits batch (at + 1), ap length (opened_more batch at c.entry.result below c.entry.ensures), length-append (opened (take at batch)) (opened (c.entry.result ∷ [])))
 
 pub loop-at-preserved : goal.loop-at-preserved
 loop-at-preserved c =
-    let batch = c.args.batch.now in
+    let batch = c.args.batch.now.entries in
     let at = c.loop-at.at in
     let below : at < length batch = omega (arith, c.len-at-end.ensures.entries) in
     let more = opened_more batch at c.entry.result below c.entry.ensures in

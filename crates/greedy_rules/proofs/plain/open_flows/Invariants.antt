@@ -4,6 +4,6 @@ use Rattle.greedy_rules.proofs.plain.open_flows.Given as goal
 
 abbrev pub invariant-loop-at : goal.invariant-loop-at
 invariant-loop-at l = record {
-  items : l.list.items ≡ l.initial.list.items ++ opened (take l.at l.batch);
-  spare : l.list.spare + length (opened (take l.at l.batch)) ≡ l.initial.list.spare;
+  items : l.list.items ≡ l.initial.list.items ++ opened (take l.at l.batch.entries);
+  spare : l.list.spare + length (opened (take l.at l.batch.entries)) ≡ l.initial.list.spare;
 }

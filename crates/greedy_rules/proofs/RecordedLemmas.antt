@@ -1,0 +1,191 @@
+-- Recorded batches may be applied one after the other, and what their slots are.
+use Rattle.std.proofs.Common.{◌≡◌, ◌≢◌, ◌<◌, ◌≤◌, ◌+◌, ◌-◌, ◌*◌, ◌^◌, ℕ, zero, suc, List, [], ◌∷◌, ◌++◌, length, get_or, map, filter, replicate, Bool, true, false, not, ◌||◌, cond, Option, Some, None, IsTrue, All, is_some, refl, sym, ap, ◌∙◌, subst, arith, inl, inr}
+use Rattle.std.specs.Option.{IfSome}
+use Rattle.std.specs.List.{list_any}
+use Rattle.std.proofs.lemmas.Bool.{cond-true, cond-false, cases_Bool}
+use Rattle.std.proofs.lemmas.List.{append-nil, append_assoc, length-append, length-replicate}
+use Rattle.std.proofs.lemmas.List.Folds.{list_any-append}
+use Rattle.std.proofs.lemmas.List.Sums.{sum_by-append, sum_by-cons}
+use Rattle.std.proofs.lemmas.List.Elements.{All-nil, All-cons, All-head, All-tail, All-append, All-map, All-filter, All-weaker, All-replicate}
+use Rattle.greedy_rules.specs.declared.flows.Flow.{Flow}
+use Rattle.greedy_rules.specs.declared.flows.Item.{Item}
+use Rattle.greedy_rules.specs.declared.flows.Entry.{Entry}
+use Rattle.greedy_rules.specs.declared.limits.Limits.{Limits}
+use Rattle.greedy_rules.specs.Flows.{same_flow}
+use Rattle.greedy_rules.specs.Batches.{DemandBatch, entry_of}
+use Rattle.greedy_rules.specs.Demands.{HasEachFlowOnce, AreBelow, OpensNewFlows, is_listed, item_of, need_in, need_with, opened}
+use Rattle.greedy_rules.specs.Limits.{is_barred, KeepsLimits}
+use Rattle.greedy_rules.specs.SlotTable.{IsSlotOf}
+use Rattle.greedy_rules.specs.Slot.{has_flow}
+use Rattle.greedy_rules.specs.Allocation.{slots_of}
+use Rattle.greedy_rules.specs.Schedule.{first_slot, slots_then, list_then, schedule_from, rest_from, slot_limits, schedule, rest, slot_at, need_before, limits_at}
+use Rattle.greedy_rules.specs.Balance.{is_recorded, AreInOrder}
+use Rattle.greedy_rules.specs.Matching.{AreAmong, IsMaximalMatching}
+use Rattle.greedy_rules.specs.Recorded.{demand_through, demand_of, IsRecordedAfter, AreRecordedAfter, AreRecorded, Applies, MayBeApplied, IsLeftBy, RecordedBatchesMayBeApplied, EveryFrontIsRecorded, LaterBatchesMayBeApplied, IsRecordedSlot, EveryRecordedSlot}
+use Rattle.greedy_rules.proofs.FlowOrder.{same_flow-refl, same_flow-true}
+use Rattle.greedy_rules.proofs.NeedLemmas.{every_batch}
+use Rattle.greedy_rules.proofs.ScheduleLemmas.{every_slot, every_slot_keeps_its_limits}
+use Rattle.greedy_rules.proofs.RangeLemmas.{every_slot_in_range}
+use Rattle.greedy_rules.proofs.FrontLemmas.{every_batch_has_its_slots}
+
+-- in a list that has each flow once, an item's need is that of its flow
+need_of_item : (items : List Item) (at : ℕ) (d : Item) → HasEachFlowOnce items → at < length items → need_in (item_of items (get_or items at d).flow) ≡ (get_or items at d).need
+need_of_item [] at d once below = absurd (omega arith)
+need_of_item (item ∷ items) zero d once below = ap need_in (cond-true (same_flow item.flow item.flow) (Some item) (item_of items item.flow) (same_flow-refl item.flow))
+need_of_item (item ∷ items) (suc at) d once below =
+    let that : Item = get_or items at d in
+    let tail : HasEachFlowOnce items = λ i j e lt within. once (suc i) (suc j) e (omega arith) (omega arith) in
+    let apart : item.flow ≢ that.flow = once 0 (suc at) d (omega arith) below in
+    elim (cases_Bool (same_flow item.flow that.flow)) [
+      | inl same ↦ absurd (apart (same_flow-true item.flow that.flow same))
+      | inr other ↦ ap need_in (cond-false (same_flow item.flow that.flow) (Some item) (item_of items that.flow) other) ∙ need_of_item items at d tail (omega arith)
+    ]
+
+-- more need stays more
+need_with-le : (entry : Option Entry) (low high : ℕ) → low ≤ high → need_with entry low ≤ need_with entry high
+need_with-le None low high le = le
+need_with-le (Some entry) low high le =
+    elim (cases_Bool entry.clear) [
+      | inl clears ↦ omega (arith, cond-true {A = ℕ} entry.clear 0 low clears, cond-true {A = ℕ} entry.clear 0 high clears)
+      | inr keeps ↦ omega (arith, cond-false {A = ℕ} entry.clear 0 low keeps, cond-false {A = ℕ} entry.clear 0 high keeps)
+    ]
+
+demand_more : (earlier : List DemandBatch) (batch : DemandBatch) (flow : Flow) (need : ℕ) → demand_through (earlier ++ batch ∷ []) flow need ≡ need_with (entry_of batch.entries flow) (demand_through earlier flow need)
+demand_more [] batch flow need = refl
+demand_more (x ∷ earlier) batch flow need = demand_more earlier batch flow (need_with (entry_of x.entries flow) need)
+
+or-none : (p : Bool) → (p || false) ≡ p
+or-none true = refl
+or-none false = refl
+
+is_recorded-more : (earlier : List DemandBatch) (batch : DemandBatch) (flow : Flow) → is_recorded (earlier ++ batch ∷ []) flow ≡ (is_recorded earlier flow || is_some (entry_of batch.entries flow))
+is_recorded-more earlier batch flow =
+    list_any-append (λ (x : DemandBatch). is_some (entry_of x.entries flow)) earlier (batch ∷ []) ∙ ap (λ b. is_recorded earlier flow || b) (or-none (is_some (entry_of batch.entries flow)))
+
+-- the next recorded batch may be applied to what the earlier ones left
+next_applies : (endpoints : ℕ) (limits : Limits) (earlier : List DemandBatch) (batch : DemandBatch) (list : List Item) → IsRecordedAfter endpoints limits earlier batch → IsLeftBy endpoints earlier list → Applies endpoints batch list
+next_applies endpoints limits earlier batch list is left =
+    let Within : Flow → Type 0 = λ flow. (flow.src < endpoints) × (flow.dst < endpoints) in
+    let opens : Entry → Item = λ entry. record { flow = entry.flow; need = entry.add; last = 0 } in
+    record {
+      rises = is.rises;
+      opens = All-weaker (λ (e : Entry). e.opens ≡ not (is_recorded earlier e.flow)) (λ e. e.opens ≡ not (is_listed list e.flow)) (λ e was. was ∙ ap not (sym (left.listed e.flow))) batch.entries is.opens;
+      once = left.once;
+      below = All-append (λ (item : Item). Within item.flow) list (opened batch.entries) left.below
+          (All-map (λ (item : Item). Within item.flow) opens (filter (λ (e : Entry). e.opens) batch.entries) (All-filter (λ (e : Entry). e.opens) (λ (e : Entry). Within e.flow) batch.entries is.in_range));
+      needs = λ at d within.
+          let item : Item = get_or list at d in
+          omega (
+            arith,
+            need_of_item list at d left.once within,
+            is.fits item.flow,
+            need_with-le (entry_of batch.entries item.flow) item.need (demand_of earlier item.flow) (omega (arith, left.needs item.flow, need_of_item list at d left.once within)),
+          );
+    }
+
+-- and they leave such a list together
+next_left : (endpoints b k : ℕ) (limits : Limits) (earlier : List DemandBatch) (batch : DemandBatch) (list : List Item) → IsRecordedAfter endpoints limits earlier batch → IsLeftBy endpoints earlier list
+    → IsLeftBy endpoints (earlier ++ batch ∷ []) (list_then b k batch list)
+next_left endpoints b k limits earlier batch list is left =
+    let may = next_applies endpoints limits earlier batch list is left in
+    let what = every_batch batch.limits endpoints (first_slot b k) b batch.entries list may.rises may.opens may.once may.below in
+    record {
+      once = what.once;
+      below = what.in_range;
+      listed = λ flow. what.listed flow ∙ (ap (λ p. p || is_some (entry_of batch.entries flow)) (left.listed flow) ∙ sym (is_recorded-more earlier batch flow));
+      needs = λ flow.
+          omega (
+            arith,
+            what.balance flow,
+            need_with-le (entry_of batch.entries flow) (need_in (item_of list flow)) (demand_of earlier flow) (left.needs flow),
+            demand_more earlier batch flow 0,
+          );
+    }
+
+applied : (endpoints b k : ℕ) (limits : Limits) (earlier batches : List DemandBatch) (list : List Item) → AreRecordedAfter endpoints limits earlier batches → IsLeftBy endpoints earlier list
+    → MayBeApplied endpoints b k list batches × IsLeftBy endpoints (earlier ++ batches) (rest_from b k list batches)
+applied endpoints b k limits earlier [] list are left = (tt, subst (λ (bs : List DemandBatch). IsLeftBy endpoints bs list) (sym (append-nil earlier)) left)
+applied endpoints b k limits earlier (batch ∷ batches) list are left =
+    let then : List Item = list_then b k batch list in
+    let later = applied endpoints b (k + 1) limits (earlier ++ batch ∷ []) batches then are.1 (next_left endpoints b k limits earlier batch list are.0 left) in (
+      (next_applies endpoints limits earlier batch list are.0 left, later.0),
+      subst (λ (bs : List DemandBatch). IsLeftBy endpoints bs (rest_from b (k + 1) then batches)) (append_assoc earlier (batch ∷ []) batches) later.1,
+    )
+
+nothing_left : (endpoints : ℕ) → IsLeftBy endpoints [] []
+nothing_left endpoints = record {
+  once = λ i j d lt within. absurd (omega arith);
+  below = λ i d within. absurd (omega arith);
+  listed = λ flow. refl;
+  needs = λ flow. omega arith;
+}
+
+in_order : (endpoints : ℕ) (limits : Limits) (earlier batches : List DemandBatch) → AreRecordedAfter endpoints limits earlier batches → AreInOrder earlier batches
+in_order endpoints limits earlier [] are = tt
+in_order endpoints limits earlier (batch ∷ batches) are = (are.0.rises, are.0.opens, in_order endpoints limits (earlier ++ batch ∷ []) batches are.1)
+
+pub may_be_applied : RecordedBatchesMayBeApplied
+may_be_applied endpoints b limits batches are =
+    let all = applied endpoints b 0 limits [] batches [] are (nothing_left endpoints) in
+    record { in_order = in_order endpoints limits [] batches are; may = all.0; left = all.1 }
+
+may-later : (endpoints b k : ℕ) (list : List Item) (xs ys : List DemandBatch) → MayBeApplied endpoints b k list (xs ++ ys) → MayBeApplied endpoints b (k + length xs) (rest_from b k list xs) ys
+may-later endpoints b k list [] ys may = subst (λ (n : ℕ). MayBeApplied endpoints b n list ys) (omega arith) may
+may-later endpoints b k list (x ∷ xs) ys may =
+    let then : List Item = list_then b k x list in
+    let on : k + 1 + length xs ≡ k + suc (length xs) = omega arith in
+    subst (λ (n : ℕ). MayBeApplied endpoints b n (rest_from b (k + 1) then xs) ys) on (may-later endpoints b (k + 1) then xs ys may.1)
+
+pub later_may_be_applied : LaterBatchesMayBeApplied
+later_may_be_applied endpoints b limits front later are =
+    let start : 0 + length front ≡ length front = omega arith in
+    subst (λ (n : ℕ). MayBeApplied endpoints b n (rest b front) later) start (may-later endpoints b 0 [] front later (may_be_applied endpoints b limits (front ++ later) are).may)
+
+recorded-front : (endpoints : ℕ) (limits : Limits) (earlier front later : List DemandBatch) → AreRecordedAfter endpoints limits earlier (front ++ later) → AreRecordedAfter endpoints limits earlier front
+recorded-front endpoints limits earlier [] later are = tt
+recorded-front endpoints limits earlier (x ∷ front) later are = (are.0, recorded-front endpoints limits (earlier ++ x ∷ []) front later are.1)
+
+pub every_front_is_recorded : EveryFrontIsRecorded
+every_front_is_recorded endpoints limits front later are = recorded-front endpoints limits [] front later are
+
+-- ---- slots
+
+recorded_all : (P : DemandBatch → Type 0) (endpoints : ℕ) (limits : Limits) → ((earlier : List DemandBatch) (batch : DemandBatch) → IsRecordedAfter endpoints limits earlier batch → P batch)
+    → (earlier batches : List DemandBatch) → AreRecordedAfter endpoints limits earlier batches → All P batches
+recorded_all P endpoints limits each earlier [] are = All-nil P
+recorded_all P endpoints limits each earlier (batch ∷ batches) are =
+    All-cons P batch batches (each earlier batch are.0) (recorded_all P endpoints limits each (earlier ++ batch ∷ []) batches are.1)
+
+uniform : (b : ℕ) (limits : Limits) (batches : List DemandBatch) → All (λ batch. batch.limits ≡ limits) batches → All (λ l. l ≡ limits) (slot_limits b batches)
+uniform b limits [] all = All-nil (λ (l : Limits). l ≡ limits)
+uniform b limits (batch ∷ batches) all =
+    All-append (λ (l : Limits). l ≡ limits) (replicate b batch.limits) (slot_limits b batches)
+    (All-replicate (λ (l : Limits). l ≡ limits) b batch.limits (All-head (λ (x : DemandBatch). x.limits ≡ limits) batch batches all))
+    (uniform b limits batches (All-tail (λ (x : DemandBatch). x.limits ≡ limits) batch batches all))
+
+times_more : (n b : ℕ) → suc n * b ≡ b + n * b
+times_more n b = grind arith
+
+length-slot_limits : (b : ℕ) (batches : List DemandBatch) → length (slot_limits b batches) ≡ length batches * b
+length-slot_limits b [] = let none : 0 ≡ 0 * b = omega arith in none
+length-slot_limits b (batch ∷ batches) =
+    omega (arith, length-append (replicate b batch.limits) (slot_limits b batches), length-replicate b batch.limits, length-slot_limits b batches, times_more (length batches) b)
+
+-- the limits of each slot
+limits_are : (endpoints b : ℕ) (limits : Limits) (batches : List DemandBatch) (number : ℕ) → AreRecorded endpoints limits batches → 0 < number → number ≤ length (schedule b batches) → limits_at b batches number ≡ limits
+limits_are endpoints b limits batches number are positive within =
+    uniform b limits batches (recorded_all (λ (batch : DemandBatch). batch.limits ≡ limits) endpoints limits (λ earlier batch is. is.same_limits) [] batches are) (number - 1) (record { hosts = 0; cores = 0 })
+    (omega (arith, length-slot_limits b batches, every_batch_has_its_slots b 0 [] batches))
+
+pub every_recorded_slot : EveryRecordedSlot
+every_recorded_slot endpoints b limits batches are number positive within =
+    let same = limits_are endpoints b limits batches number are positive within in
+    let slot : List Flow = slot_at (schedule b batches) number in
+    let whole : IsMaximalMatching limits (need_before b batches number) slot = subst (λ (l : Limits). IsMaximalMatching l (need_before b batches number) slot) same (every_slot b batches number positive within) in
+    let among = recorded_all (λ (batch : DemandBatch). AreAmong endpoints batch.entries) endpoints limits (λ earlier batch is. is.in_range) [] batches are in
+    record {
+      matching = whole.matching;
+      maximal = whole.maximal;
+      keeps = subst (λ (l : Limits). KeepsLimits l slot) same (every_slot_keeps_its_limits b batches number);
+      in_range = every_slot_in_range endpoints b batches among (number - 1) [] (omega arith);
+    }
