@@ -9,7 +9,7 @@ count_below-same p q (suc n) agree =
     ap (λ (b : Bool). cond b 1 0 + count_below (λ k. p (suc k)) n) (agree 0 (omega arith))
     ∙ ap (λ (m : ℕ). cond (q 0) 1 0 + m) (count_below-same (λ k. p (suc k)) (λ k. q (suc k)) n (λ k below. agree (suc k) (omega arith)))
 
-count_below-more : (p : ℕ → Bool) (n : ℕ) → count_below p (suc n) ≡ count_below p n + cond (p n) 1 0
+pub count_below-more : (p : ℕ → Bool) (n : ℕ) → count_below p (suc n) ≡ count_below p n + cond (p n) 1 0
 count_below-more p zero = omega arith
 count_below-more p (suc n) = let more = count_below-more (λ k. p (suc k)) n in omega (arith, more)
 

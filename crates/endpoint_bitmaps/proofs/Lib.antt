@@ -1,4 +1,7 @@
-pub mod CountLemmas
-pub mod WordLemmas
-pub mod LowestLemmas
-pub mod MapLemmas
+mod CountLemmas
+mod WordLemmas
+mod LowestLemmas
+mod MapLemmas
+mod LinkLemmas
+mod RackLemmas
+pub mod Facts

@@ -1,9 +1,10 @@
 -- The maps of the endpoints, as lists of words.
-use Rattle.std.proofs.Common.{◌≡◌, ◌<◌, ◌-◌, ◌^◌, ℕ, List, length, get_or, set, Bool, not, ◌==◌, ◌&&◌, bit_and, refl, sym, ap, ◌∙◌, inl, inr}
+use Rattle.std.proofs.Common.{◌≡◌, ◌<◌, ◌+◌, ◌-◌, cond, false, arith, ◌^◌, ℕ, List, length, get_or, set, Bool, not, ◌==◌, ◌&&◌, bit_and, refl, sym, ap, ◌∙◌, inl, inr}
 use Rattle.std.proofs.lemmas.Bool.{cases_eq, and_left, eq-eqb, ne_eqb}
 use Rattle.std.proofs.lemmas.List.{get_or-set_same, get_or-set_other, get_or_read}
 use Rattle.endpoint_bitmaps.specs.Slots.{has_slot}
-use Rattle.endpoint_bitmaps.proofs.WordLemmas.{has_slot-both, has_slot-without, and_true}
+use Rattle.endpoint_bitmaps.specs.FreeSlots.{FreeSlots, may_send, may_receive, leaving_in, entering_in, rack_in, is_between, HasTaken}
+use Rattle.endpoint_bitmaps.proofs.WordLemmas.{has_slot-both, has_slot-without, has_slot-none, and_true}
 
 -- what two endpoints have in common
 pub common_is : (senders receivers : List ℕ) (src dst s r slot : ℕ) → src < length senders → dst < length receivers → s ≡ get_or senders src s → r ≡ get_or receivers dst r
@@ -28,3 +29,23 @@ without_taken words at word taken endpoint slot below fits taken_fits is = elim 
       ∙ (sym (and_true (has_slot (get_or words endpoint 0) slot))
       ∙ ap (λ (b : Bool). has_slot (get_or words endpoint 0) slot && not b) (sym (and_left _ _ (ne_eqb endpoint at other))))
 ]
+
+-- no slot is taken: all stays
+pub none_taken : (src dst taken : ℕ) (maps : FreeSlots) → taken ≡ 0 → HasTaken src dst (has_slot taken) maps maps
+none_taken src dst taken maps none = record {
+  endpoints = refl;
+  limits = refl;
+  senders = λ endpoint slot. stays (may_send maps endpoint slot) (endpoint == src) (has_slot taken slot) (no_slot slot);
+  receivers = λ endpoint slot. stays (may_receive maps endpoint slot) (endpoint == dst) (has_slot taken slot) (no_slot slot);
+  leaving = λ rack slot below. no_more (leaving_in maps rack slot) (rack == rack_in maps src) (is_between maps src dst) (has_slot taken slot) (no_slot slot);
+  entering = λ rack slot below. no_more (entering_in maps rack slot) (rack == rack_in maps dst) (is_between maps src dst) (has_slot taken slot) (no_slot slot);
+}
+  where
+    no_slot : (slot : ℕ) → has_slot taken slot ≡ false
+    no_slot slot = ap (λ (n : ℕ). has_slot n slot) none ∙ has_slot-none slot
+
+    stays : (free here taken : Bool) → taken ≡ false → free ≡ (free && not (here && taken))
+    stays free here taken none = grind arith
+
+    no_more : (n : ℕ) (here between taken : Bool) → taken ≡ false → n ≡ n + cond (here && (between && taken)) 1 0
+    no_more n here between taken none = grind arith

@@ -1,9 +1,9 @@
 -- Words as sets of slots: both of two, one without another, without its lowest, the first ones, and how many.
 use Rattle.std.proofs.Common.{◌≡◌, ◌≢◌, ◌<◌, ◌≤◌, ◌-◌, ◌/◌, ◌%◌, ◌^◌, ℕ, zero, suc, Bool, true, false, not, ◌==◌, ◌&&◌, nat_lt, cond, min, bit_and, count_ones, w64, pow-suc, refl, sym, ap, ◌∙◌, arith, inl, inr}
-use Rattle.std.specs.Int.{bit_at}
+use Rattle.std.specs.Int.{bit_at, trailing_zeros}
 use Rattle.std.specs.Int.Count.{ones_step}
 use Rattle.std.proofs.lemmas.Bool.{cases_lt, cases_eq, and_left, and_right, lt-ltb, le-ltb, eq-eqb, ne_eqb}
-use Rattle.std.proofs.lemmas.Nat.Bits.{bit_at-lt, bit_at_lowest, bit_at-suc, bit_at-zero, bit_at_and, bit_at_not, bit_at_above, bit_at_ones, bit_at_ones_above}
+use Rattle.std.proofs.lemmas.Nat.Bits.{bit_at-lt, bit_at_lowest, bit_at-suc, bit_at-zero, bit_at_and, bit_at_not, bit_at_above, bit_at_ones, bit_at_ones_above, bit_at-trailing_zeros}
 use Rattle.endpoint_bitmaps.specs.Slots.{has_slot, count_below}
 use Rattle.endpoint_bitmaps.proofs.CountLemmas.{count_below-same}
 
@@ -89,3 +89,12 @@ count_ones_is (suc w) n fits =
     let lowest : cond (has_slot n 0) 1 0 ≡ n % 2 = bit_counts (bit_at n 0) (bit_at-lt n 0) ∙ bit_at_lowest n in
     let same = count_below-same (λ k. has_slot n (suc k)) (has_slot (n / 2)) w (λ k below. ap (λ (m : ℕ). m == 1) (bit_at-suc n k)) in
     omega (arith, ones_step n, count_ones_is w (n / 2) (omega (arith, pow-suc 2 w)), lowest, same)
+
+-- the lowest slot of a word
+pub lowest_is : (rest : ℕ) → rest < 2 ^ 64 → rest ≢ 0 → has_slot rest (trailing_zeros w64 rest) ≡ true
+lowest_is rest fits some = ap (λ (n : ℕ). n == 1) (bit_at-trailing_zeros w64 rest (omega (arith, some)) fits).1
+
+pub without_lowest : (rest k : ℕ) → rest < 2 ^ 64 → rest ≢ 0 → has_slot (bit_and rest (rest - 1)) k ≡ (has_slot rest k && not (k == trailing_zeros w64 rest))
+without_lowest rest k fits some =
+    let at = bit_at-trailing_zeros w64 rest (omega (arith, some)) fits in
+    has_slot-without_lowest rest (trailing_zeros w64 rest) k at.1 at.2

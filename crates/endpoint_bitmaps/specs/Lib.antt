@@ -1,2 +1,4 @@
 pub mod Slots
+pub mod Links
+pub mod Fit
 pub mod FreeSlots

@@ -1,7 +1,13 @@
-ghost use Rattle.std.specs.Prelude.{◌≡◌, ◌<◌, ◌≤◌, ℕ, IfOk, min, count_ones, nat_lt};
+ghost use Rattle.std.specs.Prelude.{◌≡◌, ◌<◌, ◌≤◌, ℕ, IfOk, min, count_ones, nat_lt, length, vec_len, true, false, ◌==◌, ◌&&◌, not};
+ghost use Rattle.std.specs.List.{slice_index_or};
+ghost use Rattle.greedy_rules.specs.Limits.{AreLimits};
 ghost use Rattle.endpoint_bitmaps.specs.Slots.{has_slot, count_below, is_among_lowest, NoneFrom};
-ghost use Rattle.endpoint_bitmaps.specs.FreeSlots.{IsFreeBelow, is_common, HasTaken};
+ghost use Rattle.endpoint_bitmaps.specs.Links.{HasTakenLinks, ShowsLeft};
+ghost use Rattle.endpoint_bitmaps.specs.Fit.{AreRacks};
+ghost use Rattle.endpoint_bitmaps.specs.FreeSlots.{IsFreeBelow, HasNoneBetween, is_common, HasTaken};
 
+use crate::rack_links::RackLinks;
+use greedy_rules::Limits;
 use no_memory::NoMemory;
 use std::alloc::Global;
 use std::marker::Model;
@@ -10,19 +16,24 @@ use std::marker::Model;
 /// still send, and one of those in which it may still receive. Bit i of a map is the batch's slot i, counted from 0.
 #[derive(Debug, Drop)]
 pub struct FreeMaps {
+    limits: Limits,
     senders: Vec<u64>,
     receivers: Vec<u64>,
+    racks: Vec<u16>,
+    leaving: RackLinks,
+    entering: RackLinks,
 }
 
 impl Model for FreeMaps {
-    ghost use Rattle.std.specs.Prelude.{◌≡◌, vec_len};
+    ghost use Rattle.std.specs.Prelude.{vec_len};
+    ghost use Rattle.endpoint_bitmaps.specs.Fit.{Fit};
     ghost use Rattle.endpoint_bitmaps.specs.FreeSlots.{FreeSlots};
 
     ghost Value = { FreeSlots };
 
-    ghost view = { λ m. record { endpoints = vec_len m.senders; to_send = m.senders.items; to_receive = m.receivers.items } };
+    ghost view = { λ m. record { endpoints = vec_len m.senders; limits = m.limits; to_send = m.senders.items; to_receive = m.receivers.items; leaving = m.leaving.taken.items; entering = m.entering.taken.items } };
 
-    ghost invariant = { λ m. vec_len m.receivers ≡ vec_len m.senders };
+    ghost invariant = { λ m. Fit m.limits m.senders.items m.receivers.items m.racks.items m.leaving.taken.items m.leaving.left.items m.entering.taken.items m.entering.left.items };
 }
 
 impl FreeMaps {
@@ -32,29 +43,52 @@ impl FreeMaps {
         ensures none { IfOk result (IsFreeBelow 0) }
     {
         Ok(FreeMaps {
+            limits: Limits {
+                hosts: u16::MAX,
+                cores: 0,
+            },
             senders: vec![in alloc; 0; endpoints as usize]?,
             receivers: vec![in alloc; 0; endpoints as usize]?,
+            racks: vec![in alloc; 0; endpoints as usize]?,
+            leaving: RackLinks::open(alloc, endpoints)?,
+            entering: RackLinks::open(alloc, endpoints)?,
         })
     }
 
-    /// Makes every endpoint free in the first `b` slots, and in no other.
-    pub fn reset(&mut self, b: u8)
-        requires { b ≤ 64 }
+    /// Makes every endpoint free in the first `b` slots, and in no other, with no flow taken in any of them; `hosts`
+    /// endpoints are a rack, and `cores` packets of a slot may go from a rack to others, and as many come to it.
+    pub fn reset(&mut self, b: u8, limits: Limits)
+        requires b { b ≤ 64 }
+        requires limits { AreLimits limits }
         ensures endpoints { self.new.endpoints ≡ self.old.endpoints }
+        ensures limits { self.new.limits ≡ limits }
         ensures free { IsFreeBelow b self.new }
+        ensures none { HasNoneBetween self.new }
     {
+        renumber(&mut self.racks, self.limits.hosts, limits.hosts);
+        self.limits = limits;
+        self.leaving.clear(limits.cores);
+        self.entering.clear(limits.cores);
         let free = first_slots(b);
         self.senders.fill(free);
         self.receivers.fill(free);
     }
 
-    /// The slots in which the source may send and the destination may receive.
+    /// The slots in which the source may send and the destination may receive; where they are in different racks, only
+    /// those in which each of these has a packet left, of the limit that the last reset gave.
     pub fn common(&self, src: u16, dst: u16) -> u64
         requires src_in_range { src < self.now.endpoints }
         requires dst_in_range { dst < self.now.endpoints }
         ensures { (slot : ℕ) → has_slot result slot ≡ is_common self.now src dst slot }
     {
-        self.senders[src as usize] & self.receivers[dst as usize]
+        let free = self.senders[src as usize] & self.receivers[dst as usize];
+        let from = self.racks[src as usize];
+        let to = self.racks[dst as usize];
+        if from == to {
+            free
+        } else {
+            free & (self.leaving.left[from as usize] & self.entering.left[to as usize])
+        }
     }
 
     /// Takes the lowest `need` slots that the source and the destination have in common, or all where there are fewer, and
@@ -67,9 +101,75 @@ impl FreeMaps {
         ensures taken { HasTaken src dst (has_slot result) self.old self.new }
     {
         let taken = lowest(self.common(src, dst), need);
+        if taken == 0 {
+            return taken;
+        }
         self.senders[src as usize] &= !taken;
         self.receivers[dst as usize] &= !taken;
+        let from = self.racks[src as usize];
+        let to = self.racks[dst as usize];
+        take_links(
+            &mut self.leaving,
+            &mut self.entering,
+            from,
+            to,
+            taken,
+            self.limits.cores,
+        );
         taken
+    }
+}
+
+/// Takes the links of a flow from one rack to another; within a rack it has none.
+fn take_links(
+    leaving: &mut RackLinks,
+    entering: &mut RackLinks,
+    from: u16,
+    to: u16,
+    slots: u64,
+    cores: u16,
+)
+    requires cores { cores ≤ 64 }
+    requires from { from < vec_len leaving.old.left }
+    requires to { to < vec_len entering.old.left }
+    requires leaving { ShowsLeft cores leaving.old.taken.items leaving.old.left.items }
+    requires entering { ShowsLeft cores entering.old.taken.items entering.old.left.items }
+    requires leaving_left { (from == to) ≡ false → (slot : ℕ) → has_slot slots slot ≡ true → has_slot (slice_index_or leaving.old.left.items from 0) slot ≡ true }
+    requires entering_left { (from == to) ≡ false → (slot : ℕ) → has_slot slots slot ≡ true → has_slot (slice_index_or entering.old.left.items to 0) slot ≡ true }
+    ensures leaving_racks { vec_len leaving.new.left ≡ vec_len leaving.old.left }
+    ensures entering_racks { vec_len entering.new.left ≡ vec_len entering.old.left }
+    ensures leaving_shown { ShowsLeft cores leaving.new.taken.items leaving.new.left.items }
+    ensures entering_shown { ShowsLeft cores entering.new.taken.items entering.new.left.items }
+    ensures leaving { HasTakenLinks from (λ slot. not (from == to) && has_slot slots slot) leaving.old.taken.items leaving.new.taken.items }
+    ensures entering { HasTakenLinks to (λ slot. not (from == to) && has_slot slots slot) entering.old.taken.items entering.new.taken.items }
+{
+    if from != to {
+        leaving.take(from, slots, cores);
+        entering.take(to, slots, cores);
+    }
+}
+
+/// Numbers the racks of so many endpoints each, where there were `before` a rack.
+fn renumber(racks: &mut [u16], before: u16, hosts: u16)
+    requires some { 1 ≤ hosts }
+    requires few { length racks.old < 65536 }
+    requires before { AreRacks before racks.old }
+    ensures racks { AreRacks hosts racks.new }
+    ensures count { length racks.new ≡ length racks.old }
+{
+    if hosts != before {
+        number_racks(racks, hosts);
+    }
+}
+
+fn number_racks(racks: &mut [u16], hosts: u16)
+    requires some { 1 ≤ hosts }
+    requires few { length racks.old < 65536 }
+    ensures racks { AreRacks hosts racks.new }
+    ensures count { length racks.new ≡ length racks.old }
+{
+    for (endpoint, rack) in racks.iter_mut().enumerate() {
+        *rack = (endpoint / hosts as usize) as u16;
     }
 }
 

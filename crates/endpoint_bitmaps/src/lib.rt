@@ -2,6 +2,7 @@
 #![tactic(auto)]
 
 mod free_maps;
+mod rack_links;
 
 pub use free_maps::FreeMaps;
 pub use no_memory::NoMemory;

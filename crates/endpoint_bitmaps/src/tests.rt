@@ -1,10 +1,10 @@
 ghost use Rattle.std.specs.Prelude.{◌≡◌, ◌<◌};
+ghost use Rattle.greedy_rules.specs.Limits.{AreLimits};
 
 use crate::FreeMaps;
+use greedy_rules::Limits;
 use std::process::Abort;
 use std::test::Fail;
-
-mod random;
 
 // A call of `take_lowest` and the slots that it is to answer.
 #[derive(Clone, Copy)]
@@ -36,6 +36,15 @@ fn ask(src: u16, dst: u16, need: u32, slots: u64) -> Call {
     }
 }
 
+fn one_rack() -> Limits
+    ensures { AreLimits result }
+{
+    Limits {
+        hosts: 64,
+        cores: 1,
+    }
+}
+
 #[test]
 fn no_endpoint_is_free_before_the_first_reset(rt: HostRuntime) -> Result<(), Fail> {
     let maps = FreeMaps::open(rt.alloc(), 4)?;
@@ -57,7 +66,7 @@ fn a_reset_frees_the_slots_of_the_batch(rt: HostRuntime) -> Result<(), Fail> {
     ];
     for (b, slots) in batches {
         assert!(rt; b <= 64);
-        maps.reset(b);
+        maps.reset(b, one_rack());
         assert_eq!(rt; maps.common(0, 1), slots);
         assert_eq!(rt; maps.common(1, 0), slots);
     }
@@ -68,7 +77,7 @@ fn a_reset_frees_the_slots_of_the_batch(rt: HostRuntime) -> Result<(), Fail> {
 #[test]
 fn the_lowest_common_slots_are_taken(rt: HostRuntime) -> Result<(), Fail> {
     let mut maps = FreeMaps::open(rt.alloc(), 4)?;
-    maps.reset(6);
+    maps.reset(6, one_rack());
     check_asks(
         &rt,
         &mut maps,
@@ -84,7 +93,7 @@ fn the_lowest_common_slots_are_taken(rt: HostRuntime) -> Result<(), Fail> {
         ],
     );
     assert_eq!(rt; maps.common(3, 3), 0b00_0111);
-    maps.reset(6);
+    maps.reset(6, one_rack());
     assert_eq!(rt; maps.common(1, 0), 0b11_1111);
     Ok(())
 }
@@ -92,7 +101,7 @@ fn the_lowest_common_slots_are_taken(rt: HostRuntime) -> Result<(), Fail> {
 #[test]
 fn a_flow_takes_all_slots_of_a_full_batch(rt: HostRuntime) -> Result<(), Fail> {
     let mut maps = FreeMaps::open(rt.alloc(), 4)?;
-    maps.reset(64);
+    maps.reset(64, one_rack());
     check_asks(
         &rt,
         &mut maps,
@@ -102,6 +111,27 @@ fn a_flow_takes_all_slots_of_a_full_batch(rt: HostRuntime) -> Result<(), Fail> {
             ask(2, 3, u32::MAX, u64::MAX >> 1),
             ask(3, 2, u32::MAX, u64::MAX),
             ask(3, 0, 1, 0),
+        ],
+    );
+    Ok(())
+}
+
+// Racks of two endpoints and one core: a packet within a rack takes no link, and of two to or from one rack the second
+// waits for the next slot.
+#[test]
+fn a_rack_has_one_packet_a_slot_for_each_core(rt: HostRuntime) -> Result<(), Fail> {
+    let mut maps = FreeMaps::open(rt.alloc(), 4)?;
+    let limits = Limits { hosts: 2, cores: 1 };
+    maps.reset(3, limits);
+    check_asks(
+        &rt,
+        &mut maps,
+        &[
+            ask(0, 1, 1, 0b001),
+            ask(0, 2, 1, 0b010),
+            ask(1, 3, 3, 0b101),
+            ask(2, 1, 1, 0b010),
+            ask(3, 0, 3, 0b101),
         ],
     );
     Ok(())

@@ -6,7 +6,7 @@ use Rattle.std.proofs.lemmas.List.{get_or-set_same, get_or-set_other, length-set
 use Rattle.greedy_rules.specs.declared.flows.Flow.{Flow}
 use Rattle.greedy_rules.specs.Slot.{slot_with}
 use Rattle.greedy_rules.specs.Schedule.{slot_in}
-use Rattle.greedy_rules.proofs.SlotLemmas.{any-slot_with}
+use Rattle.greedy_rules.proofs.Facts.{any-slot_with}
 use Rattle.slot_batches.specs.FreePlaces.{HasAdded}
 
 pub added-none : (flow : Flow) (places : ℕ → Bool) (slots : List (List Flow)) → ((place : ℕ) → places place ≡ false) → HasAdded flow places slots slots

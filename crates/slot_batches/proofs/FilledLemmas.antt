@@ -4,11 +4,14 @@ use Rattle.std.specs.Prelude.{vec_capacity, vec_len}
 use Rattle.std.proofs.lemmas.List.{length-map}
 use Rattle.greedy_rules.specs.declared.flows.Flow.{Flow}
 use Rattle.greedy_rules.specs.declared.flows.Item.{Item}
-use Rattle.greedy_rules.proofs.RoomLemmas.{few}
+use Rattle.greedy_rules.proofs.Facts.{few}
+use Rattle.greedy_rules.specs.Slot.{Bar}
+use Rattle.greedy_rules.specs.Limits.{is_barred}
 use Rattle.slot_batches.specs.FlowByFlow.{items_after}
 use Rattle.slot_batches.specs.Feeding.{unserved, newly_served}
 use Rattle.slot_batches.specs.Progress.{StandsAfter}
-use Rattle.slot_batches.specs.Filled.{HasRoom, HasTakenUp}
+use Rattle.slot_batches.specs.Filled.{HasTakenUp}
+use Rattle.slot_batches.specs.Parts.{fill_of, HasRoom}
 use Rattle.slot_batches.specs.declared.filling.Filling.{Filling}
 use Rattle.slot_batches.proofs.TurnFacts.{length-items_after}
 use Rattle.std.proofs.lemmas.Bool.{cases_Bool, cond-true, cond-false}
@@ -33,24 +36,25 @@ parts_count number (item ∷ items) =
       )
     ]
 
-pub lengths_after : (number count : ℕ) (list : List Item) (slots : List (List Flow)) (waiting served : List Item) → StandsAfter number count list slots waiting served
-    → length waiting + length served ≡ length list
-lengths_after number count list slots waiting served stands =
-    let items : List Item = items_after number list (replicate count []) in
-    omega (
-      arith,
-      ap (λ (xs : List Item). length xs) stands.waiting_are,
-      ap (λ (xs : List Item). length xs) stands.served_are,
-      parts_count number items,
-      length-items_after number list (replicate count []),
-    )
+module _ (bar : Bar) where
+  pub lengths_after : (number count : ℕ) (list : List Item) (slots : List (List Flow)) (waiting served : List Item) → StandsAfter bar number count list slots waiting served
+      → length waiting + length served ≡ length list
+  lengths_after number count list slots waiting served stands =
+      let items : List Item = items_after bar number list (replicate count []) in
+      omega (
+        arith,
+        ap (λ (xs : List Item). length xs) stands.waiting_are,
+        ap (λ (xs : List Item). length xs) stands.served_are,
+        parts_count number items,
+        length-items_after bar number list (replicate count []),
+      )
 
 -- all that was taken up has room among what waits
-pub fits_waiting : (taken : List Item) (filling : Filling) → HasRoom filling → HasTakenUp taken filling → vec_len filling.waiting + vec_len filling.served ≤ vec_capacity filling.waiting
+pub fits_waiting : (taken : List Item) (filling : Filling) → HasRoom filling → HasTakenUp taken (fill_of filling) → vec_len filling.waiting + vec_len filling.served ≤ vec_capacity filling.waiting
 fits_waiting taken filling room is =
     omega (
       arith,
-      lengths_after filling.first_slot filling.b taken filling.slots.slots filling.waiting.items (map (λ s. s.item) filling.served.items) is.stands,
+      lengths_after (is_barred filling.maps.limits) filling.first_slot filling.b taken filling.slots.slots filling.waiting.items (map (λ s. s.item) filling.served.items) is.stands,
       few filling.endpoints taken is.may.once is.may.in_range,
       filling.waiting.ok.0,
       filling.served.ok.0,

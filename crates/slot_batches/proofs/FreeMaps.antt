@@ -1,43 +1,61 @@
--- Maps that show where endpoints are free: the places that a flow finds free in them, and what they show once an item took its places.
-use Rattle.std.proofs.Common.{◌≡◌, ◌<◌, ℕ, zero, suc, List, [], ◌∷◌, length, replicate, Bool, true, false, not, ◌==◌, ◌&&◌, ◌||◌, nat_lt, Some, None, refl, sym, ap, ◌∙◌, arith}
-use Rattle.std.specs.Prelude.{find, option_map}
-use Rattle.std.proofs.lemmas.Bool.{cond-false, or_parts}
+-- The maps of a batch: which places are common in them, and what they show once an item took its places.
+use Rattle.std.proofs.Common.{◌≡◌, ◌<◌, ◌≤◌, ◌+◌, ℕ, zero, suc, List, [], ◌∷◌, length, replicate, Bool, true, false, not, ◌==◌, ◌&&◌, ◌||◌, nat_lt, cond, Some, None, refl, sym, ap, ◌∙◌, arith, inl, inr}
+use Rattle.std.specs.Prelude.{find, option_map, count_by}
+use Rattle.std.proofs.lemmas.Bool.{cond-false, or_parts, cases_lt, le-ltb}
 use Rattle.std.proofs.lemmas.Bool.Decides.{nat_tests}
 use Rattle.std.proofs.lemmas.List.{length-replicate}
 use Rattle.greedy_rules.specs.declared.flows.Flow.{Flow}
 use Rattle.greedy_rules.specs.declared.flows.Item.{Item}
-use Rattle.greedy_rules.specs.Slot.{is_taken}
+use Rattle.greedy_rules.specs.declared.limits.Limits.{Limits}
+use Rattle.greedy_rules.specs.Slot.{is_taken, slot_with}
+use Rattle.greedy_rules.specs.Limits.{rack_of, is_outward, leaves, enters, leaving, entering, lacks_core, is_barred}
 use Rattle.greedy_rules.specs.Schedule.{slot_in}
 use Rattle.greedy_rules.specs.SlotTable.{destination_of}
-use Rattle.greedy_rules.proofs.WalkLemmas.{taken_by_end}
+use Rattle.greedy_rules.proofs.Facts.{count-slot_with, not_taken, taken_by_end}
 use Rattle.endpoint_bitmaps.specs.Slots.{is_among_lowest}
+use Rattle.endpoint_bitmaps.specs.FreeSlots.{FreeSlots, may_receive, leaving_in, entering_in, rack_in, is_common, HasTaken, IsFreeBelow, HasNoneBetween}
 use Rattle.slot_batches.specs.FreePlaces.{has_source, has_destination, is_free, is_chosen, HasAdded, ShowsFree}
-use Rattle.slot_batches.proofs.Lowest.{is_among_lowest-same}
+use Rattle.endpoint_bitmaps.proofs.Facts.{is_among_lowest-same}
 use Rattle.slot_batches.proofs.Added.{any-added}
-use Rattle.slot_batches.proofs.FreePlaces.{chosen_not_taken}
+use Rattle.slot_batches.proofs.FreePlaces.{chosen_not_barred}
 
-abbrev Map : Type 0
-Map = ℕ → ℕ → Bool
+-- a slot is free for a flow where it has neither its source nor its destination, and the racks of these have a core left
+free_by_end : (within taken sends receives between up down : Bool) → taken ≡ (sends || receives)
+    → (((within && not sends) && (within && not receives)) && (not between || (up && down))) ≡ (within && not (taken || (between && (not up || not down))))
+free_by_end within taken sends receives between up down is = grind (arith, nat_tests)
 
--- a slot is free for a flow where it has neither its source nor its destination
-free_by_end : (within taken sends receives : Bool) → taken ≡ (sends || receives) → ((within && not sends) && (within && not receives)) ≡ (within && not taken)
-free_by_end within taken sends receives is = grind (arith, nat_tests)
+none_free : (within taken rest : Bool) (a b c : Bool) → within ≡ false → (((within && a) && b) && c) ≡ (within && not (taken || rest))
+none_free within taken rest a b c is = grind (arith, nat_tests)
 
-pub common_is_free : (endpoints : ℕ) (may_send may_receive : Map) (slots : List (List Flow)) (flow : Flow) (place : ℕ) → ShowsFree endpoints may_send may_receive slots
-    → flow.src < endpoints → flow.dst < endpoints → (may_send flow.src place && may_receive flow.dst place) ≡ is_free flow slots place
-common_is_free endpoints may_send may_receive slots flow place shows src dst =
-    ap (λ (b : Bool). b && may_receive flow.dst place) (shows.senders flow.src place src)
-    ∙ (ap (λ (b : Bool). (nat_lt place (length slots) && not (has_source flow.src (slot_in slots place))) && b) (shows.receivers flow.dst place dst)
-    ∙ free_by_end (nat_lt place (length slots)) (is_taken (slot_in slots place) flow) (has_source flow.src (slot_in slots place)) (has_destination flow.dst (slot_in slots place))
-    (taken_by_end (slot_in slots place) flow))
+pub common_is_free : (endpoints : ℕ) (maps : FreeSlots) (slots : List (List Flow)) (flow : Flow) (place : ℕ) → ShowsFree endpoints maps slots
+    → flow.src < endpoints → flow.dst < endpoints → is_common maps flow.src flow.dst place ≡ is_free (is_barred maps.limits) flow slots place
+common_is_free endpoints maps slots flow place shows src dst =
+    let slot : List Flow = slot_in slots place in
+    let within : Bool = nat_lt place (length slots) in
+    let cores : ℕ = maps.limits.cores in
+    let up : Bool = nat_lt (leaving_in maps (rack_in maps flow.src) place) cores in
+    let down : Bool = nat_lt (entering_in maps (rack_in maps flow.dst) place) cores in
+    let between : Bool = is_outward maps.limits.hosts flow in
+    ap (λ (b : Bool). (b && may_receive maps flow.dst place) && (not between || (up && down))) (shows.senders flow.src place src)
+    ∙ (ap (λ (b : Bool). ((within && not (has_source flow.src slot)) && b) && (not between || (up && down))) (shows.receivers flow.dst place dst)
+    ∙ elim (cases_lt place (length slots)) [
+      | inl inside ↦
+          free_by_end within (is_taken slot flow) (has_source flow.src slot) (has_destination flow.dst slot) between up down (taken_by_end slot flow)
+          ∙ (ap (λ (n : ℕ). within && not (is_taken slot flow || (between && (not (nat_lt n cores) || not down)))) (shows.leaving_is (rack_in maps flow.src) place inside)
+          ∙ ap (λ (n : ℕ). within && not (is_taken slot flow || (between && (not (nat_lt (leaving maps.limits.hosts (rack_in maps flow.src) slot) cores) || not (nat_lt n cores)))))
+          (shows.entering_is (rack_in maps flow.dst) place inside))
+      | inr past ↦
+          none_free within (is_taken slot flow) (between && lacks_core maps.limits slot flow) (not (has_source flow.src slot)) (within && not (has_destination flow.dst slot))
+          (not between || (up && down)) (le-ltb place (length slots) past)
+    ])
 
 -- so the lowest common places are those that the item takes
-pub lowest_common_is_chosen : (endpoints : ℕ) (may_send may_receive : Map) (slots : List (List Flow)) (item : Item) (place : ℕ) → ShowsFree endpoints may_send may_receive slots
+pub lowest_common_is_chosen : (endpoints : ℕ) (maps : FreeSlots) (slots : List (List Flow)) (item : Item) (place : ℕ) → ShowsFree endpoints maps slots
     → item.flow.src < endpoints → item.flow.dst < endpoints
-    → is_among_lowest (λ p. may_send item.flow.src p && may_receive item.flow.dst p) item.need place ≡ is_chosen item slots place
-lowest_common_is_chosen endpoints may_send may_receive slots item place shows src dst =
-    is_among_lowest-same (λ p. may_send item.flow.src p && may_receive item.flow.dst p) (is_free item.flow slots) item.need place
-    (λ below. common_is_free endpoints may_send may_receive slots item.flow below shows src dst)
+    → is_among_lowest (is_common maps item.flow.src item.flow.dst) item.need place ≡ is_chosen (is_barred maps.limits) item slots place
+lowest_common_is_chosen endpoints maps slots item place shows src dst =
+    is_among_lowest-same (is_common maps item.flow.src item.flow.dst) (is_free (is_barred maps.limits) item.flow slots) item.need place
+    (λ below. common_is_free endpoints maps slots item.flow below shows src dst)
 
 empty_slot : (b place : ℕ) → slot_in (replicate b []) place ≡ []
 empty_slot zero place = refl
@@ -48,18 +66,19 @@ empty_shown : (place b : ℕ) (has : Bool) → has ≡ false → nat_lt place b 
 empty_shown place b has none = grind (arith, nat_tests)
 
 -- maps in which all endpoints are free in each slot of a batch
-pub shows_empty : (endpoints b : ℕ) (may_send may_receive : Map) → ((src place : ℕ) → src < endpoints → may_send src place ≡ nat_lt place b)
-    → ((dst place : ℕ) → dst < endpoints → may_receive dst place ≡ nat_lt place b) → ShowsFree endpoints may_send may_receive (replicate b [])
-shows_empty endpoints b may_send may_receive sends receives =
+pub shows_empty : (endpoints b : ℕ) (maps : FreeSlots) → maps.endpoints ≡ endpoints → IsFreeBelow b maps → HasNoneBetween maps → ShowsFree endpoints maps (replicate b [])
+shows_empty endpoints b maps count free none =
     let no_slot : List Flow = [] in
-    let count : length (replicate b no_slot) ≡ b = length-replicate b no_slot in
+    let long : length (replicate b no_slot) ≡ b = length-replicate b no_slot in
     record {
       senders = λ src place below.
-          sends src place below ∙ (empty_shown place b (has_source src (slot_in (replicate b []) place)) (ap (has_source src) (empty_slot b place))
-          ∙ ap (λ (n : ℕ). nat_lt place n && not (has_source src (slot_in (replicate b []) place))) (sym count));
+          free.senders src place (omega (arith, count, below)) ∙ (empty_shown place b (has_source src (slot_in (replicate b []) place)) (ap (has_source src) (empty_slot b place))
+          ∙ ap (λ (n : ℕ). nat_lt place n && not (has_source src (slot_in (replicate b []) place))) (sym long));
       receivers = λ dst place below.
-          receives dst place below ∙ (empty_shown place b (has_destination dst (slot_in (replicate b []) place)) (ap (has_destination dst) (empty_slot b place))
-          ∙ ap (λ (n : ℕ). nat_lt place n && not (has_destination dst (slot_in (replicate b []) place))) (sym count));
+          free.receivers dst place (omega (arith, count, below)) ∙ (empty_shown place b (has_destination dst (slot_in (replicate b []) place)) (ap (has_destination dst) (empty_slot b place))
+          ∙ ap (λ (n : ℕ). nat_lt place n && not (has_destination dst (slot_in (replicate b []) place))) (sym long));
+      leaving_is = λ rack place below. none.leaving rack place ∙ sym (ap (leaving maps.limits.hosts rack) (empty_slot b place));
+      entering_is = λ rack place below. none.entering rack place ∙ sym (ap (entering maps.limits.hosts rack) (empty_slot b place));
     }
 
 -- an endpoint that had none of these places keeps its map, and the one that has them loses them
@@ -67,22 +86,47 @@ one_end : (place count new_count own other : ℕ) (here before then : Bool) → 
     → ((nat_lt place count && not before) && not ((other == own) && here)) ≡ (nat_lt place new_count && not then)
 one_end place count new_count own other here before then same is = grind (arith, nat_tests)
 
+-- a rack that the flow leaves, or comes into, has one flow more there
+one_rack : (n rack own : ℕ) (between here : Bool) → n + cond ((rack == own) && (between && here)) 1 0 ≡ cond (here && (between && (own == rack))) 1 0 + n
+one_rack n rack own between here = grind (arith, nat_tests)
+
+count-then : (p : Flow → Bool) (flow : Flow) (here : Bool) (slot : List Flow) → count_by p (cond here (slot_with flow slot) slot) ≡ cond (here && p flow) 1 0 + count_by p slot
+count-then p flow true slot = count-slot_with p flow slot
+count-then p flow false slot = omega arith
+
+count-added : (p : Flow → Bool) (flow : Flow) (places : ℕ → Bool) (old new : List (List Flow)) (place : ℕ) → HasAdded flow places old new → place < length old
+    → count_by p (slot_in new place) ≡ cond (places place && p flow) 1 0 + count_by p (slot_in old place)
+count-added p flow places old new place added within = ap (count_by p) (added.each place within) ∙ count-then p flow (places place) (slot_in old place)
+
 -- maps from which a flow's places were taken show the slots that have the flow there
-pub shows_added : (endpoints : ℕ) (old_send old_receive new_send new_receive : Map) (flow : Flow) (places : ℕ → Bool) (old new : List (List Flow))
-    → ShowsFree endpoints old_send old_receive old → HasAdded flow places old new
-    → ((src place : ℕ) → new_send src place ≡ (old_send src place && not ((src == flow.src) && places place)))
-    → ((dst place : ℕ) → new_receive dst place ≡ (old_receive dst place && not ((dst == flow.dst) && places place)))
-    → ShowsFree endpoints new_send new_receive new
-shows_added endpoints old_send old_receive new_send new_receive flow places old new shows added sends receives = record {
-  senders = λ src place below.
-      sends src place ∙ (ap (λ (b : Bool). b && not ((src == flow.src) && places place)) (shows.senders src place below)
-      ∙ one_end place (length old) (length new) flow.src src (places place) (has_source src (slot_in old place)) (has_source src (slot_in new place)) added.count
-      (any-added (λ f. f.src == src) flow places old new place added));
-  receivers = λ dst place below.
-      receives dst place ∙ (ap (λ (b : Bool). b && not ((dst == flow.dst) && places place)) (shows.receivers dst place below)
-      ∙ one_end place (length old) (length new) flow.dst dst (places place) (has_destination dst (slot_in old place)) (has_destination dst (slot_in new place)) added.count
-      (any-added (λ f. f.dst == dst) flow places old new place added));
-}
+pub shows_added : (endpoints : ℕ) (before after : FreeSlots) (flow : Flow) (places : ℕ → Bool) (old new : List (List Flow)) → length old ≤ 64
+    → ShowsFree endpoints before old → HasAdded flow places old new → HasTaken flow.src flow.dst places before after → ShowsFree endpoints after new
+shows_added endpoints before after flow places old new few shows added took =
+    let hosts : ℕ = before.limits.hosts in
+    let same_hosts : after.limits.hosts ≡ hosts = ap (λ (l : Limits). l.hosts) took.limits in
+    let between : Bool = is_outward hosts flow in
+    record {
+      senders = λ src place below.
+          took.senders src place ∙ (ap (λ (b : Bool). b && not ((src == flow.src) && places place)) (shows.senders src place below)
+          ∙ one_end place (length old) (length new) flow.src src (places place) (has_source src (slot_in old place)) (has_source src (slot_in new place)) added.count
+          (any-added (λ f. f.src == src) flow places old new place added));
+      receivers = λ dst place below.
+          took.receivers dst place ∙ (ap (λ (b : Bool). b && not ((dst == flow.dst) && places place)) (shows.receivers dst place below)
+          ∙ one_end place (length old) (length new) flow.dst dst (places place) (has_destination dst (slot_in old place)) (has_destination dst (slot_in new place)) added.count
+          (any-added (λ f. f.dst == dst) flow places old new place added));
+      leaving_is = λ rack place below.
+          let within : place < length old = omega (arith, below, added.count) in
+          took.leaving rack place (omega (arith, within, few))
+          ∙ (ap (λ (n : ℕ). n + cond ((rack == rack_of hosts flow.src) && (between && places place)) 1 0) (shows.leaving_is rack place within)
+          ∙ (one_rack (leaving hosts rack (slot_in old place)) rack (rack_of hosts flow.src) between (places place)
+          ∙ (sym (count-added (leaves hosts rack) flow places old new place added within) ∙ ap (λ (n : ℕ). leaving n rack (slot_in new place)) (sym same_hosts))));
+      entering_is = λ rack place below.
+          let within : place < length old = omega (arith, below, added.count) in
+          took.entering rack place (omega (arith, within, few))
+          ∙ (ap (λ (n : ℕ). n + cond ((rack == rack_of hosts flow.dst) && (between && places place)) 1 0) (shows.entering_is rack place within)
+          ∙ (one_rack (entering hosts rack (slot_in old place)) rack (rack_of hosts flow.dst) between (places place)
+          ∙ (sym (count-added (enters hosts rack) flow places old new place added within) ∙ ap (λ (n : ℕ). entering n rack (slot_in new place)) (sym same_hosts))));
+    }
 
 -- a source that does not send has no destination
 pub no_destination : (slot : List Flow) (src : ℕ) → has_source src slot ≡ false → destination_of slot src ≡ None
@@ -95,8 +139,10 @@ no_destination slot src none = ap (option_map (λ (flow : Flow). flow.dst)) (non
         cond-false (flow.src == src) (Some flow) (find (λ f. f.src == src) slot) parts.0 ∙ none_found slot parts.1
 
 -- so a flow may be put into a slot that its item takes
-pub chosen_no_destination : (item : Item) (slots : List (List Flow)) (place : ℕ) → is_chosen item slots place ≡ true → destination_of (slot_in slots place) item.flow.src ≡ None
-chosen_no_destination item slots place chosen =
+pub chosen_no_destination : (limits : Limits) (item : Item) (slots : List (List Flow)) (place : ℕ) → is_chosen (is_barred limits) item slots place ≡ true
+    → destination_of (slot_in slots place) item.flow.src ≡ None
+chosen_no_destination limits item slots place chosen =
     let slot : List Flow = slot_in slots place in
-    let parts = or_parts (has_source item.flow.src slot) (has_destination item.flow.dst slot) (sym (taken_by_end slot item.flow) ∙ chosen_not_taken item slots place chosen) in
+    let free : is_taken slot item.flow ≡ false = not_taken limits slot item.flow (chosen_not_barred (is_barred limits) item slots place chosen) in
+    let parts = or_parts (has_source item.flow.src slot) (has_destination item.flow.dst slot) (sym (taken_by_end slot item.flow) ∙ free) in
     no_destination slot item.flow.src parts.0

@@ -1,5 +1,4 @@
 pub mod SlotExchange
-pub mod Lowest
 pub mod FreePlaces
 pub mod Added
 pub mod FreeMaps
@@ -21,3 +20,7 @@ pub mod FinishLemmas
 pub mod PieceLemmas
 pub mod FedLemmas
 pub mod ReadLemmas
+pub mod StandsLemmas
+pub mod MarkLemmas
+pub mod IdleLemmas
+pub mod RestLemmas

@@ -6,13 +6,13 @@ use Rattle.std.proofs.lemmas.List.Elements.{All-append, All-map, All-weaker}
 use Rattle.greedy_rules.specs.declared.flows.Flow.{Flow}
 use Rattle.greedy_rules.specs.declared.flows.Item.{Item}
 use Rattle.greedy_rules.specs.declared.flows.Entry.{Entry}
-use Rattle.greedy_rules.specs.Slot.{Bar, is_taken, has_flow, greedy_slot}
+use Rattle.greedy_rules.specs.Slot.{Bar, has_flow, greedy_slot}
 use Rattle.greedy_rules.specs.Demands.{with_batch, opened, after_batch}
 use Rattle.greedy_rules.specs.Allocation.{served, after_slot, list_through, list_after_slots}
-use Rattle.greedy_rules.proofs.OnceLemmas.{All-sort_by, once-after_batch}
-use Rattle.greedy_rules.proofs.NeedLemmas.{once-after_slots}
+use Rattle.list_facts.proofs.StableSort.{All-sort_by, length-sort_by}
+use Rattle.greedy_rules.proofs.Facts.{once-after_batch, once-after_slots}
 use Rattle.slot_batches.specs.NextList.{EveryBatchLeavesAList, EveryBatchKeepsItsFlows}
-use Rattle.slot_batches.proofs.ListOrder.{in_order-sort_by, length-sort_by}
+use Rattle.slot_batches.proofs.ListOrder.{in_order-sort_by}
 
 abbrev LastBelow : ℕ → Item → Type 0
 LastBelow n item = item.last < n
@@ -61,13 +61,13 @@ length-after_batch batch list =
     omega (arith, length-sort_by last_of (map (with_batch batch) list ++ opened batch), length-append (map (with_batch batch) list) (opened batch), length-map list (with_batch batch))
 
 pub every_batch_leaves_a_list : EveryBatchLeavesAList
-every_batch_leaves_a_list number count batch list positive rising opens before =
+every_batch_leaves_a_list bar number count batch list positive rising opens before =
     let applied : List Item = after_batch batch list in
     record {
-      in_order = in_order-sort_by last_of (list_through is_taken number count applied);
-      below = lasts-after_slots is_taken number count applied (lasts-after_batch number batch list positive before.below);
-      once = once-after_slots number count applied (once-after_batch batch list rising opens before.once);
+      in_order = in_order-sort_by last_of (list_through bar number count applied);
+      below = lasts-after_slots bar number count applied (lasts-after_batch number batch list positive before.below);
+      once = once-after_slots bar number count applied (once-after_batch batch list rising opens before.once);
     }
 
 pub every_batch_keeps_its_flows : EveryBatchKeepsItsFlows
-every_batch_keeps_its_flows number count batch list = length-after_slots is_taken number count (after_batch batch list) ∙ length-after_batch batch list
+every_batch_keeps_its_flows bar number count batch list = length-after_slots bar number count (after_batch batch list) ∙ length-after_batch batch list

@@ -4,9 +4,9 @@ use Rattle.std.proofs.lemmas.Bool.{cond-true, cond-false, cond_both, cases_Bool,
 use Rattle.std.proofs.lemmas.List.{append-nil, append_assoc, map_push, map-append}
 use Rattle.greedy_rules.specs.declared.flows.Item.{Item}
 use Rattle.greedy_rules.specs.declared.flows.Entry.{Entry}
-use Rattle.greedy_rules.specs.Order.{insert_by}
+use Rattle.list_facts.specs.Order.{insert_by}
 use Rattle.greedy_rules.specs.Demands.{with_batch, opened, after_batch}
-use Rattle.greedy_rules.proofs.StableSort.{Floor, Rises, rises_from}
+use Rattle.list_facts.proofs.StableSort.{Floor, Rises, rises_from}
 use Rattle.slot_batches.specs.Feeding.{was_served, has_served, taken_up, IsInOrder}
 use Rattle.slot_batches.proofs.ListOrder.{Ceiling, insert_by-front, insert_by-past, sort_by-rises, in_order-sort_by}
 

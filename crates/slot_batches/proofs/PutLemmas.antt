@@ -8,7 +8,7 @@ use Rattle.greedy_rules.specs.Slot.{slot_with}
 use Rattle.greedy_rules.specs.Schedule.{slot_in}
 use Rattle.greedy_rules.specs.SlotTable.{destination_of}
 use Rattle.endpoint_bitmaps.specs.Slots.{has_slot}
-use Rattle.endpoint_bitmaps.proofs.WordLemmas.{has_slot-without_lowest, has_slot-none, and_true}
+use Rattle.endpoint_bitmaps.proofs.Facts.{has_slot-none, and_true, lowest_is, without_lowest}
 use Rattle.slot_batches.specs.FreePlaces.{HasAdded}
 use Rattle.slot_batches.specs.Filled.{IsGreatest}
 use Rattle.slot_batches.proofs.Added.{added-none, added-one, added-same, added-not_yet}
@@ -30,29 +30,20 @@ putting_starts flow places slots = record {
   above = λ place later is after. refl;
 }
 
--- the lowest place of a word
-pub lowest_is : (rest : ℕ) → rest < 2 ^ 64 → rest ≢ 0 → has_slot rest (trailing_zeros w64 rest) ≡ true
-lowest_is rest fits some = ap (λ (n : ℕ). n == 1) (bit_at-trailing_zeros w64 rest (omega (arith, some)) fits).1
-
-without : (rest place : ℕ) → rest < 2 ^ 64 → rest ≢ 0 → has_slot (bit_and rest (rest - 1)) place ≡ (has_slot rest place && not (place == trailing_zeros w64 rest))
-without rest place fits some =
-    let at = bit_at-trailing_zeros w64 rest (omega (arith, some)) fits in
-    has_slot-without_lowest rest (trailing_zeros w64 rest) place at.1 at.2
-
 without_other : (rest place : ℕ) → rest < 2 ^ 64 → rest ≢ 0 → place ≢ trailing_zeros w64 rest → has_slot (bit_and rest (rest - 1)) place ≡ has_slot rest place
 without_other rest place fits some other =
-    without rest place fits some ∙ (ap (λ (b : Bool). has_slot rest place && not b) (ne_eqb place (trailing_zeros w64 rest) other) ∙ and_true (has_slot rest place))
+    without_lowest rest place fits some ∙ (ap (λ (b : Bool). has_slot rest place && not b) (ne_eqb place (trailing_zeros w64 rest) other) ∙ and_true (has_slot rest place))
 
 without_itself : (rest : ℕ) → rest < 2 ^ 64 → rest ≢ 0 → has_slot (bit_and rest (rest - 1)) (trailing_zeros w64 rest) ≡ false
 without_itself rest fits some =
     let lowest : ℕ = trailing_zeros w64 rest in
-    without rest lowest fits some ∙ and_right (has_slot rest lowest) _ (ap not (eq-eqb lowest lowest refl))
+    without_lowest rest lowest fits some ∙ and_right (has_slot rest lowest) _ (ap not (eq-eqb lowest lowest refl))
 
 pub above_lowest : (rest place : ℕ) → rest < 2 ^ 64 → rest ≢ 0 → has_slot (bit_and rest (rest - 1)) place ≡ true → (has_slot rest place ≡ true) × (trailing_zeros w64 rest < place)
 above_lowest rest place fits some is =
     let lowest : ℕ = trailing_zeros w64 rest in
     let at = bit_at-trailing_zeros w64 rest (omega (arith, some)) fits in
-    let parts = and_parts (has_slot rest place) (not (place == lowest)) (sym (without rest place fits some) ∙ is) in
+    let parts = and_parts (has_slot rest place) (not (place == lowest)) (sym (without_lowest rest place fits some) ∙ is) in
     let other : place ≢ lowest = λ same. both_ways (place == lowest) (not-true (place == lowest) parts.1) (eq-eqb place lowest same) in (
       parts.0,
       elim (cases_lt place lowest) [

@@ -8,10 +8,10 @@ use Rattle.std.proofs.lemmas.List.Sums.{sum_by-cons, sum_by-le}
 use Rattle.std.proofs.lemmas.List.Elements.{All-head, All-tail, All-weaker}
 use Rattle.greedy_rules.specs.declared.flows.Flow.{Flow}
 use Rattle.greedy_rules.specs.declared.flows.Item.{Item}
-use Rattle.greedy_rules.specs.Slot.{is_taken, slot_with, offered}
+use Rattle.greedy_rules.specs.Slot.{Bar, slot_with, offered}
 use Rattle.greedy_rules.specs.SlotTable.{IsSlotOf}
 use Rattle.greedy_rules.specs.Walk.{turn}
-use Rattle.greedy_rules.proofs.Pairs.{AllPairs-head, AllPairs-tail}
+use Rattle.list_facts.proofs.Pairs.{AllPairs-head, AllPairs-tail}
 use Rattle.slot_batches.specs.FlowByFlow.{slots_with, item_after, slots_after, items_after}
 use Rattle.slot_batches.specs.Room.{is_served_from, ServedFitPlaces}
 use Rattle.slot_batches.proofs.FreePlaces.{fits, once_served, takes_lowest_free}
@@ -42,74 +42,79 @@ length-slot_with flow (next ∷ slot) =
     cond_both (nat_lt next.src flow.src) (next ∷ slot_with flow slot) (flow ∷ (next ∷ slot)) (λ s. length s ≡ length (next ∷ slot) + 1)
     (λ _. omega (arith, length-slot_with flow slot)) (λ _. omega arith)
 
-some_need : (item : Item) (slot : List Flow) → fits item slot ≡ true → 0 < item.need
-some_need item slot hit = grind (arith, nat_tests)
+module _ (bar : Bar) where
+  some_need : (item : Item) (slot : List Flow) → fits bar item slot ≡ true → 0 < item.need
+  some_need item slot hit = grind (arith, nat_tests)
 
--- a turn moves one of the need into the slot, or nothing
-turn_balance : (number : ℕ) (slot : List Flow) (item : Item) → length (offered is_taken slot item) + (turn number slot item).need ≡ length slot + item.need
-turn_balance number slot item = elim (cases_Bool (fits item slot)) [
-  | inl hit ↦
-      ap (λ (s : List Flow). length s + (turn number slot item).need) (cond-true (fits item slot) (slot_with item.flow slot) slot hit)
-      ∙ (ap (λ (x : Item). length (slot_with item.flow slot) + x.need) (cond-true (fits item slot) (once_served number item) item hit)
-      ∙ omega (arith, some_need item slot hit, length-slot_with item.flow slot))
-  | inr passed ↦
-      ap (λ (s : List Flow). length s + (turn number slot item).need) (cond-false (fits item slot) (slot_with item.flow slot) slot passed)
-      ∙ ap (λ (x : Item). length slot + x.need) (cond-false (fits item slot) (once_served number item) item passed)
-]
+  -- a turn moves one of the need into the slot, or nothing
+  turn_balance : (number : ℕ) (slot : List Flow) (item : Item) → length (offered bar slot item) + (turn bar number slot item).need ≡ length slot + item.need
+  turn_balance number slot item = elim (cases_Bool (fits bar item slot)) [
+    | inl hit ↦
+        ap (λ (s : List Flow). length s + (turn bar number slot item).need) (cond-true (fits bar item slot) (slot_with item.flow slot) slot hit)
+        ∙ (ap (λ (x : Item). length (slot_with item.flow slot) + x.need) (cond-true (fits bar item slot) (once_served bar number item) item hit)
+        ∙ omega (arith, some_need item slot hit, length-slot_with item.flow slot))
+    | inr passed ↦
+        ap (λ (s : List Flow). length s + (turn bar number slot item).need) (cond-false (fits bar item slot) (slot_with item.flow slot) slot passed)
+        ∙ ap (λ (x : Item). length slot + x.need) (cond-false (fits bar item slot) (once_served bar number item) item passed)
+  ]
 
-balance : (number : ℕ) (item : Item) (slots : List (List Flow)) → flows_in (slots_with number item slots) + (item_after number item slots).need ≡ flows_in slots + item.need
-balance number item [] = refl
-balance number item (slot ∷ slots) =
-    let after : Item = turn number slot item in
-    let count : List Flow → ℕ = λ s. length s in
-    omega (arith, balance (number + 1) after slots, turn_balance number slot item, sum_by-cons count (offered is_taken slot item) (slots_with (number + 1) after slots), sum_by-cons count slot slots)
+  balance : (number : ℕ) (item : Item) (slots : List (List Flow)) → flows_in (slots_with bar number item slots) + (item_after bar number item slots).need ≡ flows_in slots + item.need
+  balance number item [] = refl
+  balance number item (slot ∷ slots) =
+      let after : Item = turn bar number slot item in
+      let count : List Flow → ℕ = λ s. length s in
+      omega (arith, balance (number + 1) after slots, turn_balance number slot item, sum_by-cons count (offered bar slot item) (slots_with bar (number + 1) after slots), sum_by-cons count slot slots)
 
--- an item that was served needs less
-served_less : (first number : ℕ) (item : Item) (slots : List (List Flow)) → item.last < first → first ≤ number
-    → (item_after number item slots).need + cond (is_served_from first (item_after number item slots)) 1 0 ≤ item.need
-served_less first number item [] before from = grind (arith, nat_tests)
-served_less first number item (slot ∷ slots) before from = elim (cases_Bool (fits item slot)) [
-  | inl hit ↦
-      let is : turn number slot item ≡ once_served number item = cond-true (fits item slot) _ item hit in
-      let less : (turn number slot item).need ≡ item.need - 1 = ap (λ (x : Item). x.need) is in
-      let rest = (takes_lowest_free (number + 1) (turn number slot item) slots).need (length slots) (omega arith) in
-      at_most_one (item_after (number + 1) (turn number slot item) slots).need (is_served_from first (item_after (number + 1) (turn number slot item) slots)) item.need
-      (omega (arith, some_need item slot hit, less, rest))
-  | inr passed ↦
-      let is : item ≡ turn number slot item = sym (cond-false (fits item slot) (once_served number item) item passed) in
-      let P : Item → Type 0 = λ x. (item_after (number + 1) x slots).need + cond (is_served_from first (item_after (number + 1) x slots)) 1 0 ≤ item.need in
-      subst P is (served_less first (number + 1) item slots before (omega arith))
-]
-  where
-    at_most_one : (left : ℕ) (served : Bool) (need : ℕ) → left < need → left + cond served 1 0 ≤ need
-    at_most_one left served need less = grind arith
+  -- an item that was served needs less
+  served_less : (first number : ℕ) (item : Item) (slots : List (List Flow)) → item.last < first → first ≤ number
+      → (item_after bar number item slots).need + cond (is_served_from first (item_after bar number item slots)) 1 0 ≤ item.need
+  served_less first number item [] before from = grind (arith, nat_tests)
+  served_less first number item (slot ∷ slots) before from = elim (cases_Bool (fits bar item slot)) [
+    | inl hit ↦
+        let is : turn bar number slot item ≡ once_served bar number item = cond-true (fits bar item slot) _ item hit in
+        let less : (turn bar number slot item).need ≡ item.need - 1 = ap (λ (x : Item). x.need) is in
+        let rest = (takes_lowest_free bar (number + 1) (turn bar number slot item) slots).need (length slots) (omega arith) in
+        at_most_one (item_after bar (number + 1) (turn bar number slot item) slots).need (is_served_from first (item_after bar (number + 1) (turn bar number slot item) slots)) item.need
+        (omega (arith, some_need item slot hit, less, rest))
+    | inr passed ↦
+        let is : item ≡ turn bar number slot item = sym (cond-false (fits bar item slot) (once_served bar number item) item passed) in
+        let P : Item → Type 0 = λ x. (item_after bar (number + 1) x slots).need + cond (is_served_from first (item_after bar (number + 1) x slots)) 1 0 ≤ item.need in
+        subst P is (served_less first (number + 1) item slots before (omega arith))
+  ]
+    where
+      at_most_one : (left : ℕ) (served : Bool) (need : ℕ) → left < need → left + cond served 1 0 ≤ need
+      at_most_one left served need less = grind arith
 
--- so the slots have at least as many flows as items were served
-served_in_slots : (number : ℕ) (list : List Item) (slots : List (List Flow)) → All (λ item. item.last < number) list
-    → count_by (is_served_from number) (items_after number list slots) + flows_in slots ≤ flows_in (slots_after number list slots)
-served_in_slots number [] slots before = omega arith
-served_in_slots number (item ∷ list) slots before =
-    let then : Item = item_after number item slots in
-    let later : List (List Flow) = slots_with number item slots in
-    omega (
-      arith,
-      served_in_slots number list later (All-tail (λ x. x.last < number) item list before),
-      served_less number number item slots (All-head (λ x. x.last < number) item list before) (omega arith),
-      balance number item slots,
-      sum_by-cons (λ x. cond (is_served_from number x) 1 0) then (items_after number list later),
-    )
+  -- so the slots have at least as many flows as items were served
+  served_in_slots : (number : ℕ) (list : List Item) (slots : List (List Flow)) → All (λ item. item.last < number) list
+      → count_by (is_served_from number) (items_after bar number list slots) + flows_in slots ≤ flows_in (slots_after bar number list slots)
+  served_in_slots number [] slots before = omega arith
+  served_in_slots number (item ∷ list) slots before =
+      let then : Item = item_after bar number item slots in
+      let later : List (List Flow) = slots_with bar number item slots in
+      omega (
+        arith,
+        served_in_slots number list later (All-tail (λ x. x.last < number) item list before),
+        served_less number number item slots (All-head (λ x. x.last < number) item list before) (omega arith),
+        balance number item slots,
+        sum_by-cons (λ x. cond (is_served_from number x) 1 0) then (items_after bar number list later),
+      )
 
-length-slots_after : (number : ℕ) (list : List Item) (slots : List (List Flow)) → length (slots_after number list slots) ≡ length slots
-length-slots_after number [] slots = refl
-length-slots_after number (item ∷ list) slots =
-    length-slots_after number list (slots_with number item slots) ∙ (takes_lowest_free number item slots).slots_then.count
+  length-slots_after : (number : ℕ) (list : List Item) (slots : List (List Flow)) → length (slots_after bar number list slots) ≡ length slots
+  length-slots_after number [] slots = refl
+  length-slots_after number (item ∷ list) slots =
+      length-slots_after number list (slots_with bar number item slots) ∙ (takes_lowest_free bar number item slots).slots_then.count
 
-pub served_fit : ServedFitPlaces
-served_fit endpoints number b list before each =
-    let empty : List (List Flow) = replicate b [] in
-    let slots : List (List Flow) = slots_after number list empty in
-    let total : flows_in slots ≤ length slots * endpoints =
-    sum_by-le (λ (slot : List Flow). length slot) endpoints slots (All-weaker (IsSlotOf endpoints) (λ slot. length slot ≤ endpoints) (few_flows endpoints) slots each) in
-    let count : length slots ≡ b = length-slots_after number list empty ∙ length-replicate b [] in
-    let fit : flows_in slots ≤ b * endpoints = subst (λ (n : ℕ). flows_in slots ≤ n * endpoints) count total in
-    omega (arith, served_in_slots number list empty before, fit)
+  pub served_fit : (endpoints number b : ℕ) (list : List Item) → All (λ item. item.last < number) list → All (IsSlotOf endpoints) (slots_after bar number list (replicate b []))
+      → count_by (is_served_from number) (items_after bar number list (replicate b [])) ≤ b * endpoints
+  served_fit endpoints number b list before each =
+      let empty : List (List Flow) = replicate b [] in
+      let slots : List (List Flow) = slots_after bar number list empty in
+      let total : flows_in slots ≤ length slots * endpoints =
+      sum_by-le (λ (slot : List Flow). length slot) endpoints slots (All-weaker (IsSlotOf endpoints) (λ slot. length slot ≤ endpoints) (few_flows endpoints) slots each) in
+      let count : length slots ≡ b = length-slots_after number list empty ∙ length-replicate b [] in
+      let fit : flows_in slots ≤ b * endpoints = subst (λ (n : ℕ). flows_in slots ≤ n * endpoints) count total in
+      omega (arith, served_in_slots number list empty before, fit)
+
+pub served_fit_places : ServedFitPlaces
+served_fit_places = served_fit

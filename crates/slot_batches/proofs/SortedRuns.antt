@@ -5,11 +5,10 @@ use Rattle.std.proofs.lemmas.Bool.{cond_both, cases_Bool, ltb-true, ltb-false, n
 use Rattle.std.proofs.lemmas.List.Elements.{All-weaker, filter_passes}
 use Rattle.greedy_rules.specs.declared.flows.Flow.{Flow}
 use Rattle.greedy_rules.specs.declared.flows.Item.{Item}
-use Rattle.greedy_rules.specs.Order.{insert_by, sort_by}
-use Rattle.greedy_rules.specs.Slot.{is_taken}
+use Rattle.list_facts.specs.Order.{insert_by, sort_by}
+use Rattle.greedy_rules.specs.Slot.{Bar}
 use Rattle.greedy_rules.specs.Demands.{by_last}
-use Rattle.greedy_rules.proofs.StableSort.{Floor, Rises, floor_lower, rises_from}
-use Rattle.greedy_rules.proofs.OnceLemmas.{All-sort_by}
+use Rattle.list_facts.proofs.StableSort.{Floor, Rises, floor_lower, rises_from, All-sort_by}
 use Rattle.slot_batches.specs.FlowByFlow.{slots_with, item_after, items_after}
 use Rattle.slot_batches.specs.Feeding.{IsInOrder, unserved, newly_served, IsServedWithin}
 use Rattle.slot_batches.proofs.ListOrder.{Ceiling, ceiling_from, floor_from_all, insert_by-past, insert_by-within, sort_by-rises}
@@ -57,70 +56,71 @@ module _ {X : Type 0} (number : X → ℕ) (n : ℕ) where
 abbrev last_of : Item → ℕ
 last_of item = item.last
 
--- an item is as it was, or was served in one of the slots
-pub item_after_cases : (number : ℕ) (item : Item) (slots : List (List Flow))
-    → (item_after number item slots ≡ item) ⊎ IsServedWithin number (length slots) (item_after number item slots)
-item_after_cases number item [] = inl refl
-item_after_cases number item (slot ∷ slots) =
-    let fits : Bool = nat_lt 0 item.need && not (is_taken slot item.flow) in
-    let put : Item = record item { need = item.need - 1; last = number } in
-    let P : Item → Type 0 = λ now. (item_after (number + 1) now slots ≡ item) ⊎ IsServedWithin number (suc (length slots)) (item_after (number + 1) now slots) in
-    let later : (now : Item) → IsServedWithin (number + 1) (length slots) (item_after (number + 1) now slots) → IsServedWithin number (suc (length slots)) (item_after (number + 1) now slots) =
-    λ now within. (omega (arith, within.0), omega (arith, within.1)) in
-    cond_both fits put item P
-    (λ _. elim (item_after_cases (number + 1) put slots) [
-      | inl same ↦ let at : (item_after (number + 1) put slots).last ≡ number = ap last_of same in inr (omega arith, omega arith)
-      | inr within ↦ inr (later put within)
-    ])
-    (λ _. elim (item_after_cases (number + 1) item slots) [
-      | inl same ↦ inl same
-      | inr within ↦ inr (later item within)
-    ])
+module _ (bar : Bar) where
+  -- an item is as it was, or was served in one of the slots
+  pub item_after_cases : (number : ℕ) (item : Item) (slots : List (List Flow))
+      → (item_after bar number item slots ≡ item) ⊎ IsServedWithin number (length slots) (item_after bar number item slots)
+  item_after_cases number item [] = inl refl
+  item_after_cases number item (slot ∷ slots) =
+      let fits : Bool = nat_lt 0 item.need && not (bar slot item.flow) in
+      let put : Item = record item { need = item.need - 1; last = number } in
+      let P : Item → Type 0 = λ now. (item_after bar (number + 1) now slots ≡ item) ⊎ IsServedWithin number (suc (length slots)) (item_after bar (number + 1) now slots) in
+      let later : (now : Item) → IsServedWithin (number + 1) (length slots) (item_after bar (number + 1) now slots) → IsServedWithin number (suc (length slots)) (item_after bar (number + 1) now slots) =
+      λ now within. (omega (arith, within.0), omega (arith, within.1)) in
+      cond_both fits put item P
+      (λ _. elim (item_after_cases (number + 1) put slots) [
+        | inl same ↦ let at : (item_after bar (number + 1) put slots).last ≡ number = ap last_of same in inr (omega arith, omega arith)
+        | inr within ↦ inr (later put within)
+      ])
+      (λ _. elim (item_after_cases (number + 1) item slots) [
+        | inl same ↦ inl same
+        | inr within ↦ inr (later item within)
+      ])
 
--- whose last is below the slots is as it was
-pub item_after_low : (number : ℕ) (item : Item) (slots : List (List Flow)) → nat_lt (item_after number item slots).last number ≡ true → item_after number item slots ≡ item
-item_after_low number item slots low =
-    let below : (item_after number item slots).last < number = ltb-true _ _ low in
-    elim (item_after_cases number item slots) [
-      | inl same ↦ same
-      | inr within ↦ absurd (omega (arith, within.0))
-    ]
+  -- whose last is below the slots is as it was
+  pub item_after_low : (number : ℕ) (item : Item) (slots : List (List Flow)) → nat_lt (item_after bar number item slots).last number ≡ true → item_after bar number item slots ≡ item
+  item_after_low number item slots low =
+      let below : (item_after bar number item slots).last < number = ltb-true _ _ low in
+      elim (item_after_cases number item slots) [
+        | inl same ↦ same
+        | inr within ↦ absurd (omega (arith, within.0))
+      ]
 
-pub item_after_high : (number : ℕ) (item : Item) (slots : List (List Flow)) → item.last < number → nat_lt (item_after number item slots).last number ≡ false
-    → IsServedWithin number (length slots) (item_after number item slots)
-item_after_high number item slots old high =
-    let above : number ≤ (item_after number item slots).last = ltb-false _ _ high in
-    elim (item_after_cases number item slots) [
-      | inl same ↦ let level : (item_after number item slots).last ≡ item.last = ap last_of same in absurd (omega arith)
-      | inr within ↦ within
-    ]
+  pub item_after_high : (number : ℕ) (item : Item) (slots : List (List Flow)) → item.last < number → nat_lt (item_after bar number item slots).last number ≡ false
+      → IsServedWithin number (length slots) (item_after bar number item slots)
+  item_after_high number item slots old high =
+      let above : number ≤ (item_after bar number item slots).last = ltb-false _ _ high in
+      elim (item_after_cases number item slots) [
+        | inl same ↦ let level : (item_after bar number item slots).last ≡ item.last = ap last_of same in absurd (omega arith)
+        | inr within ↦ within
+      ]
 
-floor-unserved : (m number : ℕ) (list : List Item) (slots : List (List Flow)) → Floor last_of m list → Floor last_of m (unserved number (items_after number list slots))
-floor-unserved m number [] slots floor = tt
-floor-unserved m number (item ∷ list) slots floor =
-    let now : Item = item_after number item slots in
-    let rest : List Item = unserved number (items_after number list (slots_with number item slots)) in
-    let up = floor-unserved m number list (slots_with number item slots) floor.1 in
-    cond_both (nat_lt now.last number) (now ∷ rest) rest (Floor last_of m)
-    (λ low. let level : now.last ≡ item.last = ap last_of (item_after_low number item slots low) in (omega (arith, floor.0), up)) (λ _. up)
+  floor-unserved : (m number : ℕ) (list : List Item) (slots : List (List Flow)) → Floor last_of m list → Floor last_of m (unserved number (items_after bar number list slots))
+  floor-unserved m number [] slots floor = tt
+  floor-unserved m number (item ∷ list) slots floor =
+      let now : Item = item_after bar number item slots in
+      let rest : List Item = unserved number (items_after bar number list (slots_with bar number item slots)) in
+      let up = floor-unserved m number list (slots_with bar number item slots) floor.1 in
+      cond_both (nat_lt now.last number) (now ∷ rest) rest (Floor last_of m)
+      (λ low. let level : now.last ≡ item.last = ap last_of (item_after_low number item slots low) in (omega (arith, floor.0), up)) (λ _. up)
 
-rises-unserved : (number : ℕ) (list : List Item) (slots : List (List Flow)) → Rises last_of list → Rises last_of (unserved number (items_after number list slots))
-rises-unserved number [] slots rises = tt
-rises-unserved number (item ∷ list) slots rises =
-    let now : Item = item_after number item slots in
-    let rest : List Item = unserved number (items_after number list (slots_with number item slots)) in
-    let up = rises-unserved number list (slots_with number item slots) rises.1 in
-    cond_both (nat_lt now.last number) (now ∷ rest) rest (Rises last_of)
-    (λ low.
-    let level : now.last ≡ item.last = ap last_of (item_after_low number item slots low) in
-    (floor_lower last_of now.last item.last rest (omega arith) (floor-unserved item.last number list (slots_with number item slots) rises.0), up))
-    (λ _. up)
+  rises-unserved : (number : ℕ) (list : List Item) (slots : List (List Flow)) → Rises last_of list → Rises last_of (unserved number (items_after bar number list slots))
+  rises-unserved number [] slots rises = tt
+  rises-unserved number (item ∷ list) slots rises =
+      let now : Item = item_after bar number item slots in
+      let rest : List Item = unserved number (items_after bar number list (slots_with bar number item slots)) in
+      let up = rises-unserved number list (slots_with bar number item slots) rises.1 in
+      cond_both (nat_lt now.last number) (now ∷ rest) rest (Rises last_of)
+      (λ low.
+      let level : now.last ≡ item.last = ap last_of (item_after_low number item slots low) in
+      (floor_lower last_of now.last item.last rest (omega arith) (floor-unserved item.last number list (slots_with bar number item slots) rises.0), up))
+      (λ _. up)
 
--- the list after the batch
-pub two_runs : (number : ℕ) (list : List Item) (slots : List (List Flow)) → IsInOrder list
-    → by_last (items_after number list slots) ≡ unserved number (items_after number list slots) ++ by_last (newly_served number (items_after number list slots))
-two_runs number list slots up =
-    let items : List Item = items_after number list slots in
-    sort_by-parts last_of number items
-    ∙ ap (λ (zs : List Item). zs ++ by_last (newly_served number items))
-    (sort_by-rises last_of (unserved number items) (rises-unserved number list slots (rises_from last_of list up)))
+  -- the list after the batch
+  pub two_runs : (number : ℕ) (list : List Item) (slots : List (List Flow)) → IsInOrder list
+      → by_last (items_after bar number list slots) ≡ unserved number (items_after bar number list slots) ++ by_last (newly_served number (items_after bar number list slots))
+  two_runs number list slots up =
+      let items : List Item = items_after bar number list slots in
+      sort_by-parts last_of number items
+      ∙ ap (λ (zs : List Item). zs ++ by_last (newly_served number items))
+      (sort_by-rises last_of (unserved number items) (rises-unserved number list slots (rises_from last_of list up)))

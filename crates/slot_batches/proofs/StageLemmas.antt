@@ -1,19 +1,20 @@
 -- What a stage takes up, as its items are fed.
-use Rattle.std.proofs.Common.{◌≡◌, ◌≢◌, ◌<◌, ◌≤◌, ◌+◌, ℕ, List, [], ◌∷◌, ◌++◌, length, map, filter, take, drop, Bool, true, false, not, ◌&&◌, ◌||◌, cond, Some, IsTrue, All, AllPairs, refl, sym, ap, ◌∙◌, subst, arith, inl, inr}
+use Rattle.std.proofs.Common.{◌≡◌, ◌≢◌, ◌<◌, ◌≤◌, ◌+◌, ℕ, List, [], ◌∷◌, ◌++◌, length, map, take, drop, Bool, true, false, not, ◌&&◌, ◌||◌, cond, Some, IsTrue, All, AllPairs, refl, sym, ap, ◌∙◌, subst, arith, inl, inr}
 use Rattle.std.specs.Prelude.{slice_get}
 use Rattle.std.proofs.lemmas.Bool.{cases_Bool, cond-true, cond-false, and_right}
-use Rattle.std.proofs.lemmas.List.{map-append, append_assoc, take-append-drop, take-take, take_all}
-use Rattle.std.proofs.lemmas.List.Elements.{All-nil, All-cons, All-head, All-tail, All-append, All-map, All-weaker, filter-append}
+use Rattle.std.proofs.lemmas.List.{append_assoc, take-append-drop, take-take, take_all}
+use Rattle.std.proofs.lemmas.List.Elements.{All-nil, All-cons, All-head, All-tail, All-append, All-map, All-weaker}
 use Rattle.greedy_rules.specs.declared.flows.Item.{Item}
 use Rattle.greedy_rules.specs.declared.flows.Entry.{Entry}
+use Rattle.greedy_rules.specs.declared.limits.Limits.{Limits}
 use Rattle.greedy_rules.specs.Batches.{IsBatch}
 use Rattle.greedy_rules.specs.Demands.{AreBelow, with_batch, opened, after_batch}
-use Rattle.greedy_rules.proofs.ApplyLemmas.{opened_more}
-use Rattle.greedy_rules.proofs.OnceLemmas.{InRange, All-opened, once-sort_by, once-map, once-append, once-opened, below-after_batch}
-use Rattle.greedy_rules.proofs.Pairs.{AllPairs-nil, AllPairs-cons, AllPairs-head, AllPairs-tail}
+use Rattle.list_facts.proofs.Pairs.{AllPairs-append, AllPairs-nil, AllPairs-cons, AllPairs-head, AllPairs-tail}
+use Rattle.greedy_rules.proofs.Facts.{opened-append, opened_more, InRange, All-opened, once-sort_by, once-map, once-opened, below-after_batch}
 use Rattle.slot_batches.specs.Feeding.{was_served, has_served, taken_up}
 use Rattle.slot_batches.specs.declared.filling.Filling.{Filling}
-use Rattle.slot_batches.specs.Filled.{MayBeTakenUp, IsSameBatch}
+use Rattle.slot_batches.specs.Filled.{MayBeTakenUp}
+use Rattle.slot_batches.specs.Parts.{IsSameBatch}
 use Rattle.slot_batches.specs.Stands.{OpensOthers, MayBeFed}
 use Rattle.slot_batches.proofs.NextList.{lasts-after_batch}
 use Rattle.slot_batches.proofs.OpenedFlows.{taken_up_all, taken_up_more, taken_up_end, taken_up_plainly, has_served_more}
@@ -37,11 +38,6 @@ may_front endpoints number xs ys may = record {
   in_range = All-front (InRange endpoints) xs ys may.in_range;
   below = All-front (λ item. item.last < number) xs ys may.below;
 }
-
-opened-append : (xs ys : List Entry) → opened (xs ++ ys) ≡ opened xs ++ opened ys
-opened-append xs ys =
-    let to_item : Entry → Item = λ entry. record { flow = entry.flow; need = entry.add; last = 0 } in
-    ap (map to_item) (filter-append (λ entry. entry.opens) xs ys) ∙ map-append to_item (filter (λ entry. entry.opens) xs) (filter (λ entry. entry.opens) ys)
 
 -- the flow of an entry is among those that open
 opened_front : (entries at : ℕ) (batch : List Entry) (entry : Entry) → at < entries → at < length batch → slice_get batch at ≡ Some entry
@@ -69,9 +65,9 @@ opened_one_more at batch entry taken below here =
     ap (λ (xs : List Item). taken ++ xs) (opened_more batch at entry below here) ∙ sym (append_assoc taken (opened (take at batch)) (opened (entry ∷ [])))
 
 -- a batch that goes on
-pub may_there : (endpoints b number : ℕ) (filling : Filling) (list : List Item) → IsSameBatch endpoints b number filling → MayBeTakenUp endpoints number list
+pub may_there : (limits : Limits) (endpoints b number : ℕ) (filling : Filling) (list : List Item) → IsSameBatch limits endpoints b number filling → MayBeTakenUp endpoints number list
     → MayBeTakenUp filling.endpoints filling.first_slot list
-may_there endpoints b number filling list same may =
+may_there limits endpoints b number filling list same may =
     subst (λ (n : ℕ). MayBeTakenUp n filling.first_slot list) (sym same.same_endpoints) (subst (λ (n : ℕ). MayBeTakenUp endpoints n list) (sym same.same_first) may)
 
 -- no item that may be fed has a flow that opens
@@ -90,7 +86,7 @@ may_all batch endpoints number list positive rising opening may =
     All-map (λ x. All (Other x) (opened batch)) (with_batch batch) list (All-weaker (OpensOthers batch) (λ x. All (Other x) (opened batch)) (opens_others batch) list may.others_open) in
     subst (MayBeTakenUp endpoints number) whole
     (record {
-      once = once-sort_by (λ item. item.last) (put ++ opened batch) (once-append put (opened batch) (once-map (with_batch batch) (λ x. refl) list may.once) (once-opened batch rising) apart);
+      once = once-sort_by (λ item. item.last) (put ++ opened batch) (AllPairs-append Other put (opened batch) (once-map (with_batch batch) (λ x. refl) list may.once) (once-opened batch rising) apart);
       in_range = below-after_batch endpoints batch list (All-append (InRange endpoints) list (opened batch) may.in_range opening);
       below = lasts-after_batch number batch list (omega arith) may.below;
     })

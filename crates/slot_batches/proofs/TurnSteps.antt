@@ -5,26 +5,28 @@ use Rattle.std.proofs.lemmas.List.{append-nil}
 use Rattle.std.proofs.lemmas.List.Elements.{filter-append}
 use Rattle.greedy_rules.specs.declared.flows.Flow.{Flow}
 use Rattle.greedy_rules.specs.declared.flows.Item.{Item}
+use Rattle.greedy_rules.specs.Slot.{Bar}
 use Rattle.slot_batches.specs.FlowByFlow.{slots_with, item_after, slots_after, items_after}
 use Rattle.slot_batches.specs.Feeding.{unserved, newly_served}
 
-pub slots_after-append : (number : ℕ) (xs ys : List Item) (slots : List (List Flow)) → slots_after number (xs ++ ys) slots ≡ slots_after number ys (slots_after number xs slots)
-slots_after-append number [] ys slots = refl
-slots_after-append number (x ∷ xs) ys slots = slots_after-append number xs ys (slots_with number x slots)
+module _ (bar : Bar) where
+  pub slots_after-append : (number : ℕ) (xs ys : List Item) (slots : List (List Flow)) → slots_after bar number (xs ++ ys) slots ≡ slots_after bar number ys (slots_after bar number xs slots)
+  slots_after-append number [] ys slots = refl
+  slots_after-append number (x ∷ xs) ys slots = slots_after-append number xs ys (slots_with bar number x slots)
 
-pub items_after-append : (number : ℕ) (xs ys : List Item) (slots : List (List Flow))
-    → items_after number (xs ++ ys) slots ≡ items_after number xs slots ++ items_after number ys (slots_after number xs slots)
-items_after-append number [] ys slots = refl
-items_after-append number (x ∷ xs) ys slots = ap (λ (zs : List Item). item_after number x slots ∷ zs) (items_after-append number xs ys (slots_with number x slots))
+  pub items_after-append : (number : ℕ) (xs ys : List Item) (slots : List (List Flow))
+      → items_after bar number (xs ++ ys) slots ≡ items_after bar number xs slots ++ items_after bar number ys (slots_after bar number xs slots)
+  items_after-append number [] ys slots = refl
+  items_after-append number (x ∷ xs) ys slots = ap (λ (zs : List Item). item_after bar number x slots ∷ zs) (items_after-append number xs ys (slots_with bar number x slots))
 
--- one item more, by the slots as they then are
-pub slots_after_more : (number : ℕ) (list : List Item) (item : Item) (slots : List (List Flow))
-    → slots_after number (list ++ item ∷ []) slots ≡ slots_with number item (slots_after number list slots)
-slots_after_more number list item slots = slots_after-append number list (item ∷ []) slots
+  -- one item more, by the slots as they then are
+  pub slots_after_more : (number : ℕ) (list : List Item) (item : Item) (slots : List (List Flow))
+      → slots_after bar number (list ++ item ∷ []) slots ≡ slots_with bar number item (slots_after bar number list slots)
+  slots_after_more number list item slots = slots_after-append number list (item ∷ []) slots
 
-pub items_after_more : (number : ℕ) (list : List Item) (item : Item) (slots : List (List Flow))
-    → items_after number (list ++ item ∷ []) slots ≡ items_after number list slots ++ item_after number item (slots_after number list slots) ∷ []
-items_after_more number list item slots = items_after-append number list (item ∷ []) slots
+  pub items_after_more : (number : ℕ) (list : List Item) (item : Item) (slots : List (List Flow))
+      → items_after bar number (list ++ item ∷ []) slots ≡ items_after bar number list slots ++ item_after bar number item (slots_after bar number list slots) ∷ []
+  items_after_more number list item slots = items_after-append number list (item ∷ []) slots
 
 module _ (number : ℕ) (items : List Item) (now : Item) where
   pub unserved_more : nat_lt now.last number ≡ true → unserved number (items ++ now ∷ []) ≡ unserved number items ++ now ∷ []

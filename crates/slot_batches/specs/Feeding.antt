@@ -6,6 +6,7 @@ use Rattle.std.specs.List.Sorted.{IsNonDecreasingBy}
 use Rattle.greedy_rules.specs.declared.flows.Flow.{Flow}
 use Rattle.greedy_rules.specs.declared.flows.Item.{Item}
 use Rattle.greedy_rules.specs.declared.flows.Entry.{Entry}
+use Rattle.greedy_rules.specs.Slot.{Bar}
 use Rattle.greedy_rules.specs.Demands.{with_batch, opened, after_batch, by_last}
 use Rattle.slot_batches.specs.FlowByFlow.{item_after, items_after}
 
@@ -41,8 +42,8 @@ FeedingAppliesTheBatch = (batch : List Entry) (list : List Item) → IsInOrder l
 -- the list after the batch: first the items that it did not serve, as they stood, then those that it served
 abbrev pub ServedItemsFollow : Type 0
 ServedItemsFollow =
-    (number : ℕ) (list : List Item) (slots : List (List Flow)) → IsInOrder list
-    → by_last (items_after number list slots) ≡ unserved number (items_after number list slots) ++ by_last (newly_served number (items_after number list slots))
+    (bar : Bar) (number : ℕ) (list : List Item) (slots : List (List Flow)) → IsInOrder list
+    → by_last (items_after bar number list slots) ≡ unserved number (items_after bar number list slots) ++ by_last (newly_served number (items_after bar number list slots))
 
 -- its last slot is one of these
 abbrev pub IsServedWithin : ℕ → ℕ → Item → Type 0
@@ -51,4 +52,4 @@ IsServedWithin number count item = (number ≤ item.last) × (item.last < number
 -- each item is as it was, or was last served in a slot of the batch
 abbrev pub AnItemIsServedOrAsItWas : Type 0
 AnItemIsServedOrAsItWas =
-    (number : ℕ) (item : Item) (slots : List (List Flow)) → (item_after number item slots ≡ item) ⊎ IsServedWithin number (length slots) (item_after number item slots)
+    (bar : Bar) (number : ℕ) (item : Item) (slots : List (List Flow)) → (item_after bar number item slots ≡ item) ⊎ IsServedWithin number (length slots) (item_after bar number item slots)

@@ -1,5 +1,6 @@
 -- Small lists, fed and served.
 use Rattle.std.specs.Prelude.{◌≡◌, [], ◌∷◌, false}
+use Rattle.greedy_rules.specs.Slot.{is_taken}
 use Rattle.greedy_rules.specs.Demands.{by_last}
 use Rattle.greedy_rules.specs.Examples.{opening, waiting}
 use Rattle.slot_batches.specs.FlowByFlow.{items_after}
@@ -17,5 +18,5 @@ AnOpenedFlowGoesBeforeAServedOne =
 -- Of three items the first takes both slots of its source, the second finds none left, and the third takes the lower one.
 abbrev pub TheItemWithoutASlotStandsFirst : Type 0
 TheItemWithoutASlotStandsFirst =
-    by_last (items_after 7 (waiting 0 1 3 3 ∷ waiting 0 2 1 5 ∷ waiting 4 2 1 6 ∷ []) ([] ∷ [] ∷ []))
+    by_last (items_after is_taken 7 (waiting 0 1 3 3 ∷ waiting 0 2 1 5 ∷ waiting 4 2 1 6 ∷ []) ([] ∷ [] ∷ []))
     ≡ waiting 0 2 1 5 ∷ waiting 4 2 0 7 ∷ waiting 0 1 1 8 ∷ []

@@ -7,6 +7,10 @@ pub mod Feeding
 pub mod NextList
 pub mod Progress
 pub mod FeedingExamples
+pub mod Marks
+pub mod Rests
 pub mod Filled
-pub mod Stands
+pub mod Parts
 pub mod Pieces
+pub mod Settled
+pub mod Stands

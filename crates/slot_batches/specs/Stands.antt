@@ -1,40 +1,52 @@
 -- How far a stage is with its batch, once some items of the demand list were fed (this project's own profile).
-use Rattle.std.specs.Prelude.{◌≡◌, ◌≢◌, ◌<◌, ◌≤◌, ℕ, List, ◌++◌, length, IsTrue, All, false, if◌then◌else◌}
+use Rattle.std.specs.Prelude.{◌≡◌, ◌≢◌, ◌<◌, ◌≤◌, ◌⊎◌, ℕ, ◌+◌, ◌-◌, ◌*◌, List, ◌++◌, length, min, IsTrue, All, Bool, false, ◌&&◌, nat_lt, if◌then◌else◌}
 use Rattle.greedy_rules.specs.declared.flows.Flow.{Flow}
 use Rattle.greedy_rules.specs.declared.flows.Item.{Item}
 use Rattle.greedy_rules.specs.declared.flows.Entry.{Entry}
-use Rattle.greedy_rules.specs.Batches.{IsBatch}
+use Rattle.greedy_rules.specs.Batches.{DemandBatch, IsBatch}
 use Rattle.greedy_rules.specs.Demands.{HasEachFlowOnce, AreBelow, OpensNewFlows, opened}
-use Rattle.slot_batches.specs.declared.stage.Stage.{Stage}
 use Rattle.slot_batches.specs.Feeding.{IsInOrder, has_served, taken_up}
 use Rattle.slot_batches.specs.NextList.{IsListBefore}
-use Rattle.slot_batches.specs.Filled.{HasRoom, HasTakenUp}
+use Rattle.slot_batches.specs.Filled.{Fill, HasTakenUp}
+use Rattle.slot_batches.specs.Marks.{AreMarked}
+use Rattle.slot_batches.specs.Settled.{slots_filled, settled}
+use Rattle.slot_batches.specs.Pieces.{piece_count}
+
+-- what contracts see of a stage: the number of its pieces, the parts of its batch, the marks of its entries, how many entries
+-- may still open their flows, how many items it has given, and whether it has still to give the piece with the end
+pub record StageState : Type 0 where
+  pub number : ℕ
+  pub fill : Fill
+  pub marks : List ℕ
+  pub unopened : ℕ
+  pub given : ℕ
+  pub ends : Bool
 
 -- what a stage works on: its endpoints, how many slots a batch has, the number of the first, and the slots as they stand
-abbrev pub endpoints_of : Stage → ℕ
-endpoints_of stage = stage.filling.endpoints
+abbrev pub endpoints_of : StageState → ℕ
+endpoints_of stage = stage.fill.endpoints
 
-abbrev pub batch_size_of : Stage → ℕ
-batch_size_of stage = stage.filling.b
+abbrev pub batch_size_of : StageState → ℕ
+batch_size_of stage = stage.fill.b
 
-abbrev pub first_slot_of : Stage → ℕ
-first_slot_of stage = stage.filling.first_slot
+abbrev pub first_slot_of : StageState → ℕ
+first_slot_of stage = stage.fill.first_slot
 
 -- the number that its pieces bear
-abbrev pub number_of : Stage → ℕ
-number_of stage = stage.stage
+abbrev pub number_of : StageState → ℕ
+number_of stage = stage.number
 
-abbrev pub slots_of : Stage → List (List Flow)
-slots_of stage = stage.filling.slots.slots
+abbrev pub slots_of : StageState → List (List Flow)
+slots_of stage = stage.fill.slots
 
--- it has room for all that it will hold
-abbrev pub IsOpen : Stage → Type 0
-IsOpen stage = HasRoom stage.filling
+-- how much it has still to give: falls with each piece
+abbrev pub left_to_give : StageState → ℕ
+left_to_give stage = (length stage.fill.waiting - stage.given) + (if stage.ends then 1 else 0)
 
-pub record IsSameWork (endpoints b number first_slot : ℕ) (stage : Stage) : Type 0 where
+pub record IsSameWork (endpoints b number first_slot : ℕ) (stage : StageState) : Type 0 where
   pub same_endpoints : endpoints_of stage ≡ endpoints
   pub same_size : batch_size_of stage ≡ b
-  pub same_number : stage.stage ≡ number
+  pub same_number : number_of stage ≡ number
   pub same_first : first_slot_of stage ≡ first_slot
 
 -- no entry opens the item's flow
@@ -49,15 +61,27 @@ pub record MayBeFed (batch : List Entry) (endpoints number : ℕ) (list : List I
   pub below : All (λ item. item.last < number) list
   pub others_open : All (OpensOthers batch) list
 
--- the stage stands so once these items were fed, in this order
-pub record Stands (batch : List Entry) (fed : List Item) (stage : Stage) : Type 0 where
-  pub room : IsOpen stage
-  pub positive : 1 ≤ first_slot_of stage
-  pub rising : IsBatch batch
-  pub opening : AreBelow (endpoints_of stage) (opened batch)
-  pub may : MayBeFed batch (endpoints_of stage) (first_slot_of stage) fed
-  pub taken : HasTakenUp (taken_up batch fed false) stage.filling
-  pub unopened : stage.unopened ≡ (if has_served fed then 0 else length batch)
+-- the parts of a batch once these items were fed, in this order
+pub record HasBeenFed (batch : DemandBatch) (fed : List Item) (fill : Fill) (unopened : ℕ) : Type 0 where
+  pub positive : 1 ≤ fill.first_slot
+  pub small : fill.endpoints ≤ 256
+  pub rising : IsBatch batch.entries
+  pub limits : fill.maps.limits ≡ batch.limits
+  pub opening : AreBelow fill.endpoints (opened batch.entries)
+  pub may : MayBeFed batch.entries fill.endpoints fill.first_slot fed
+  pub taken : HasTakenUp (taken_up batch.entries fed false) fill
+  pub unopened_is : unopened ≡ (if has_served fed then 0 else length batch.entries)
+
+-- the stage stands so once it began the batch, was fed these items, in this order, was finished or not, and gave so many pieces
+pub record Stands (batch : DemandBatch) (fed : List Item) (finished : Bool) (given : ℕ) (stage : StageState) : Type 0 where
+  pub feeding : finished ≡ false → HasBeenFed batch fed stage.fill stage.unopened
+  pub marked : AreMarked batch.entries stage.marks
+  pub slots : slots_of stage ≡ slots_filled batch (first_slot_of stage) (batch_size_of stage) fed finished
+  pub list : stage.fill.waiting ≡ settled batch (first_slot_of stage) (batch_size_of stage) fed finished
+  pub few : length stage.fill.waiting ≤ 65536
+  pub given_is : stage.given ≡ min (64 * given) (length stage.fill.waiting)
+  pub ends_is : stage.ends ≡ (finished && nat_lt given (piece_count stage.fill.waiting))
+  pub more_wait : finished ≡ false → (given ≡ 0) ⊎ (64 * given < length stage.fill.waiting)
 
 -- the list before the first slot of a batch may be fed, item by item
 abbrev pub ListsMayBeFed : Type 0

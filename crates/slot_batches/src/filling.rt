@@ -1,14 +1,17 @@
-ghost use Rattle.std.specs.Prelude.{◌≡◌, ◌≢◌, ◌<◌, ◌≤◌, ◌+◌, ◌-◌, ◌^◌, ℕ, List, [], ◌∷◌, ◌++◌, length, true, None, IfOk, count_ones, vec_len, vec_capacity, map};
+ghost use Rattle.std.specs.Prelude.{◌≡◌, ◌≢◌, ◌<◌, ◌≤◌, ◌+◌, ◌-◌, ◌^◌, ℕ, List, [], ◌∷◌, ◌++◌, length, true, None, IfOk, count_ones, vec_len, vec_capacity, map, All};
 ghost use Rattle.endpoint_bitmaps.specs.Slots.{has_slot};
 ghost use Rattle.greedy_rules.specs.Schedule.{slot_in};
 ghost use Rattle.greedy_rules.specs.SlotTable.{destination_of};
 ghost use Rattle.greedy_rules.specs.Demands.{by_last};
+ghost use Rattle.greedy_rules.specs.Limits.{AreLimits};
 ghost use Rattle.slot_batches.specs.FreePlaces.{HasAdded};
-ghost use Rattle.slot_batches.specs.Filled.{HasRoom, HasTakenUp, MayBeTakenUp, IsSameBatch, IsGreatest};
+ghost use Rattle.slot_batches.specs.Filled.{HasTakenUp, MayBeTakenUp, IsGreatest};
+ghost use Rattle.slot_batches.specs.Rests.{TakesNone};
+ghost use Rattle.slot_batches.specs.Parts.{fill_of, HasRoom, IsSameBatch};
 
 use crate::served::{Served, order_served};
 use endpoint_bitmaps::FreeMaps;
-use greedy_rules::{Flow, Item, SlotTable};
+use greedy_rules::{Flow, Item, Limits, SlotTable};
 use no_memory::NoMemory;
 use std::alloc::Global;
 
@@ -48,16 +51,17 @@ impl Filling {
         })
     }
 
-    /// Begins a batch: all its slots are empty.
-    pub(crate) fn begin(&mut self, first_slot: u32)
+    /// Begins a batch: all its slots are empty, and these limits hold in each.
+    pub(crate) fn begin(&mut self, first_slot: u32, limits: Limits)
         requires room { HasRoom self.old }
+        requires limits { AreLimits limits }
         requires numbers { first_slot + self.old.b ≤ 2 ^ 32 }
         ensures room { HasRoom self.new }
-        ensures same { IsSameBatch self.old.endpoints self.old.b first_slot self.new }
-        ensures empty { HasTakenUp [] self.new }
+        ensures same { IsSameBatch limits self.old.endpoints self.old.b first_slot self.new }
+        ensures empty { HasTakenUp [] (fill_of self.new) }
     {
         self.first_slot = first_slot;
-        self.maps.reset(self.b);
+        self.maps.reset(self.b, limits);
         self.slots.clear();
         self.waiting.clear();
         self.served.clear();
@@ -67,13 +71,13 @@ impl Filling {
     /// Lets the item take the lowest slots that are free for it, as many as it needs.
     pub(crate) fn take_up(&mut self, item: Item)
         requires room { HasRoom self.old }
-        requires may { (taken : List Item) × HasTakenUp taken self.old × MayBeTakenUp self.old.endpoints self.old.first_slot (taken ++ item ∷ []) }
+        requires may { (taken : List Item) × HasTakenUp taken (fill_of self.old) × MayBeTakenUp self.old.endpoints self.old.first_slot (taken ++ item ∷ []) }
         ensures room { HasRoom self.new }
-        ensures same { IsSameBatch self.old.endpoints self.old.b self.old.first_slot self.new }
+        ensures same { IsSameBatch self.old.maps.limits self.old.endpoints self.old.b self.old.first_slot self.new }
         ensures taken_up { (taken : List Item) →
-            HasTakenUp taken self.old →
+            HasTakenUp taken (fill_of self.old) →
             MayBeTakenUp self.old.endpoints self.old.first_slot (taken ++ item ∷ []) →
-            HasTakenUp (taken ++ item ∷ []) self.new }
+            HasTakenUp (taken ++ item ∷ []) (fill_of self.new) }
     {
         let place = self.taken_up;
         self.taken_up += 1;
@@ -92,12 +96,38 @@ impl Filling {
         self.served.push_reserved(Served { item, place });
     }
 
+    /// Whether the item takes no slot.
+    pub(crate) fn must_wait(&self, item: &Item) -> bool
+        requires src { item.now.flow.src < self.now.maps.endpoints }
+        requires dst { item.now.flow.dst < self.now.maps.endpoints }
+        ensures { result ≡ true → TakesNone self.now.maps item.now }
+    {
+        item.need == 0 || self.maps.common(item.flow.src, item.flow.dst) == 0
+    }
+
+    /// Lets items wait that take no slot.
+    pub(crate) fn keep(&mut self, items: &[Item])
+        requires room { HasRoom self.old }
+        requires may { (taken : List Item) × HasTakenUp taken (fill_of self.old) × MayBeTakenUp self.old.endpoints self.old.first_slot (taken ++ items.now) }
+        requires none { All (TakesNone self.old.maps) items.now }
+        ensures room { HasRoom self.new }
+        ensures same { IsSameBatch self.old.maps.limits self.old.endpoints self.old.b self.old.first_slot self.new }
+        ensures waiting { self.new.waiting.items ≡ self.old.waiting.items ++ items.now }
+        ensures taken_up { (taken : List Item) →
+            HasTakenUp taken (fill_of self.old) →
+            MayBeTakenUp self.old.endpoints self.old.first_slot (taken ++ items.now) →
+            HasTakenUp (taken ++ items.now) (fill_of self.new) }
+    {
+        let _ = self.waiting.extend_from_slice(items);
+        self.taken_up += items.len() as u32;
+    }
+
     /// Ends the batch: what was served follows what waits, by the last slots.
     pub(crate) fn end(&mut self)
         requires room { HasRoom self.old }
-        requires taken_up { (taken : List Item) × HasTakenUp taken self.old }
+        requires taken_up { (taken : List Item) × HasTakenUp taken (fill_of self.old) }
         ensures room { HasRoom self.new }
-        ensures same { IsSameBatch self.old.endpoints self.old.b self.old.first_slot self.new }
+        ensures same { IsSameBatch self.old.maps.limits self.old.endpoints self.old.b self.old.first_slot self.new }
         ensures slots { self.new.slots ≡ self.old.slots }
         ensures list { self.new.waiting.items ≡ self.old.waiting.items ++ by_last (map (λ s. s.item) self.old.served.items) }
     {

@@ -4,8 +4,10 @@ ghost use Rattle.slot_batches.specs.Room.{ServedFitPlaces};
 ghost use Rattle.slot_batches.specs.Examples.{TheFirstFlowTakesBothSlots, ThreeFlowsShareTwoSlots, TheLowestFreePlaceIsTaken};
 ghost use Rattle.slot_batches.specs.FeedingExamples.{AnOpenedFlowWaitsForAServedOne, AnOpenedFlowGoesBeforeAServedOne, TheItemWithoutASlotStandsFirst};
 ghost use Rattle.slot_batches.specs.Feeding.{FeedingAppliesTheBatch, ServedItemsFollow, AnItemIsServedOrAsItWas};
-ghost use Rattle.slot_batches.specs.NextList.{EveryBatchLeavesAList, EveryBatchKeepsItsFlows};
+ghost use Rattle.slot_batches.specs.NextList.{EveryBatchLeavesAList, EveryBatchKeepsItsFlows, AnIdleListStays};
 ghost use Rattle.slot_batches.specs.Stands.{ListsMayBeFed};
+ghost use Rattle.slot_batches.specs.Pieces.{EndedListsGiveTheirPieces};
+ghost use Rattle.slot_batches.specs.Settled.{SettledItemsStay, EarlyPiecesAreOfTheList};
 
 /// A law over every list in which each flow stands once: a batch flow by flow gives the slots of the greedy allocation
 /// slot by slot, and leaves the same items.
@@ -49,9 +51,22 @@ pub fn every_batch_leaves_a_list()
     ensures flows { EveryBatchKeepsItsFlows }
 {}
 
+/// A law over every list in order whose items need no slot: a batch without entries leaves it as it is, and has no packet.
+pub fn idle_lists_stay()
+    ensures { AnIdleListStays }
+{}
+
 /// A law over every list before a batch whose entries open the flows that are new to it: it may be fed, item by item.
 pub fn lists_may_be_fed()
     ensures { ListsMayBeFed }
+{}
+
+/// A law over every list before a batch: what is settled of it while it is fed is settled for good, so that each piece, early
+/// or not, is one of the list that the batch leaves.
+pub fn early_pieces_are_of_the_list()
+    ensures settled { SettledItemsStay }
+    ensures pieces { EarlyPiecesAreOfTheList }
+    ensures ended { EndedListsGiveTheirPieces }
 {}
 
 /// Small lists, which the definitions compute.

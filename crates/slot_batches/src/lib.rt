@@ -3,14 +3,17 @@
 
 mod filling;
 mod laws;
+mod marks;
 mod opening;
 mod piece;
+mod resting;
 mod served;
 mod stage;
 
 pub use laws::{
-    each_item_takes_its_lowest_free_places, every_batch_leaves_a_list, feeding_applies_the_batch,
-    feeding_examples, flow_by_flow_is_slot_by_slot, lists_may_be_fed, served_fit_places,
+    each_item_takes_its_lowest_free_places, early_pieces_are_of_the_list,
+    every_batch_leaves_a_list, feeding_applies_the_batch, feeding_examples,
+    flow_by_flow_is_slot_by_slot, idle_lists_stay, lists_may_be_fed, served_fit_places,
     served_items_follow, small_batches,
 };
 pub use no_memory::NoMemory;

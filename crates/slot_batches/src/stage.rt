@@ -1,29 +1,41 @@
-ghost use Rattle.std.specs.Prelude.{◌≡◌, ◌<◌, ◌≤◌, ◌+◌, ◌^◌, ℕ, List, [], ◌∷◌, ◌++◌, length, take, replicate, None, IfOk, IsSome, slice_get, option_map, if◌then◌else◌};
-ghost use Rattle.greedy_rules.specs.Batches.{entry_of};
-ghost use Rattle.greedy_rules.specs.Slot.{is_taken};
-ghost use Rattle.greedy_rules.specs.Demands.{need_with, AreBelow, opened, after_batch};
-ghost use Rattle.greedy_rules.specs.Allocation.{batch_slots, list_after_slots};
-ghost use Rattle.slot_batches.specs.Feeding.{taken_up};
-ghost use Rattle.slot_batches.specs.Filled.{HasTakenUp};
-ghost use Rattle.slot_batches.specs.Stands.{endpoints_of, batch_size_of, first_slot_of, number_of, slots_of, IsOpen, IsSameWork, MayBeFed, Stands};
-ghost use Rattle.slot_batches.specs.Pieces.{part_of, pieces, IsGiving};
+ghost use Rattle.std.specs.Prelude.{◌≡◌, ◌<◌, ◌≤◌, ◌+◌, ◌^◌, ℕ, List, [], ◌∷◌, ◌++◌, length, take, Bool, true, false, None, IfOk, IsSome, All, option_map};
+ghost use Rattle.greedy_rules.specs.Batches.{DemandBatch, entry_of};
+ghost use Rattle.greedy_rules.specs.Demands.{need_with, AreBelow, opened};
+ghost use Rattle.slot_batches.specs.Stands.{endpoints_of, batch_size_of, first_slot_of, number_of, slots_of, left_to_give, IsSameWork, MayBeFed, Stands};
+ghost use Rattle.slot_batches.specs.Settled.{settled};
+ghost use Rattle.slot_batches.specs.Pieces.{part_of, next_piece};
 
 use crate::filling::Filling;
-use crate::opening::{open_flows, with_entry};
+use crate::marks::mark_entries;
+use crate::opening::{open_due, with_entry};
 use crate::piece::{Piece, first_items};
+use crate::resting::resting;
 use greedy_rules::{Batch, Item, SlotTable};
 use no_memory::NoMemory;
 use std::alloc::Global;
+use std::marker::Model;
 
 /// A batch of slots, flow by flow: fed a demand list item by item, it fills the slots of the greedy allocation, and gives the
-/// list that the batch leaves, in pieces.
+/// list that the batch leaves, in pieces. From `begin` to the last piece it is given the same batch.
 #[derive(Debug, Drop)]
 pub struct Stage {
-    pub(crate) filling: Filling,
-    pub(crate) stage: u32,
-    pub(crate) unopened: usize,
-    pub(crate) given: u32,
-    pub(crate) ended: bool,
+    filling: Filling,
+    marks: Vec<u64>,
+    number: u32,
+    unopened: usize,
+    given: u32,
+    ends: bool,
+}
+
+impl Model for Stage {
+    ghost use Rattle.slot_batches.specs.Parts.{fill_of, HasRoom};
+    ghost use Rattle.slot_batches.specs.Stands.{StageState};
+
+    ghost Value = { StageState };
+
+    ghost view = { λ s. record { number = s.number; fill = fill_of s.filling; marks = s.marks.items; unopened = s.unopened; given = s.given; ends = s.ends } };
+
+    ghost invariant = { λ s. HasRoom s.filling };
 }
 
 impl Stage {
@@ -31,120 +43,145 @@ impl Stage {
     pub fn open(alloc: Global, endpoints: u16, b: u8) -> Result<Stage, NoMemory>
         requires endpoints { endpoints ≤ 256 }
         requires b { b ≤ 64 }
-        ensures room { IfOk result IsOpen }
         ensures endpoints { IfOk result (λ stage. endpoints_of stage ≡ endpoints) }
         ensures b { IfOk result (λ stage. batch_size_of stage ≡ b) }
     {
         Ok(Stage {
             filling: Filling::open(alloc, endpoints, b)?,
-            stage: 0,
+            marks: vec![in alloc; 0; endpoints as usize * 4]?,
+            number: 0,
             unopened: 0,
             given: 0,
-            ended: true,
+            ends: false,
         })
     }
 
     /// Begins the batch with this first slot; `stage` numbers its pieces.
     pub fn begin(&mut self, batch: &Batch, stage: u32, first_slot: u32)
-        requires room { IsOpen self.old }
         requires first { 1 ≤ first_slot }
         requires numbers { first_slot + batch_size_of self.old ≤ 2 ^ 32 }
-        requires in_range { AreBelow (endpoints_of self.old) (opened batch.now) }
-        ensures room { IsOpen self.new }
+        requires in_range { AreBelow (endpoints_of self.old) (opened batch.now.entries) }
         ensures work { IsSameWork (endpoints_of self.old) (batch_size_of self.old) stage first_slot self.new }
-        ensures stands { Stands batch.now [] self.new }
+        ensures stands { Stands batch.now [] false 0 self.new }
     {
-        self.filling.begin(first_slot);
-        self.stage = stage;
+        self.filling.begin(first_slot, batch.limits());
+        mark_entries(&mut self.marks, batch);
+        self.number = stage;
         self.unopened = batch.len();
+        self.given = 0;
+        self.ends = false;
     }
 
     /// Feeds the next item of the list.
     pub fn feed(&mut self, batch: &Batch, item: Item)
-        requires may { (fed : List Item) × Stands batch.now fed self.old × MayBeFed batch.now (endpoints_of self.old) (first_slot_of self.old) (fed ++ item ∷ []) }
-        requires need { need_with (entry_of batch.now item.flow) item.need < 2 ^ 32 }
-        ensures room { IsOpen self.new }
+        requires may { (fed : List Item) × (given : ℕ) × Stands batch.now fed false given self.old × MayBeFed batch.now.entries (endpoints_of self.old) (first_slot_of self.old) (fed ++ item ∷ []) }
+        requires need { need_with (entry_of batch.now.entries item.flow) item.need < 2 ^ 32 }
         ensures work { IsSameWork (endpoints_of self.old) (batch_size_of self.old) (number_of self.old) (first_slot_of self.old) self.new }
-        ensures stands { (fed : List Item) →
-            Stands batch.now fed self.old →
-            MayBeFed batch.now (endpoints_of self.old) (first_slot_of self.old) (fed ++ item ∷ []) →
-            Stands batch.now (fed ++ item ∷ []) self.new }
+        ensures stands { (fed : List Item) → (given : ℕ) →
+            Stands batch.now fed false given self.old →
+            MayBeFed batch.now.entries (endpoints_of self.old) (first_slot_of self.old) (fed ++ item ∷ []) →
+            Stands batch.now (fed ++ item ∷ []) false given self.new }
     {
-        self.open_flows(batch, item.last > 0);
-        self.filling.take_up(with_entry(item, batch));
+        open_due(&mut self.filling, &mut self.unopened, batch, item.last > 0);
+        self.filling.take_up(with_entry(item, batch, &self.marks));
     }
 
-    /// Ends the list: the slots are filled, and the list that they leave can be given.
+    /// Feeds the next items of the list, one after the other.
+    pub fn feed_items(&mut self, batch: &Batch, items: &[Item])
+        requires may { (fed : List Item) × (given : ℕ) × Stands batch.now fed false given self.old × MayBeFed batch.now.entries (endpoints_of self.old) (first_slot_of self.old) (fed ++ items.now) }
+        requires needs { All (λ item. need_with (entry_of batch.now.entries item.flow) item.need < 2 ^ 32) items.now }
+        ensures work { IsSameWork (endpoints_of self.old) (batch_size_of self.old) (number_of self.old) (first_slot_of self.old) self.new }
+        ensures stands { (fed : List Item) → (given : ℕ) →
+            Stands batch.now fed false given self.old →
+            MayBeFed batch.now.entries (endpoints_of self.old) (first_slot_of self.old) (fed ++ items.now) →
+            Stands batch.now (fed ++ items.now) false given self.new }
+    {
+        let mut from = 0;
+        while from < items.len() {
+            from += self.keep_resting(&items[from..]);
+            if from < items.len() {
+                self.feed(batch, items[from]);
+                from += 1;
+            }
+        }
+    }
+
+    /// Feeds the items at the front that wait as they are, and answers how many these are.
+    fn keep_resting(&mut self, items: &[Item]) -> usize
+        requires may { (batch : DemandBatch) × (fed : List Item) × (given : ℕ) × Stands batch fed false given self.old × MayBeFed batch.entries (endpoints_of self.old) (first_slot_of self.old) (fed ++ items.now) }
+        ensures within { result ≤ length items.now }
+        ensures work { IsSameWork (endpoints_of self.old) (batch_size_of self.old) (number_of self.old) (first_slot_of self.old) self.new }
+        ensures stands { (batch : DemandBatch) → (fed : List Item) → (given : ℕ) →
+            Stands batch fed false given self.old →
+            MayBeFed batch.entries (endpoints_of self.old) (first_slot_of self.old) (fed ++ items.now) →
+            Stands batch (fed ++ take result items.now) false given self.new }
+    {
+        let count = resting(&self.filling, &self.marks, self.unopened, items);
+        self.filling.keep(&items[..count]);
+        count
+    }
+
+    /// Ends the list: the slots are filled, and all of the list that they leave is settled.
     pub fn finish(&mut self, batch: &Batch)
-        requires { (fed : List Item) × Stands batch.now fed self.old }
-        ensures room { IsOpen self.new }
+        requires { (fed : List Item) × (given : ℕ) × Stands batch.now fed false given self.old }
         ensures work { IsSameWork (endpoints_of self.old) (batch_size_of self.old) (number_of self.old) (first_slot_of self.old) self.new }
-        ensures slots { (fed : List Item) →
-            Stands batch.now fed self.old →
-            slots_of self.new ≡ batch_slots is_taken (first_slot_of self.old) (batch_size_of self.old) (after_batch batch.now fed) }
-        ensures list { (fed : List Item) →
-            Stands batch.now fed self.old →
-            IsGiving (list_after_slots is_taken (first_slot_of self.old) (batch_size_of self.old) (after_batch batch.now fed)) 0 self.new }
+        ensures stands { (fed : List Item) → (given : ℕ) →
+            Stands batch.now fed false given self.old →
+            Stands batch.now fed true given self.new }
     {
-        self.open_flows(batch, true);
+        open_due(&mut self.filling, &mut self.unopened, batch, true);
         self.filling.end();
-        self.given = 0;
-        self.ended = false;
+        self.ends = true;
     }
 
-    /// The next piece of the list; None once all were given. It goes on once the list was fed to its end.
+    /// The next piece of the list that the batch leaves: as soon as more than 64 items wait, and once the list was ended until
+    /// the piece with the end was given; None otherwise.
     pub fn emit(&mut self) -> Option<Piece>
-        requires { (list : List Item) × (given : ℕ) × IsGiving list given self.old }
-        ensures piece { (list : List Item) → (given : ℕ) →
-            IsGiving list given self.old →
-            option_map part_of result ≡ slice_get (pieces (number_of self.old) list) given }
-        ensures more { (list : List Item) → (given : ℕ) →
-            IsGiving list given self.old →
+        requires { (batch : DemandBatch) × (fed : List Item) × (finished : Bool) × (given : ℕ) × Stands batch fed finished given self.old }
+        ensures piece { (batch : DemandBatch) → (fed : List Item) → (finished : Bool) → (given : ℕ) →
+            Stands batch fed finished given self.old →
+            option_map part_of result ≡ next_piece (number_of self.old) finished given (settled batch (first_slot_of self.old) (batch_size_of self.old) fed finished) }
+        ensures more { (batch : DemandBatch) → (fed : List Item) → (finished : Bool) → (given : ℕ) →
+            Stands batch fed finished given self.old →
             IsSome result →
-            IsGiving list (given + 1) self.new }
+            Stands batch fed finished (given + 1) self.new }
         ensures none { result ≡ None → self.new ≡ self.old }
-        ensures room { IsOpen self.old → IsOpen self.new }
+        ensures fewer { IsSome result → left_to_give self.new < left_to_give self.old }
         ensures work { IsSameWork (endpoints_of self.old) (batch_size_of self.old) (number_of self.old) (first_slot_of self.old) self.new }
         ensures slots { slots_of self.new ≡ slots_of self.old }
     {
-        if self.ended {
+        let from = self.given;
+        let waiting = &self.filling.waiting[from as usize..];
+        let end = waiting.len() <= 64;
+        if end && !self.ends {
             return None;
         }
-        let from = self.given;
-        let rest = &self.filling.waiting[from as usize..];
-        let end = rest.len() <= 64;
-        let items = first_items(rest);
-        self.given = from + 64;
-        self.ended = end;
+        let items = first_items(waiting);
+        self.given += items.len() as u32;
+        self.ends &= !end;
         Some(Piece {
-            stage: self.stage,
+            stage: self.number,
             from,
             items,
             end,
         })
     }
 
+    /// All that is settled of the list that the batch leaves, whether it was given in pieces or not.
+    pub fn settled_items(&self) -> &[Item]
+        ensures { (batch : DemandBatch) → (fed : List Item) → (finished : Bool) → (given : ℕ) →
+            Stands batch fed finished given self.now →
+            result.now ≡ settled batch (first_slot_of self.now) (batch_size_of self.now) fed finished }
+    {
+        &self.filling.waiting
+    }
+
     /// The slots of the batch, counted from 0.
     pub fn slots(&self) -> &SlotTable
         ensures slots { result.now.slots ≡ slots_of self.now }
-        ensures endpoints { IsOpen self.now → result.now.endpoints ≡ endpoints_of self.now }
+        ensures endpoints { result.now.endpoints ≡ endpoints_of self.now }
+        ensures count { length result.now.slots ≡ batch_size_of self.now }
     {
         &self.filling.slots
-    }
-
-    /// Takes up the flows that open, where they are due and were not yet taken up.
-    fn open_flows(&mut self, batch: &Batch, due: bool)
-        requires { (fed : List Item) × Stands batch.now fed self.old }
-        ensures room { IsOpen self.new }
-        ensures work { IsSameWork (endpoints_of self.old) (batch_size_of self.old) (number_of self.old) (first_slot_of self.old) self.new }
-        ensures unopened { self.new.unopened ≡ (if due then 0 else self.old.unopened) }
-        ensures taken_up { (fed : List Item) →
-            Stands batch.now fed self.old →
-            HasTakenUp (taken_up batch.now fed due) self.new.filling }
-    {
-        if due {
-            open_flows(&mut self.filling, batch, self.unopened);
-            self.unopened = 0;
-        }
     }
 }

@@ -1,31 +1,49 @@
-ghost use Rattle.std.specs.Prelude.{◌≡◌};
+ghost use Rattle.std.specs.Prelude.{◌≡◌, true, false};
 
-use crate::served::{Served, order_served};
-use greedy_rules::{Flow, Item};
+use crate::Stage;
+use greedy_rules::{Batch, Entry, Flow, Limits};
+use std::process::Abort;
 use std::test::Fail;
 
-mod batches;
-
-fn served(place: u32, last: u32) -> Served
-    ensures { result.place ≡ place }
+fn opening(src: u16, dst: u16) -> Entry
+    ensures { result ≡ record { flow = record { src = src; dst = dst }; opens = true; clear = false; add = 1 } }
 {
-    Served {
-        item: Item {
-            flow: Flow { src: 0, dst: 1 },
-            need: 0,
-            last,
-        },
-        place,
+    Entry {
+        flow: Flow { src, dst },
+        opens: true,
+        clear: false,
+        add: 1,
     }
 }
 
-// The last slots rise, and items of one last slot stay as they were taken up.
-#[test]
-fn last_slots_rise_and_ties_stay(rt: HostRuntime) -> Result<(), Fail> {
-    let mut items = [served(1, 9), served(2, 8), served(4, 9)];
-    order_served(&mut items);
-    for (entry, place) in items.iter().zip([2, 1, 4]) {
-        assert_eq!(rt; entry.place, place);
+// Where each of the first four endpoints sends in the slot at this place.
+fn check_slot(rt: &impl Abort, stage: &Stage, place: u16, sends: [Option<u16>; 4]) {
+    let slots = stage.slots();
+    assert!(rt; place < slots.slots());
+    assert!(rt; slots.endpoints() > 3);
+    for (src, dst) in sends.iter().enumerate() {
+        assert_eq!(rt; slots.to(place, src as u16), *dst);
     }
+}
+
+// Racks of four endpoints and two cores: the packet within the rack takes no core, and of four to the other rack two wait
+// for the second slot. The list that is left has one piece.
+#[test]
+fn a_rack_sends_two_packets_a_slot(rt: HostRuntime) -> Result<(), Fail> {
+    let alloc = rt.alloc();
+    let mut batch = Batch::with_limits(alloc, Limits { hosts: 4, cores: 2 });
+    batch.push(opening(0, 1))?;
+    batch.push(opening(0, 4))?;
+    batch.push(opening(1, 5))?;
+    batch.push(opening(2, 6))?;
+    batch.push(opening(3, 7))?;
+    let mut stage = Stage::open(alloc, 8, 2)?;
+    stage.begin(&batch, 0, 1);
+    stage.finish(&batch);
+    check_slot(&rt, &stage, 0, [Some(1), Some(5), Some(6), None]);
+    check_slot(&rt, &stage, 1, [Some(4), None, None, Some(7)]);
+    let piece = stage.emit().expect(&rt, "a piece");
+    assert_eq!(rt; piece.items.len(), 5);
+    assert!(rt; piece.end);
     Ok(())
 }

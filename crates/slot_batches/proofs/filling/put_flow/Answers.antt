@@ -1,6 +1,7 @@
 use Rattle.std.proofs.Common.{◌<◌, ◌^◌, length, w64, ◌∙◌, rules, arith}
 use Rattle.std.specs.Int.{trailing_zeros}
-use Rattle.slot_batches.proofs.PutLemmas.{lowest_is, put_one, put_all, last_is_greatest, not_yet}
+use Rattle.endpoint_bitmaps.proofs.Facts.{lowest_is}
+use Rattle.slot_batches.proofs.PutLemmas.{put_one, put_all, last_is_greatest, not_yet}
 use Rattle.slot_batches.proofs.filling.put_flow.Goals as goal
 
 pub put-requires-clause-slot_in_range : goal.put-requires-clause-slot_in_range

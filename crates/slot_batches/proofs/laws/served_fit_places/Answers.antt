@@ -1,5 +1,5 @@
-use Rattle.slot_batches.proofs.RoomLemmas.{served_fit}
+use Rattle.slot_batches.proofs.RoomLemmas.{served_fit_places}
 use Rattle.slot_batches.proofs.laws.served_fit_places.Goals as goal
 
 pub returns : goal.returns
-returns c = served_fit
+returns c = served_fit_places

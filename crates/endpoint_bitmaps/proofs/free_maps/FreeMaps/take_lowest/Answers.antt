@@ -1,11 +1,49 @@
-use Rattle.std.proofs.Common.{◌<◌, ◌^◌, length, ap, sym, ◌∙◌, arith, rules, not, ◌&&◌, ◌==◌}
+use Rattle.std.proofs.Common.{◌≡◌, ◌<◌, ◌^◌, ◌+◌, cond, length, ap, sym, ◌∙◌, arith, rules, not, ◌&&◌, ◌==◌}
+use Rattle.std.specs.Prelude.{vec_len}
+use Rattle.greedy_rules.specs.Limits.{rack_of}
 use Rattle.endpoint_bitmaps.specs.Slots.{has_slot}
-use Rattle.endpoint_bitmaps.specs.FreeSlots.{FreeSlots, is_common, may_send, may_receive}
+use Rattle.endpoint_bitmaps.specs.FreeSlots.{FreeSlots, is_common, may_send, may_receive, leaving_in, entering_in, rack_in, is_between}
 use Rattle.endpoint_bitmaps.proofs.CountLemmas.{is_among_lowest-same}
 use Rattle.endpoint_bitmaps.proofs.WordLemmas.{has_slot-above}
 use Rattle.endpoint_bitmaps.proofs.LowestLemmas.{count_is}
 use Rattle.endpoint_bitmaps.proofs.MapLemmas.{without_taken}
+use Rattle.endpoint_bitmaps.proofs.MapLemmas.{none_taken}
+use Rattle.endpoint_bitmaps.proofs.RackLemmas.{seen_below, seen_rack, taken_links_left, up_left, down_left, links_taken}
 use Rattle.endpoint_bitmaps.proofs.free_maps.FreeMaps.take_lowest.Goals as goal
+
+pub take_links-requires-clause-leaving_left : goal.take_links-requires-clause-leaving_left
+take_links-requires-clause-leaving_left c = λ apart slot here.
+    let m = c.self.inside in
+    let fit = c.self.invariant in
+    let count : vec_len m.senders ≡ length m.senders.items = omega (arith, m.senders.ok) in
+    let from_is = seen_rack (vec_len m.senders) m.limits m.senders.items m.receivers.items m.racks.items m.leaving.taken.items m.leaving.left.items m.entering.taken.items m.entering.left.items fit c.args.self.now c.self.view_is count c.args.src c.requires.src_in_range c.index-from.result.now c.index-from.ensures in
+    let to_is = seen_rack (vec_len m.senders) m.limits m.senders.items m.receivers.items m.racks.items m.leaving.taken.items m.leaving.left.items m.entering.taken.items m.entering.left.items fit c.args.self.now c.self.view_is count c.args.dst c.requires.dst_in_range c.index-to.result.now c.index-to.ensures in
+    let left = taken_links_left (vec_len m.senders) m.limits m.senders.items m.receivers.items m.racks.items m.leaving.taken.items m.leaving.left.items m.entering.taken.items m.entering.left.items
+    fit c.args.src c.args.dst c.index-from.result.now c.index-to.result.now c.args.need c.common.result c.lowest-taken.result slot (search rules) from_is to_is apart
+    (λ k. c.common.ensures k ∙ ap (λ (v : FreeSlots). is_common v c.args.src c.args.dst k) (sym c.self.view_is)) c.lowest-taken.ensures here in
+    up_left (vec_len m.senders) m.limits m.senders.items m.receivers.items m.racks.items m.leaving.taken.items m.leaving.left.items m.entering.taken.items m.entering.left.items
+    fit c.args.src c.args.dst c.index-from.result.now slot (seen_below (vec_len m.senders) m.limits m.senders.items m.receivers.items m.racks.items m.leaving.taken.items m.leaving.left.items m.entering.taken.items m.entering.left.items fit c.args.self.now c.self.view_is count c.args.src c.requires.src_in_range) left.0 from_is left.1
+
+pub take_links-requires-clause-entering_left : goal.take_links-requires-clause-entering_left
+take_links-requires-clause-entering_left c = λ apart slot here.
+    let m = c.self.inside in
+    let fit = c.self.invariant in
+    let count : vec_len m.senders ≡ length m.senders.items = omega (arith, m.senders.ok) in
+    let from_is = seen_rack (vec_len m.senders) m.limits m.senders.items m.receivers.items m.racks.items m.leaving.taken.items m.leaving.left.items m.entering.taken.items m.entering.left.items fit c.args.self.now c.self.view_is count c.args.src c.requires.src_in_range c.index-from.result.now c.index-from.ensures in
+    let to_is = seen_rack (vec_len m.senders) m.limits m.senders.items m.receivers.items m.racks.items m.leaving.taken.items m.leaving.left.items m.entering.taken.items m.entering.left.items fit c.args.self.now c.self.view_is count c.args.dst c.requires.dst_in_range c.index-to.result.now c.index-to.ensures in
+    let left = taken_links_left (vec_len m.senders) m.limits m.senders.items m.receivers.items m.racks.items m.leaving.taken.items m.leaving.left.items m.entering.taken.items m.entering.left.items
+    fit c.args.src c.args.dst c.index-from.result.now c.index-to.result.now c.args.need c.common.result c.lowest-taken.result slot (search rules) from_is to_is apart
+    (λ k. c.common.ensures k ∙ ap (λ (v : FreeSlots). is_common v c.args.src c.args.dst k) (sym c.self.view_is)) c.lowest-taken.ensures here in
+    down_left (vec_len m.senders) m.limits m.senders.items m.receivers.items m.racks.items m.leaving.taken.items m.leaving.left.items m.entering.taken.items m.entering.left.items
+    fit c.args.src c.args.dst c.index-to.result.now slot (seen_below (vec_len m.senders) m.limits m.senders.items m.receivers.items m.racks.items m.leaving.taken.items m.leaving.left.items m.entering.taken.items m.entering.left.items fit c.args.self.now c.self.view_is count c.args.dst c.requires.dst_in_range) left.0 to_is left.1
+
+pub returns-clause-lowest : goal.returns-clause-lowest
+returns-clause-lowest c = λ slot.
+    c.lowest-taken.ensures slot ∙ is_among_lowest-same (has_slot c.common.result) (is_common c.args.self.now c.args.src c.args.dst) c.args.need slot c.common.ensures
+
+pub returns-then-taken-eq0-clause-lowest : goal.returns-then-taken-eq0-clause-lowest
+returns-then-taken-eq0-clause-lowest c = λ slot.
+    c.lowest-taken.ensures slot ∙ is_among_lowest-same (has_slot c.common.result) (is_common c.args.self.now c.args.src c.args.dst) c.args.need slot c.common.ensures
 
 pub returns-clause-count : goal.returns-clause-count
 returns-clause-count c = λ b none.
@@ -15,20 +53,49 @@ returns-clause-count c = λ b none.
     (λ slot. c.lowest-taken.ensures slot ∙ is_among_lowest-same (has_slot c.common.result) common c.args.need slot c.common.ensures)
     (λ slot from. sym (c.common.ensures slot) ∙ has_slot-above c.common.result slot common_fits from) none
 
+pub returns-then-taken-eq0-clause-count : goal.returns-then-taken-eq0-clause-count
+returns-then-taken-eq0-clause-count c = λ b none.
+    let common = is_common c.args.self.now c.args.src c.args.dst in
+    let common_fits : c.common.result < 2 ^ 64 = search rules in
+    count_is 64 c.lowest-taken.result c.args.need b common (search rules)
+    (λ slot. c.lowest-taken.ensures slot ∙ is_among_lowest-same (has_slot c.common.result) common c.args.need slot c.common.ensures)
+    (λ slot from. sym (c.common.ensures slot) ∙ has_slot-above c.common.result slot common_fits from) none
+
 pub returns-clause-taken : goal.returns-clause-taken
 returns-clause-taken c =
-    let maps = c.self.inside in
-    let src_below : c.args.src < length maps.senders.items = omega (arith, ap (λ (m : FreeSlots). m.endpoints) c.self.view_is, maps.senders.ok, c.requires.src_in_range) in
-    let dst_below : c.args.dst < length maps.receivers.items = omega (arith, ap (λ (m : FreeSlots). m.endpoints) c.self.view_is, maps.receivers.ok, c.self.invariant, c.requires.dst_in_range) in
+    let m = c.self.inside in
+    let fit = c.self.invariant in
+    let count : vec_len m.senders ≡ length m.senders.items = omega (arith, m.senders.ok) in
+    let now = c.args.self.now in
+    let view_is = c.self.view_is in
+    let src = c.args.src in
+    let dst = c.args.dst in
+    let taken = c.lowest-taken.result in
+    let src_below : src < length m.senders.items = seen_below (vec_len m.senders) m.limits m.senders.items m.receivers.items m.racks.items m.leaving.taken.items m.leaving.left.items m.entering.taken.items m.entering.left.items fit now view_is count src c.requires.src_in_range in
+    let dst_below : dst < length m.receivers.items = omega (arith, seen_below (vec_len m.senders) m.limits m.senders.items m.receivers.items m.racks.items m.leaving.taken.items m.leaving.left.items m.entering.taken.items m.entering.left.items fit now view_is count dst c.requires.dst_in_range, fit.receivers_count) in
+    let from_is = seen_rack (vec_len m.senders) m.limits m.senders.items m.receivers.items m.racks.items m.leaving.taken.items m.leaving.left.items m.entering.taken.items m.entering.left.items fit now view_is count src c.requires.src_in_range c.index-from.result.now c.index-from.ensures in
+    let to_is = seen_rack (vec_len m.senders) m.limits m.senders.items m.receivers.items m.racks.items m.leaving.taken.items m.leaving.left.items m.entering.taken.items m.entering.left.items fit now view_is count dst c.requires.dst_in_range c.index-to.result.now c.index-to.ensures in
     let sender_fits : c.index_mut.result.now < 2 ^ 64 = search rules in
     let receiver_fits : c.index_mut-2.result.now < 2 ^ 64 = search rules in
-    let taken_fits : c.lowest-taken.result < 2 ^ 64 = search rules in
+    let taken_fits : taken < 2 ^ 64 = search rules in
     record {
-      endpoints = ap (λ (m : FreeSlots). m.endpoints) c.self.view_is;
+      endpoints = ap (λ (v : FreeSlots). v.endpoints) view_is;
+      limits = ap (λ (v : FreeSlots). v.limits) view_is;
       senders = λ endpoint slot.
-          without_taken maps.senders.items c.args.src c.index_mut.result.now c.lowest-taken.result endpoint slot src_below sender_fits taken_fits c.index_mut.ensures.value
-          ∙ ap (λ (m : FreeSlots). may_send m endpoint slot && not ((endpoint == c.args.src) && has_slot c.lowest-taken.result slot)) c.self.view_is;
+          without_taken m.senders.items src c.index_mut.result.now taken endpoint slot src_below sender_fits taken_fits c.index_mut.ensures.value
+          ∙ ap (λ (v : FreeSlots). may_send v endpoint slot && not ((endpoint == src) && has_slot taken slot)) view_is;
       receivers = λ endpoint slot.
-          without_taken maps.receivers.items c.args.dst c.index_mut-2.result.now c.lowest-taken.result endpoint slot dst_below receiver_fits taken_fits c.index_mut-2.ensures.value
-          ∙ ap (λ (m : FreeSlots). may_receive m endpoint slot && not ((endpoint == c.args.dst) && has_slot c.lowest-taken.result slot)) c.self.view_is;
+          without_taken m.receivers.items dst c.index_mut-2.result.now taken endpoint slot dst_below receiver_fits taken_fits c.index_mut-2.ensures.value
+          ∙ ap (λ (v : FreeSlots). may_receive v endpoint slot && not ((endpoint == dst) && has_slot taken slot)) view_is;
+      leaving = λ rack slot below.
+          links_taken m.limits.hosts src dst c.index-from.result.now c.index-from.result.now c.index-to.result.now (rack_of m.limits.hosts src) slot (has_slot taken) m.leaving.taken.items
+          c.take_links.new.leaving.taken.items below from_is from_is to_is c.take_links.ensures.leaving rack
+          ∙ ap (λ (v : FreeSlots). leaving_in v rack slot + cond ((rack == rack_in v src) && (is_between v src dst && has_slot taken slot)) 1 0) view_is;
+      entering = λ rack slot below.
+          links_taken m.limits.hosts src dst c.index-to.result.now c.index-from.result.now c.index-to.result.now (rack_of m.limits.hosts dst) slot (has_slot taken) m.entering.taken.items
+          c.take_links.new.entering.taken.items below to_is from_is to_is c.take_links.ensures.entering rack
+          ∙ ap (λ (v : FreeSlots). entering_in v rack slot + cond ((rack == rack_in v dst) && (is_between v src dst && has_slot taken slot)) 1 0) view_is;
     }
+
+pub returns-then-taken-eq0-clause-taken : goal.returns-then-taken-eq0-clause-taken
+returns-then-taken-eq0-clause-taken c = none_taken c.args.src c.args.dst c.lowest-taken.result c.args.self.now c.if-taken-eq0.true

@@ -1,17 +1,26 @@
-use Rattle.std.proofs.Common.{refl, ap, ◌∙◌}
+use Rattle.std.proofs.Common.{refl, sym, ap, ◌∙◌, subst}
 use Rattle.greedy_rules.specs.SlotTable.{Slots}
-use Rattle.slot_batches.proofs.FinishLemmas.{complete}
-use Rattle.slot_batches.proofs.PieceLemmas.{starts_giving}
+use Rattle.slot_batches.specs.Parts.{fill_of}
+use Rattle.slot_batches.specs.Stands.{StageState, HasBeenFed, first_slot_of, batch_size_of}
+use Rattle.slot_batches.proofs.StandsLemmas.{stands_finished}
 use Rattle.slot_batches.proofs.stage.Stage.finish.Goals as goal
 
-pub returns-clause-slots : goal.returns-clause-slots
-returns-clause-slots c = λ fed stands.
-    let opens = c.open_flows.ensures in
-    let ends = complete _ _ c.args.batch.now fed c.open_flows.new.self.filling opens.work.same_first opens.work.same_size opens.room.few_endpoints stands.may.in_order (opens.taken_up fed stands) in
-    ap (λ (t : Slots). t.slots) c.end.ensures.slots ∙ ends.slots
+pub open_due-requires-clause-fed : goal.open_due-requires-clause-fed
+open_due-requires-clause-fed c =
+    let fed = c.requires.0 in
+    (fed, subst (λ (s : StageState). HasBeenFed c.args.batch.now fed s.fill s.unopened) (sym c.self.view_is) (c.requires.2.feeding refl))
 
-pub returns-clause-list : goal.returns-clause-list
-returns-clause-list c = λ fed stands.
-    let opens = c.open_flows.ensures in
-    let ends = complete _ _ c.args.batch.now fed c.open_flows.new.self.filling opens.work.same_first opens.work.same_size opens.room.few_endpoints stands.may.in_order (opens.taken_up fed stands) in
-    starts_giving _ _ (c.end.ensures.list ∙ ends.left) ends.few refl refl
+pub returns-clause-stands : goal.returns-clause-stands
+returns-clause-stands c = λ fed given stands.
+    let batch = c.args.batch.now in
+    let view_is = c.self.view_is in
+    let old = fill_of c.self.inside.filling in
+    let mid = fill_of c.open_due.new.filling in
+    let opens = c.open_due.ensures in
+    let ends = c.end.ensures in
+    let so_far : HasBeenFed batch fed old c.self.inside.unopened = subst (λ (s : StageState). HasBeenFed batch fed s.fill s.unopened) (sym view_is) (stands.feeding refl) in
+    stands_finished batch fed given c.args.self.now _ mid stands (opens.taken_up fed so_far)
+    (opens.same.same_limits ∙ ap (λ (s : StageState). s.fill.maps.limits) view_is) (opens.same.same_endpoints ∙ ap (λ (s : StageState). s.fill.endpoints) view_is)
+    (opens.same.same_first ∙ ap first_slot_of view_is) (opens.same.same_b ∙ ap batch_size_of view_is) (ap (λ (t : Slots). t.slots) ends.slots) ends.list
+    (ends.same.same_first ∙ (opens.same.same_first ∙ ap first_slot_of view_is)) (ends.same.same_b ∙ (opens.same.same_b ∙ ap batch_size_of view_is))
+    (ap (λ (s : StageState). s.marks) view_is) (ap (λ (s : StageState). s.given) view_is) refl

@@ -1,0 +1,74 @@
+ghost use Rattle.std.specs.Prelude.{◌≡◌, ◌<◌, ◌≤◌, ◌==◌, ℕ, IfOk, vec_len, true};
+ghost use Rattle.std.specs.List.{slice_index_or};
+ghost use Rattle.endpoint_bitmaps.specs.Slots.{has_slot};
+ghost use Rattle.endpoint_bitmaps.specs.Links.{taken_in, HasTakenLinks, ShowsLeft};
+
+use no_memory::NoMemory;
+use std::alloc::Global;
+
+/// The links of one direction between racks and cores, in each slot of a batch: how many a rack has taken, rack after rack
+/// and 64 slots each, and as bits in which slots it has one left.
+#[derive(Debug, Drop)]
+pub(crate) struct RackLinks {
+    pub(crate) taken: Vec<u8>,
+    pub(crate) left: Vec<u64>,
+}
+
+impl RackLinks {
+    /// Links of so many racks, none of which has one left in any slot.
+    pub(crate) fn open(alloc: Global, racks: u16) -> Result<RackLinks, NoMemory>
+        ensures racks { IfOk result (λ links. vec_len links.left ≡ racks) }
+        ensures left { IfOk result (λ links. ShowsLeft 0 links.taken.items links.left.items) }
+    {
+        Ok(RackLinks {
+            taken: vec![in alloc; 0; racks as usize * 64]?,
+            left: vec![in alloc; 0; racks as usize]?,
+        })
+    }
+
+    /// Lets every rack have this many links in each slot, with none taken.
+    pub(crate) fn clear(&mut self, cores: u16)
+        requires some { 1 ≤ cores }
+        requires count { (before : ℕ) × ShowsLeft before self.old.taken.items self.old.left.items }
+        ensures racks { vec_len self.new.left ≡ vec_len self.old.left }
+        ensures none { (rack slot : ℕ) → taken_in self.new.taken.items rack slot ≡ 0 }
+        ensures left { ShowsLeft cores self.new.taken.items self.new.left.items }
+    {
+        self.taken.fill(0);
+        self.left.fill(u64::MAX);
+    }
+
+    /// Takes one of the rack's `cores` links in each of these slots, in which it has one left.
+    pub(crate) fn take(&mut self, rack: u16, slots: u64, cores: u16)
+        requires cores { cores ≤ 64 }
+        requires rack { rack < vec_len self.old.left }
+        requires shows { ShowsLeft cores self.old.taken.items self.old.left.items }
+        requires left { (slot : ℕ) → has_slot slots slot ≡ true → has_slot (slice_index_or self.old.left.items rack 0) slot ≡ true }
+        ensures racks { vec_len self.new.left ≡ vec_len self.old.left }
+        ensures taken { HasTakenLinks rack (has_slot slots) self.old.taken.items self.new.taken.items }
+        ensures shows { ShowsLeft cores self.new.taken.items self.new.left.items }
+    {
+        let mut rest = slots;
+        while rest != 0 {
+            self.take_one(rack, rest.trailing_zeros(), cores);
+            rest &= rest - 1;
+        }
+    }
+
+    fn take_one(&mut self, rack: u16, slot: u32, cores: u16)
+        requires cores { cores ≤ 64 }
+        requires rack { rack < vec_len self.old.left }
+        requires slot { slot < 64 }
+        requires shows { ShowsLeft cores self.old.taken.items self.old.left.items }
+        requires left { has_slot (slice_index_or self.old.left.items rack 0) slot ≡ true }
+        ensures racks { vec_len self.new.left ≡ vec_len self.old.left }
+        ensures taken { HasTakenLinks rack (λ at. at == slot) self.old.taken.items self.new.taken.items }
+        ensures shows { ShowsLeft cores self.new.taken.items self.new.left.items }
+    {
+        let place = rack as usize * 64 + slot as usize;
+        self.taken[place] += 1;
+        if u16::from(self.taken[place]) == cores {
+            self.left[rack as usize] &= !(1 << slot);
+        }
+    }
+}

@@ -1,0 +1,104 @@
+use Rattle.std.proofs.Common.{◌≤◌, ◌+◌, ◌-◌, ◌++◌, ℕ, List, false, length, take, drop, sym, ◌∙◌, subst, arith}
+use Rattle.std.proofs.lemmas.List.{take_all, length-take, length-drop}
+use Rattle.greedy_rules.specs.declared.flows.Item.{Item}
+use Rattle.slot_batches.specs.Stands.{StageState, IsSameWork, Stands, endpoints_of, first_slot_of, batch_size_of, number_of}
+use Rattle.slot_batches.proofs.FedLemmas.{one_more_fed, may_next, part_on, may_feed_rest}
+use Rattle.slot_batches.proofs.stage.Stage.feed_items.Goals as goal
+
+abbrev nothing : Item
+nothing = record { flow = record { src = 0; dst = 0 }; need = 0; last = 0 }
+
+-- one work after the other
+same_on : (was mid now : StageState) → IsSameWork (endpoints_of was) (batch_size_of was) (number_of was) (first_slot_of was) mid
+    → IsSameWork (endpoints_of mid) (batch_size_of mid) (number_of mid) (first_slot_of mid) now → IsSameWork (endpoints_of was) (batch_size_of was) (number_of was) (first_slot_of was) now
+same_on was mid now first then = record {
+  same_endpoints = then.same_endpoints ∙ first.same_endpoints;
+  same_size = then.same_size ∙ first.same_size;
+  same_number = then.same_number ∙ first.same_number;
+  same_first = then.same_first ∙ first.same_first;
+}
+
+pub keep_resting-from-requires : goal.keep_resting-from-requires
+keep_resting-from-requires c =
+    let items = c.args.items.now in
+    let was = c.args.self.now in
+    let so_far = c.loop-from.invariant in
+    let may = c.requires.may in
+    record {
+      may = (
+        c.args.batch.now,
+        may.0 ++ take c.loop-from.from items,
+        may.1,
+        so_far.stands may.0 may.1 may.2 may.3,
+        may_feed_rest c.args.batch.now.entries (endpoints_of was) (first_slot_of was) (endpoints_of c.loop-from.self) (first_slot_of c.loop-from.self) may.0 items c.loop-from.from may.3
+            so_far.work.same_endpoints so_far.work.same_first,
+      );
+    }
+
+pub feed-requires-clause-may : goal.feed-requires-clause-may
+feed-requires-clause-may c =
+    let batch = c.args.batch.now in
+    let items = c.args.items.now in
+    let was = c.args.self.now in
+    let from : ℕ = c.loop-from.from in
+    let count : ℕ = c.keep_resting-from.result in
+    let so_far = c.loop-from.invariant in
+    let may = c.requires.may in
+    let rest = may_feed_rest batch.entries (endpoints_of was) (first_slot_of was) (endpoints_of c.loop-from.self) (first_slot_of c.loop-from.self) may.0 items from may.3
+    so_far.work.same_endpoints so_far.work.same_first in
+    let work = same_on was c.loop-from.self c.keep_resting-from.new.self so_far.work c.keep_resting-from.ensures.work in (
+      may.0 ++ take (from + count) items,
+      may.1,
+      subst (λ (xs : List Item). Stands batch xs false may.1 c.keep_resting-from.new.self) (part_on may.0 items from count)
+          (c.keep_resting-from.ensures.stands batch (may.0 ++ take from items) may.1 (so_far.stands may.0 may.1 may.2 may.3) rest),
+      may_next batch.entries (endpoints_of was) (first_slot_of was) (endpoints_of c.keep_resting-from.new.self) (first_slot_of c.keep_resting-from.new.self) may.0 items (from + count) nothing
+          c.if-from-items.true may.3 work.same_endpoints work.same_first,
+    )
+
+pub loop-from-preserved-then-from-items : goal.loop-from-preserved-then-from-items
+loop-from-preserved-then-from-items c =
+    let batch = c.args.batch.now in
+    let items = c.args.items.now in
+    let was = c.args.self.now in
+    let from : ℕ = c.loop-from.from in
+    let count : ℕ = c.keep_resting-from.result in
+    let so_far = c.loop-from.invariant in
+    let mid = c.keep_resting-from.new.self in
+    let work = same_on was c.loop-from.self mid so_far.work c.keep_resting-from.ensures.work in
+    record {
+      within = omega (arith, c.if-from-items.true);
+      stands = λ fed given stands may.
+          let rest = may_feed_rest batch.entries (endpoints_of was) (first_slot_of was) (endpoints_of c.loop-from.self) (first_slot_of c.loop-from.self) fed items from may
+          so_far.work.same_endpoints so_far.work.same_first in
+          subst (λ (xs : List Item). Stands batch xs false given c.feed.new.self) (sym (one_more_fed fed items (from + count) nothing c.if-from-items.true))
+          (c.feed.ensures.stands (fed ++ take (from + count) items) given
+          (subst (λ (xs : List Item). Stands batch xs false given mid) (part_on fed items from count)
+          (c.keep_resting-from.ensures.stands batch (fed ++ take from items) given (so_far.stands fed given stands may) rest))
+          (may_next batch.entries (endpoints_of was) (first_slot_of was) (endpoints_of mid) (first_slot_of mid) fed items (from + count) nothing c.if-from-items.true may work.same_endpoints work.same_first));
+      work = same_on was mid c.feed.new.self work c.feed.ensures.work;
+    }
+
+pub loop-from-preserved : goal.loop-from-preserved
+loop-from-preserved c =
+    let batch = c.args.batch.now in
+    let items = c.args.items.now in
+    let was = c.args.self.now in
+    let from : ℕ = c.loop-from.from in
+    let count : ℕ = c.keep_resting-from.result in
+    let so_far = c.loop-from.invariant in
+    let mid = c.keep_resting-from.new.self in
+    record {
+      within = omega (arith, c.keep_resting-from.ensures.within, length-take (length items - from) (drop from items), length-drop from items, so_far.within);
+      stands = λ fed given stands may.
+          let rest = may_feed_rest batch.entries (endpoints_of was) (first_slot_of was) (endpoints_of c.loop-from.self) (first_slot_of c.loop-from.self) fed items from may
+          so_far.work.same_endpoints so_far.work.same_first in
+          subst (λ (xs : List Item). Stands batch xs false given mid) (part_on fed items from count)
+          (c.keep_resting-from.ensures.stands batch (fed ++ take from items) given (so_far.stands fed given stands may) rest);
+      work = same_on was c.loop-from.self mid so_far.work c.keep_resting-from.ensures.work;
+    }
+
+pub returns-clause-stands : goal.returns-clause-stands
+returns-clause-stands c = λ fed given stands may.
+    let items = c.args.items.now in
+    let all : length items ≤ c.loop-from.from = omega (arith, c.loop-from-test.false) in
+    subst (λ (xs : List Item). Stands c.args.batch.now (fed ++ xs) false given c.loop-from.self) (take_all c.loop-from.from items all) (c.loop-from.invariant.stands fed given stands may)
