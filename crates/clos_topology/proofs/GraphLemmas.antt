@@ -5,12 +5,13 @@ use Rattle.std.proofs.lemmas.Bool.{cond-true, cond-false, cases_Bool, eqb-false}
 use Rattle.std.proofs.lemmas.List.Elements.{All-nil, All-cons, All-head, All-tail}
 use Rattle.greedy_rules.specs.declared.flows.Flow.{Flow}
 use Rattle.greedy_rules.specs.SlotTable.{destination_of, IsSlotOf}
-use Rattle.greedy_rules.proofs.Pairs.{AllPairs-nil, AllPairs-cons, AllPairs-head, AllPairs-tail}
+use Rattle.list_facts.proofs.Pairs.{AllPairs-nil, AllPairs-cons, AllPairs-head, AllPairs-tail}
 use Rattle.clos_topology.specs.declared.graph.Edge.{Edge}
-use Rattle.clos_topology.specs.Network.{Network, endpoints_of, rack_of}
+use Rattle.greedy_rules.specs.Limits.{rack_of}
+use Rattle.clos_topology.specs.Network.{Network, endpoints_of}
 use Rattle.clos_topology.specs.Limits.{IsNetwork}
 use Rattle.clos_topology.specs.RackGraph.{rack_edges, IsEdgeOf, IsGraphOf}
-use Rattle.clos_topology.proofs.SlotWalk.{before, before_more, before-all, sent, this_source, other_source}
+use Rattle.greedy_rules.proofs.Facts.{before, before_more, before-all, sent, this_source, other_source}
 
 pub rack_edges-append : (hosts : ℕ) (xs ys : List Flow) → rack_edges hosts (xs ++ ys) ≡ rack_edges hosts xs ++ rack_edges hosts ys
 rack_edges-append hosts [] ys = refl

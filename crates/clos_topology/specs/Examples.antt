@@ -1,7 +1,7 @@
 -- Small networks in full.
 use Rattle.std.specs.Prelude.{◌≡◌, ℕ, [], ◌∷◌, Ok, Err}
 use Rattle.greedy_rules.specs.declared.flows.Flow.{Flow}
-use Rattle.clos_topology.specs.declared.net.NetRefused.TheVariants.{Range, Cores}
+use Rattle.clos_topology.specs.declared.net.NetRefused.TheVariants.{Range}
 use Rattle.clos_topology.specs.declared.graph.Edge.{Edge}
 use Rattle.clos_topology.specs.Limits.{network_of}
 use Rattle.clos_topology.specs.Links.{links, up, rise, fall, down}
@@ -13,11 +13,11 @@ flow src dst = record { src = src; dst = dst }
 abbrev pub edge : ℕ → ℕ → ℕ → Edge
 edge source left right = record { source = source; left = left; right = right }
 
--- One rack needs no core for its hosts; two racks need one for each host of a rack; and all have their limits.
+-- There may be more hosts in a rack than cores; and each number has its limits.
 abbrev pub NetworksAndRefusals : Type 0
 NetworksAndRefusals =
     (network_of 1 64 1 ≡ Ok (record { racks = 1; hosts = 64; cores = 1 }))
-    × (network_of 2 3 2 ≡ Err Cores)
+    × (network_of 2 3 2 ≡ Ok (record { racks = 2; hosts = 3; cores = 2 }))
     × (network_of 64 4 4 ≡ Ok (record { racks = 64; hosts = 4; cores = 4 }))
     × (network_of 64 5 64 ≡ Err Range)
     × (network_of 65 1 64 ≡ Err Range)

@@ -1,7 +1,7 @@
 -- Which networks there are (this project's own profile).
-use Rattle.std.specs.Prelude.{◌≤◌, ℕ, ◌*◌, Bool, not, ◌&&◌, nat_lt, nat_le, Result, Ok, Err, if◌then◌else◌}
+use Rattle.std.specs.Prelude.{◌≤◌, ℕ, ◌*◌, Bool, ◌&&◌, nat_le, Result, Ok, Err, if◌then◌else◌}
 use Rattle.clos_topology.specs.declared.net.NetRefused.{NetRefused}
-use Rattle.clos_topology.specs.declared.net.NetRefused.TheVariants.{Range, Cores}
+use Rattle.clos_topology.specs.declared.net.NetRefused.TheVariants.{Range}
 use Rattle.clos_topology.specs.Network.{Network, endpoints_of}
 
 abbrev pub is_size : ℕ → Bool
@@ -11,16 +11,10 @@ is_size number = nat_le 1 number && nat_le number 64
 abbrev pub is_in_range : ℕ → ℕ → ℕ → Bool
 is_in_range racks hosts cores = is_size racks && is_size hosts && is_size cores && nat_le (racks * hosts) 256
 
--- more hosts of a rack may send to other racks than there are cores
-abbrev pub lacks_cores : ℕ → ℕ → ℕ → Bool
-lacks_cores racks hosts cores = nat_le 2 racks && nat_lt cores hosts
-
 -- the network of three numbers, or why there is none
 abbrev pub network_of : ℕ → ℕ → ℕ → Result Network NetRefused
 network_of racks hosts cores =
-    if not (is_in_range racks hosts cores) then Err Range
-    else (if lacks_cores racks hosts cores then Err Cores
-    else Ok (record { racks = racks; hosts = hosts; cores = cores }))
+    if is_in_range racks hosts cores then Ok (record { racks = racks; hosts = hosts; cores = cores }) else Err Range
 
 -- what holds of every network
 pub record IsNetwork (net : Network) : Type 0 where
@@ -31,6 +25,3 @@ pub record IsNetwork (net : Network) : Type 0 where
   pub most_hosts : net.hosts ≤ 64
   pub most_cores : net.cores ≤ 64
   pub most_endpoints : endpoints_of net ≤ 256
-
-abbrev pub HasEnoughCores : Network → Type 0
-HasEnoughCores net = 2 ≤ net.racks → net.hosts ≤ net.cores

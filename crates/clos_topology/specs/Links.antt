@@ -1,7 +1,7 @@
 -- The directed links that a packet uses, and when the paths of a slot are clean (the SIGCOMM 2014 Fastpass paper).
 use Rattle.std.specs.Prelude.{◌≡◌, ◌≢◌, ◌<◌, ℕ, List, [], ◌∷◌, ◌++◌, ◌==◌, Option, All, AllPairs, Contains, MatchOption, unwrap_or, if◌then◌else◌}
 use Rattle.greedy_rules.specs.declared.flows.Flow.{Flow}
-use Rattle.clos_topology.specs.Network.{rack_of}
+use Rattle.greedy_rules.specs.Limits.{rack_of}
 
 -- up from an endpoint to its rack's switch, from a rack's switch up to a core, from a core down to a rack's switch, and
 -- from a rack's switch down to an endpoint

@@ -1,6 +1,6 @@
 -- The two-tier Clos network (the SIGCOMM 2014 Fastpass paper): racks of hosts, each rack with one switch, and core switches,
 -- each with a link to every rack's switch. Endpoints are numbered rack by rack.
-use Rattle.std.specs.Prelude.{ℕ, ◌*◌, ◌/◌}
+use Rattle.std.specs.Prelude.{ℕ, ◌*◌}
 
 pub record Network : Type 0 where
   pub racks : ℕ
@@ -9,7 +9,3 @@ pub record Network : Type 0 where
 
 abbrev pub endpoints_of : Network → ℕ
 endpoints_of net = net.racks * net.hosts
-
--- the rack of an endpoint, where each rack has so many hosts
-abbrev pub rack_of : ℕ → ℕ → ℕ
-rack_of hosts endpoint = endpoint / hosts

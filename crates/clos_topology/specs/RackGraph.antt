@@ -3,7 +3,8 @@
 use Rattle.std.specs.Prelude.{◌≡◌, ◌≢◌, ◌<◌, ℕ, List, [], ◌∷◌, ◌==◌, All, AllPairs, if◌then◌else◌}
 use Rattle.greedy_rules.specs.declared.flows.Flow.{Flow}
 use Rattle.clos_topology.specs.declared.graph.Edge.{Edge}
-use Rattle.clos_topology.specs.Network.{Network, endpoints_of, rack_of}
+use Rattle.greedy_rules.specs.Limits.{rack_of}
+use Rattle.clos_topology.specs.Network.{Network, endpoints_of}
 
 -- the edges of a slot, in the slot's order, which is by source
 abbrev pub rack_edges : ℕ → List Flow → List Edge

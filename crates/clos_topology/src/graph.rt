@@ -1,6 +1,7 @@
 ghost use Rattle.std.specs.Prelude.{◌≡◌, ◌<◌, ◌≤◌, ◌↔◌, IsTrue, Some, List, [], ◌∷◌, ◌++◌, ◌+◌, ◌^◌, length, All, IfOk, slice_get, vec_len, vec_capacity};
 ghost use Rattle.greedy_rules.specs.Schedule.{slot_in};
-ghost use Rattle.clos_topology.specs.Network.{endpoints_of, rack_of};
+ghost use Rattle.greedy_rules.specs.Limits.{rack_of};
+ghost use Rattle.clos_topology.specs.Network.{endpoints_of};
 ghost use Rattle.clos_topology.specs.RackGraph.{rack_edges, IsGraphOf};
 
 use crate::net::Net;

@@ -1,6 +1,7 @@
 ghost use Rattle.std.specs.Prelude.{◌≡◌, ◌<◌, ◌≤◌, ◌*◌, IsTrue, Result, Ok, Err};
-ghost use Rattle.clos_topology.specs.Network.{Network, endpoints_of, rack_of};
-ghost use Rattle.clos_topology.specs.Limits.{network_of, is_size, IsNetwork, HasEnoughCores};
+ghost use Rattle.greedy_rules.specs.Limits.{rack_of};
+ghost use Rattle.clos_topology.specs.Network.{Network, endpoints_of};
+ghost use Rattle.clos_topology.specs.Limits.{network_of, is_size, IsNetwork};
 
 use std::marker::Model;
 
@@ -14,7 +15,6 @@ const MOST_ENDPOINTS: u16 = 256;
 #[derive(Clone, Copy, Debug, PartialEq, Eq)]
 pub enum NetRefused {
     Range,
-    Cores,
 }
 
 /// A network of racks; endpoints are numbered from 0, rack by rack.
@@ -27,28 +27,25 @@ pub struct Net {
 
 impl Model for Net {
     ghost use Rattle.clos_topology.specs.Network.{Network};
-    ghost use Rattle.clos_topology.specs.Limits.{IsNetwork, HasEnoughCores};
+    ghost use Rattle.clos_topology.specs.Limits.{IsNetwork};
 
     ghost Value = { Network };
 
     ghost view = { λ n. record { racks = n.racks; hosts = n.hosts; cores = n.cores } };
 
-    ghost invariant = { λ n. IsNetwork (record { racks = n.racks; hosts = n.hosts; cores = n.cores }) × HasEnoughCores (record { racks = n.racks; hosts = n.hosts; cores = n.cores }) };
+    ghost invariant = { λ n. IsNetwork (record { racks = n.racks; hosts = n.hosts; cores = n.cores }) };
 
     ghost inverse = { λ v. record { racks = v.racks; hosts = v.hosts; cores = v.cores } };
 }
 
 impl Net {
     /// The network of so many racks, hosts in each, and cores. Range where one of them is outside 1 to 64 or there are
-    /// more than 256 endpoints; else Cores where there are two racks or more, and more hosts than cores.
+    /// more than 256 endpoints.
     pub fn new(racks: u16, hosts: u16, cores: u16) -> Result<Net, NetRefused>
         ensures { result ≡ network_of racks hosts cores }
     {
         if !is_size(racks) || !is_size(hosts) || !is_size(cores) || racks * hosts > MOST_ENDPOINTS {
             return Err(NetRefused::Range);
-        }
-        if racks >= 2 && hosts > cores {
-            return Err(NetRefused::Cores);
         }
         Ok(Net {
             racks,
@@ -76,7 +73,6 @@ impl Net {
     pub fn cores(&self) -> u16
         ensures number { result ≡ self.now.cores }
         ensures limits { IsNetwork self.now }
-        ensures enough { HasEnoughCores self.now }
     {
         self.cores
     }

@@ -9,12 +9,10 @@ use std::test::Fail;
 #[test]
 fn networks_and_refusals(rt: HostRuntime) -> Result<(), Fail> {
     let range = Some(NetRefused::Range);
-    let cores = Some(NetRefused::Cores);
     let cases = [
         (1, 1, 1, None),
         (1, 64, 1, None),
-        (2, 3, 2, cores),
-        (2, 3, 3, None),
+        (2, 64, 1, None),
         (64, 4, 4, None),
         (64, 5, 5, range),
         (65, 1, 64, range),

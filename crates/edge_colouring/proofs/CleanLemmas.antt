@@ -7,9 +7,9 @@ use Rattle.std.proofs.lemmas.List.Elements.{All-nil, All-cons, All-head, All-tai
 use Rattle.std.proofs.lemmas.List.{get_or_default}
 use Rattle.greedy_rules.specs.declared.flows.Flow.{Flow}
 use Rattle.greedy_rules.specs.Matching.{IsMatching}
-use Rattle.greedy_rules.proofs.Pairs.{AllPairs-nil, AllPairs-cons, AllPairs-head, AllPairs-tail}
+use Rattle.list_facts.proofs.Pairs.{AllPairs-nil, AllPairs-cons, AllPairs-head, AllPairs-tail}
 use Rattle.clos_topology.specs.declared.graph.Edge.{Edge}
-use Rattle.clos_topology.specs.Network.{rack_of}
+use Rattle.greedy_rules.specs.Limits.{rack_of}
 use Rattle.clos_topology.specs.Links.{Link, up, rise, fall, down, links, CoreOf, IsClean}
 use Rattle.clos_topology.specs.RackGraph.{rack_edges}
 use Rattle.edge_colouring.specs.Colouring.{AreApart, IsColouring, MakesClean}

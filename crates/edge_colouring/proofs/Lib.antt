@@ -7,3 +7,5 @@ pub mod CleanLemmas
 pub mod TableLemmas
 pub mod PathLemmas
 pub mod ExistenceLemmas
+pub mod LimitLemmas
+pub mod ShownLemmas

@@ -5,8 +5,11 @@ use Rattle.std.specs.Option.{is_some}
 use Rattle.std.proofs.lemmas.Bool.{cond-true, cond-false, cases_eq, eq-eqb, ne_eqb}
 use Rattle.std.proofs.lemmas.List.{get_or-replicate, get_or-set_same, get_or-set_other, get_or_read, length-replicate, length-set}
 use Rattle.std.proofs.lemmas.Nat.Bits.{bit_at_set_same, bit_at_set_other, bit_at_clear_same, bit_at_clear_other, bit_at-trailing_zeros, bit_at-zero, bit_at_ones, bit_at_and}
-use Rattle.edge_colouring.specs.Holders.{with_holder, is_free, IsRackOf, IsLowest, AreMasks}
-use Rattle.edge_colouring.proofs.HoldsLemmas.{get_or-no_holders}
+use Rattle.edge_colouring.specs.Holders.{Holders, is_free, IsLowest}
+
+-- the masks of a side: at each rack a bit for each core, 1 where it is free
+abbrev pub AreMasks : List ℕ → Holders → Type 0
+AreMasks masks holders = (rack core : ℕ) → rack < length masks → core < 64 → bit_at (get_or masks rack 0) core ≡ cond (is_free holders rack core) 1 0
 
 pub bit_set : (mask at i : ℕ) (bit : Bool) → at < 64 → bit ≡ true → bit_at (bit_or mask (1 * 2 ^ at % 2 ^ 64)) i ≡ cond (i == at) (cond bit 1 0) (bit_at mask i)
 bit_set mask at i bit small is =
@@ -91,42 +94,3 @@ lowest_common_read masks other_masks H other rack other_rack core m n are others
     let n_at : n ≡ get_or other_masks other_rack 0 = get_or_read other_masks other_rack n other_below n_is 0 in
     lowest_common_is masks other_masks H other rack other_rack core are others below other_below
     (subst (λ p. IsLowest (λ k. bit_at (bit_and (get_or masks rack 0) p) k == 1) core) n_at (subst (λ p. IsLowest (λ k. bit_at (bit_and p n) k == 1) core) m_at is))
-
-pub all_free : (n m : ℕ) → AreMasks (replicate n (2 ^ 64 - 1)) (replicate m None)
-all_free n m rack core below small =
-    let in_n : rack < n = omega (arith, length-replicate n (2 ^ 64 - 1)) in
-    ap (λ (mask : ℕ). bit_at mask core) (get_or-replicate n rack (2 ^ 64 - 1) 0 in_n)
-    ∙ (bit_at_ones 64 core small
-    ∙ sym (cond-true (is_free (replicate m None) rack core) 1 0 (ap (λ (o : Option ℕ). not (is_some o)) (get_or-no_holders m (rack * 64 + core)))))
-
--- one core's holder and bit are written
-pub AreMasks-put : (masks : List ℕ) (H : List (Option ℕ)) (rack core bits : ℕ) (edge : Option ℕ) → AreMasks masks H → rack < length masks → core < 64 → IsRackOf H rack
-    → ((i : ℕ) → i < 64 → bit_at bits i ≡ cond (i == core) (cond (not (is_some edge)) 1 0) (bit_at (get_or masks rack 0) i))
-    → AreMasks (set masks rack bits) (with_holder H rack core edge)
-AreMasks-put masks H rack core bits edge are below small room bits_are r k r_below k_small =
-    let q : ℕ = rack * 64 + core in
-    let free_at : List (Option ℕ) → ℕ = λ holders. cond (is_free holders r k) 1 0 in
-    let in_masks : r < length masks = omega (arith, length-set masks rack bits) in
-    elim (cases_eq r rack) [
-      | inl same ↦
-          let mask_is : get_or (set masks rack bits) r 0 ≡ bits = ap (λ (i : ℕ). get_or (set masks rack bits) i 0) same ∙ get_or-set_same masks rack bits 0 below in
-          ap (λ (mask : ℕ). bit_at mask k) mask_is ∙ (bits_are k k_small
-          ∙ elim (cases_eq k core) [
-            | inl here ↦
-                let place_is : r * 64 + k ≡ q = omega arith in
-                let held : get_or (set H q edge) (r * 64 + k) None ≡ edge = ap (λ (p : ℕ). get_or (set H q edge) p None) place_is ∙ get_or-set_same H q edge None (omega arith) in
-                cond-true (k == core) (cond (not (is_some edge)) 1 0) (bit_at (get_or masks rack 0) k) (eq-eqb k core here)
-                ∙ sym (ap (λ (o : Option ℕ). cond (not (is_some o)) 1 0) held)
-            | inr there ↦
-                let place_is : r * 64 + k ≢ q = λ e. there (omega arith) in
-                let held : get_or (set H q edge) (r * 64 + k) None ≡ get_or H (r * 64 + k) None = get_or-set_other H q (r * 64 + k) edge None place_is in
-                cond-false (k == core) (cond (not (is_some edge)) 1 0) (bit_at (get_or masks rack 0) k) (ne_eqb k core there)
-                ∙ (ap (λ (i : ℕ). bit_at (get_or masks i 0) k) (sym same)
-                ∙ (are r k in_masks k_small ∙ sym (ap (λ (o : Option ℕ). cond (not (is_some o)) 1 0) held)))
-          ])
-      | inr other ↦
-          let place_is : r * 64 + k ≢ q = λ e. other (omega arith) in
-          let held : get_or (set H q edge) (r * 64 + k) None ≡ get_or H (r * 64 + k) None = get_or-set_other H q (r * 64 + k) edge None place_is in
-          ap (λ (mask : ℕ). bit_at mask k) (get_or-set_other masks rack r bits 0 other)
-          ∙ (are r k in_masks k_small ∙ sym (ap (λ (o : Option ℕ). cond (not (is_some o)) 1 0) held))
-    ]

@@ -1,7 +1,11 @@
 -- Degrees of a bipartite multigraph of racks, and the first that is too large (König's theorem; which of several is named is
 -- this project's own profile).
-use Rattle.std.specs.Prelude.{◌≡◌, ◌<◌, ◌≤◌, ℕ, List, length, map, count_by, slice_index, All, Bool, true, false, ◌==◌}
+use Rattle.std.specs.Prelude.{◌≡◌, ◌↔◌, ◌<◌, ◌≤◌, ℕ, List, length, map, count_by, slice_index, All, Bool, true, false, ◌==◌}
+use Rattle.greedy_rules.specs.declared.flows.Flow.{Flow}
+use Rattle.greedy_rules.specs.declared.limits.Limits.{Limits}
+use Rattle.greedy_rules.specs.Limits.{KeepsLimits}
 use Rattle.clos_topology.specs.declared.graph.Edge.{Edge}
+use Rattle.clos_topology.specs.RackGraph.{rack_edges}
 use Rattle.edge_colouring.specs.declared.degrees.Degree.{Degree}
 
 -- an edge's rack on the left side, or on the right
@@ -19,6 +23,10 @@ degree_on left rack edges = count_by (λ edge. rack_on left edge == rack) edges
 
 abbrev pub HasDegreesWithin : ℕ → List Edge → Type 0
 HasDegreesWithin most edges = (left : Bool) (rack : ℕ) → degree_on left rack edges ≤ most
+
+-- a slot keeps the limits of its racks exactly where no rack has more edges on a side than there are cores
+abbrev pub LimitsAreDegrees : Type 0
+LimitsAreDegrees = (limits : Limits) (slot : List Flow) → KeepsLimits limits slot ↔ HasDegreesWithin limits.cores (rack_edges limits.hosts slot)
 
 -- every edge's racks are below this number
 abbrev pub HasRacksBelow : ℕ → List Edge → Type 0

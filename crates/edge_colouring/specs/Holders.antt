@@ -1,5 +1,5 @@
 -- Who holds a core at a rack of one side. Only the parts of the colouring cite it; what a colouring is says `Colouring`.
-use Rattle.std.specs.Prelude.{◌≡◌, ◌<◌, ◌≤◌, ℕ, ◌+◌, ◌*◌, List, length, Bool, not, is_some, Option, Some, None, IsTrue, slice_index, slice_set, false, if◌then◌else◌}
+use Rattle.std.specs.Prelude.{◌≡◌, ◌<◌, ◌≤◌, ℕ, ◌+◌, ◌*◌, ◌/◌, ◌%◌, List, [], ◌∷◌, length, Bool, not, is_some, Option, Some, None, IsTrue, slice_index, slice_set, false, ◌==◌, if◌then◌else◌}
 use Rattle.std.specs.List.{slice_index_or}
 use Rattle.std.specs.Int.{bit_at}
 use Rattle.edge_colouring.specs.Cores.{core_in}
@@ -27,11 +27,14 @@ pub record IsLowest (test : ℕ → Bool) (core : ℕ) : Type 0 where
   pub passes : core < 64 → IsTrue (test core)
   pub first : (k : ℕ) → k < core → test k ≡ false
 
--- the masks of a side: at each rack a bit for each core, 1 where it is free
-abbrev pub AreMasks : List ℕ → Holders → Type 0
-AreMasks masks holders =
-    (rack core : ℕ) → rack < length masks → core < 64
-    → bit_at (slice_index masks rack) core ≡ (if is_free holders rack core then 1 else 0)
+-- a side by masks, at each rack a bit for each core, and edges: an edge holds a core where the bit is 0
+abbrev pub shown_from : ℕ → List ℕ → List ℕ → List (Option ℕ)
+shown_from place masks [] = []
+shown_from place masks (edge ∷ edges) =
+    (if bit_at (slice_index masks (place / 64)) (place % 64) == 1 then None else Some edge) ∷ shown_from (place + 1) masks edges
+
+abbrev pub shown : List ℕ → List ℕ → Holders
+shown masks edges = shown_from 0 masks edges
 
 -- each edge that has a core holds it at its rack, and nothing else is held
 pub record Holds (racks : List ℕ) (colours holders : List (Option ℕ)) : Type 0 where

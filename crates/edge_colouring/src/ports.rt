@@ -13,18 +13,19 @@ const CORES: usize = 64;
 #[derive(Debug, Drop)]
 pub(crate) struct Ports {
     free: Vec<u64>,
-    holders: Vec<Option<u16>>,
+    // Of a core that is free, whatever edge held it last.
+    holders: Vec<u16>,
 }
 
 impl Model for Ports {
     ghost use Rattle.std.specs.Prelude.{◌≡◌, ◌*◌, ℕ, List, Option, vec_len};
-    ghost use Rattle.edge_colouring.specs.Holders.{AreMasks};
+    ghost use Rattle.edge_colouring.specs.Holders.{shown};
 
     ghost Value = { List (Option ℕ) };
 
-    ghost view = { λ p. p.holders.items };
+    ghost view = { λ p. shown p.free.items p.holders.items };
 
-    ghost invariant = { λ p. (vec_len p.holders ≡ vec_len p.free * 64) × AreMasks p.free.items p.holders.items };
+    ghost invariant = { λ p. vec_len p.holders ≡ vec_len p.free * 64 };
 }
 
 impl Ports {
@@ -34,7 +35,7 @@ impl Ports {
     {
         Ok(Ports {
             free: vec![in alloc; u64::MAX; racks as usize]?,
-            holders: vec![in alloc; None; racks as usize * CORES]?,
+            holders: vec![in alloc; 0; racks as usize * CORES]?,
         })
     }
 
@@ -43,7 +44,6 @@ impl Ports {
         ensures { self.new ≡ replicate (length self.old) None }
     {
         self.free.fill(u64::MAX);
-        self.holders.fill(None);
     }
 
     /// The edge that holds the core at the rack.
@@ -52,7 +52,10 @@ impl Ports {
         requires core { core < 64 }
         ensures { result ≡ holder self.now rack core }
     {
-        self.holders[place(rack, core)]
+        if is_set(self.free[rack as usize], core) {
+            return None;
+        }
+        Some(self.holders[place(rack, core)])
     }
 
     /// Writes who holds the core at the rack; None makes it free.
@@ -63,7 +66,7 @@ impl Ports {
     {
         let mask = self.free[rack as usize];
         self.free[rack as usize] = with_bit(mask, core, edge.is_none());
-        self.holders[place(rack, core)] = edge;
+        self.holders[place(rack, core)] = edge.unwrap_or(0);
     }
 
     /// The lowest core that is free at the rack, or 64.
@@ -88,6 +91,13 @@ fn place(rack: u16, core: u16) -> usize
     ensures { result ≡ rack * 64 + core }
 {
     rack as usize * CORES + core as usize
+}
+
+fn is_set(mask: u64, at: u16) -> bool
+    requires { at < 64 }
+    ensures { result ≡ (bit_at mask at == 1) }
+{
+    (mask >> at) & 1 == 1
 }
 
 /// The place of the lowest bit that is 1, or 64.

@@ -7,10 +7,10 @@ use Rattle.greedy_rules.specs.Matching.{IsMatching}
 use Rattle.greedy_rules.specs.Schedule.{slot_in}
 use Rattle.greedy_rules.specs.Slot.{slot_with}
 use Rattle.greedy_rules.specs.SlotTable.{destination_of, IsSlotOf}
-use Rattle.greedy_rules.proofs.Pairs.{AllPairs-head, AllPairs-tail}
-use Rattle.greedy_rules.proofs.SlotLemmas.{IsMatching-slot_with}
+use Rattle.list_facts.proofs.Pairs.{AllPairs-head, AllPairs-tail}
+use Rattle.greedy_rules.proofs.Facts.{IsMatching-slot_with}
 use Rattle.clos_topology.specs.Network.{Network, endpoints_of}
-use Rattle.clos_topology.proofs.SlotWalk.{this_source, other_source}
+use Rattle.greedy_rules.proofs.Facts.{this_source, other_source}
 use Rattle.path_workers.specs.Coloured.{IsFlowOf}
 
 abbrev Apart : Flow → Flow → Type 0

@@ -1,7 +1,8 @@
 -- A slot whose packets have their cores (the SIGCOMM 2014 Fastpass paper): no link is shared, and a core is named for the
--- sources of its packets between racks alone.
+-- sources of its packets between racks alone. Before that, what a slot must be for this.
 use Rattle.std.specs.Prelude.{◌≡◌, ◌≢◌, ◌<◌, ℕ, List, None, All}
 use Rattle.greedy_rules.specs.declared.flows.Flow.{Flow}
+use Rattle.greedy_rules.specs.Limits.{KeepsLimits}
 use Rattle.clos_topology.specs.Network.{Network, endpoints_of}
 use Rattle.clos_topology.specs.Links.{CoreOf, IsClean}
 use Rattle.clos_topology.specs.RackGraph.{rack_edges}
@@ -9,6 +10,10 @@ use Rattle.clos_topology.specs.RackGraph.{rack_edges}
 -- a flow of a network
 abbrev pub IsFlowOf : Network → Flow → Type 0
 IsFlowOf net flow = (flow.src < endpoints_of net) × (flow.dst < endpoints_of net)
+
+-- no rack sends or receives more packets between racks than there are cores
+abbrev pub IsWithinCores : Network → List Flow → Type 0
+IsWithinCores net slot = KeepsLimits (record { hosts = net.hosts; cores = net.cores }) slot
 
 -- a source that sends nothing to another rack has no core
 abbrev pub NamesNoOther : ℕ → List Flow → CoreOf → Type 0

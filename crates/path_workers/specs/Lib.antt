@@ -1,4 +1,7 @@
 pub mod CoreTable
 pub mod PathWork
 pub mod Coloured
-pub mod Enough
+pub mod Jobs
+pub mod Painters
+pub mod Seats
+pub mod Crews

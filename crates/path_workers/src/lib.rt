@@ -2,11 +2,12 @@
 #![tactic(auto)]
 
 mod core_table;
-mod laws;
+mod jobs;
+mod painter;
 mod paths;
+mod seats;
 
 pub use core_table::CoreTable;
-pub use laws::{every_matching_has_clean_paths, every_matching_has_enough_cores};
 pub use no_memory::NoMemory;
 pub use paths::Paths;
 

@@ -1,63 +1,88 @@
-ghost use Rattle.std.specs.Prelude.{◌≡◌, ◌<◌, ◌≤◌, ◌*◌, ℕ, length, All, IfOk};
+ghost use Rattle.std.specs.Prelude.{◌≡◌, ◌<◌, ◌≤◌, ◌+◌, ◌*◌, ℕ, List, true, length, All, IfOk};
+ghost use Rattle.std.specs.List.{list_any};
+ghost use Rattle.greedy_rules.specs.declared.flows.Flow.{Flow};
 ghost use Rattle.greedy_rules.specs.Matching.{IsMatching};
 ghost use Rattle.greedy_rules.specs.Schedule.{slot_in};
-ghost use Rattle.clos_topology.specs.Network.{endpoints_of};
+ghost use Rattle.clos_topology.specs.Network.{Network, endpoints_of};
 ghost use Rattle.clos_topology.specs.Links.{IsClean};
-ghost use Rattle.clos_topology.specs.RackGraph.{rack_edges};
-ghost use Rattle.edge_colouring.specs.Degrees.{HasDegreesWithin};
 ghost use Rattle.edge_colouring.specs.Cores.{core_in};
 ghost use Rattle.path_workers.specs.CoreTable.{core_of, row_of, NamesNone};
-ghost use Rattle.path_workers.specs.Coloured.{IsFlowOf, NamesNoOther, HasItsCores};
+ghost use Rattle.path_workers.specs.Coloured.{IsFlowOf, IsWithinCores, NamesNoOther, HasItsCores};
+ghost use Rattle.path_workers.specs.Painters.{IsPainter, HasPainted, MayPaint, HaveRows, has_row};
 
 use crate::core_table::CoreTable;
-use clos_topology::{Net, RackGraph};
-use edge_colouring::{Table, colour};
+use crate::jobs;
+use crate::jobs::{JobPass, JobQueue};
+use crate::painter::Painter;
+use crate::seats::play;
+use clos_topology::Net;
 use fp_edge::Gate;
 use greedy_rules::SlotTable;
 use no_memory::NoMemory;
 use std::alloc::Global;
 use std::marker::Model;
+use std::mem;
+use std::sync::Wait;
+use std::thread::Threads;
 
-/// Gives the packets of many slots of one network their cores.
-#[derive(Debug, Drop)]
+/// From so many packets between racks on, workers get threads of their own.
+const MANY: u16 = 16;
+
+/// Path workers, which give the packets of many slots of one network their cores.
+#[derive(Drop)]
 pub struct Paths {
+    alloc: Global,
     net: Net,
     slots: u16,
-    graph: RackGraph,
-    table: Table,
+    painters: Vec<Painter>,
+    queue: JobQueue,
+    // The pass that puts jobs. Between two calls it has every part.
+    pass: JobPass,
 }
 
 impl Model for Paths {
-    ghost use Rattle.std.specs.Prelude.{◌≡◌, ◌≤◌};
-    ghost use Rattle.clos_topology.specs.Network.{endpoints_of};
+    ghost use Rattle.std.specs.Prelude.{vec_len};
+    ghost use Rattle.path_workers.specs.Jobs.{jobs_put};
     ghost use Rattle.path_workers.specs.PathWork.{PathWork};
+    ghost use Rattle.path_workers.specs.Crews.{IsCrew};
 
     ghost Value = { PathWork };
 
-    ghost view = { λ p. record { net = p.net; slots = p.slots } };
+    ghost view = { λ p. record { net = p.net; slots = p.slots; paths = vec_len p.painters; jobs = jobs_put p.pass } };
 
-    ghost invariant = { λ p. (p.table.net ≡ p.net) × (endpoints_of p.net ≤ p.graph.room) };
+    ghost invariant = { IsCrew };
 }
 
 impl Paths {
-    /// For this network, so many path workers (1 to 16), and at most so many slots a call. The workers' number is not used
-    /// yet: the calling thread colours every slot.
+    /// For this network, so many path workers, and at most so many slots a call.
     pub fn open(alloc: Global, net: &Net, paths: u16, slots: u16) -> Result<Paths, NoMemory>
-        ensures net { IfOk result (λ paths. paths.net ≡ net.now) }
-        ensures slots { IfOk result (λ paths. paths.slots ≡ slots) }
+        requires some { 1 ≤ paths }
+        requires few { paths ≤ 16 }
+        requires slots { slots ≤ 1024 }
+        ensures net { IfOk result (λ opened. opened.net ≡ net.now) }
+        ensures slots { IfOk result (λ opened. opened.slots ≡ slots) }
+        ensures paths { IfOk result (λ opened. opened.paths ≡ paths) }
+        ensures jobs { IfOk result (λ opened. opened.jobs ≡ 0) }
     {
-        let _ = paths;
+        let mut painters = Vec::with_capacity(alloc, paths as usize)?;
+        for number in 0..paths {
+            painters.push_reserved(Painter::open(alloc, number, net, slots)?);
+        }
+        let (queue, pass) = jobs::open(alloc)?;
         Ok(Paths {
+            alloc,
             net: *net,
             slots,
-            graph: RackGraph::open(alloc, net.endpoints())?,
-            table: Table::open(alloc, net)?,
+            painters,
+            queue,
+            pass,
         })
     }
 
     /// Gives each packet between racks of every slot its core, so that no two packets of a slot use one link. What `out`
-    /// named before is forgotten. `rt` and the gate are for path workers, and not used yet.
-    pub fn colour_slots<R: Sync, G: Gate + Sync>(
+    /// named before is forgotten. Each slot is a job that one of the workers takes, whichever comes first, and each worker
+    /// has an end as its last job. The cores of a slot depend on the slot alone.
+    pub fn colour_slots<R: Threads + Wait + Sync, G: Gate + Sync>(
         &mut self,
         rt: &R,
         gate: &G,
@@ -67,95 +92,106 @@ impl Paths {
         requires count { length slots.now.slots ≤ self.old.slots }
         requires endpoints { All (All (IsFlowOf self.old.net)) slots.now.slots }
         requires matchings { All IsMatching slots.now.slots }
-        requires degrees { All (λ slot. HasDegreesWithin self.old.net.cores (rack_edges self.old.net.hosts slot)) slots.now.slots }
+        requires degrees { All (IsWithinCores self.old.net) slots.now.slots }
         requires slot_room { length slots.now.slots ≤ out.old.slots }
         requires endpoint_room { endpoints_of self.old.net ≤ out.old.endpoints }
         ensures clean { (at : ℕ) → at < length slots.now.slots → IsClean self.old.net.hosts self.old.net.cores (slot_in slots.now.slots at) (core_of out.new at) }
         ensures others { (at : ℕ) → at < length slots.now.slots → NamesNoOther self.old.net.hosts (slot_in slots.now.slots at) (core_of out.new at) }
         ensures past { (at : ℕ) → length slots.now.slots ≤ at → NamesNone (core_of out.new at) }
-        ensures slots { out.new.slots ≡ out.old.slots }
-        ensures endpoints { out.new.endpoints ≡ out.old.endpoints }
-        ensures same { self.new ≡ self.old }
+        ensures out_slots { out.new.slots ≡ out.old.slots }
+        ensures out_endpoints { out.new.endpoints ≡ out.old.endpoints }
+        ensures jobs { self.new.jobs ≡ self.old.jobs + length slots.now.slots + self.old.paths }
+        ensures net { self.new.net ≡ self.old.net }
+        ensures slots { self.new.slots ≡ self.old.slots }
+        ensures paths { self.new.paths ≡ self.old.paths }
     {
-        let _ = rt;
-        let _ = gate;
-        let endpoints = out.endpoints;
-        colour_rows(
-            &self.net,
-            &mut self.graph,
-            &mut self.table,
+        let workers = self.painters.len() as u16;
+        let threads = workers > 1 && has_many(&self.net, slots);
+        forget(&mut self.painters);
+        let painters = mem::replace(&mut self.painters, Vec::new(self.alloc));
+        let pass = jobs::take_over(&self.queue, &mut self.pass);
+        let (painters, pass) = play(
+            rt,
+            gate,
             slots,
-            endpoints,
-            &mut out.cores,
+            &self.queue,
+            threads,
+            workers,
+            painters,
+            pass,
         );
+        jobs::join(&self.queue, &mut self.pass, pass);
+        self.painters = painters;
+        let endpoints = out.endpoints;
+        gather(&self.painters, slots.slots(), endpoints, &mut out.cores);
     }
 }
 
-/// Colours slot after slot, each into its row of `cores`.
-fn colour_rows(
-    net: &Net,
-    graph: &mut RackGraph,
-    table: &mut Table,
-    slots: &SlotTable,
-    endpoints: u16,
-    cores: &mut [Option<u16>],
-)
-    requires matchings { All IsMatching slots.now.slots }
-    requires flows { All (All (IsFlowOf net.now)) slots.now.slots }
-    requires degrees { All (λ slot. HasDegreesWithin net.now.cores (rack_edges net.now.hosts slot)) slots.now.slots }
-    requires graph { endpoints_of net.now ≤ graph.old.room }
-    requires table { table.old.net ≡ net.now }
-    requires slot_room { length slots.now.slots * endpoints ≤ length cores.old }
-    requires endpoint_room { endpoints_of net.now ≤ endpoints }
-    ensures coloured { (at : ℕ) → at < length slots.now.slots → HasItsCores net.now (slot_in slots.now.slots at) (core_in (row_of endpoints cores.new at)) }
-    ensures past { (at : ℕ) → length slots.now.slots ≤ at → NamesNone (core_in (row_of endpoints cores.new at)) }
-    ensures graph { graph.new.room ≡ graph.old.room }
-    ensures table { table.new.net ≡ table.old.net }
+/// Whether so many packets go between racks that threads are started for them.
+fn has_many(net: &Net, slots: &SlotTable) -> bool
+    requires { All (All (IsFlowOf net.now)) slots.now.slots }
+{
+    let mut packets = 0u16;
+    for slot in 0..slots.slots() {
+        packets = packets.saturating_add(between_racks(net, slots, slot));
+        if packets >= MANY {
+            return true;
+        }
+    }
+    false
+}
+
+/// How many packets of the slot go between racks.
+fn between_racks(net: &Net, slots: &SlotTable, slot: u16) -> u16
+    requires slot { slot < length slots.now.slots }
+    requires flows { All (IsFlowOf net.now) (slot_in slots.now.slots slot) }
+{
+    let mut packets = 0u16;
+    for source in 0..net.endpoints().min(slots.endpoints()) {
+        if let Some(destination) = slots.to(slot, source) {
+            let crosses = net.rack_of(source) != net.rack_of(destination);
+            packets = packets.saturating_add(u16::from(crosses));
+        }
+    }
+    packets
+}
+
+/// No worker has coloured a slot of the table that comes.
+fn forget(painters: &mut [Painter])
+    ensures { (net : Network) (room : ℕ) (slots : List (List Flow)) → All (IsPainter net room) painters.old → All (HasPainted net room slots) painters.new }
+{
+    for painter in painters {
+        painter.forget();
+    }
+}
+
+/// Writes the row of every slot, each from a worker that has it, and none past them.
+fn gather(painters: &[Painter], slots: u16, endpoints: u16, cores: &mut [Option<u16>])
+    requires painted { (table : List (List Flow)) × (length table ≡ slots) × All (MayPaint table) painters.now × HaveRows slots painters.now }
+    requires slot_room { slots * endpoints ≤ length cores.old }
+    requires endpoint_room { All (λ painter. endpoints_of painter.net ≤ endpoints) painters.now }
+    ensures coloured { (net : Network) (table : List (List Flow)) → All (MayPaint table) painters.now → All (λ painter. painter.net ≡ net) painters.now → length table ≡ slots → (at : ℕ) → at < slots → HasItsCores net (slot_in table at) (core_in (row_of endpoints cores.new at)) }
+    ensures past { (at : ℕ) → slots ≤ at → NamesNone (core_in (row_of endpoints cores.new at)) }
 {
     cores.fill(None);
-    let count = slots.slots();
-    for slot in 0..count {
+    for slot in 0..slots {
         let from = slot as usize * endpoints as usize;
         let row = &mut cores[from..from + endpoints as usize];
-        colour_slot(net, graph, table, slots, slot, row);
+        copy_row(painters, slot, row);
     }
 }
 
-/// Writes the cores of a slot's packets into a row that names none.
-fn colour_slot(
-    net: &Net,
-    graph: &mut RackGraph,
-    table: &mut Table,
-    slots: &SlotTable,
-    slot: u16,
-    row: &mut [Option<u16>],
-)
-    requires slot { slot < length slots.now.slots }
-    requires matching { IsMatching (slot_in slots.now.slots slot) }
-    requires flows { All (IsFlowOf net.now) (slot_in slots.now.slots slot) }
-    requires degrees { HasDegreesWithin net.now.cores (rack_edges net.now.hosts (slot_in slots.now.slots slot)) }
-    requires graph { endpoints_of net.now ≤ graph.old.room }
-    requires table { table.old.net ≡ net.now }
-    requires room { endpoints_of net.now ≤ length row.old }
+/// Writes a slot's cores into a row that names none, from the first worker that has them.
+fn copy_row(painters: &[Painter], slot: u16, row: &mut [Option<u16>])
+    requires painted { (table : List (List Flow)) × (slot < length table) × All (MayPaint table) painters.now }
+    requires has { list_any (has_row slot) painters.now ≡ true }
+    requires room { All (λ painter. endpoints_of painter.net ≤ length row.old) painters.now }
     requires none { NamesNone (core_in row.old) }
-    ensures coloured { HasItsCores net.now (slot_in slots.now.slots slot) (core_in row.new) }
-    ensures graph { graph.new.room ≡ graph.old.room }
-    ensures table { table.new.net ≡ table.old.net }
+    ensures { (net : Network) (table : List (List Flow)) → All (MayPaint table) painters.now → All (λ painter. painter.net ≡ net) painters.now → slot < length table → HasItsCores net (slot_in table slot) (core_in row.new) }
 {
-    graph.load(net, slots, slot);
-    let coloured = colour(graph, net.cores(), table).is_ok();
-    prove!(coloured);
-    copy_cores(table, net.endpoints(), row);
-}
-
-/// Writes the core of each source that is an endpoint, and leaves the places past them.
-fn copy_cores(table: &Table, endpoints: u16, row: &mut [Option<u16>])
-    requires endpoints { endpoints ≡ endpoints_of table.now.net }
-    requires room { endpoints ≤ length row.old }
-    ensures below { (source : ℕ) → source < endpoints → core_in row.new source ≡ core_in table.now.cores source }
-    ensures above { (source : ℕ) → endpoints ≤ source → core_in row.new source ≡ core_in row.old source }
-{
-    for source in 0..endpoints {
-        row[source as usize] = table.core(source);
+    for painter in painters {
+        if painter.copy_row(slot, row) {
+            return;
+        }
     }
 }

@@ -1,12 +1,18 @@
-ghost use Rattle.std.specs.Prelude.{◌≡◌, ◌≤◌, length, All};
+ghost use Rattle.std.specs.Prelude.{◌≡◌, ◌≤◌, length, All, OnOk};
 ghost use Rattle.greedy_rules.specs.Matching.{IsMatching};
+ghost use Rattle.clos_topology.specs.Network.{endpoints_of};
+ghost use Rattle.path_workers.specs.Coloured.{IsWithinCores};
 
-use crate::{CoreTable, Paths, every_matching_has_enough_cores};
-use clos_topology::Net;
+use crate::{CoreTable, NoMemory, Paths};
+use clos_topology::{Net, RackGraph};
+use edge_colouring::{Table, limits_are_degrees};
 use fp_edge::OpenGate;
 use greedy_rules::SlotTable;
+use std::alloc::Global;
 use std::process::Abort;
+use std::sync::Wait;
 use std::test::Fail;
+use std::thread::Threads;
 
 mod random;
 
@@ -36,19 +42,48 @@ fn put_all(rt: &impl Abort, slots: &mut SlotTable, slot: u16, packets: &[(u16, u
     }
 }
 
+// That no rack of a slot has more packets between racks on a side than there are cores.
+fn check_degrees(
+    rt: &impl Abort,
+    alloc: Global,
+    net: &Net,
+    slots: &SlotTable,
+) -> Result<(), NoMemory>
+    requires { slots.now.endpoints ≡ endpoints_of net.now }
+    ensures { OnOk result (All (IsWithinCores net.now) slots.now.slots) }
+{
+    limits_are_degrees();
+    let mut graph = RackGraph::open(alloc, net.endpoints())?;
+    let mut table = Table::open(alloc, net)?;
+    for slot in 0..slots.slots() {
+        graph.load(net, slots, slot);
+        let coloured = edge_colouring::colour(&graph, net.cores(), &mut table).is_ok();
+        assert!(rt; coloured);
+    }
+    Ok(())
+}
+
 // Colours a table that serves the network's endpoints.
-fn colour(rt: &impl Abort, paths: &mut Paths, net: &Net, slots: &SlotTable, out: &mut CoreTable)
+fn colour<R: Abort + Threads + Wait + Sync>(
+    rt: &R,
+    alloc: Global,
+    paths: &mut Paths,
+    net: &Net,
+    slots: &SlotTable,
+    out: &mut CoreTable,
+) -> Result<(), NoMemory>
     requires net { paths.old.net ≡ net.now }
     requires matchings { All IsMatching slots.now.slots }
     requires count { length slots.now.slots ≤ paths.old.slots }
-    ensures paths { paths.new ≡ paths.old }
+    ensures net { paths.new.net ≡ paths.old.net }
+    ensures slots { paths.new.slots ≡ paths.old.slots }
 {
     assert!(rt; slots.endpoints() == net.endpoints());
     assert!(rt; slots.slots() <= out.slots());
     assert!(rt; net.endpoints() <= out.endpoints());
-    assert!(rt; 0 < net.cores());
-    every_matching_has_enough_cores();
-    paths.colour_slots(&(), &OpenGate, slots, out);
+    check_degrees(rt, alloc, net, slots)?;
+    paths.colour_slots(rt, &OpenGate, slots, out);
+    Ok(())
 }
 
 fn core(rt: &impl Abort, out: &CoreTable, slot: u16, source: u16) -> Option<u16> {
@@ -71,22 +106,25 @@ fn check_rows(rt: &impl Abort, out: &CoreTable, expected: &[[Option<u16>; 8]]) {
     }
 }
 
-// Three racks of two and two cores: the fourth packet finds no common free core, and one path is flipped.
+// Three racks of two and two cores: the fourth packet finds no common free core, and one path is flipped, for any number of
+// path workers.
 #[test]
 fn the_fourth_packet_flips_a_path(rt: HostRuntime) -> Result<(), Fail> {
     let alloc = rt.alloc();
     let net = Net::new(3, 2, 2)?;
     let mut slots = SlotTable::open(alloc, 1, 6)?;
     put_all(&rt, &mut slots, 0, &[(0, 2), (1, 4), (2, 0), (3, 5)]);
-    let mut paths = Paths::open(alloc, &net, 1, 1)?;
-    let mut out = CoreTable::open(alloc, 1, 6)?;
-    colour(&rt, &mut paths, &net, &slots, &mut out);
-    check_row(
-        &rt,
-        &out,
-        0,
-        &[Some(1), Some(0), Some(0), Some(1), None, None],
-    );
+    for workers in [1, 2, 16] {
+        let mut paths = Paths::open(alloc, &net, workers, 1)?;
+        let mut out = CoreTable::open(alloc, 1, 6)?;
+        colour(&rt, alloc, &mut paths, &net, &slots, &mut out)?;
+        check_row(
+            &rt,
+            &out,
+            0,
+            &[Some(1), Some(0), Some(0), Some(1), None, None],
+        );
+    }
     Ok(())
 }
 
@@ -101,7 +139,7 @@ fn a_table_coloured_again_keeps_nothing(rt: HostRuntime) -> Result<(), Fail> {
     put_all(&rt, &mut three, 0, &[(0, 2), (1, 4), (2, 0), (3, 5)]);
     put_all(&rt, &mut three, 1, &[(0, 1), (2, 4), (5, 3)]);
     put_all(&rt, &mut three, 2, &[(4, 0), (5, 1)]);
-    colour(&rt, &mut paths, &net, &three, &mut out);
+    colour(&rt, alloc, &mut paths, &net, &three, &mut out)?;
     check_rows(
         &rt,
         &out,
@@ -114,7 +152,7 @@ fn a_table_coloured_again_keeps_nothing(rt: HostRuntime) -> Result<(), Fail> {
     );
     let mut one = SlotTable::open(alloc, 1, 6)?;
     put_all(&rt, &mut one, 0, &[(1, 5), (4, 2)]);
-    colour(&rt, &mut paths, &net, &one, &mut out);
+    colour(&rt, alloc, &mut paths, &net, &one, &mut out)?;
     check_rows(
         &rt,
         &out,

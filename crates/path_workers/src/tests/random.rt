@@ -7,7 +7,9 @@ use clos_topology::Net;
 use greedy_rules::SlotTable;
 use std::alloc::Global;
 use std::process::Abort;
+use std::sync::Wait;
 use std::test::Fail;
+use std::thread::Threads;
 
 // The rack that a packet leaves, the rack that it reaches, and its core.
 #[derive(Clone, Copy)]
@@ -136,8 +138,8 @@ fn fill_slots(
     Ok(())
 }
 
-fn check_table(
-    rt: &impl Abort,
+fn check_table<R: Abort + Threads + Wait + Sync>(
+    rt: &R,
     alloc: Global,
     net: &Net,
     count: u16,
@@ -145,9 +147,10 @@ fn check_table(
 ) -> Result<(), NoMemory> {
     let mut slots = SlotTable::open(alloc, count, net.endpoints())?;
     fill_slots(rt, alloc, &mut slots, state)?;
+    assert!(rt; count <= 1024);
     let mut paths = Paths::open(alloc, net, 2, count)?;
     let mut out = CoreTable::open(alloc, count, net.endpoints())?;
-    colour(rt, &mut paths, net, &slots, &mut out);
+    colour(rt, alloc, &mut paths, net, &slots, &mut out)?;
     for slot in 0..count {
         check_names(rt, net, &slots, &out, slot);
         check_links(rt, net, &slots, &out, slot);

@@ -3,7 +3,7 @@ use Rattle.std.proofs.lemmas.List.{append-nil}
 use Rattle.greedy_rules.specs.Schedule.{slot_in}
 use Rattle.greedy_rules.specs.SlotTable.{IsSlotOf}
 use Rattle.clos_topology.specs.RackGraph.{Graph, rack_edges, IsGraphOf}
-use Rattle.clos_topology.proofs.SlotWalk.{before-none}
+use Rattle.greedy_rules.proofs.Facts.{before-none}
 use Rattle.clos_topology.proofs.GraphLemmas.{walk_more, walk_all, graph_of_slot, destination-below}
 use Rattle.clos_topology.proofs.graph.RackGraph.load.Goals as goal
 use Rattle.clos_topology.proofs.graph.RackGraph.load.Goals.{in-Some, in_default}

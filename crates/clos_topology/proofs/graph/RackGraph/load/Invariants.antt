@@ -1,7 +1,7 @@
 use Rattle.std.proofs.Common.{◌≡◌, ◌≤◌, vec_len, vec_capacity}
 use Rattle.greedy_rules.specs.Schedule.{slot_in}
 use Rattle.clos_topology.specs.RackGraph.{rack_edges}
-use Rattle.clos_topology.proofs.SlotWalk.{before}
+use Rattle.greedy_rules.proofs.Facts.{before}
 use Rattle.clos_topology.proofs.graph.RackGraph.load.Given as goal
 
 abbrev pub invariant-loop-source : goal.invariant-loop-source

@@ -1,9 +1,16 @@
-use Rattle.std.proofs.Common.{◌≡◌, replicate, None, vec_len, rules, arith}
-use Rattle.edge_colouring.proofs.MaskLemmas.{all_free}
+use Rattle.std.proofs.Common.{◌≡◌, ◌^◌, ◌-◌, ℕ, List, Option, None, length, get_or, replicate, vec_len, sym, ap, ◌∙◌, arith}
+use Rattle.std.proofs.lemmas.List.{get_or-replicate}
+use Rattle.edge_colouring.proofs.ShownLemmas.{shown-free, length-shown}
 use Rattle.edge_colouring.proofs.ports.Ports.clear.Goals as goal
 
-pub invariant_of-self : goal.invariant_of-self
-invariant_of-self c =
-    let free : c.fill.new.self.items ≡ replicate (vec_len c.self.inside.free) 18446744073709551615 = c.fill.ensures.items (λ y e. e) in
-    let holders : c.fill-2.new.self.items ≡ replicate (vec_len c.self.inside.holders) None = search rules in
-    (omega (arith, c.fill.ensures.len, c.fill-2.ensures.len, c.self.invariant.0), rw (free, holders) (all_free (vec_len c.self.inside.free) (vec_len c.self.inside.holders)))
+pub returns : goal.returns
+returns c =
+    let free = c.self.inside.free in
+    let holders = c.self.inside.holders in
+    let most : ℕ = 2 ^ 64 - 1 in
+    let items : c.fill.new.self.items ≡ replicate (vec_len free) most = c.fill.ensures.items (λ y e. e) in
+    let shows = shown-free c.fill.new.self.items holders.items (omega (arith, c.self.invariant, c.fill.ensures.len, c.fill.new.self.ok.0, holders.ok.0))
+    (λ rack below. ap (λ (xs : List ℕ). get_or xs rack 0) items ∙ get_or-replicate (vec_len free) rack most 0 (omega (arith, below, c.fill.ensures.len, c.fill.new.self.ok.0))) in
+    let len : length holders.items ≡ length c.args.self.now = sym (length-shown free.items holders.items) ∙ ap (λ (xs : List (Option ℕ)). length xs) c.self.view_is in
+    let none : Option ℕ = None in
+    shows ∙ ap (λ (n : ℕ). replicate n none) len

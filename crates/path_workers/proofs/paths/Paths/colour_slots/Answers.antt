@@ -1,36 +1,123 @@
-use Rattle.std.proofs.Common.{◌<◌, ℕ, List, Option, All, length, sym, ap, subst, arith}
+use Rattle.std.proofs.Common.{◌≡◌, ◌<◌, ◌≤◌, ℕ, List, Option, All, length, Vec, vec_len, get_or, sym, ap, ◌∙◌, subst, arith}
+use Rattle.std.specs.List.{list_any}
 use Rattle.std.specs.Vec.{with_items}
 use Rattle.std.proofs.lemmas.List.{with_items_is}
+use Rattle.crossbeam_queue.specs.Passes.{view}
+use Rattle.greedy_rules.specs.declared.flows.Flow.{Flow}
 use Rattle.greedy_rules.specs.Schedule.{slot_in}
-use Rattle.clos_topology.specs.Network.{Network}
-use Rattle.clos_topology.specs.RackGraph.{rack_edges}
-use Rattle.edge_colouring.specs.Degrees.{HasDegreesWithin}
+use Rattle.clos_topology.specs.Network.{Network, endpoints_of}
 use Rattle.edge_colouring.specs.Cores.{core_in}
+use Rattle.path_workers.specs.declared.jobs.Job.{Job}
+use Rattle.path_workers.specs.declared.jobs.Hand.{Hand}
+use Rattle.path_workers.specs.declared.painter.Painter.{Painter}
 use Rattle.path_workers.specs.PathWork.{PathWork}
 use Rattle.path_workers.specs.CoreTable.{row_of}
 use Rattle.path_workers.specs.Coloured.{HasItsCores}
+use Rattle.path_workers.specs.Painters.{MayAllPaint, HasPainted, MayPaint, has_row}
+use Rattle.path_workers.proofs.CrewLemmas.{colourable, crew_ready, all_may}
+use Rattle.path_workers.proofs.PlayLemmas.{at_rest_again, jobs_counted}
 use Rattle.path_workers.proofs.paths.Paths.colour_slots.Given.{Over}
 use Rattle.path_workers.proofs.paths.Paths.colour_slots.Goals as goal
 
-pub colour_rows-requires-clause-degrees : goal.colour_rows-requires-clause-degrees
-colour_rows-requires-clause-degrees g c =
-    let P : Network → Type 0 = λ net. All (λ slot. HasDegreesWithin net.cores (rack_edges net.hosts slot)) c.args.slots.now.slots in
-    subst P (sym (ap (λ (p : PathWork). p.net) c.self.view_is)) c.requires.degrees
+-- the workers before they play
+ready : (g : Over) (c : goal.After-play-arg-1 g) → All (HasPainted c.self.inside.net c.self.inside.slots c.args.slots.now.slots) c.replace-painters.result.items
+ready g c =
+    let net : Network = c.self.inside.net in
+    let room : ℕ = c.self.inside.slots in
+    crew_ready net room c.args.slots.now.slots c.self.inside.painters c.replace-painters.result c.deref_mut.result.now c.forget.new.painters c.self.invariant.painters c.deref_mut.ensures.value (c.forget.ensures net room c.args.slots.now.slots) c.forget.auto.painters c.replace-painters.ensures.value
+
+pub play-painters-requires-clause-may : goal.play-painters-requires-clause-may
+play-painters-requires-clause-may g c κs within =
+    let can = colourable c.args.self.now _ c.args.slots.now.slots c.self.view_is c.requires.count c.requires.endpoints c.requires.matchings c.requires.degrees in
+    let may : MayAllPaint c.args.slots.now.slots c.replace-painters.result.items = (c.self.inside.net, c.self.inside.slots, can, ready g c) in
+    may
+
+-- and once they have played
+painted : (g : Over) (c : goal.After-deref_mut-2 g) → All (HasPainted c.self.inside.net c.self.inside.slots c.args.slots.now.slots) c.play-painters.result.0.items
+painted g c =
+    let net : Network = c.self.inside.net in
+    let room : ℕ = c.self.inside.slots in
+    c.play-painters.ensures.painted net room
+    (crew_ready net room c.args.slots.now.slots c.self.inside.painters c.replace-painters.result c.deref_mut.result.now c.forget.new.painters c.self.invariant.painters c.deref_mut.ensures.value (c.forget.ensures net room c.args.slots.now.slots) c.forget.auto.painters c.replace-painters.ensures.value)
+
+pub gather-requires-clause-painted : goal.gather-requires-clause-painted
+gather-requires-clause-painted g c =
+    let slots : List (List Flow) = c.args.slots.now.slots in
+    let can = colourable c.args.self.now _ slots c.self.view_is c.requires.count c.requires.endpoints c.requires.matchings c.requires.degrees in
+    let shown : c.deref.result.now ≡ c.play-painters.result.0.items = c.deref.ensures.value in (
+      slots,
+      sym c.slots.ensures.count,
+      subst (All (MayPaint slots)) (sym shown) (all_may _ _ slots c.play-painters.result.0.items can (painted g c)),
+      λ slot below. ap (list_any (has_row slot)) shown ∙ c.play-painters.ensures.rows slot (omega (arith, below, c.slots.ensures.count)),
+    )
+
+pub gather-requires-clause-endpoint_room : goal.gather-requires-clause-endpoint_room
+gather-requires-clause-endpoint_room g c k d below =
+    let shown : c.deref.result.now ≡ c.play-painters.result.0.items = c.deref.ensures.value in
+    let here : HasPainted c.self.inside.net c.self.inside.slots c.args.slots.now.slots (get_or c.deref.result.now k d) = subst (λ (ps : List Painter). All (HasPainted c.self.inside.net c.self.inside.slots c.args.slots.now.slots) ps) (sym shown) (painted g c) k d below in
+    omega (
+      arith,
+      ap endpoints_of here.sized.same_net,
+      ap (λ (w : PathWork). endpoints_of w.net) c.self.view_is,
+      c.requires.endpoint_room,
+      ap (λ (t : _). t.endpoints) c.out.view_is,
+    )
+
+painted_then : (g : Over) (c : goal.After-out-1 g) → All (HasPainted c.self.inside.net c.self.inside.slots c.args.slots.now.slots) c.play-painters.result.0.items
+painted_then g c =
+    let net : Network = c.self.inside.net in
+    let room : ℕ = c.self.inside.slots in
+    c.play-painters.ensures.painted net room
+    (crew_ready net room c.args.slots.now.slots c.self.inside.painters c.replace-painters.result c.deref_mut.result.now c.forget.new.painters c.self.invariant.painters c.deref_mut.ensures.value (c.forget.ensures net room c.args.slots.now.slots) c.forget.auto.painters c.replace-painters.ensures.value)
+
+pub invariant_of-self : goal.invariant_of-self
+invariant_of-self g c =
+    let again = at_rest_again (view c.take_over-pass.new.pass) (view c.play-painters.result.1) (view c.join.new.pass) c.take_over-pass.ensures.left c.join.ensures.both c.play-painters.ensures.rest in
+    let len : vec_len c.replace-painters.result ≡ vec_len c.self.inside.painters = ap (λ (v : Vec _ _). vec_len v) c.replace-painters.ensures.value in
+    record {
+      some = omega (arith, c.self.invariant.some, len, c.play-painters.ensures.len);
+      few = omega (arith, c.self.invariant.few, len, c.play-painters.ensures.len);
+      room = c.self.invariant.room;
+      painters = λ k d below. (painted_then g c k d below).sized;
+      queue = c.join.ensures.queue;
+      rest = again.0;
+    }
 
 -- a slot of the table has its cores
 coloured : (g : Over) (c : goal.After-out-1 g) (at : ℕ) → at < length c.args.slots.now.slots
-    → HasItsCores c.args.self.now.net (slot_in c.args.slots.now.slots at) (core_in (row_of c.out.inside.endpoints (with_items c.out.inside.cores c.colour_rows.new.cores).items at))
+    → HasItsCores c.args.self.now.net (slot_in c.args.slots.now.slots at) (core_in (row_of c.out.inside.endpoints (with_items c.out.inside.cores c.gather.new.cores).items at))
 coloured g c at below =
-    let endpoints = c.out.inside.endpoints in
-    let slot = slot_in c.args.slots.now.slots at in
-    let new = c.colour_rows.new.cores in
-    let P : List (Option ℕ) → Type 0 = λ cores. HasItsCores c.args.self.now.net slot (core_in (row_of endpoints cores at)) in
-    let Q : Network → Type 0 = λ net. HasItsCores net slot (core_in (row_of endpoints new at)) in
-    let cores = with_items_is c.out.inside.cores new (omega (arith, c.colour_rows.auto.cores, c.deref_mut.ensures.len)) in
-    subst P (sym cores) (subst Q (ap (λ (p : PathWork). p.net) c.self.view_is) (c.colour_rows.ensures.coloured at below))
+    let slots : List (List Flow) = c.args.slots.now.slots in
+    let net : Network = c.args.self.now.net in
+    let can = colourable c.args.self.now _ slots c.self.view_is c.requires.count c.requires.endpoints c.requires.matchings c.requires.degrees in
+    let shown : c.deref.result.now ≡ c.play-painters.result.0.items = c.deref.ensures.value in
+    let may : All (MayPaint slots) c.deref.result.now = subst (All (MayPaint slots)) (sym shown) (all_may _ _ slots c.play-painters.result.0.items can (painted_then g c)) in
+    let nets : All (λ (p : Painter). p.net ≡ net) c.deref.result.now =
+    subst (All (λ (p : Painter). p.net ≡ net)) (sym shown) (λ k d under. (painted_then g c k d under).sized.same_net ∙ ap (λ (w : PathWork). w.net) c.self.view_is) in
+    let cores = with_items_is c.out.inside.cores c.gather.new.cores (omega (arith, c.gather.auto.cores, c.deref_mut-2.ensures.len)) in
+    subst (λ (cs : List (Option ℕ)). HasItsCores net (slot_in slots at) (core_in (row_of c.out.inside.endpoints cs at))) (sym cores)
+    (c.gather.ensures.coloured net slots may nets (sym c.slots.ensures.count) at (omega (arith, below, c.slots.ensures.count)))
 
 pub returns-clause-clean : goal.returns-clause-clean
 returns-clause-clean g c = λ at below. (coloured g c at below).clean
 
 pub returns-clause-others : goal.returns-clause-others
 returns-clause-others g c = λ at below. (coloured g c at below).others
+
+pub returns-clause-past : goal.returns-clause-past
+returns-clause-past g c at above source =
+    ap (λ (cores : List (Option ℕ)). core_in (row_of c.out.inside.endpoints cores at) source) (with_items_is c.out.inside.cores c.gather.new.cores (omega (arith, c.gather.auto.cores, c.deref_mut-2.ensures.len)))
+    ∙ c.gather.ensures.past at (omega (arith, above, c.slots.ensures.count)) source
+
+pub returns-clause-jobs : goal.returns-clause-jobs
+returns-clause-jobs g c =
+    let again = at_rest_again (view c.take_over-pass.new.pass) (view c.play-painters.result.1) (view c.join.new.pass) c.take_over-pass.ensures.left c.join.ensures.both c.play-painters.ensures.rest in
+    omega (
+      arith,
+      ap (λ (jobs : List Job). length jobs) again.1,
+      jobs_counted (view c.take_over-pass.result).put (view c.play-painters.result.1).put (length c.args.slots.now.slots) c.len-workers.result c.play-painters.ensures.put,
+      ap (λ (v : Hand). length v.put) c.take_over-pass.ensures.new,
+      ap (λ (w : PathWork). w.jobs) c.self.view_is,
+      ap (λ (w : PathWork). w.paths) c.self.view_is,
+      c.len-workers.ensures,
+    )

@@ -1,0 +1,43 @@
+-- The path workers before and after a call.
+use Rattle.std.proofs.Common.{◌≡◌, ◌<◌, ◌≤◌, ℕ, List, [], ◌∷◌, ◌==◌, Some, All, inl, inr, Vec, vec_len, length, get_or, sym, ap, ◌∙◌, subst, arith}
+use Rattle.std.specs.Vec.{with_items}
+use Rattle.std.proofs.lemmas.List.{with_items_is}
+use Rattle.greedy_rules.specs.declared.flows.Flow.{Flow}
+use Rattle.std.proofs.lemmas.Bool.{cases_Bool}
+use Rattle.std.proofs.lemmas.List.Elements.{All-head, All-tail}
+use Rattle.greedy_rules.proofs.Facts.{this_source, other_source}
+use Rattle.greedy_rules.specs.SlotTable.{destination_of}
+use Rattle.greedy_rules.specs.Matching.{IsMatching}
+use Rattle.clos_topology.specs.Network.{Network, endpoints_of}
+use Rattle.path_workers.specs.declared.painter.Painter.{Painter}
+use Rattle.path_workers.specs.PathWork.{PathWork}
+use Rattle.path_workers.specs.Coloured.{IsFlowOf, IsWithinCores}
+use Rattle.path_workers.specs.Painters.{AreColourable, IsPainter, HasPainted, MayPaint}
+use Rattle.path_workers.proofs.PainterLemmas.{may_paint}
+
+-- slots that a call may colour
+pub colourable : (work inside : PathWork) (slots : List (List Flow)) → inside ≡ work → length slots ≤ work.slots → All (All (IsFlowOf work.net)) slots → All IsMatching slots → All (IsWithinCores work.net) slots → AreColourable inside.net inside.slots slots
+colourable work inside slots is count flows matchings within =
+    subst (λ (w : PathWork). AreColourable w.net w.slots slots) (sym is) (record { count = count; flows = flows; matchings = matchings; within = within })
+
+-- workers that have forgotten what they coloured
+pub crew_ready : {Z : Type 0} (net : Network) (room : ℕ) (slots : List (List Flow)) (painters taken : Vec Painter Z) (shown new : List Painter) → All (IsPainter net room) painters.items → shown ≡ painters.items → (All (IsPainter net room) shown → All (HasPainted net room slots) new)
+    → length new ≡ length shown → taken ≡ with_items painters new → All (HasPainted net room slots) taken.items
+crew_ready net room slots painters taken shown new sized shows forget len is =
+    let items : taken.items ≡ new = ap (λ (v : Vec _ _). v.items) is ∙ with_items_is painters new (omega (arith, len, ap (λ (ps : List Painter). length ps) shows, painters.ok.0)) in
+    subst (All (HasPainted net room slots)) (sym items) (forget (subst (All (IsPainter net room)) (sym shows) sized))
+
+pub all_may : (net : Network) (room : ℕ) (slots : List (List Flow)) (painters : List Painter) → AreColourable net room slots → All (HasPainted net room slots) painters → All (MayPaint slots) painters
+all_may net room slots painters can painted = λ k d below. may_paint net room slots (get_or painters k d) can (painted k d below)
+
+-- where a source sends is an endpoint
+pub destination_fits : (net : Network) (slot : List Flow) (source destination : ℕ) → All (IsFlowOf net) slot → destination_of slot source ≡ Some destination → destination < endpoints_of net
+destination_fits net [] source destination flows sends = absurd (cc)
+destination_fits net (flow ∷ slot) source destination flows sends =
+    elim (cases_Bool (flow.src == source)) [
+      | inl same ↦
+          let is : Some flow.dst ≡ Some destination = sym (this_source source flow slot same) ∙ sends in
+          let equal : flow.dst ≡ destination = cc in
+          omega (arith, equal, (All-head (IsFlowOf net) flow slot flows).1)
+      | inr other ↦ destination_fits net slot source destination (All-tail (IsFlowOf net) flow slot flows) (sym (other_source source flow slot other) ∙ sends)
+    ]

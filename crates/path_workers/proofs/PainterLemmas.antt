@@ -1,0 +1,234 @@
+-- A painter's rows: which have the cores of a slot, and what changes where one is written.
+use Rattle.std.proofs.Common.{◌≡◌, ◌≢◌, ◌<◌, ◌≤◌, ◌+◌, ◌-◌, ◌*◌, ℕ, List, [], ◌++◌, length, get_or, set, take, drop, replicate, true, false, Option, Some, None, All, AllPairs, IsTrue, Vec, vec_len, refl, sym, ap, ◌∙◌, subst, arith, inl, inr}
+use borrow.Rule.Slice.PartMut.{put_mid, same_len_mid}
+use Rattle.std.specs.Vec.{with_items}
+use Rattle.std.specs.Option.{is_some}
+use Rattle.std.proofs.Math.Path.{fun_ext}
+use Rattle.std.proofs.lemmas.Bool.{cases_eq, cases_lt}
+use Rattle.std.proofs.lemmas.List.{get_or-take, get_or_past, get_or_default, get_or-replicate, get_or-set_same, get_or-set_other, get_or-append_right, get_or_append_left, get_or-drop, drop-replicate, length-replicate, length-take, length-drop, length-append, with_items_is}
+use Rattle.std.proofs.lemmas.List.Elements.{All-nil}
+use Rattle.std.proofs.lemmas.Nat.{row_fits}
+use Rattle.greedy_rules.specs.declared.flows.Flow.{Flow}
+use Rattle.greedy_rules.specs.Schedule.{slot_in}
+use Rattle.clos_topology.specs.declared.graph.Edge.{Edge}
+use Rattle.clos_topology.specs.Network.{Network, endpoints_of}
+use Rattle.clos_topology.specs.Links.{CoreOf}
+use Rattle.clos_topology.specs.RackGraph.{rack_edges}
+use Rattle.edge_colouring.specs.Colouring.{IsColouring, AreApart, EveryColouringMakesAMatchingClean}
+use Rattle.edge_colouring.specs.Cores.{core_in}
+use Rattle.path_workers.specs.declared.painter.Painter.{Painter}
+use Rattle.path_workers.specs.CoreTable.{row_of, NamesNone}
+use Rattle.path_workers.specs.Coloured.{HasItsCores}
+use Rattle.path_workers.proofs.RowLemmas.{row_same, row_other}
+use Rattle.path_workers.specs.Painters.{AreColourable, place_of, has_row, row_at, IsPainter, HasRow, HasPainted, MayPaint}
+
+-- no place of a list of Nones has another
+pub none_at : (n at : ℕ) → core_in (replicate n None) at ≡ None
+none_at n at =
+    let none : Option ℕ = None in
+    elim (cases_lt at n) [
+      | inl below ↦ get_or-replicate n at none none below
+      | inr above ↦ get_or_past (replicate n none) at none (omega (arith, above, length-replicate n none))
+    ]
+
+-- a row of a table that names no core
+pub none_row : (n endpoints place : ℕ) → NamesNone (core_in (row_of endpoints (replicate n None) place))
+none_row n endpoints place source =
+    let none : Option ℕ = None in
+    let rest : List (Option ℕ) = drop (place * endpoints) (replicate n none) in
+    let is : rest ≡ replicate (n - place * endpoints) none = drop-replicate (place * endpoints) n none in
+    elim (cases_lt source endpoints) [
+      | inl inside ↦ get_or-take endpoints rest source none inside ∙ elim (cases_lt source (n - place * endpoints)) [
+        | inl below ↦ ap (λ (xs : List (Option ℕ)). get_or xs source none) is ∙ get_or-replicate (n - place * endpoints) source none none below
+        | inr above ↦ get_or_past rest source none (omega (arith, above, ap (λ (xs : List (Option ℕ)). length xs) is, length-replicate (n - place * endpoints) none))
+      ]
+      | inr outside ↦ get_or_past (take endpoints rest) source none (omega (arith, outside, length-take endpoints rest))
+    ]
+
+-- no row has a place for more than the endpoints
+pub row_past : (endpoints place : ℕ) (cores : List (Option ℕ)) (source : ℕ) → endpoints ≤ source → core_in (row_of endpoints cores place) source ≡ None
+row_past endpoints place cores source outside = get_or_past (row_of endpoints cores place) source None (omega (arith, outside, length-take endpoints (drop (place * endpoints) cores)))
+
+-- a part of the rows that is a row
+pub slice_is_row : (endpoints count place k : ℕ) (cores part : List (Option ℕ)) → count ≡ endpoints → k ≡ count → part ≡ cores → take k (drop (place * count) part) ≡ row_of endpoints cores place
+slice_is_row endpoints count place k cores part same size from = λ i. take ((size ∙ same) i) (drop (place * same i) (from i))
+
+-- a row written over the front of one that names none
+pub row_over_none : (endpoints place : ℕ) (cores row : List (Option ℕ)) → place * endpoints + endpoints ≤ length cores → NamesNone (core_in row)
+    → core_in (row_of endpoints cores place) ≡ core_in (row_of endpoints cores place ++ drop endpoints row)
+row_over_none endpoints place cores row fits none = fun_ext (λ source.
+    let from : List (Option ℕ) = row_of endpoints cores place in
+    let size : length from ≡ endpoints = omega (arith, fits, length-take endpoints (drop (place * endpoints) cores), length-drop (place * endpoints) cores) in
+    elim (cases_lt source endpoints) [
+      | inl inside ↦ sym (get_or_append_left from (drop endpoints row) None source (omega (arith, inside, size)))
+      | inr outside ↦
+          row_past endpoints place cores source outside
+          ∙ sym (get_or-append_right from (drop endpoints row) endpoints source None size outside
+          ∙ (get_or-drop endpoints row (source - endpoints) None ∙ none (endpoints + (source - endpoints))))
+    ])
+
+-- a slot without packets between racks needs no core
+pub idle_row : (net : Network) (room : ℕ) (slots : List (List Flow)) (painter : Painter) (slot place : ℕ) → place ≡ room → EveryColouringMakesAMatchingClean → IsPainter net room painter → AreColourable net room slots
+    → slot < length slots → rack_edges net.hosts (slot_in slots slot) ≡ [] → HasRow net room slots painter slot place
+idle_row net room slots painter slot place last clean sized colourable below idle =
+    let nothing : NamesNone (row_at painter place) = subst (λ (k : ℕ). NamesNone (row_at painter k)) (sym last) sized.idle in
+    let none : IsColouring net.cores [] (row_at painter place) = record {
+      named = λ k d under. absurd (omega (arith, under));
+      proper = λ i j d lt under. absurd (omega (arith, under));
+      others = λ source apart. nothing source;
+    } in
+    record {
+      within = omega (arith, last);
+      same = λ lt. absurd (omega (arith, lt, last));
+      cores = record {
+        clean = clean net.hosts net.cores [] (row_at painter place) none (slot_in slots slot) (colourable.matchings slot [] below) (sym idle);
+        others = λ source apart. nothing source;
+      };
+    }
+
+-- as long as before
+length_put : (from k : ℕ) (cores row : List (Option ℕ)) → length row ≡ k → from + k ≤ length cores → length (put_mid from k cores row) ≡ length cores
+length_put from k cores row size fits = same_len_mid from k cores row (omega (arith, size, fits, length-take k (drop from cores), length-drop from cores))
+
+-- a row that is written into a table, and the others
+pub written_row : {Z : Type 0} (endpoints count slot k : ℕ) (rows : Vec (Option ℕ) Z) (old row : List (Option ℕ)) → count ≡ endpoints → old ≡ rows.items → k ≡ count → length row ≡ count → slot * count + count ≤ length old
+    → core_in (row_of endpoints (with_items rows (put_mid (slot * count) k old row)).items slot) ≡ core_in row
+written_row endpoints count slot k rows old row same from size whole fits =
+    let put : List (Option ℕ) = put_mid (slot * count) k old row in
+    let len : length put ≡ rows.len = omega (arith, length_put (slot * count) k old row (omega (arith, whole, size)) (omega (arith, fits, size)), ap (λ (xs : List (Option ℕ)). length xs) from, rows.ok.0) in
+    ap (λ (xs : List (Option ℕ)). core_in (row_of endpoints xs slot)) (with_items_is rows put len)
+    ∙ (ap (λ (n : ℕ). core_in (row_of n put slot)) (sym same)
+    ∙ ap core_in (row_same count slot k old row size whole (omega (arith, fits))))
+
+pub other_row : {Z : Type 0} (endpoints count slot k place : ℕ) (rows : Vec (Option ℕ) Z) (old row : List (Option ℕ)) → count ≡ endpoints → old ≡ rows.items → k ≡ count → length row ≡ count → slot * count + count ≤ length old → place ≢ slot
+    → core_in (row_of endpoints rows.items place) ≡ core_in (row_of endpoints (with_items rows (put_mid (slot * count) k old row)).items place)
+other_row endpoints count slot k place rows old row same from size whole fits other =
+    let put : List (Option ℕ) = put_mid (slot * count) k old row in
+    let len : length put ≡ rows.len = omega (arith, length_put (slot * count) k old row (omega (arith, whole, size)) (omega (arith, fits, size)), ap (λ (xs : List (Option ℕ)). length xs) from, rows.ok.0) in
+    ap (λ (xs : List (Option ℕ)). core_in (row_of endpoints xs place)) (sym from)
+    ∙ (ap (λ (n : ℕ). core_in (row_of n old place)) (sym same)
+    ∙ (ap core_in (sym (row_other count slot k place old row size whole (omega (arith, fits)) other))
+    ∙ (ap (λ (n : ℕ). core_in (row_of n put place)) same
+    ∙ ap (λ (xs : List (Option ℕ)). core_in (row_of endpoints xs place)) (sym (with_items_is rows put len)))))
+
+-- where nothing but the graph changed
+pub regraphed : (net : Network) (room : ℕ) (slots : List (List Flow)) (p q : Painter) → HasPainted net room slots p → q.net ≡ p.net → q.table ≡ p.table → q.graph.room ≡ p.graph.room → q.places ≡ p.places → q.rows ≡ p.rows → HasPainted net room slots q
+regraphed net room slots p q painted same_net same_table same_room same_places same_rows =
+    let rows_same : (place : ℕ) → row_at p place ≡ row_at q place = λ place. ap (λ (n : ℕ). core_in (row_of n p.rows.items place)) (ap endpoints_of (sym same_net)) ∙ ap (λ (v : _). core_in (row_of (endpoints_of q.net) v.items place)) (sym same_rows) in
+    let s = painted.sized in
+    record {
+      sized = record {
+        few = s.few;
+        same_net = same_net ∙ s.same_net;
+        table = ap (λ (t : _). t.net) same_table ∙ s.table;
+        graph = omega (arith, s.graph, same_room);
+        places = ap (λ (v : _). vec_len v) same_places ∙ s.places;
+        rows = ap (λ (v : _). vec_len v) same_rows ∙ s.rows;
+        idle = subst NamesNone (rows_same room) s.idle;
+      };
+      rows = λ slot place below is.
+          let old = painted.rows slot place below (ap (λ (v : _). get_or v.items slot None) (sym same_places) ∙ is) in
+          record { within = old.within; same = old.same; cores = subst (HasItsCores net (slot_in slots slot)) (rows_same place) old.cores };
+    }
+
+-- where a slot's own row was written, with its cores
+pub repainted : (net : Network) (room : ℕ) (slots : List (List Flow)) (p q : Painter) (slot : ℕ) → HasPainted net room slots p → slot < room → q.net ≡ net → q.table.net ≡ net → endpoints_of net ≤ q.graph.room → q.places ≡ p.places → vec_len q.rows ≡ vec_len p.rows
+    → HasItsCores net (slot_in slots slot) (row_at q slot) → ((place : ℕ) → place ≢ slot → row_at p place ≡ row_at q place) → HasPainted net room slots q
+repainted net room slots p q slot painted within same_net table graph same_places len written others =
+    let s = painted.sized in
+    record {
+      sized = record {
+        few = s.few;
+        same_net = same_net;
+        table = table;
+        graph = graph;
+        places = ap (λ (v : _). vec_len v) same_places ∙ s.places;
+        rows = len ∙ s.rows;
+        idle = subst NamesNone (others room (λ same. omega (arith, within))) s.idle;
+      };
+      rows = λ other place below is.
+          let old = painted.rows other place below (ap (λ (v : _). get_or v.items other None) (sym same_places) ∙ is) in
+          record {
+            within = old.within;
+            same = old.same;
+            cores = elim (cases_eq place slot) [
+              | inl here ↦
+                  let same : slot_in slots slot ≡ slot_in slots other = ap (slot_in slots) (sym here) ∙ old.same (omega (arith, here, within)) in
+                  subst (λ (k : ℕ). HasItsCores net (slot_in slots other) (row_at q k)) (sym here) (subst (λ (flows : List Flow). HasItsCores net flows (row_at q slot)) same written)
+              | inr there ↦ subst (HasItsCores net (slot_in slots other)) (others place there) old.cores
+            ];
+          };
+    }
+
+-- where a slot's row is noted
+pub placed : (net : Network) (room : ℕ) (slots : List (List Flow)) (p q : Painter) (slot place : ℕ) → HasPainted net room slots p → slot < length slots → length slots ≤ room → HasRow net room slots p slot place
+    → q.net ≡ p.net → q.table ≡ p.table → q.graph ≡ p.graph → q.rows ≡ p.rows → vec_len q.places ≡ vec_len p.places → q.places.items ≡ set p.places.items slot (Some place) → HasPainted net room slots q
+placed net room slots p q slot place painted below fits row same_net same_table same_graph same_rows len places =
+    let rows_same : (at : ℕ) → row_at p at ≡ row_at q at = λ at. ap (λ (n : ℕ). core_in (row_of n p.rows.items at)) (ap endpoints_of (sym same_net)) ∙ ap (λ (v : _). core_in (row_of (endpoints_of q.net) v.items at)) (sym same_rows) in
+    let s = painted.sized in
+    let moved : (other at : ℕ) → HasRow net room slots p other at → HasRow net room slots q other at = λ other at old. record { within = old.within; same = old.same; cores = subst (HasItsCores net (slot_in slots other)) (rows_same at) old.cores } in
+    record {
+      sized = record {
+        few = s.few;
+        same_net = same_net ∙ s.same_net;
+        table = ap (λ (t : _). t.net) same_table ∙ s.table;
+        graph = omega (arith, s.graph, ap (λ (g : _). g.room) same_graph);
+        places = len ∙ s.places;
+        rows = ap (λ (v : _). vec_len v) same_rows ∙ s.rows;
+        idle = subst NamesNone (rows_same room) s.idle;
+      };
+      rows = λ other at under is.
+          let now : get_or (set p.places.items slot (Some place)) other None ≡ Some at = ap (λ (xs : List (Option ℕ)). get_or xs other None) (sym places) ∙ is in
+          elim (cases_eq other slot) [
+            | inl here ↦
+                let set_here : get_or (set p.places.items slot (Some place)) slot None ≡ Some place = get_or-set_same p.places.items slot (Some place) None (omega (arith, below, fits, s.places, p.places.ok.0)) in
+                let some : Some at ≡ Some place = sym now ∙ (ap (λ (k : ℕ). get_or (set p.places.items slot (Some place)) k None) here ∙ set_here) in
+                let same : at ≡ place = cc in
+                subst (λ (k : ℕ). HasRow net room slots q k at) (sym here) (subst (HasRow net room slots q slot) (sym same) (moved slot place row))
+            | inr there ↦ moved other at (painted.rows other at under (sym (get_or-set_other p.places.items slot other (Some place) None there) ∙ now))
+          ];
+    }
+
+-- before any slot is coloured
+pub forgotten : (net : Network) (room : ℕ) (slots : List (List Flow)) (p q : Painter) → IsPainter net room p → q.net ≡ p.net → q.table ≡ p.table → q.graph ≡ p.graph → q.rows ≡ p.rows → vec_len q.places ≡ vec_len p.places
+    → ((slot : ℕ) → place_of q slot ≡ None) → HasPainted net room slots q
+forgotten net room slots p q s same_net same_table same_graph same_rows len none =
+    let rows_same : (at : ℕ) → row_at p at ≡ row_at q at = λ at. ap (λ (n : ℕ). core_in (row_of n p.rows.items at)) (ap endpoints_of (sym same_net)) ∙ ap (λ (v : _). core_in (row_of (endpoints_of q.net) v.items at)) (sym same_rows) in
+    record {
+      sized = record {
+        few = s.few;
+        same_net = same_net ∙ s.same_net;
+        table = ap (λ (t : _). t.net) same_table ∙ s.table;
+        graph = omega (arith, s.graph, ap (λ (g : _). g.room) same_graph);
+        places = len ∙ s.places;
+        rows = ap (λ (v : _). vec_len v) same_rows ∙ s.rows;
+        idle = subst NamesNone (rows_same room) s.idle;
+      };
+      rows = λ slot place below is. let was : None ≡ Some place = sym (none slot) ∙ is in absurd (cc);
+    }
+
+-- what stands at a slot's place
+pub named_place : (slots : List (List Flow)) (p : Painter) (slot place : ℕ) (found : Option ℕ) → MayPaint slots p → slot < length slots → found ≡ get_or p.places.items slot found → found ≡ Some place → place_of p slot ≡ Some place
+named_place slots p slot place found may below at is =
+    get_or_default p.places.items slot None found (omega (arith, below, may.colourable.count, p.places.ok.0)) ∙ (sym at ∙ is)
+
+-- a row that is noted stands within the rows
+pub place_fits : (slots : List (List Flow)) (p : Painter) (slot place : ℕ) → MayPaint slots p → slot < length slots → place_of p slot ≡ Some place → place * endpoints_of p.net + endpoints_of p.net ≤ vec_len p.rows
+place_fits slots p slot place may below is =
+    let row = may.painted.rows slot place below is in
+    let within : place ≤ vec_len p.places = row.within in
+    let rows : vec_len p.rows ≡ (vec_len p.places + 1) * endpoints_of p.net = may.painted.sized.rows in
+    omega (arith, rows, row_fits place (endpoints_of p.net) (vec_len p.places + 1) (endpoints_of p.net) (omega (arith, within)) (omega arith))
+
+-- what a worker has painted, where its sizes are those of another
+pub resized : (net : Network) (room : ℕ) (slots : List (List Flow)) (p q : Painter) → IsPainter net room p → HasPainted p.net (vec_len p.places) slots q → HasPainted net room slots q
+resized net room slots p q sized painted = subst (λ (n : Network). HasPainted n room slots q) sized.same_net (subst (λ (k : ℕ). HasPainted p.net k slots q) sized.places painted)
+
+-- a worker whose slots may be coloured
+pub may_paint : (net : Network) (room : ℕ) (slots : List (List Flow)) (p : Painter) → AreColourable net room slots → HasPainted net room slots p → MayPaint slots p
+may_paint net room slots p colourable painted =
+    let s = painted.sized in
+    record {
+      colourable = subst (λ (n : Network). AreColourable n (vec_len p.places) slots) (sym s.same_net) (subst (λ (k : ℕ). AreColourable net k slots) (sym s.places) colourable);
+      painted = subst (λ (n : Network). HasPainted n (vec_len p.places) slots p) (sym s.same_net) (subst (λ (k : ℕ). HasPainted net k slots p) (sym s.places) painted);
+    }

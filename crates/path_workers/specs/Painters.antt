@@ -1,0 +1,71 @@
+-- A path worker's rows of cores: for each slot that it has coloured, the row that has its cores (this project's own profile).
+use Rattle.std.specs.Prelude.{◌≡◌, ◌<◌, ◌≤◌, ℕ, ◌+◌, ◌*◌, List, length, Bool, true, Option, Some, None, All, IsTrue, is_some, vec_len}
+use Rattle.std.specs.List.{slice_index_or, list_any}
+use Rattle.greedy_rules.specs.declared.flows.Flow.{Flow}
+use Rattle.greedy_rules.specs.Matching.{IsMatching}
+use Rattle.greedy_rules.specs.Schedule.{slot_in}
+use Rattle.clos_topology.specs.Network.{Network, endpoints_of}
+use Rattle.clos_topology.specs.Links.{CoreOf}
+use Rattle.edge_colouring.specs.Cores.{core_in}
+use Rattle.path_workers.specs.declared.jobs.Job.{Job}
+use Rattle.path_workers.specs.declared.painter.Painter.{Painter}
+use Rattle.path_workers.specs.CoreTable.{row_of, NamesNone}
+use Rattle.path_workers.specs.Coloured.{IsFlowOf, IsWithinCores, HasItsCores}
+use Rattle.path_workers.specs.Jobs.{weigh, is_slot}
+
+-- slots that may be given cores, at most as many as there is room for
+pub record AreColourable (net : Network) (room : ℕ) (slots : List (List Flow)) : Type 0 where
+  pub count : length slots ≤ room
+  pub flows : All (All (IsFlowOf net)) slots
+  pub matchings : All IsMatching slots
+  pub within : All (IsWithinCores net) slots
+
+-- where the cores of a slot stand, if it was coloured
+abbrev pub place_of : Painter → ℕ → Option ℕ
+place_of painter slot = slice_index_or painter.places.items slot None
+
+abbrev pub has_row : ℕ → Painter → Bool
+has_row slot painter = is_some (place_of painter slot)
+
+abbrev pub row_at : Painter → ℕ → CoreOf
+row_at painter place = core_in (row_of (endpoints_of painter.net) painter.rows.items place)
+
+-- a row for each slot, and a last one that names no core
+pub record IsPainter (net : Network) (room : ℕ) (painter : Painter) : Type 0 where
+  pub few : room ≤ 1024
+  pub same_net : painter.net ≡ net
+  pub table : painter.table.net ≡ net
+  pub graph : endpoints_of net ≤ painter.graph.room
+  pub places : vec_len painter.places ≡ room
+  pub rows : vec_len painter.rows ≡ (room + 1) * endpoints_of net
+  pub idle : NamesNone (row_at painter room)
+
+-- a slot's row has its cores; it is the row of a slot with the same packets, or the last one
+pub record HasRow (net : Network) (room : ℕ) (slots : List (List Flow)) (painter : Painter) (slot place : ℕ) : Type 0 where
+  pub within : place ≤ room
+  pub same : place < room → slot_in slots place ≡ slot_in slots slot
+  pub cores : HasItsCores net (slot_in slots slot) (row_at painter place)
+
+pub record HasPainted (net : Network) (room : ℕ) (slots : List (List Flow)) (painter : Painter) : Type 0 where
+  pub sized : IsPainter net room painter
+  pub rows : (slot place : ℕ) → slot < length slots → place_of painter slot ≡ Some place → HasRow net room slots painter slot place
+
+-- each slot of these whose job was taken more often than before has a row
+abbrev pub HasRowsOf : ℕ → List Job → List Job → Painter → Type 0
+HasRowsOf count old new painter = (slot : ℕ) → slot < count → weigh (is_slot slot) old < weigh (is_slot slot) new → IsTrue (has_row slot painter)
+
+abbrev pub HaveRowsOf : ℕ → List Job → List Job → List Painter → Type 0
+HaveRowsOf count old new painters = (slot : ℕ) → slot < count → weigh (is_slot slot) old < weigh (is_slot slot) new → list_any (has_row slot) painters ≡ true
+
+-- each of the first slots has a row
+abbrev pub HaveRows : ℕ → List Painter → Type 0
+HaveRows count painters = (slot : ℕ) → slot < count → list_any (has_row slot) painters ≡ true
+
+-- the slots may be coloured by it, and its rows are right
+pub record MayPaint (slots : List (List Flow)) (painter : Painter) : Type 0 where
+  pub colourable : AreColourable painter.net (vec_len painter.places) slots
+  pub painted : HasPainted painter.net (vec_len painter.places) slots painter
+
+-- all of them are of one network and size, whose slots may be coloured
+abbrev pub MayAllPaint : List (List Flow) → List Painter → Type 0
+MayAllPaint slots painters = (net : Network) × (room : ℕ) × AreColourable net room slots × All (HasPainted net room slots) painters

@@ -1,0 +1,182 @@
+//! One path worker's colouring.
+ghost use Rattle.std.specs.Prelude.{◌≡◌, ◌<◌, ◌≤◌, ◌+◌, ◌*◌, ℕ, List, length, false, IsTrue, IfOk, IfSome, vec_len};
+ghost use Rattle.greedy_rules.specs.declared.flows.Flow.{Flow};
+ghost use Rattle.greedy_rules.specs.Schedule.{slot_in};
+ghost use Rattle.clos_topology.specs.Network.{Network, endpoints_of};
+ghost use Rattle.edge_colouring.specs.Cores.{core_in};
+ghost use Rattle.path_workers.specs.CoreTable.{NamesNone};
+ghost use Rattle.path_workers.specs.Coloured.{HasItsCores};
+ghost use Rattle.path_workers.specs.Jobs.{is_slot};
+ghost use Rattle.path_workers.specs.Painters.{IsPainter, HasPainted, HasRow, MayPaint, has_row};
+
+use crate::jobs::Job;
+use clos_topology::{Net, RackGraph};
+use edge_colouring::{Table, colour, every_colouring_makes_a_matching_clean, limits_are_degrees};
+use fp_edge::Gate;
+use greedy_rules::SlotTable;
+use no_memory::NoMemory;
+use std::alloc::Global;
+
+/// What a path worker colours slots with, and the rows of cores that it has made.
+#[derive(Drop)]
+pub(crate) struct Painter {
+    pub(crate) number: u16,
+    net: Net,
+    graph: RackGraph,
+    table: Table,
+    // By slot: where its cores stand, if this worker has coloured it.
+    places: Vec<Option<u16>>,
+    // The slot that it coloured last.
+    last: u16,
+    // A row for each slot, and a last one that names no core; a row has a place for each endpoint.
+    rows: Vec<Option<u16>>,
+}
+
+impl Painter {
+    /// The path worker of this number, for at most so many slots of the network.
+    pub(crate) fn open(
+        alloc: Global,
+        number: u16,
+        net: &Net,
+        slots: u16,
+    ) -> Result<Painter, NoMemory>
+        requires { slots ≤ 1024 }
+        ensures { IfOk result (IsPainter net.now slots) }
+    {
+        let endpoints = net.endpoints();
+        Ok(Painter {
+            number,
+            net: *net,
+            graph: RackGraph::open(alloc, endpoints)?,
+            table: Table::open(alloc, net)?,
+            places: vec![in alloc; None; slots as usize]?,
+            last: 0,
+            rows: vec![in alloc; None; (slots as usize + 1) * endpoints as usize]?,
+        })
+    }
+
+    /// Forgets which slots it has coloured.
+    pub(crate) fn forget(&mut self)
+        ensures { (net : Network) (room : ℕ) (slots : List (List Flow)) → IsPainter net room self.old → HasPainted net room slots self.new }
+    {
+        self.places.fill(None);
+    }
+
+    /// Colours the slot that the job names, once the gate has let the worker pass. Answers whether it names one.
+    pub(crate) fn take_up<G: Gate>(&mut self, gate: &G, slots: &SlotTable, job: Job) -> bool
+        requires may { MayPaint slots.now.slots self.old }
+        ensures painted { HasPainted self.old.net (vec_len self.old.places) slots.now.slots self.new }
+        ensures row { (slot : ℕ) → slot < length slots.now.slots → 0 < is_slot slot job → IsTrue (has_row slot self.new) }
+        ensures keeps { (slot : ℕ) → IsTrue (has_row slot self.old) → IsTrue (has_row slot self.new) }
+    {
+        match job {
+            Job::Slot(slot) if slot < slots.slots() => {
+                gate.paint(self.number, u32::from(slot));
+                self.paint(slots, slot);
+                true
+            }
+            _ => false,
+        }
+    }
+
+    /// Gives the slot's packets their cores.
+    fn paint(&mut self, slots: &SlotTable, slot: u16)
+        requires slot { slot < length slots.now.slots }
+        requires may { MayPaint slots.now.slots self.old }
+        ensures painted { HasPainted self.old.net (vec_len self.old.places) slots.now.slots self.new }
+        ensures row { IsTrue (has_row slot self.new) }
+        ensures keeps { (other : ℕ) → IsTrue (has_row other self.old) → IsTrue (has_row other self.new) }
+    {
+        let place = self.make_row(slots, slot);
+        self.places[slot as usize] = Some(place);
+        self.last = slot;
+    }
+
+    /// The row of the slot coloured last, where that one has the same packets.
+    fn last_row(&self, slots: &SlotTable, slot: u16) -> Option<u16>
+        requires slot { slot < length slots.now.slots }
+        requires may { MayPaint slots.now.slots self.now }
+        ensures { IfSome result (HasRow self.now.net (vec_len self.now.places) slots.now.slots self.now slot) }
+    {
+        if self.last >= slots.slots() {
+            return None;
+        }
+        let place = self.places[self.last as usize]?;
+        if are_equal(slots, self.last, slot) {
+            Some(place)
+        } else {
+            None
+        }
+    }
+
+    /// Where the cores of the slot's packets stand: in its own row, which is written, or in one that has them already.
+    fn make_row(&mut self, slots: &SlotTable, slot: u16) -> u16
+        requires slot { slot < length slots.now.slots }
+        requires may { MayPaint slots.now.slots self.old }
+        ensures painted { HasPainted self.old.net (vec_len self.old.places) slots.now.slots self.new }
+        ensures row { HasRow self.old.net (vec_len self.old.places) slots.now.slots self.new slot result }
+        ensures places { self.new.places ≡ self.old.places }
+    {
+        every_colouring_makes_a_matching_clean();
+        limits_are_degrees();
+        if let Some(place) = self.last_row(slots, slot) {
+            return place;
+        }
+        self.graph.load(&self.net, slots, slot);
+        if self.graph.is_empty() {
+            return self.places.len() as u16;
+        }
+        let coloured = colour(&self.graph, self.net.cores(), &mut self.table).is_ok();
+        prove!(coloured);
+        let endpoints = self.net.endpoints();
+        let from = slot as usize * endpoints as usize;
+        let row = &mut self.rows[from..from + endpoints as usize];
+        copy_cores(&self.table, endpoints, row);
+        slot
+    }
+
+    /// Writes the slot's cores into a row that names none, where this worker has coloured it. Answers whether it has.
+    pub(crate) fn copy_row(&self, slot: u16, row: &mut [Option<u16>]) -> bool
+        requires painted { (slots : List (List Flow)) × MayPaint slots self.now × (slot < length slots) }
+        requires room { endpoints_of self.now.net ≤ length row.old }
+        requires none { NamesNone (core_in row.old) }
+        ensures has { result ≡ has_row slot self.now }
+        ensures cores { IsTrue result → (slots : List (List Flow)) → MayPaint slots self.now → slot < length slots → HasItsCores self.now.net (slot_in slots slot) (core_in row.new) }
+        ensures same { result ≡ false → row.new ≡ row.old }
+    {
+        let Some(place) = self.places[slot as usize] else {
+            return false;
+        };
+        let endpoints = self.net.endpoints() as usize;
+        let from = place as usize * endpoints;
+        let to = &mut row[..endpoints];
+        to.copy_from_slice(&self.rows[from..from + endpoints]);
+        true
+    }
+}
+
+/// Whether two slots have the same packets.
+fn are_equal(slots: &SlotTable, one: u16, other: u16) -> bool
+    requires one { one < length slots.now.slots }
+    requires other { other < length slots.now.slots }
+    ensures { IsTrue result → slot_in slots.now.slots one ≡ slot_in slots.now.slots other }
+{
+    prove!(one < slots.slots());
+    for source in 0..slots.endpoints() {
+        if slots.to(one, source) != slots.to(other, source) {
+            return false;
+        }
+    }
+    true
+}
+
+/// Writes the core of each source.
+fn copy_cores(table: &Table, endpoints: u16, row: &mut [Option<u16>])
+    requires endpoints { endpoints ≡ endpoints_of table.now.net }
+    requires room { length row.old ≡ endpoints }
+    ensures { (source : ℕ) → source < endpoints → core_in row.new source ≡ core_in table.now.cores source }
+{
+    for source in 0..endpoints {
+        row[source as usize] = table.core(source);
+    }
+}
