@@ -1,14 +1,14 @@
 -- The bits of a mask that is made of tests, and of one that slides up.
 use Rattle.std.proofs.Common.{◌≡◌, ℕ, zero, suc, ◌+◌, ◌-◌, ◌*◌, ◌/◌, ◌%◌, ◌^◌, ◌<◌, ◌≤◌, max, Bool, true, false, cond, nat_lt, ◌==◌, if◌then◌else◌, sym, ◌∙◌, ap, subst, refl, inl, inr, arith, bit_and, bit_or}
-use Rattle.std.specs.Int.{bit_at}
+use Rattle.std.specs.Int.{bit_at, IsBitSet}
 use Rattle.std.proofs.Math.Nat.{pow-suc, div-add-mod}
 use Rattle.std.proofs.lemmas.Bool.{cond_both, cases_lt, cases_eq, cond-true, cond-false, lt-ltb, le-ltb, eq-eqb, ne_eqb}
 use Rattle.std.proofs.lemmas.Bool.Decides.{nat_tests}
 use Rattle.std.proofs.lemmas.Nat.Bits.{bit_at-lt, bit_at_cat_low, bit_at_cat_high, bit_at_or, bit_at-pow_same, bit_at-pow_other, bit_at-zero, and_pow, same_from_bits_below}
-use Rattle.std.proofs.lemmas.Nat.{one_shl}
+use Rattle.std.proofs.lemmas.Nat.{one_shl, and_mask}
 use Rattle.ack_window.specs.Arrivals.{bits_where}
 
-some-pow : (k : ℕ) → 0 < 2 ^ k
+pub some-pow : (k : ℕ) → 0 < 2 ^ k
 some-pow zero = omega arith
 some-pow (suc k) = omega (arith, pow-suc 2 k, some-pow k)
 
@@ -64,15 +64,15 @@ bit_at-shifted_high n k i above =
     ap (λ m. bit_at m i) whole ∙ bit_at_cat_high n k 0 i some above
 
 -- a mask that slides up by `ahead` makes room for a new lowest run of bits
-slid_up : (mask below i : ℕ) → i < 64 → bit_at (mask * 2 ^ below % 2 ^ 64 * 2 % 2 ^ 64) i ≡ cond (nat_lt i (below + 1)) 0 (bit_at mask (i - (below + 1)))
+slid_up : (mask below i : ℕ) → i < 128 → bit_at (mask * 2 ^ below % 2 ^ 128 * 2 % 2 ^ 128) i ≡ cond (nat_lt i (below + 1)) 0 (bit_at mask (i - (below + 1)))
 slid_up mask below i within =
-    let step = mask * 2 ^ below % 2 ^ 64 in
+    let step = mask * 2 ^ below % 2 ^ 128 in
     elim (cases_lt i 1) [
       | inl lowest ↦
-          bit_at-mod (step * 2) 64 i within ∙ bit_at-shifted_low step 1 i lowest ∙ sym (cond-true (nat_lt i (below + 1)) 0 (bit_at mask (i - (below + 1))) (lt-ltb i (below + 1) (omega arith)))
+          bit_at-mod (step * 2) 128 i within ∙ bit_at-shifted_low step 1 i lowest ∙ sym (cond-true (nat_lt i (below + 1)) 0 (bit_at mask (i - (below + 1))) (lt-ltb i (below + 1) (omega arith)))
       | inr higher ↦
-          let cut : i - 1 < 64 = omega arith in
-          let first = bit_at-mod (step * 2) 64 i within ∙ bit_at-shifted_high step 1 i higher ∙ bit_at-mod (mask * 2 ^ below) 64 (i - 1) cut in
+          let cut : i - 1 < 128 = omega arith in
+          let first = bit_at-mod (step * 2) 128 i within ∙ bit_at-shifted_high step 1 i higher ∙ bit_at-mod (mask * 2 ^ below) 128 (i - 1) cut in
           elim (cases_lt (i - 1) below) [
             | inl low ↦ first ∙ bit_at-shifted_low mask below (i - 1) low ∙ sym (cond-true (nat_lt i (below + 1)) 0 (bit_at mask (i - (below + 1))) (lt-ltb i (below + 1) (omega arith)))
             | inr high ↦
@@ -82,46 +82,66 @@ slid_up mask below i within =
           ]
     ]
 
-one_bit : (k i : ℕ) → k < 64 → i < 64 → bit_at (1 * 2 ^ k % 2 ^ 64) i ≡ cond (i == k) 1 0
+-- the low bits are kept where a mask is cut to span bits
+bit_at-kept : (mask span i : ℕ) → i < span → bit_at (bit_and mask (2 ^ span - 1)) i ≡ bit_at mask i
+bit_at-kept mask span i within = ap (λ m. bit_at m i) (and_mask mask span) ∙ bit_at-mod mask span i within
+
+one_bit : (k i : ℕ) → k < 128 → i < 128 → bit_at (1 * 2 ^ k % 2 ^ 128) i ≡ cond (i == k) 1 0
 one_bit k i fits within =
-    let plain : bit_at (1 * 2 ^ k % 2 ^ 64) i ≡ bit_at (2 ^ k) i = bit_at-mod (1 * 2 ^ k) 64 i within ∙ ap (λ m. bit_at m i) (let e : 1 * 2 ^ k ≡ 2 ^ k = omega arith in e) in
+    let plain : bit_at (1 * 2 ^ k % 2 ^ 128) i ≡ bit_at (2 ^ k) i = bit_at-mod (1 * 2 ^ k) 128 i within ∙ ap (λ m. bit_at m i) (let e : 1 * 2 ^ k ≡ 2 ^ k = omega arith in e) in
     elim (cases_eq i k) [
       | inl same ↦ plain ∙ ap (λ j. bit_at (2 ^ k) j) same ∙ bit_at-pow_same k ∙ sym (cond-true (i == k) 1 0 (eq-eqb i k same))
       | inr other ↦ plain ∙ bit_at-pow_other k i other ∙ sym (cond-false (i == k) 1 0 (ne_eqb i k other))
     ]
 
-pub bit_at-slid : (mask ahead i : ℕ) → 1 ≤ ahead → ahead ≤ 64 → i < 64 →
-    bit_at (bit_or (mask * 2 ^ (ahead - 1) % 2 ^ 64 * 2 % 2 ^ 64) (1 * 2 ^ (ahead - 1) % 2 ^ 64)) i
+bit_at-slid : (mask ahead i : ℕ) → 1 ≤ ahead → ahead ≤ 128 → i < 128 →
+    bit_at (bit_or (mask * 2 ^ (ahead - 1) % 2 ^ 128 * 2 % 2 ^ 128) (1 * 2 ^ (ahead - 1) % 2 ^ 128)) i
     ≡ (if i + 1 == ahead then 1 else (if nat_lt i ahead then 0 else bit_at mask (i - ahead)))
 bit_at-slid mask ahead i some few within =
     let whole : ahead - 1 + 1 ≡ ahead = omega arith in
-    let up : bit_at (mask * 2 ^ (ahead - 1) % 2 ^ 64 * 2 % 2 ^ 64) i ≡ cond (nat_lt i ahead) 0 (bit_at mask (i - ahead)) =
-    subst (λ (a : ℕ). bit_at (mask * 2 ^ (ahead - 1) % 2 ^ 64 * 2 % 2 ^ 64) i ≡ cond (nat_lt i a) 0 (bit_at mask (i - a))) whole (slid_up mask (ahead - 1) i within) in
-    let one : bit_at (1 * 2 ^ (ahead - 1) % 2 ^ 64) i ≡ cond (i == ahead - 1) 1 0 = one_bit (ahead - 1) i (omega arith) within in
-    let both = bit_at_or (mask * 2 ^ (ahead - 1) % 2 ^ 64 * 2 % 2 ^ 64) (1 * 2 ^ (ahead - 1) % 2 ^ 64) i in
-    let joined : bit_at (bit_or (mask * 2 ^ (ahead - 1) % 2 ^ 64 * 2 % 2 ^ 64) (1 * 2 ^ (ahead - 1) % 2 ^ 64)) i ≡ max (cond (nat_lt i ahead) 0 (bit_at mask (i - ahead))) (cond (i == ahead - 1) 1 0) =
-    both ∙ ap (λ m. max m (bit_at (1 * 2 ^ (ahead - 1) % 2 ^ 64) i)) up ∙ ap (λ m. max (cond (nat_lt i ahead) 0 (bit_at mask (i - ahead))) m) one in
+    let up : bit_at (mask * 2 ^ (ahead - 1) % 2 ^ 128 * 2 % 2 ^ 128) i ≡ cond (nat_lt i ahead) 0 (bit_at mask (i - ahead)) =
+    subst (λ (a : ℕ). bit_at (mask * 2 ^ (ahead - 1) % 2 ^ 128 * 2 % 2 ^ 128) i ≡ cond (nat_lt i a) 0 (bit_at mask (i - a))) whole (slid_up mask (ahead - 1) i within) in
+    let one : bit_at (1 * 2 ^ (ahead - 1) % 2 ^ 128) i ≡ cond (i == ahead - 1) 1 0 = one_bit (ahead - 1) i (omega arith) within in
+    let both = bit_at_or (mask * 2 ^ (ahead - 1) % 2 ^ 128 * 2 % 2 ^ 128) (1 * 2 ^ (ahead - 1) % 2 ^ 128) i in
+    let joined : bit_at (bit_or (mask * 2 ^ (ahead - 1) % 2 ^ 128 * 2 % 2 ^ 128) (1 * 2 ^ (ahead - 1) % 2 ^ 128)) i ≡ max (cond (nat_lt i ahead) 0 (bit_at mask (i - ahead))) (cond (i == ahead - 1) 1 0) =
+    both ∙ ap (λ m. max m (bit_at (1 * 2 ^ (ahead - 1) % 2 ^ 128) i)) up ∙ ap (λ m. max (cond (nat_lt i ahead) 0 (bit_at mask (i - ahead))) m) one in
     joined ∙ by_place mask ahead i some (bit_at-lt mask (i - ahead))
   where
     by_place : (mask ahead i : ℕ) → 1 ≤ ahead → bit_at mask (i - ahead) < 2 → max (cond (nat_lt i ahead) 0 (bit_at mask (i - ahead))) (cond (i == ahead - 1) 1 0) ≡ (if i + 1 == ahead then 1 else (if nat_lt i ahead then 0 else bit_at mask (i - ahead)))
     by_place mask ahead i some small = grind (arith, nat_tests)
 
+-- and the same, cut to span bits
+pub bit_at-slid_kept : (mask ahead span ones i : ℕ) → ones ≡ 2 ^ span - 1 → span ≤ 128 → 1 ≤ ahead → ahead ≤ span → i < span →
+    bit_at (bit_and (bit_or (mask * 2 ^ (ahead - 1) % 2 ^ 128 * 2 % 2 ^ 128) (1 * 2 ^ (ahead - 1) % 2 ^ 128)) ones) i
+    ≡ (if i + 1 == ahead then 1 else (if nat_lt i ahead then 0 else bit_at mask (i - ahead)))
+bit_at-slid_kept mask ahead span ones i is fits some few within =
+    let slid = bit_or (mask * 2 ^ (ahead - 1) % 2 ^ 128 * 2 % 2 ^ 128) (1 * 2 ^ (ahead - 1) % 2 ^ 128) in
+    ap (λ m. bit_at (bit_and slid m) i) is ∙ bit_at-kept slid span i within ∙ bit_at-slid mask ahead i some (omega arith) (omega arith)
+
 -- the test `mask & (1 << k) != 0`
-pub bit_at-tested : (mask k : ℕ) → k < 64 → (bit_and mask (1 * 2 ^ k % 2 ^ 64) ≡ 0 → ⊥) → bit_at mask k ≡ 1
+pub bit_at-tested : (mask k : ℕ) → k < 128 → (bit_and mask (1 * 2 ^ k % 2 ^ 128) ≡ 0 → ⊥) → bit_at mask k ≡ 1
 bit_at-tested mask k within set =
-    let tested : bit_and mask (1 * 2 ^ k % 2 ^ 64) ≡ bit_at mask k * 2 ^ k = ap (λ m. bit_and mask m) (one_shl k 64 within) ∙ and_pow mask k in
+    let tested : bit_and mask (1 * 2 ^ k % 2 ^ 128) ≡ bit_at mask k * 2 ^ k = ap (λ m. bit_and mask m) (one_shl k 128 within) ∙ and_pow mask k in
     elim (cases_eq (bit_at mask k) 0) [
       | inl clear ↦ absurd (set (tested ∙ ap (λ b. b * 2 ^ k) clear ∙ (let e : 0 * 2 ^ k ≡ 0 = omega arith in e)))
       | inr other ↦ omega (arith, bit_at-lt mask k)
     ]
 
-pub bit_at-tested_clear : (mask k : ℕ) → k < 64 → bit_and mask (1 * 2 ^ k % 2 ^ 64) ≡ 0 → bit_at mask k ≡ 0
+pub bit_at-tested_clear : (mask k : ℕ) → k < 128 → bit_and mask (1 * 2 ^ k % 2 ^ 128) ≡ 0 → bit_at mask k ≡ 0
 bit_at-tested_clear mask k within clear =
-    let tested : bit_at mask k * 2 ^ k ≡ 0 = sym (ap (λ m. bit_and mask m) (one_shl k 64 within) ∙ and_pow mask k) ∙ clear in
+    let tested : bit_at mask k * 2 ^ k ≡ 0 = sym (ap (λ m. bit_and mask m) (one_shl k 128 within) ∙ and_pow mask k) ∙ clear in
     elim (cases_eq (bit_at mask k) 0) [
       | inl it ↦ it
       | inr other ↦
           let one : bit_at mask k ≡ 1 = omega (arith, bit_at-lt mask k) in
           let power : 2 ^ k ≡ 0 = sym (let e : 1 * 2 ^ k ≡ 2 ^ k = omega arith in e) ∙ sym (ap (λ b. b * 2 ^ k) one) ∙ tested in
           absurd (omega (arith, some-pow k))
+    ]
+
+-- a bit that is set is 1
+pub bit_at-set : (mask k : ℕ) → IsBitSet mask k → bit_at mask k ≡ 1
+bit_at-set mask k set =
+    elim (cases_eq (bit_at mask k) 0) [
+      | inl clear ↦ absurd (set (and_pow mask k ∙ ap (λ b. b * 2 ^ k) clear ∙ (let e : 0 * 2 ^ k ≡ 0 = omega arith in e)))
+      | inr other ↦ omega (arith, bit_at-lt mask k)
     ]

@@ -7,12 +7,12 @@ use Rattle.std.proofs.lemmas.Bool.{cases_lt, cases_eq, ltb-true, eqb-true, lt-lt
 use Rattle.ack_window.specs.declared.acknowledgement.Decision.{Decision}
 use Rattle.ack_window.specs.declared.send_window.Unresolved.{Unresolved}
 use Rattle.ack_window.specs.Acknowledgement.{shows, decision_by, decision_read}
-use Rattle.ack_window.specs.Arrivals.{highest, receive_verdict, is_fresh, is_taken, acknowledgement}
+use Rattle.ack_window.specs.Arrivals.{highest, has_come, receive_verdict, is_fresh, is_taken, acknowledgement}
 use Rattle.ack_window.specs.Kept.{RisesWithin, IsKept}
 use Rattle.ack_window.specs.Outstanding.{left_in}
 use Rattle.ack_window.specs.Sends.{Event, Sends, Reads, newest_of, numbers_sent, decision_of, open_numbers, SendsWithin}
 use Rattle.ack_window.specs.Laws.{ShownWasTaken, LostIsNeverTaken, UndecidedIsStillTaken, OpenIsWithinSpan}
-use Rattle.ack_window.proofs.Taking.{came, told, told-low, bit_at-stands, is_taken-came, is_taken-above, is_taken-stale, is_taken-other, came-highest, verdict-old, verdict-fresh}
+use Rattle.ack_window.proofs.Taking.{told, told-low, bit_at-stands, is_taken-came, is_taken-above, is_taken-stale, is_taken-other, came-highest, verdict-old, verdict-fresh}
 use Rattle.ack_window.proofs.Sending.{IsKept-push, IsKept-read, open_numbers-Sends, open_numbers-Reads, left_in-none, left_in-same, decision_read-passed, decision_read-read}
 
 -- the bits of the acknowledgement
@@ -30,7 +30,7 @@ shows-taken reorder span arrived number counted reached =
     elim (cases_eq number (highest arrived)) [
       | inl top ↦
           rw (eq-eqb number (highest arrived) top)
-          (sym (is_taken-came reorder arrived number (omega arith) ∙ ap (λ n. came arrived n) top ∙ came-highest arrived (omega arith)))
+          (sym (is_taken-came reorder arrived number (omega arith) ∙ ap (λ n. has_come arrived n) top ∙ came-highest arrived (omega arith)))
       | inr other ↦
           rw (ne_eqb number (highest arrived) other)
           (elim (cases_lt number (highest arrived)) [

@@ -1,4 +1,8 @@
-pub mod Bits
-pub mod Taking
-pub mod Sending
-pub mod BothEnds
+mod Bits
+mod BothEnds
+mod Contents
+mod Direction
+mod Sending
+mod Spans
+mod Taking
+mod Weights

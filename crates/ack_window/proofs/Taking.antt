@@ -1,54 +1,49 @@
 -- What a window has to change when a number arrives.
 use Rattle.std.proofs.Common.{◌≡◌, ◌≢◌, ℕ, ◌+◌, ◌-◌, ◌^◌, ◌<◌, ◌≤◌, Bool, true, false, ◌&&◌, ◌||◌, cond, nat_lt, ◌==◌, if◌then◌else◌, List, [], ◌∷◌, sym, ◌∙◌, ap, subst, refl, inl, inr, arith}
-use Rattle.std.specs.Int.{bit_at}
-use Rattle.std.specs.List.{list_any}
+use Rattle.std.specs.Int.{bit_at, IsBitSet}
 use Rattle.std.proofs.lemmas.Bool.{cases_lt, cases_eq, cases_order, cases_Bool, cond-true, cond-false, lt-ltb, le-ltb, eq-eqb, ne_eqb, false_from_ne_true, or_left, or_right}
-use Rattle.std.proofs.lemmas.Nat.Bits.{bit_at_above}
+use Rattle.std.proofs.lemmas.Nat.Bits.{bit_at_above, bit_at-zero}
 use Rattle.ack_window.specs.declared.take_window.Taken.TheVariants.{Fresh, Repeat, Old}
 use Rattle.ack_window.specs.declared.acknowledgement.Acknowledgement.{Acknowledgement}
-use Rattle.ack_window.specs.Arrivals.{highest, receive_verdict, is_fresh, is_taken, mask_of, StandsForArrivals}
-use Rattle.ack_window.proofs.Bits.{bits_where-lt, bits_where-from_bits, bit_at-bits_where}
+use Rattle.ack_window.specs.Arrivals.{highest, has_come, receive_verdict, is_fresh, is_taken, mask_of, StandsForArrivals}
+use Rattle.ack_window.proofs.Bits.{some-pow, bit_at-set, bits_where-lt, bits_where-from_bits, bit_at-bits_where}
 
--- the number is among those that arrived
-abbrev pub came : List ℕ → ℕ → Bool
-came arrived number = list_any (λ other. other == number) arrived
-
-pub highest-above : (arrived : List ℕ) (number : ℕ) → came arrived number ≡ true → number ≤ highest arrived
+pub highest-above : (arrived : List ℕ) (number : ℕ) → has_come arrived number ≡ true → number ≤ highest arrived
 highest-above [] number here = absurd (cc)
 highest-above (latest ∷ earlier) number here =
     elim (cases_eq latest number) [
       | inl same ↦ omega arith
       | inr other ↦
-          let skipped : came earlier number ≡ true = ap (λ b. b || came earlier number) (sym (ne_eqb latest number other)) ∙ here in
+          let skipped : has_come earlier number ≡ true = ap (λ b. b || has_come earlier number) (sym (ne_eqb latest number other)) ∙ here in
           omega (arith, highest-above earlier number skipped)
     ]
 
-pub came-highest : (arrived : List ℕ) → 1 ≤ highest arrived → came arrived (highest arrived) ≡ true
+pub came-highest : (arrived : List ℕ) → 1 ≤ highest arrived → has_come arrived (highest arrived) ≡ true
 came-highest [] some = absurd (omega arith)
 came-highest (latest ∷ earlier) some =
     elim (cases_lt (highest earlier) (latest + 1)) [
       | inl first ↦
           let top : highest (latest ∷ earlier) ≡ latest = omega arith in
-          or_left (latest == highest (latest ∷ earlier)) (came earlier (highest (latest ∷ earlier))) (eq-eqb latest (highest (latest ∷ earlier)) (sym top))
+          or_left (latest == highest (latest ∷ earlier)) (has_come earlier (highest (latest ∷ earlier))) (eq-eqb latest (highest (latest ∷ earlier)) (sym top))
       | inr later ↦
           let top : highest (latest ∷ earlier) ≡ highest earlier = omega arith in
-          or_right (latest == highest (latest ∷ earlier)) (came earlier (highest (latest ∷ earlier)))
-          (ap (λ n. came earlier n) top ∙ came-highest earlier (omega arith))
+          or_right (latest == highest (latest ∷ earlier)) (has_come earlier (highest (latest ∷ earlier)))
+          (ap (λ n. has_come earlier n) top ∙ came-highest earlier (omega arith))
     ]
 
 pub verdict-old : (reorder : ℕ) (arrived : List ℕ) (number : ℕ) → number + reorder < highest arrived → receive_verdict reorder arrived number ≡ Old
 verdict-old reorder arrived number below =
-    cond-true (nat_lt (number + reorder) (highest arrived)) Old (if came arrived number then Repeat else Fresh) (lt-ltb (number + reorder) (highest arrived) below)
+    cond-true (nat_lt (number + reorder) (highest arrived)) Old (if has_come arrived number then Repeat else Fresh) (lt-ltb (number + reorder) (highest arrived) below)
 
-pub verdict-repeat : (reorder : ℕ) (arrived : List ℕ) (number : ℕ) → highest arrived ≤ number + reorder → came arrived number ≡ true → receive_verdict reorder arrived number ≡ Repeat
+pub verdict-repeat : (reorder : ℕ) (arrived : List ℕ) (number : ℕ) → highest arrived ≤ number + reorder → has_come arrived number ≡ true → receive_verdict reorder arrived number ≡ Repeat
 verdict-repeat reorder arrived number near here =
-    cond-false (nat_lt (number + reorder) (highest arrived)) Old (if came arrived number then Repeat else Fresh) (le-ltb (number + reorder) (highest arrived) near)
-    ∙ cond-true (came arrived number) Repeat Fresh here
+    cond-false (nat_lt (number + reorder) (highest arrived)) Old (if has_come arrived number then Repeat else Fresh) (le-ltb (number + reorder) (highest arrived) near)
+    ∙ cond-true (has_come arrived number) Repeat Fresh here
 
-pub verdict-fresh : (reorder : ℕ) (arrived : List ℕ) (number : ℕ) → highest arrived ≤ number + reorder → came arrived number ≡ false → receive_verdict reorder arrived number ≡ Fresh
+pub verdict-fresh : (reorder : ℕ) (arrived : List ℕ) (number : ℕ) → highest arrived ≤ number + reorder → has_come arrived number ≡ false → receive_verdict reorder arrived number ≡ Fresh
 verdict-fresh reorder arrived number near new =
-    cond-false (nat_lt (number + reorder) (highest arrived)) Old (if came arrived number then Repeat else Fresh) (le-ltb (number + reorder) (highest arrived) near)
-    ∙ cond-false (came arrived number) Repeat Fresh new
+    cond-false (nat_lt (number + reorder) (highest arrived)) Old (if has_come arrived number then Repeat else Fresh) (le-ltb (number + reorder) (highest arrived) near)
+    ∙ cond-false (has_come arrived number) Repeat Fresh new
 
 -- a number other than the latest was taken where it was taken before
 pub is_taken-other : (reorder : ℕ) (latest : ℕ) (earlier : List ℕ) (number : ℕ) → latest ≢ number → is_taken reorder (latest ∷ earlier) number ≡ is_taken reorder earlier number
@@ -71,16 +66,16 @@ is_taken-fresh reorder earlier number fresh =
     ∙ ap (λ v. is_fresh v || is_taken reorder earlier number) fresh
 
 -- near the highest, what came was taken
-pub is_taken-came : (reorder : ℕ) (arrived : List ℕ) (number : ℕ) → highest arrived ≤ number + reorder → is_taken reorder arrived number ≡ came arrived number
+pub is_taken-came : (reorder : ℕ) (arrived : List ℕ) (number : ℕ) → highest arrived ≤ number + reorder → is_taken reorder arrived number ≡ has_come arrived number
 is_taken-came reorder [] number near = refl
 is_taken-came reorder (latest ∷ earlier) number near =
     let before = is_taken-came reorder earlier number (omega arith) in
     elim (cases_eq latest number) [
       | inr other ↦
-          is_taken-other reorder latest earlier number other ∙ before ∙ sym (ap (λ b. b || came earlier number) (ne_eqb latest number other))
+          is_taken-other reorder latest earlier number other ∙ before ∙ sym (ap (λ b. b || has_come earlier number) (ne_eqb latest number other))
       | inl same ↦
-          let here : came (latest ∷ earlier) number ≡ true = or_left (latest == number) (came earlier number) (eq-eqb latest number same) in
-          elim (cases_Bool (came earlier number)) [
+          let here : has_come (latest ∷ earlier) number ≡ true = or_left (latest == number) (has_come earlier number) (eq-eqb latest number same) in
+          elim (cases_Bool (has_come earlier number)) [
             | inl again ↦ or_right (latest == number && is_fresh (receive_verdict reorder earlier latest)) (is_taken reorder earlier number) (before ∙ again) ∙ sym here
             | inr new ↦
                 let fresh : is_taken reorder (number ∷ earlier) number ≡ true = is_taken-fresh reorder earlier number (verdict-fresh reorder earlier number (omega arith) new) in
@@ -89,12 +84,12 @@ is_taken-came reorder (latest ∷ earlier) number near =
     ]
 
 -- what was taken came, and so isn't above the highest
-pub came-taken : (reorder : ℕ) (arrived : List ℕ) (number : ℕ) → is_taken reorder arrived number ≡ true → came arrived number ≡ true
+pub came-taken : (reorder : ℕ) (arrived : List ℕ) (number : ℕ) → is_taken reorder arrived number ≡ true → has_come arrived number ≡ true
 came-taken reorder [] number taken = absurd (cc)
 came-taken reorder (latest ∷ earlier) number taken =
     elim (cases_eq latest number) [
-      | inl same ↦ or_left (latest == number) (came earlier number) (eq-eqb latest number same)
-      | inr other ↦ or_right (latest == number) (came earlier number) (came-taken reorder earlier number (sym (is_taken-other reorder latest earlier number other) ∙ taken))
+      | inl same ↦ or_left (latest == number) (has_come earlier number) (eq-eqb latest number same)
+      | inr other ↦ or_right (latest == number) (has_come earlier number) (came-taken reorder earlier number (sym (is_taken-other reorder latest earlier number other) ∙ taken))
     ]
 
 pub is_taken-above : (reorder : ℕ) (arrived : List ℕ) (number : ℕ) → highest arrived < number → is_taken reorder arrived number ≡ false
@@ -102,9 +97,19 @@ is_taken-above reorder arrived number above =
     false_from_ne_true (is_taken reorder arrived number)
     (λ taken. let top : number ≤ highest arrived = highest-above arrived number (came-taken reorder arrived number taken) in absurd (omega arith))
 
-pub came-above : (arrived : List ℕ) (number : ℕ) → highest arrived < number → came arrived number ≡ false
+-- a number that is fresh was not taken
+pub fresh-new : (reorder : ℕ) (arrived : List ℕ) (number : ℕ) → receive_verdict reorder arrived number ≡ Fresh → is_taken reorder arrived number ≡ false
+fresh-new reorder arrived number fresh =
+    false_from_ne_true (is_taken reorder arrived number)
+    (λ taken.
+    elim (cases_lt (number + reorder) (highest arrived)) [
+      | inl old ↦ let is = verdict-old reorder arrived number old in absurd (cc)
+      | inr near ↦ let is = verdict-repeat reorder arrived number near (came-taken reorder arrived number taken) in absurd (cc)
+    ])
+
+pub came-above : (arrived : List ℕ) (number : ℕ) → highest arrived < number → has_come arrived number ≡ false
 came-above arrived number above =
-    false_from_ne_true (came arrived number)
+    false_from_ne_true (has_come arrived number)
     (λ here. let top : number ≤ highest arrived = highest-above arrived number here in absurd (omega arith))
 
 -- the test of bit i of the mask
@@ -134,6 +139,27 @@ well_formed-stands reorder span window arrived stands i above =
           ap (λ m. bit_at m i) stands.mask
           ∙ bit_at_above (mask_of reorder span arrived) span i (bits_where-lt (λ j. told reorder arrived j) span) past
     ]
+
+-- the acknowledgement of a window fits the mask, and names only numbers from 1 on
+pub fits-stands : (reorder span : ℕ) (window : Acknowledgement) (arrived : List ℕ) → StandsForArrivals reorder span window arrived → window.mask < 2 ^ span
+fits-stands reorder span window arrived stands = subst (λ (m : ℕ). m < 2 ^ span) (sym stands.mask) (bits_where-lt (λ i. told reorder arrived i) span)
+
+pub named-stands : (reorder span : ℕ) (window : Acknowledgement) (arrived : List ℕ) → StandsForArrivals reorder span window arrived →
+    (i : ℕ) → IsBitSet window.mask i → i + 1 < window.high
+named-stands reorder span window arrived stands i set =
+    elim (cases_lt (i + 1) window.high) [
+      | inl below ↦ below
+      | inr above ↦ let one = bit_at-set window.mask i set in let none = well_formed-stands reorder span window arrived stands i above in absurd (omega arith)
+    ]
+
+-- nothing has arrived
+pub stands-nothing : (reorder span : ℕ) → StandsForArrivals reorder span (record { high = 0; mask = 0 }) []
+stands-nothing reorder span = record {
+  high = refl;
+  mask =
+      bits_where-from_bits 0 (λ i. told reorder [] i) span (some-pow span)
+      (λ i _. bit_at-zero i ∙ sym (cond-false (told reorder [] i) 1 0 (told-high reorder [] i (omega arith))));
+}
 
 -- a number above the highest slides the mask up
 pub stands-above : (reorder span : ℕ) (window : Acknowledgement) (arrived : List ℕ) (number mask : ℕ) → StandsForArrivals reorder span window arrived →
@@ -274,7 +300,7 @@ stands-stale reorder span window arrived number stands known stale =
 -- near the highest, a bit says whether the number came
 pub bit_at-came : (reorder span : ℕ) (window : Acknowledgement) (arrived : List ℕ) (number : ℕ) → StandsForArrivals reorder span window arrived →
     1 ≤ number → number < highest arrived → highest arrived ≤ number + reorder → window.high - 1 - number < span →
-    bit_at window.mask (window.high - 1 - number) ≡ cond (came arrived number) 1 0
+    bit_at window.mask (window.high - 1 - number) ≡ cond (has_come arrived number) 1 0
 bit_at-came reorder span window arrived number stands counted below near within =
     let high = stands.high in
     let it : highest arrived - 1 - (window.high - 1 - number) ≡ number = omega arith in
@@ -297,7 +323,7 @@ pub verdict-set : (reorder span : ℕ) (window : Acknowledgement) (arrived : Lis
 verdict-set reorder span window arrived number stands counted below near within set =
     let high = stands.high in
     verdict-repeat reorder arrived number (omega arith)
-    (came-by_bit (came arrived number) (bit_at window.mask (window.high - 1 - number))
+    (came-by_bit (has_come arrived number) (bit_at window.mask (window.high - 1 - number))
     (bit_at-came reorder span window arrived number stands counted (omega arith) (omega arith) within) set)
 
 pub verdict-clear : (reorder span : ℕ) (window : Acknowledgement) (arrived : List ℕ) (number : ℕ) → StandsForArrivals reorder span window arrived →
@@ -306,5 +332,5 @@ pub verdict-clear : (reorder span : ℕ) (window : Acknowledgement) (arrived : L
 verdict-clear reorder span window arrived number stands counted below near within clear =
     let high = stands.high in
     verdict-fresh reorder arrived number (omega arith)
-    (new-by_bit (came arrived number) (bit_at window.mask (window.high - 1 - number))
+    (new-by_bit (has_come arrived number) (bit_at window.mask (window.high - 1 - number))
     (bit_at-came reorder span window arrived number stands counted (omega arith) (omega arith) within) clear)

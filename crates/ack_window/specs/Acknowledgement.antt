@@ -1,5 +1,5 @@
 -- What an acknowledgement says of a number: that it arrived, that it is lost, or nothing. From this project's own profile.
-use Rattle.std.specs.Prelude.{◌≡◌, ℕ, ◌+◌, ◌-◌, ◌≤◌, Bool, true, false, ◌&&◌, ◌||◌, not, ◌==◌, nat_lt, IsTrue, Option, Some, None, if◌then◌else◌}
+use Rattle.std.specs.Prelude.{ℕ, ◌+◌, ◌-◌, Bool, true, false, ◌&&◌, ◌||◌, not, ◌==◌, nat_lt, IsTrue, Option, Some, None, if◌then◌else◌}
 use Rattle.std.specs.Int.{bit_at}
 use Rattle.ack_window.specs.declared.acknowledgement.Acknowledgement.{Acknowledgement}
 use Rattle.ack_window.specs.declared.acknowledgement.Decision.{Decision}
@@ -38,6 +38,12 @@ decision_by reorder span ack number =
 abbrev pub decision_read : ℕ → ℕ → ℕ → Acknowledgement → ℕ → Option Decision
 decision_read reorder span newest ack number = if nat_lt newest ack.high then None else decision_by reorder span ack number
 
--- bits that would stand for numbers below 1 are zero
-abbrev pub IsWellFormed : Acknowledgement → Type 0
-IsWellFormed ack = (i : ℕ) → ack.high ≤ i + 1 → bit_at ack.mask i ≡ 0
+abbrev pub is_acknowledged : Option Decision → Bool
+is_acknowledged (Some Acknowledged) = true
+is_acknowledged (Some Lost) = false
+is_acknowledged None = false
+
+abbrev pub is_found_lost : Option Decision → Bool
+is_found_lost (Some Acknowledged) = false
+is_found_lost (Some Lost) = true
+is_found_lost None = false

@@ -1,5 +1,5 @@
 -- Which of the numbers that arrive are taken, and how they are acknowledged. A list of arrivals has the latest first. From this project's own profile.
-use Rattle.std.specs.Prelude.{◌≡◌, ℕ, zero, suc, ◌+◌, ◌-◌, ◌*◌, ◌^◌, max, Bool, true, false, ◌&&◌, ◌||◌, ◌==◌, nat_lt, List, [], ◌∷◌, if◌then◌else◌, refl}
+use Rattle.std.specs.Prelude.{◌≡◌, ℕ, zero, suc, ◌+◌, ◌-◌, ◌*◌, ◌^◌, max, Bool, true, false, ◌&&◌, ◌||◌, ◌==◌, nat_lt, List, [], ◌∷◌, if◌then◌else◌}
 use Rattle.std.specs.List.{list_any}
 use Rattle.ack_window.specs.declared.take_window.Taken.{Taken}
 use Rattle.ack_window.specs.declared.take_window.Taken.TheVariants.{Fresh, Repeat, Old}
@@ -10,12 +10,16 @@ abbrev pub highest : List ℕ → ℕ
 highest [] = 0
 highest (number ∷ earlier) = max number (highest earlier)
 
+-- the number is among those that arrived
+abbrev pub has_come : List ℕ → ℕ → Bool
+has_come arrived number = list_any (λ other. other == number) arrived
+
 -- what a number is that arrives after these: old where a number more than reorder above it came before, else a repeat where it came before
 abbrev pub receive_verdict : ℕ → List ℕ → ℕ → Taken
 receive_verdict reorder earlier number =
     if nat_lt (number + reorder) (highest earlier)
     then Old
-    else (if list_any (λ other. other == number) earlier then Repeat else Fresh)
+    else (if has_come earlier number then Repeat else Fresh)
 
 abbrev pub is_fresh : Taken → Bool
 is_fresh Fresh = true
@@ -46,18 +50,3 @@ acknowledgement reorder span arrived = record { high = highest arrived; mask = m
 pub record StandsForArrivals (reorder span : ℕ) (window : Acknowledgement) (arrived : List ℕ) : Type 0 where
   pub high : window.high ≡ highest arrived
   pub mask : window.mask ≡ mask_of reorder span arrived
-
--- 1, 2, 8, 3, 4 and 8 arrive
-abbrev six_arrivals : List ℕ
-six_arrivals = 8 ∷ 4 ∷ 3 ∷ 8 ∷ 2 ∷ 1 ∷ []
-
-three_is_old : receive_verdict 4 (8 ∷ 2 ∷ 1 ∷ []) 3 ≡ Old
-three_is_old = refl
-
-eight_is_a_repeat : receive_verdict 4 (4 ∷ 3 ∷ 8 ∷ 2 ∷ 1 ∷ []) 8 ≡ Repeat
-eight_is_a_repeat = refl
-
--- the bits 3, 5 and 6
-acknowledgement_of_six : acknowledgement 4 64 six_arrivals ≡ record { high = 8; mask = 2 ^ 3 + 2 ^ 5 + 2 ^ 6 }
-unfolding bits_where
-acknowledgement_of_six = refl

@@ -1,6 +1,11 @@
 pub mod Acknowledgement
 pub mod Arrivals
+pub mod Ends
+pub mod Examples
 pub mod Kept
 pub mod Laws
 pub mod Outstanding
 pub mod Sends
+pub mod Versions
+pub mod Weights
+pub mod Windows

@@ -1,11 +1,11 @@
 -- Which of the numbers that were sent are decided, and by which acknowledgement. A history has its latest event first. From this project's own profile.
-use Rattle.std.specs.Prelude.{◌≡◌, ℕ, ◌+◌, ◌*◌, ◌≤◌, zero, suc, true, false, List, [], ◌∷◌, ◌++◌, Option, Some, None, refl}
+use Rattle.std.specs.Prelude.{◌≡◌, ℕ, ◌+◌, ◌≤◌, List, [], ◌∷◌, ◌++◌, Option, Some, None}
 use Rattle.ack_window.specs.declared.send_window.Decided.{Decided}
 use Rattle.ack_window.specs.declared.send_window.Unresolved.{Unresolved}
 use Rattle.ack_window.specs.declared.acknowledgement.Acknowledgement.{Acknowledgement}
 use Rattle.ack_window.specs.declared.acknowledgement.Decision.{Decision}
 use Rattle.ack_window.specs.Acknowledgement.{decision_read}
-use Rattle.ack_window.specs.Outstanding.{Outstanding, may_send_new, MaySendNew, decided_in, left_in}
+use Rattle.ack_window.specs.Outstanding.{Outstanding, MaySendNew, decided_in, left_in}
 
 -- what happens to a sender's numbers: the next number is sent with a content, or an acknowledgement is read
 pub data Event (T : Type 0) : Type 0 where
@@ -77,36 +77,3 @@ module _ {T : Type 0} where
     pub newest : window.newest ≡ newest_of history
     pub unresolved : window.unresolved ≡ open_numbers reorder span history
     pub allowed : SendsWithin reorder span history
-
--- so many numbers are sent, each with ten times the number
-abbrev sends : ℕ → List (Event ℕ)
-sends zero = []
-sends (suc n) = Sends (10 * suc n) ∷ sends n
-
--- of nine numbers sent, 1, 2, 3 and 6 are acknowledged first, and then all but 4 and 5
-abbrev first_reading : Acknowledgement
-first_reading = record { high = 6; mask = 28 }
-
-abbrev second_reading : Acknowledgement
-second_reading = record { high = 9; mask = 231 }
-
-four_and_five_stay_open : open_numbers 4 64 (Reads first_reading ∷ sends 6) ≡ record { number = 4; content = 40 } ∷ record { number = 5; content = 50 } ∷ []
-four_and_five_stay_open = refl
-
--- 4 is then lost, and 5 is not yet
-four_is_lost :
-    decided_by 4 64 (Sends 90 ∷ Sends 80 ∷ Sends 70 ∷ Reads first_reading ∷ sends 6) second_reading
-    ≡ record { number = 4; lost = true; content = 40 } ∷ record { number = 7; lost = false; content = 70 }
-    ∷ record { number = 8; lost = false; content = 80 } ∷ record { number = 9; lost = false; content = 90 } ∷ []
-four_is_lost = refl
-
--- a number that is not sent yet cannot be acknowledged
-nothing_is_read_early : decided_by 4 64 (sends 8) second_reading ≡ []
-nothing_is_read_early = refl
-
--- with none decided, 65 numbers may be sent
-full_span : may_send_new 64 (newest_of (sends 65)) (open_numbers 4 64 (sends 65)) ≡ false
-full_span = refl
-
-span_with_the_first_acknowledged : may_send_new 64 65 (open_numbers 4 64 (Reads (record { high = 1; mask = 0 }) ∷ sends 65)) ≡ true
-span_with_the_first_acknowledged = refl

@@ -6,10 +6,12 @@ ghost use Rattle.arrayvec.specs.ArrayVec.{array_vec_len};
 ghost use Rattle.ack_window.specs.Acknowledgement.{decision_by};
 ghost use Rattle.ack_window.specs.Kept.{RisesWithin};
 ghost use Rattle.ack_window.specs.Outstanding.{MaySendNew, decided_in, left_in};
-ghost use Rattle.ack_window.specs.Sends.{Event, Sends, Reads, decided_by, newest_content, outstanding_of, StandsForSends};
+ghost use Rattle.ack_window.specs.Sends.{Event, Sends, Reads, decided_by, newest_content, outstanding_of};
+ghost use Rattle.ack_window.specs.Versions.{reorder_of, span_of};
+ghost use Rattle.ack_window.specs.Windows.{HasDone, MaySend};
 
 use crate::acknowledgement::Acknowledgement;
-use crate::{NoMemory, REORDER, SPAN};
+use crate::{NoMemory, span};
 use arrayvec::ArrayVec;
 use std::alloc::Global;
 use std::collections::VecDeque;
@@ -23,68 +25,78 @@ pub struct Decided<T> {
     pub content: T,
 }
 
-/// A number that was sent and that no acknowledgement has decided, with its content. Clauses see a [`SendWindow`] as its newest
-/// number and a list of these.
+/// A number that was sent and that no acknowledgement has decided, with its content. Clauses see these of a [`SendWindow`].
 #[derive(Debug, Drop)]
 pub struct Unresolved<T> {
     pub number: u32,
     pub content: T,
 }
 
-/// The numbers sent to the other side, counted from 1, with the contents of those that are still unresolved.
+/// The numbers sent to the other side, counted from 1, with the contents of those that are still unresolved: a ring of one
+/// number and one content each.
 #[derive(Drop)]
 pub struct SendWindow<T> {
+    version: u8,
     newest: u32,
     unresolved: VecDeque<Unresolved<T>>,
 }
 
+/// How many numbers may be unresolved at once, in any version: a span of 128 and the oldest.
+const MOST_UNRESOLVED: usize = 129;
+
 impl<T> Model for SendWindow<T> {
-    ghost use Rattle.std.specs.Prelude.{◌+◌, ◌≤◌};
+    ghost use Rattle.std.specs.Prelude.{◌≤◌};
     ghost use Rattle.std.specs.VecDeque.{deque_capacity};
-    ghost use Rattle.ack_window.specs.declared.limits.TheConstants.{REORDER, SPAN};
     ghost use Rattle.ack_window.specs.Kept.{IsKept};
-    ghost use Rattle.ack_window.specs.Outstanding.{Outstanding};
+    ghost use Rattle.ack_window.specs.Versions.{reorder_of, span_of};
+    ghost use Rattle.ack_window.specs.Windows.{Sender};
 
-    ghost Value = { Outstanding T };
+    ghost Value = { Sender T };
 
-    ghost view = { λ window. record { newest = window.newest; unresolved = window.unresolved.items } };
+    ghost view = { λ window. record {
+      version = window.version;
+      outstanding = record { newest = window.newest; unresolved = window.unresolved.items };
+    } };
 
     ghost invariant = { λ window.
-        IsKept REORDER SPAN window.newest window.unresolved.items
-        × (SPAN + 1 ≤ deque_capacity window.unresolved) };
+        IsKept (reorder_of window.version) (span_of window.version) window.newest window.unresolved.items
+        × (129 ≤ deque_capacity window.unresolved) };
 }
 
 impl<T> SendWindow<T> {
-    /// A window that has sent nothing, with the memory for all that it may ever hold.
-    pub fn open(alloc: Global) -> Result<SendWindow<T>, NoMemory>
-        ensures { IfOk result (λ window. StandsForSends REORDER SPAN window []) }
+    /// A window of a connection of this version that has sent nothing, with the memory for all that it may ever hold.
+    pub fn open(alloc: Global, version: u8) -> Result<SendWindow<T>, NoMemory>
+        ensures version { IfOk result (λ window. window.version ≡ version) }
+        ensures stands { IfOk result (λ window. HasDone window []) }
     {
-        let unresolved = VecDeque::with_capacity(alloc, SPAN as usize + 1)?;
+        let unresolved = VecDeque::with_capacity(alloc, MOST_UNRESOLVED)?;
         Ok(SendWindow {
+            version,
             newest: 0,
             unresolved,
         })
     }
 
-    /// Whether a new number may be sent: none is unresolved, or it is at most `SPAN` above the oldest that is.
+    /// Whether a new number may be sent: none is unresolved, or it is at most the span above the oldest that is.
     pub fn may_send(&self) -> bool
-        ensures answer { IsTrue result ↔ MaySendNew SPAN self.now }
+        ensures answer { IsTrue result ↔ MaySend self.now }
         ensures history { (history : List (Event T)) →
-            StandsForSends REORDER SPAN self.now history →
-            (IsTrue result ↔ MaySendNew SPAN (outstanding_of REORDER SPAN history)) }
+            HasDone self.now history →
+            (IsTrue result ↔ MaySendNew (span_of self.now.version)
+            (outstanding_of (reorder_of self.now.version) (span_of self.now.version) history)) }
     {
         match self.unresolved.front() {
-            Some(oldest) => self.newest - oldest.number < SPAN,
+            Some(oldest) => self.newest - oldest.number < span(self.version),
             None => true,
         }
     }
 
     /// The newest number and its content, which go again where no new number may be sent.
     pub fn newest(&self) -> (u32, &T)
-        requires { ¬ MaySendNew SPAN self.now }
-        ensures number { result.0 ≡ self.now.newest }
+        requires { ¬ MaySend self.now }
+        ensures number { result.0 ≡ self.now.outstanding.newest }
         ensures content { (history : List (Event T)) →
-            StandsForSends REORDER SPAN self.now history →
+            HasDone self.now history →
             newest_content history ≡ Some result.1.now }
     {
         let last = self.unresolved.back().unwrap();
@@ -93,13 +105,14 @@ impl<T> SendWindow<T> {
 
     /// Sends a new number with this content, and answers the number.
     pub fn push(&mut self, content: T) -> u32
-        requires may_send { MaySendNew SPAN self.old }
-        requires numbers_left { self.old.newest + 1 < 2 ^ 32 }
-        ensures number { result ≡ self.old.newest + 1 }
-        ensures newest { self.new.newest ≡ result }
+        requires may_send { MaySend self.old }
+        requires numbers_left { self.old.outstanding.newest + 1 < 2 ^ 32 }
+        ensures number { result ≡ self.old.outstanding.newest + 1 }
+        ensures newest { self.new.outstanding.newest ≡ result }
+        ensures version { self.new.version ≡ self.old.version }
         ensures stands { (history : List (Event T)) →
-            StandsForSends REORDER SPAN self.old history →
-            StandsForSends REORDER SPAN self.new (Sends content ∷ history) }
+            HasDone self.old history →
+            HasDone self.new (Sends content ∷ history) }
     {
         let number = self.newest + 1;
         self.newest = number;
@@ -112,46 +125,52 @@ impl<T> SendWindow<T> {
 impl<T: Drop> SendWindow<T> {
     /// Reads an acknowledgement, and appends to `found` every number that it decides, rising. One whose `high` is above the
     /// newest number is passed over.
-    pub fn read_ack(&mut self, high: u32, mask: u64, found: &mut ArrayVec<Decided<T>, 65>)
+    pub fn read_ack(&mut self, high: u32, mask: u128, found: &mut ArrayVec<Decided<T>, 129>)
         requires { found.old.items ≡ [] }
         ensures decided { (history : List (Event T)) →
-            StandsForSends REORDER SPAN self.old history →
-            found.new.items ≡ decided_by REORDER SPAN history (record { high = high; mask = mask }) }
-        ensures newest { self.new.newest ≡ self.old.newest }
+            HasDone self.old history →
+            found.new.items ≡ decided_by (reorder_of self.old.version) (span_of self.old.version) history (record { high = high; mask = mask }) }
+        ensures newest { self.new.outstanding.newest ≡ self.old.outstanding.newest }
+        ensures version { self.new.version ≡ self.old.version }
         ensures stands { (history : List (Event T)) →
-            StandsForSends REORDER SPAN self.old history →
-            StandsForSends REORDER SPAN self.new (Reads (record { high = high; mask = mask }) ∷ history) }
+            HasDone self.old history →
+            HasDone self.new (Reads (record { high = high; mask = mask }) ∷ history) }
     {
         if high <= self.newest {
-            decide(&mut self.unresolved, Acknowledgement { high, mask }, found);
+            let ack = Acknowledgement { high, mask };
+            decide(&mut self.unresolved, self.version, ack, found);
         }
     }
 
-    /// Starts the connection anew: nothing is sent, and nothing is unresolved.
-    pub fn restart(&mut self)
-        ensures { StandsForSends REORDER SPAN self.new [] }
+    /// Starts the connection anew, with this version: nothing is sent, and nothing is unresolved.
+    pub fn restart(&mut self, version: u8)
+        ensures version { self.new.version ≡ version }
+        ensures stands { HasDone self.new [] }
     {
+        self.version = version;
         self.newest = 0;
         self.unresolved.clear();
     }
 }
 
-/// Moves each number that the acknowledgement decides to `found`. At most `REORDER + 1` of those that it looks at stay.
+/// Moves each number that the acknowledgement decides to `found`. At most the reorder window and one
+/// more of those that it looks at stay.
 fn decide<T: Drop>(
     unresolved: &mut VecDeque<Unresolved<T>>,
+    version: u8,
     ack: Acknowledgement,
-    found: &mut ArrayVec<Decided<T>, 65>,
+    found: &mut ArrayVec<Decided<T>, 129>,
 )
     requires rising { RisesWithin 0 (2 ^ 32) unresolved.old.items }
-    requires room { array_vec_len found.old + deque_len unresolved.old ≤ 65 }
+    requires room { array_vec_len found.old + deque_len unresolved.old ≤ 129 }
     ensures found { found.new.items ≡
-        found.old.items ++ decided_in (decision_by REORDER SPAN ack) unresolved.old.items }
-    ensures left { unresolved.new.items ≡ left_in (decision_by REORDER SPAN ack) unresolved.old.items }
+        found.old.items ++ decided_in (decision_by (reorder_of version) (span_of version) ack) unresolved.old.items }
+    ensures left { unresolved.new.items ≡ left_in (decision_by (reorder_of version) (span_of version) ack) unresolved.old.items }
     ensures capacity { deque_capacity unresolved.new ≡ deque_capacity unresolved.old }
 {
     let mut at = 0;
     'numbers: while is_within(unresolved, at, ack.high) {
-        at = judge(unresolved, at, ack, found);
+        at = judge(unresolved, at, version, ack, found);
     }
 }
 
@@ -171,15 +190,16 @@ fn is_within<T>(unresolved: &VecDeque<Unresolved<T>>, at: usize, high: u32) -> b
 fn judge<T: Drop>(
     unresolved: &mut VecDeque<Unresolved<T>>,
     at: usize,
+    version: u8,
     ack: Acknowledgement,
-    found: &mut ArrayVec<Decided<T>, 65>,
+    found: &mut ArrayVec<Decided<T>, 129>,
 ) -> usize
     requires within { at < deque_len unresolved.old }
-    requires room { array_vec_len found.old < 65 }
+    requires room { array_vec_len found.old < 129 }
     ensures found { found.new.items ≡
-        found.old.items ++ decided_in (decision_by REORDER SPAN ack) (take 1 (drop at unresolved.old.items)) }
+        found.old.items ++ decided_in (decision_by (reorder_of version) (span_of version) ack) (take 1 (drop at unresolved.old.items)) }
     ensures kept { take result unresolved.new.items ≡
-        take at unresolved.old.items ++ left_in (decision_by REORDER SPAN ack) (take 1 (drop at unresolved.old.items)) }
+        take at unresolved.old.items ++ left_in (decision_by (reorder_of version) (span_of version) ack) (take 1 (drop at unresolved.old.items)) }
     ensures rest { drop result unresolved.new.items ≡ drop (at + 1) unresolved.old.items }
     ensures less { deque_len unresolved.new + at + 1 ≡ deque_len unresolved.old + result }
     ensures room { array_vec_len found.new + deque_len unresolved.new
@@ -187,7 +207,7 @@ fn judge<T: Drop>(
     ensures place { result ≤ deque_len unresolved.new }
     ensures capacity { deque_capacity unresolved.new ≡ deque_capacity unresolved.old }
 {
-    match ack.decision(unresolved[at].number) {
+    match ack.decision(version, unresolved[at].number) {
         Some(decision) => {
             let Unresolved { number, content } = unresolved.remove(at).unwrap();
             found.push(Decided {

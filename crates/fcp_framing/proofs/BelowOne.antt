@@ -1,6 +1,6 @@
 -- A mask stands for a number below 1 exactly where its highest bit does.
 use Rattle.std.proofs.Common.{◌≡◌, ℕ, suc, ◌+◌, ◌*◌, ◌/◌, ◌^◌, ◌<◌, ◌≤◌, Bool, true, false, eqb, leb, ◌&&◌, get_or, refl, ap, ◌∙◌, inl, inr, ◌⊎◌, arith}
-use Rattle.std.specs.Int.{Width, w64, byte_len, bit_at, IsBitSet}
+use Rattle.std.specs.Int.{bit_at, IsBitSet}
 use Rattle.std.specs.Int.RustNames.{bit_and}
 use Rattle.std.specs.List.{range_with_len}
 use Rattle.std.proofs.Math.Bool.{and-false}
@@ -29,38 +29,38 @@ bit_at-top mask top le lt =
     rw one refl
 
 -- where the highest bit stands for a number of at least 1, each does
-none_low : (w : Width) (high mask top : ℕ) → mask < 2 * 2 ^ top → top + 1 < high → names_below_one w high mask ≡ false
+none_low : (high mask top : ℕ) → mask < 2 * 2 ^ top → top + 1 < high → names_below_one high mask ≡ false
 unfolding names_below_one
-none_low w high mask top lt below =
-    list_any_none (is_low high mask) (range_with_len 0 (8 * byte_len w)) (λ k d within.
-    let inside : k < 8 * byte_len w = omega (arith, length-range_with_len 0 (8 * byte_len w)) in
-    let is : get_or (range_with_len 0 (8 * byte_len w)) k d ≡ 0 + k = get_or-range_with_len 0 (8 * byte_len w) k d inside in
+none_low high mask top lt below =
+    list_any_none (is_low high mask) (range_with_len 0 128) (λ k d within.
+    let inside : k < 128 = omega (arith, length-range_with_len 0 128) in
+    let is : get_or (range_with_len 0 128) k d ≡ 0 + k = get_or-range_with_len 0 128 k d inside in
     rw is (each_low k (cases_lt top k)))
   where
     each_low : (k : ℕ) → (top < k) ⊎ (k ≤ top) → is_low high mask (0 + k) ≡ false
     each_low k (inl above) = rw (bit_at-above mask top (0 + k) lt (omega arith)) refl
     each_low k (inr le) = rw (lt-leb high (0 + k + 1) (omega arith)) (and-false _)
 
-top_low : (w : Width) (high mask top : ℕ) → top < 8 * byte_len w → 2 ^ top ≤ mask → mask < 2 * 2 ^ top → high ≤ top + 1 → names_below_one w high mask ≡ true
+top_low : (high mask top : ℕ) → top < 128 → 2 ^ top ≤ mask → mask < 2 * 2 ^ top → high ≤ top + 1 → names_below_one high mask ≡ true
 unfolding names_below_one
-top_low w high mask top within le lt low =
-    let is : get_or (range_with_len 0 (8 * byte_len w)) top 0 ≡ 0 + top = get_or-range_with_len 0 (8 * byte_len w) top 0 within in
+top_low high mask top within le lt low =
+    let is : get_or (range_with_len 0 128) top 0 ≡ 0 + top = get_or-range_with_len 0 128 top 0 within in
     let same : 0 + top ≡ top = omega arith in
-    list_any_at (is_low high mask) (range_with_len 0 (8 * byte_len w)) top 0 (omega (arith, length-range_with_len 0 (8 * byte_len w)))
+    list_any_at (is_low high mask) (range_with_len 0 128) top 0 (omega (arith, length-range_with_len 0 128))
     (rw (is, same, bit_at-top mask top le lt, le-leb high (top + 1) low) refl)
 
 -- the test of the highest bit
-pub highest_tells : (high mask top : ℕ) → top < 64 → 2 ^ top ≤ mask → mask < 2 * 2 ^ top → leb high (top + 1) ≡ names_below_one w64 high mask
+pub highest_tells : (high mask top : ℕ) → top < 128 → 2 ^ top ≤ mask → mask < 2 * 2 ^ top → leb high (top + 1) ≡ names_below_one high mask
 highest_tells high mask top within le lt = by_height (cases_lt (top + 1) high)
   where
-    by_height : (top + 1 < high) ⊎ (high ≤ top + 1) → leb high (top + 1) ≡ names_below_one w64 high mask
-    by_height (inl below) = rw (lt-leb high (top + 1) below, none_low w64 high mask top lt below) refl
-    by_height (inr low) = rw (le-leb high (top + 1) low, top_low w64 high mask top within le lt low) refl
+    by_height : (top + 1 < high) ⊎ (high ≤ top + 1) → leb high (top + 1) ≡ names_below_one high mask
+    by_height (inl below) = rw (lt-leb high (top + 1) below, none_low high mask top lt below) refl
+    by_height (inr low) = rw (le-leb high (top + 1) low, top_low high mask top within le lt low) refl
 
-pub zero_tells : (w : Width) (high : ℕ) → names_below_one w high 0 ≡ false
+pub zero_tells : (high : ℕ) → names_below_one high 0 ≡ false
 unfolding names_below_one
-zero_tells w high =
-    list_any_none (is_low high 0) (range_with_len 0 (8 * byte_len w)) (λ k d within. rw zero-div refl)
+zero_tells high =
+    list_any_none (is_low high 0) (range_with_len 0 128) (λ k d within. rw zero-div refl)
 
 -- ---- the test and the rule
 
@@ -77,27 +77,27 @@ set_bit mask i one clear =
     let is : bit_and mask (2 ^ i) ≡ 2 ^ i = and_pow mask i ∙ ap (λ (b : ℕ). b * 2 ^ i) one ∙ omega arith in
     omega arith
 
-pub mask_rule : (high mask : ℕ) → mask < 2 ^ 64 → names_below_one w64 high mask ≡ false → IsMask high mask
+pub mask_rule : (high mask : ℕ) → mask < 2 ^ 128 → names_below_one high mask ≡ false → IsMask high mask
 unfolding names_below_one
 mask_rule high mask fits none i set =
-    elim (cases_lt i 64) [
+    elim (cases_lt i 128) [
       | inl within ↦
-          let here : is_low high mask (get_or (range_with_len 0 64) i 0) ≡ false = none_of_any (is_low high mask) (range_with_len 0 64) none i 0 (omega (arith, length-range_with_len 0 64)) in
-          let is : get_or (range_with_len 0 64) i 0 ≡ i = get_or-range_with_len 0 64 i 0 within ∙ omega arith in
+          let here : is_low high mask (get_or (range_with_len 0 128) i 0) ≡ false = none_of_any (is_low high mask) (range_with_len 0 128) none i 0 (omega (arith, length-range_with_len 0 128)) in
+          let is : get_or (range_with_len 0 128) i 0 ≡ i = get_or-range_with_len 0 128 i 0 within ∙ omega arith in
           let low : is_low high mask i ≡ false = rw is at here in
           let one = bit_set mask i set in
           let test : leb high (i + 1) ≡ false = rw one at low in
           leb-false _ _ test
       | inr past ↦
-          let clear = bit_at-above mask 63 i (omega arith) (omega arith) in
+          let clear = bit_at-above mask 127 i (omega arith) (omega arith) in
           let one = bit_set mask i set in
           absurd (omega arith)
     ]
 
-pub mask_test : (w : Width) (high mask : ℕ) → IsMask high mask → names_below_one w high mask ≡ false
+pub mask_test : (high mask : ℕ) → IsMask high mask → names_below_one high mask ≡ false
 unfolding names_below_one
-mask_test w high mask rule =
-    list_any_none (is_low high mask) (range_with_len 0 (8 * byte_len w)) (λ k d within. each (get_or (range_with_len 0 (8 * byte_len w)) k d))
+mask_test high mask rule =
+    list_any_none (is_low high mask) (range_with_len 0 128) (λ k d within. each (get_or (range_with_len 0 128) k d))
   where
     each : (i : ℕ) → is_low high mask i ≡ false
     each i = elim (cases_eq (bit_at mask i) 1) [

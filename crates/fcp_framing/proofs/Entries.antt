@@ -9,7 +9,7 @@ use Rattle.std.proofs.lemmas.Nat.{from_be_bytes-to_be_bytes_2, from_be_bytes-to_
 use Rattle.fcp_framing.specs.declared.packet.Demand.{Demand}
 use Rattle.fcp_framing.specs.declared.packet.Told.{Told}
 use Rattle.fcp_framing.specs.Spelling.{demand_bytes, told_bytes}
-use Rattle.fcp_framing.specs.Fields.{number_at, demand_of, told_of}
+use Rattle.fcp_framing.specs.Fields.{number_at, demand_in, told_in}
 use Rattle.fcp_framing.proofs.Numbers.{AreBytes, AreBytes-drop, AreBytes-take, field16, field32, number_at-splits}
 
 -- ---- lines of any kind
@@ -54,24 +54,24 @@ pub record FitsDemand (demand : Demand) : Type 0 where
   pub dst : demand.dst < 2 ^ 16
   pub total : demand.total < 2 ^ 32
 
-demand_written : (entry : List ℕ) → AreBytes entry → length entry ≡ 6 → demand_bytes (demand_of entry) ≡ entry
+demand_written : (entry : List ℕ) → AreBytes entry → length entry ≡ 6 → demand_bytes (demand_in entry) ≡ entry
 demand_written entry fits len =
     let dst : entry ≡ to_be_bytes w16 (number_at w16 0 entry) ++ drop 2 entry = number_at-splits w16 field16 0 entry fits (omega arith) in
     let total : drop 2 entry ≡ to_be_bytes w32 (number_at w32 2 entry) ++ drop 6 entry = number_at-splits w32 field32 2 entry fits (omega arith) in
     let nothing : drop 6 entry ≡ [] = nil_from_length (drop 6 entry) (omega (arith, length-drop 6 entry)) in
     sym (dst ∙ ap (λ (t : List ℕ). to_be_bytes w16 (number_at w16 0 entry) ++ t) (total ∙ ap (λ (t : List ℕ). to_be_bytes w32 (number_at w32 2 entry) ++ t) nothing))
 
-demand_again : (demand : Demand) → FitsDemand demand → demand_of (demand_bytes demand) ≡ demand
+demand_again : (demand : Demand) → FitsDemand demand → demand_in (demand_bytes demand) ≡ demand
 unfolding number_at
 demand_again demand fits = λ i. record { dst = from_be_bytes-to_be_bytes_2 demand.dst fits.dst i; total = from_be_bytes-to_be_bytes_4 demand.total fits.total i }
 
-pub demand_line : IsLine Demand 6 demand_bytes demand_of FitsDemand
+pub demand_line : IsLine Demand 6 demand_bytes demand_in FitsDemand
 demand_line = record { len = λ x. refl; written = demand_written; taken = λ x more. refl; left = λ x more. refl; again = demand_again }
 
 abbrev pub FitsTold : Told → Type 0
 FitsTold told = told.dst < 2 ^ 16
 
-told_written : (entry : List ℕ) → AreBytes entry → length entry ≡ 4 → told_bytes (told_of entry) ≡ entry
+told_written : (entry : List ℕ) → AreBytes entry → length entry ≡ 4 → told_bytes (told_in entry) ≡ entry
 told_written [] fits len = absurd (omega arith)
 told_written (a ∷ []) fits len = absurd (omega arith)
 told_written (offset ∷ core ∷ rest) fits len =
@@ -79,9 +79,9 @@ told_written (offset ∷ core ∷ rest) fits len =
     let nothing : drop 2 rest ≡ [] = nil_from_length (drop 2 rest) (omega (arith, length-drop 2 rest)) in
     sym (ap (λ (t : List ℕ). offset ∷ core ∷ t) (dst ∙ ap (λ (t : List ℕ). to_be_bytes w16 (number_at w16 2 (offset ∷ core ∷ rest)) ++ t) nothing))
 
-told_again : (told : Told) → FitsTold told → told_of (told_bytes told) ≡ told
+told_again : (told : Told) → FitsTold told → told_in (told_bytes told) ≡ told
 unfolding number_at
 told_again told fits = λ i. record { offset = told.offset; core = told.core; dst = from_be_bytes-to_be_bytes_2 told.dst fits i }
 
-pub told_line : IsLine Told 4 told_bytes told_of FitsTold
+pub told_line : IsLine Told 4 told_bytes told_in FitsTold
 told_line = record { len = λ x. refl; written = told_written; taken = λ x more. refl; left = λ x more. refl; again = told_again }

@@ -3,6 +3,7 @@ pub mod Finding
 pub mod BelowOne
 pub mod Chunks
 pub mod Numbers
+pub mod Widths
 pub mod Entries
 pub mod Requests
 pub mod RequestRules

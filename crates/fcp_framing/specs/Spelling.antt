@@ -1,33 +1,39 @@
--- The control packets, their rules and their one spelling (this project's own profile). A packet's version and the width of its mask are arguments.
-use Rattle.std.specs.Prelude.{◌≡◌, ◌≢◌, ◌⊎◌, ℕ, ◌+◌, ◌*◌, ◌^◌, ◌<◌, ◌≤◌, true, false, List, [], ◌∷◌, ◌++◌, length, map, All, IsBitSet}
-use Rattle.std.specs.Int.{Width, w16, w32, byte_len, to_be_bytes}
+-- The control packets, their rules and their one spelling in each version (this project's own profile).
+use Rattle.std.specs.Prelude.{◌≡◌, ◌≢◌, ◌⊎◌, ℕ, ◌+◌, ◌^◌, ◌<◌, ◌≤◌, true, false, if◌then◌else◌, List, [], ◌∷◌, ◌++◌, length, map, All, IsBitSet}
+use Rattle.std.specs.Int.{w16, w32, to_be_bytes}
 use Rattle.std.specs.List.{flat_map}
 use Rattle.std.specs.List.Sorted.{IsStrictlyIncreasing}
 use Rattle.fcp_framing.specs.declared.packet.Demand.{Demand}
 use Rattle.fcp_framing.specs.declared.packet.Told.{Told}
 use Rattle.fcp_framing.specs.declared.packet.Up.{Up}
 use Rattle.fcp_framing.specs.declared.packet.Down.{Down}
+use Rattle.fcp_framing.specs.Versions.{IsVersion, mask_bits, mask_width}
 
 -- ---- the bytes, the highest byte of a number first
 
-abbrev pub reset_bytes : ℕ → Up → List ℕ
-reset_bytes version up = version ∷ 2 ∷ to_be_bytes w16 up.src ++ to_be_bytes w32 up.epoch
+abbrev pub reset_bytes : Up → List ℕ
+reset_bytes up = up.version ∷ 2 ∷ to_be_bytes w16 up.src ++ to_be_bytes w32 up.epoch
 
 abbrev pub demand_bytes : Demand → List ℕ
 demand_bytes demand = to_be_bytes w16 demand.dst ++ to_be_bytes w32 demand.total
 
-abbrev pub request_bytes : ℕ → Width → Up → List ℕ
-request_bytes version w up =
-    version ∷ 1 ∷ to_be_bytes w16 up.src ++ to_be_bytes w32 up.epoch ++ to_be_bytes w32 up.seq ++ to_be_bytes w32 up.high ++ to_be_bytes w up.mask
-    ++ to_be_bytes w16 (length up.demands.items) ++ flat_map demand_bytes up.demands.items
+abbrev pub request_bytes : Up → List ℕ
+request_bytes up =
+    up.version ∷ 1 ∷ to_be_bytes w16 up.src ++ to_be_bytes w32 up.epoch ++ to_be_bytes w32 up.seq ++ to_be_bytes w32 up.high
+    ++ (to_be_bytes (mask_width up.version) up.mask ++ (to_be_bytes w16 (length up.demands.items) ++ flat_map demand_bytes up.demands.items))
+
+-- the bytes of an upward packet
+unfoldable pub up_bytes : Up → List ℕ
+up_bytes up = if up.reset then reset_bytes up else request_bytes up
 
 abbrev pub told_bytes : Told → List ℕ
 told_bytes told = told.offset ∷ told.core ∷ to_be_bytes w16 told.dst
 
-abbrev pub allocation_bytes : ℕ → Width → Down → List ℕ
-allocation_bytes version w down =
-    version ∷ 3 ∷ to_be_bytes w16 down.dst ++ to_be_bytes w32 down.epoch ++ to_be_bytes w32 down.seq ++ to_be_bytes w32 down.high ++ to_be_bytes w down.mask
-    ++ to_be_bytes w32 down.batch ++ to_be_bytes w16 (length down.told.items) ++ flat_map told_bytes down.told.items
+-- the bytes of a downward packet
+unfoldable pub down_bytes : Down → List ℕ
+down_bytes down =
+    down.version ∷ 3 ∷ to_be_bytes w16 down.dst ++ to_be_bytes w32 down.epoch ++ to_be_bytes w32 down.seq ++ to_be_bytes w32 down.high
+    ++ (to_be_bytes (mask_width down.version) down.mask ++ (to_be_bytes w32 down.batch ++ to_be_bytes w16 (length down.told.items) ++ flat_map told_bytes down.told.items))
 
 -- ---- the rules, in a network of so many endpoints
 
@@ -40,22 +46,25 @@ abbrev pub IsCore : ℕ → Type 0
 IsCore core = (core < 64) ⊎ (core ≡ 255)
 
 -- the packet of a reset has zeros and no demands
-abbrev pub reset_of : ℕ → ℕ → Up
-reset_of src epoch = record { reset = true; src = src; epoch = epoch; seq = 0; high = 0; mask = 0; demands = record { items = [] } }
+abbrev pub reset_of : ℕ → ℕ → ℕ → Up
+reset_of version src epoch = record { version = version; reset = true; src = src; epoch = epoch; seq = 0; high = 0; mask = 0; demands = record { items = [] } }
 
 pub record IsReset (endpoints : ℕ) (up : Up) : Type 0 where
   pub network : endpoints ≤ 256
+  pub version : IsVersion up.version
   pub source : up.src < endpoints
   pub epoch : 0 < up.epoch
-  pub blank : up ≡ reset_of up.src up.epoch
+  pub blank : up ≡ reset_of up.version up.src up.epoch
 
 pub record IsRequest (endpoints : ℕ) (up : Up) : Type 0 where
   pub network : endpoints ≤ 256
+  pub version : IsVersion up.version
   pub kind : up.reset ≡ false
   pub source : up.src < endpoints
   pub epoch : 0 < up.epoch
   pub seq : 0 < up.seq
   pub mask : IsMask up.high up.mask
+  pub width : up.mask < 2 ^ mask_bits up.version
   pub count : length up.demands.items < endpoints
   pub destinations : All (λ (demand : Demand). demand.dst < endpoints) up.demands.items
   pub rising : IsStrictlyIncreasing (map (λ (demand : Demand). demand.dst) up.demands.items)
@@ -65,10 +74,12 @@ pub record IsRequest (endpoints : ℕ) (up : Up) : Type 0 where
 -- of a batch of so many slots
 pub record IsAllocation (endpoints slots : ℕ) (down : Down) : Type 0 where
   pub network : endpoints ≤ 256
+  pub version : IsVersion down.version
   pub destination : down.dst < endpoints
   pub epoch : 0 < down.epoch
   pub seq : 0 < down.seq
   pub mask : IsMask down.high down.mask
+  pub width : down.mask < 2 ^ mask_bits down.version
   pub count : length down.told.items ≤ 64
   pub destinations : All (λ (told : Told). told.dst < endpoints) down.told.items
   pub rising : IsStrictlyIncreasing (map (λ (told : Told). told.offset) down.told.items)
@@ -76,39 +87,39 @@ pub record IsAllocation (endpoints slots : ℕ) (down : Down) : Type 0 where
   pub offsets : All (λ (told : Told). told.offset < slots) down.told.items
   pub cores : All (λ (told : Told). IsCore told.core) down.told.items
 
+-- a reset or a request
+abbrev pub IsUp : ℕ → Up → Type 0
+IsUp endpoints up = IsReset endpoints up ⊎ IsRequest endpoints up
+
 -- the numbers that no rule bounds fit their fields, as those of the program always do
-pub record FitsUp (w : Width) (up : Up) : Type 0 where
+pub record FitsUp (up : Up) : Type 0 where
   pub epoch : up.epoch < 2 ^ 32
   pub seq : up.seq < 2 ^ 32
   pub high : up.high < 2 ^ 32
-  pub mask : up.mask < 2 ^ (8 * byte_len w)
 
-pub record FitsDown (w : Width) (down : Down) : Type 0 where
+pub record FitsDown (down : Down) : Type 0 where
   pub epoch : down.epoch < 2 ^ 32
   pub seq : down.seq < 2 ^ 32
   pub high : down.high < 2 ^ 32
-  pub mask : down.mask < 2 ^ (8 * byte_len w)
   pub batch : down.batch < 2 ^ 32
 
 -- ---- bytes that spell a packet
 
-pub record SpellsReset (version : ℕ) (w : Width) (endpoints : ℕ) (bytes : List ℕ) (up : Up) : Type 0 where
+pub record SpellsReset (endpoints : ℕ) (bytes : List ℕ) (up : Up) : Type 0 where
   pub rules : IsReset endpoints up
-  pub fits : FitsUp w up
-  pub text : bytes ≡ reset_bytes version up
+  pub fits : FitsUp up
+  pub text : bytes ≡ reset_bytes up
 
-pub record SpellsRequest (version : ℕ) (w : Width) (endpoints : ℕ) (bytes : List ℕ) (up : Up) : Type 0 where
+pub record SpellsRequest (endpoints : ℕ) (bytes : List ℕ) (up : Up) : Type 0 where
   pub rules : IsRequest endpoints up
-  pub fits : FitsUp w up
-  pub text : bytes ≡ request_bytes version w up
+  pub fits : FitsUp up
+  pub text : bytes ≡ request_bytes up
 
-pub record SpellsAllocation (version : ℕ) (w : Width) (endpoints slots : ℕ) (bytes : List ℕ) (down : Down) : Type 0 where
+abbrev pub SpellsUp : ℕ → List ℕ → Up → Type 0
+SpellsUp endpoints bytes up = SpellsReset endpoints bytes up ⊎ SpellsRequest endpoints bytes up
+
+-- an allocation of a batch of so many slots
+pub record SpellsDown (endpoints slots : ℕ) (bytes : List ℕ) (down : Down) : Type 0 where
   pub rules : IsAllocation endpoints slots down
-  pub fits : FitsDown w down
-  pub text : bytes ≡ allocation_bytes version w down
-
-abbrev pub SpellsUp : ℕ → Width → ℕ → List ℕ → Up → Type 0
-SpellsUp version w endpoints bytes up = SpellsReset version w endpoints bytes up ⊎ SpellsRequest version w endpoints bytes up
-
-abbrev pub SpellsDown : ℕ → Width → ℕ → ℕ → List ℕ → Down → Type 0
-SpellsDown version w endpoints slots bytes down = SpellsAllocation version w endpoints slots bytes down
+  pub fits : FitsDown down
+  pub text : bytes ≡ down_bytes down

@@ -1,7 +1,7 @@
-//! The packets of the control protocol and their bytes, version 1.
+//! The packets of the control protocol and their bytes, in versions 1 and 2.
 //!
 //! An endpoint sends resets and requests up to the arbiter, and the arbiter sends allocations down. Each packet has one spelling;
-//! the layout and the order of the refusals are this project's own profile of the protocol of Fastpass (SIGCOMM 2014).
+//! a version 2 packet has a mask of 128 bits where one of version 1 has 64. The layout and the order of the refusals are this project's own profile of the protocol of Fastpass (SIGCOMM 2014).
 #![tactic(auto)]
 
 mod checks;
@@ -19,8 +19,8 @@ mod upward;
 pub use downward::decode_down;
 pub use encoding::{encode_alloc, encode_req, encode_reset};
 pub use laws::{
-    bytes_spell_one_packet, packets_have_one_spelling, spellings_begin_no_other,
-    what_follows_is_trailing,
+    bytes_spell_one_packet, packets_have_one_spelling, packets_in_full, spellings_begin_no_other,
+    what_follows_is_trailing, what_is_encoded_is_read_back, what_is_read_was_spelled_so,
 };
 pub use packet::{Demand, Down, Told, Up};
 pub use refusal::FrameRefused;

@@ -17,9 +17,11 @@ pub struct Told {
     pub dst: u16,
 }
 
-/// An upward packet: a request, or a reset, which has its source and its epoch alone.
+/// An upward packet: a request, or a reset, which has its version, its source and its epoch alone.
 #[derive(Debug, Default, Drop, PartialEq, Eq)]
 pub struct Up {
+    /// 1 or 2, which says how wide the mask is.
+    pub version: u8,
     pub reset: bool,
     pub src: u16,
     pub epoch: u32,
@@ -27,20 +29,22 @@ pub struct Up {
     /// The greatest number taken of the other side, 0 for none.
     pub high: u32,
     /// Bit i says that the number `high - 1 - i` was taken.
-    pub mask: u64,
+    pub mask: u128,
     pub demands: ArrayVec<Demand, 255>,
 }
 
 /// A downward packet: an allocation.
 #[derive(Debug, Default, Drop, PartialEq, Eq)]
 pub struct Down {
+    /// 1 or 2, which says how wide the mask is.
+    pub version: u8,
     pub dst: u16,
     pub epoch: u32,
     pub seq: u32,
     /// The greatest number taken of the other side, 0 for none.
     pub high: u32,
     /// Bit i says that the number `high - 1 - i` was taken.
-    pub mask: u64,
+    pub mask: u128,
     pub batch: u32,
     pub told: ArrayVec<Told, 64>,
 }

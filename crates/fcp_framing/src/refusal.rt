@@ -8,7 +8,7 @@ ghost use Rattle.fcp_framing.specs.Refusals.{number_of};
 pub enum FrameRefused {
     /// Bytes are missing.
     Short = 1,
-    /// The version is not 1.
+    /// The version is neither 1 nor 2.
     Version = 2,
     /// The call reads no such kind.
     Kind = 3,

@@ -1,46 +1,44 @@
 //! Upward packets: resets and requests.
 
 ghost use Rattle.std.specs.Prelude.{◌≡◌, ℕ, ◌≤◌, length, find, [], ◌∷◌, OnOk, OnErr, IsOk};
-ghost use Rattle.std.specs.Int.{w64};
 ghost use Rattle.std.specs.Result.{result_err};
 ghost use Rattle.fcp_framing.specs.declared.packet.Up.{Up as UpPacket};
 ghost use Rattle.fcp_framing.specs.Spelling.{SpellsUp, reset_of};
-ghost use Rattle.fcp_framing.specs.Fields.{endpoint_of, epoch_of, request_of, request_length, up_of};
+ghost use Rattle.fcp_framing.specs.Fields.{version_in, endpoint_in, epoch_in, request_of, request_length, up_of};
 ghost use Rattle.fcp_framing.specs.Refusals.{first_refusal, refuses_up, refuses_reset, refuses_request};
 
 use crate::checks::check_fields;
 use crate::demands;
-use crate::fields::{
-    REQUEST, REQUEST_HEADER, RESET, RESET_LENGTH, VERSION, u16_at, u32_at, u64_at,
-};
+use crate::fields::{REQUEST, RESET, RESET_LENGTH, is_version, mask_in, u16_at, u32_at};
 use crate::packet::Up;
 use crate::refusal::FrameRefused;
 
-/// Reads a reset or a request, in a network of so many endpoints. What is refused leaves `into` as it was.
+/// Reads a reset or a request of either version, in a network of so many endpoints. What is refused leaves `into` as it was.
 pub fn decode_up(bytes: &[u8], endpoints: u16, into: &mut Up) -> Result<(), FrameRefused>
     requires { endpoints ≤ 256 }
-    // What is read is spelled so, and what is spelled so is read.
-    ensures spelled { OnOk result (SpellsUp 1 w64 endpoints bytes.now into.new) }
-    ensures only { (up : UpPacket) → SpellsUp 1 w64 endpoints bytes.now up → IsOk result × (into.new ≡ up) }
+    // What is read stands in the bytes, and they spell it; what is spelled so is read.
+    ensures read { OnOk result (into.new ≡ up_of bytes.now) }
+    ensures spelled { OnOk result (SpellsUp endpoints bytes.now into.new) }
+    ensures only { (up : UpPacket) → SpellsUp endpoints bytes.now up → IsOk result × (into.new ≡ up) }
     // Other bytes are refused, for the first reason of the table.
-    ensures refused { result_err result ≡ first_refusal (refuses_up 1 w64 endpoints bytes.now) }
+    ensures refused { result_err result ≡ first_refusal (refuses_up endpoints bytes.now) }
     ensures unchanged { OnErr result (into.new ≡ into.old) }
 {
     read_up(bytes, endpoints, into)
 }
 
 /// What `decode_up` does, by the table alone.
-#[tactic(auto, unfolding(crate::specs::Refusals::first_refusal, crate::specs::Refusals::refuses_up))]
+#[tactic(auto, unfolding(crate::specs::Refusals::first_refusal, crate::specs::Refusals::refuses_up, crate::specs::Fields::up_of))]
 fn read_up(bytes: &[u8], endpoints: u16, into: &mut Up) -> Result<(), FrameRefused>
     requires { endpoints ≤ 256 }
-    ensures refused { result_err result ≡ first_refusal (refuses_up 1 w64 endpoints bytes.now) }
-    ensures read { OnOk result (into.new ≡ up_of w64 bytes.now) }
+    ensures refused { result_err result ≡ first_refusal (refuses_up endpoints bytes.now) }
+    ensures read { OnOk result (into.new ≡ up_of bytes.now) }
     ensures unchanged { OnErr result (into.new ≡ into.old) }
 {
     if bytes.len() < 2 {
         return Err(FrameRefused::Short);
     }
-    if bytes[0] != VERSION {
+    if !is_version(bytes[0]) {
         return Err(FrameRefused::Version);
     }
     match bytes[1] {
@@ -52,8 +50,9 @@ fn read_up(bytes: &[u8], endpoints: u16, into: &mut Up) -> Result<(), FrameRefus
 
 #[tactic(auto, unfolding(crate::specs::Refusals::first_refusal))]
 fn read_reset(bytes: &[u8], endpoints: u16, into: &mut Up) -> Result<(), FrameRefused>
+    requires { 1 ≤ length bytes.now }
     ensures refused { result_err result ≡ first_refusal (refuses_reset endpoints bytes.now) }
-    ensures read { OnOk result (into.new ≡ reset_of (endpoint_of bytes.now) (epoch_of bytes.now)) }
+    ensures read { OnOk result (into.new ≡ reset_of (version_in bytes.now) (endpoint_in bytes.now) (epoch_in bytes.now)) }
     ensures unchanged { OnErr result (into.new ≡ into.old) }
 {
     if bytes.len() < RESET_LENGTH {
@@ -70,6 +69,7 @@ fn read_reset(bytes: &[u8], endpoints: u16, into: &mut Up) -> Result<(), FrameRe
     if epoch == 0 {
         return Err(FrameRefused::Epoch);
     }
+    into.version = bytes[0];
     into.reset = true;
     into.src = src;
     into.epoch = epoch;
@@ -82,18 +82,20 @@ fn read_reset(bytes: &[u8], endpoints: u16, into: &mut Up) -> Result<(), FrameRe
 
 #[tactic(auto, unfolding(crate::specs::Refusals::first_refusal))]
 fn read_request(bytes: &[u8], endpoints: u16, into: &mut Up) -> Result<(), FrameRefused>
-    requires { endpoints ≤ 256 }
-    ensures refused { result_err result ≡ first_refusal (refuses_request w64 endpoints bytes.now) }
-    ensures read { OnOk result (into.new ≡ request_of w64 bytes.now) }
+    requires network { endpoints ≤ 256 }
+    requires begun { 1 ≤ length bytes.now }
+    ensures refused { result_err result ≡ first_refusal (refuses_request endpoints bytes.now) }
+    ensures read { OnOk result (into.new ≡ request_of bytes.now) }
     ensures unchanged { OnErr result (into.new ≡ into.old) }
 {
     check_request(bytes, endpoints)?;
+    into.version = bytes[0];
     into.reset = false;
     into.src = u16_at(bytes, 2);
     into.epoch = u32_at(bytes, 4);
     into.seq = u32_at(bytes, 8);
     into.high = u32_at(bytes, 12);
-    into.mask = u64_at(bytes, 16);
+    into.mask = mask_in(bytes);
     demands::read(demands::entries_of(bytes), &mut into.demands);
     Ok(())
 }
@@ -101,12 +103,14 @@ fn read_request(bytes: &[u8], endpoints: u16, into: &mut Up) -> Result<(), Frame
 /// Tries the refusals of a request in their order.
 #[tactic(auto, using(std::proofs::lemmas::Bool::Decides::nat_tests), unfolding(crate::specs::Refusals::first_refusal))]
 fn check_request(bytes: &[u8], endpoints: u16) -> Result<(), FrameRefused>
-    ensures { result_err result ≡ first_refusal (refuses_request w64 endpoints bytes.now) }
+    requires { 1 ≤ length bytes.now }
+    ensures { result_err result ≡ first_refusal (refuses_request endpoints bytes.now) }
 {
-    if bytes.len() < REQUEST_HEADER {
+    let header = demands::header(bytes[0]);
+    if bytes.len() < header {
         return Err(FrameRefused::Short);
     }
-    let end = REQUEST_HEADER + 6 * u16_at(bytes, 24) as usize;
+    let end = header + 6 * demands::count(bytes) as usize;
     if bytes.len() < end {
         return Err(FrameRefused::Short);
     }
@@ -118,14 +122,14 @@ fn check_request(bytes: &[u8], endpoints: u16) -> Result<(), FrameRefused>
 /// Tries the refusals that look at the endpoints of a request: which, how many, and in which order.
 #[tactic(auto, using(std::proofs::lemmas::Bool::Decides::nat_tests))]
 fn check_destinations(bytes: &[u8], endpoints: u16) -> Result<(), FrameRefused>
-    requires { request_length w64 bytes.now ≤ length bytes.now }
-    ensures { result_err result ≡ find (refuses_request w64 endpoints bytes.now) (FrameRefused.Endpoint ∷ FrameRefused.Count ∷ FrameRefused.Order ∷ []) }
+    requires { request_length bytes.now ≤ length bytes.now }
+    ensures { result_err result ≡ find (refuses_request endpoints bytes.now) (FrameRefused.Endpoint ∷ FrameRefused.Count ∷ FrameRefused.Order ∷ []) }
 {
     let entries = demands::entries_of(bytes);
     if u16_at(bytes, 2) >= endpoints || demands::has_stranger(entries, endpoints) {
         return Err(FrameRefused::Endpoint);
     }
-    if u16_at(bytes, 24) >= endpoints {
+    if demands::count(bytes) >= endpoints {
         return Err(FrameRefused::Count);
     }
     if !demands::rises(entries) {
@@ -137,8 +141,8 @@ fn check_destinations(bytes: &[u8], endpoints: u16) -> Result<(), FrameRefused>
 /// Tries the refusals that look at each line of a request.
 #[tactic(auto, using(std::proofs::lemmas::Bool::Decides::nat_tests))]
 fn check_demands(bytes: &[u8]) -> Result<(), FrameRefused>
-    requires { request_length w64 bytes.now ≤ length bytes.now }
-    ensures { (endpoints : ℕ) → result_err result ≡ find (refuses_request w64 endpoints bytes.now) (FrameRefused.SelfFlow ∷ FrameRefused.TooMuch ∷ []) }
+    requires { request_length bytes.now ≤ length bytes.now }
+    ensures { (endpoints : ℕ) → result_err result ≡ find (refuses_request endpoints bytes.now) (FrameRefused.SelfFlow ∷ FrameRefused.TooMuch ∷ []) }
 {
     let entries = demands::entries_of(bytes);
     if demands::has_destination(entries, u16_at(bytes, 2)) {

@@ -1,20 +1,20 @@
 -- What is due in a round, of packets that are sent, forgotten or taken off.
 use Rattle.std.proofs.Common.{◌≡◌, ℕ, ◌+◌, ◌<◌, ◌≤◌, Bool, true, false, ◌&&◌, ◌||◌, cond, eqb, leb, List, [], ◌∷◌, ◌++◌, take, drop, get_or, map, filter, remove, set, add-one, All, Option, Some, None, slice_get, sym, ◌∙◌, ap, refl, inl, inr, arith}
-use Rattle.std.proofs.lemmas.Bool.{cases_lt, cases_order, cond-true, cond-false, or_from, or_left, or_right, leb-true, leb-false, le-leb, lt-leb, eq-eqb, ne_eqb, and_left, and_right, and_from, and_parts, cond_both}
+use Rattle.std.proofs.lemmas.Bool.{eqb-true, or_cases, false_from_ne_true, cases_lt, cases_order, cond-true, cond-false, or_from, or_left, or_right, leb-true, leb-false, le-leb, lt-leb, eq-eqb, ne_eqb, and_left, and_right, and_from, and_parts, cond_both}
 use Rattle.std.proofs.lemmas.List.{take-append-drop, drop_more, map-append, set_split}
 use Rattle.std.proofs.lemmas.List.Elements.{filter-append, All-nil, All-cons, All-head, All-tail, All-append, All-take, All-drop}
 use Rattle.std.proofs.lemmas.Option.{get_or_from_slice_get, slice_get_within}
 use Rattle.loss_world.specs.declared.fate.Fate.{Fate}
 use Rattle.loss_world.specs.declared.fate.Fate.TheVariants.{Lose, Hold, Twice}
-use Rattle.loss_world.specs.Arrivals.{Packet, arrives_in, arrivals}
+use Rattle.loss_world.specs.Arrivals.{Departure, arrives_in, arrivals, NoneArrivesEarly}
 use Rattle.loss_world.specs.InTransit.{InFlight, flight_of, is_due, due_in, rest_of, IsToCome}
 
 -- ---- joined lists
 
-pub arrivals-append : (xs ys : List Packet) (round : ℕ) → arrivals (xs ++ ys) round ≡ arrivals xs round ++ arrivals ys round
+pub arrivals-append : (xs ys : List Departure) (round : ℕ) → arrivals (xs ++ ys) round ≡ arrivals xs round ++ arrivals ys round
 arrivals-append xs ys round =
-    let test : Packet → Bool = λ packet. arrives_in packet.fate packet.round round in
-    let bytes : Packet → List ℕ = λ packet. packet.bytes in
+    let test : Departure → Bool = λ packet. arrives_in packet.fate packet.round round in
+    let bytes : Departure → List ℕ = λ packet. packet.bytes in
     ap (map bytes) (filter-append test xs ys) ∙ map-append bytes (filter test xs) (filter test ys)
 
 pub due_in-append : (xs ys : List InFlight) (round : ℕ) → due_in (xs ++ ys) round ≡ due_in xs round ++ due_in ys round
@@ -52,8 +52,8 @@ to_the_next sent round =
       ]
     ]
 
-one_of_each : (test : Bool) (flight : InFlight) (packet : Packet) → flight.bytes ≡ packet.bytes →
-    map (λ (f : InFlight). f.bytes) (cond test (flight ∷ []) []) ≡ map (λ (p : Packet). p.bytes) (cond test (packet ∷ []) [])
+one_of_each : (test : Bool) (flight : InFlight) (packet : Departure) → flight.bytes ≡ packet.bytes →
+    map (λ (f : InFlight). f.bytes) (cond test (flight ∷ []) []) ≡ map (λ (p : Departure). p.bytes) (cond test (packet ∷ []) [])
 one_of_each true flight packet same = ap (λ bytes. bytes ∷ []) same
 one_of_each false flight packet same = refl
 
@@ -68,7 +68,7 @@ due_by_fate (Some Twice) sent bytes round =
     rw (to_the_next sent round) (one_of_each (eqb round sent || eqb round (sent + 1)) (record { rounds = record { next = sent; last = sent + 1 }; bytes = bytes }) (record { round = sent; fate = Some Twice; bytes = bytes }) refl)
 
 -- a packet is due, from when it is sent, in the rounds in which it arrives
-pub due_in-flight_of : (packet : Packet) (round : ℕ) → due_in (flight_of packet) round ≡ arrivals (packet ∷ []) round
+pub due_in-flight_of : (packet : Departure) (round : ℕ) → due_in (flight_of packet) round ≡ arrivals (packet ∷ []) round
 due_in-flight_of packet round = due_by_fate packet.fate packet.round packet.bytes round
 
 to_come_by_fate : (fate : Option Fate) (sent : ℕ) (bytes : List ℕ) (asked : ℕ) → asked ≤ sent → All (IsToCome asked) (flight_of (record { round = sent; fate = fate; bytes = bytes }))
@@ -78,7 +78,7 @@ to_come_by_fate (Some (Hold held)) sent bytes asked asks = All-cons (IsToCome as
 to_come_by_fate (Some Twice) sent bytes asked asks = All-cons (IsToCome asked) _ [] (record { some_round = omega arith; not_over = omega arith }) (All-nil (IsToCome asked))
 
 -- it is to come where its round is not below the one asked for
-pub IsToCome-flight_of : (packet : Packet) (asked : ℕ) → asked ≤ packet.round → All (IsToCome asked) (flight_of packet)
+pub IsToCome-flight_of : (packet : Departure) (asked : ℕ) → asked ≤ packet.round → All (IsToCome asked) (flight_of packet)
 IsToCome-flight_of packet asked asks = to_come_by_fate packet.fate packet.round packet.bytes asked asks
 
 -- ---- what is forgotten
@@ -205,3 +205,63 @@ taken_off-remove flights at flight found round here is over =
     ap (λ k. take at flights ++ drop k flights) (sym (add-one at))
     ∙ ap (λ rest. take at flights ++ (rest ++ drop (at + 1) flights)) (sym (cond-true (leb found.rounds.last round) [] (record { rounds = record { next = round + 1; last = found.rounds.last }; bytes = found.bytes } ∷ []) (le-leb found.rounds.last round over)))
     ∙ ap (λ f. taken_off flights at f round) (found_there flights at flight found here is)
+
+-- ---- an ask
+
+-- what an ask for a round finds once the earlier rounds are forgotten: the flight at this place is the first that is due
+pub record Found (round : ℕ) (old kept : List InFlight) (at : ℕ) (flight : InFlight) : Type 0 where
+  pub keeps : kept ≡ filter (is_kept round) old
+  pub here : slice_get kept at ≡ Some flight
+  pub before : due_in (take at kept) round ≡ []
+  pub due : is_due round flight ≡ true
+
+due_in-old : (old kept : List InFlight) (round later : ℕ) → kept ≡ filter (is_kept round) old → round ≤ later → due_in old later ≡ due_in kept later
+due_in-old old kept round later keeps order = sym (ap (λ xs. due_in xs later) keeps ∙ due_in-forget old round later order)
+
+pub first-found : (round : ℕ) (old kept : List InFlight) (at : ℕ) (flight : InFlight) → Found round old kept at flight → Some flight.bytes ≡ slice_get (due_in old round) 0
+first-found round old kept at flight f =
+    ap (λ xs. slice_get xs 0) (sym (due_in-old old kept round round f.keeps (omega arith) ∙ due_in-first kept at flight round f.here f.before f.due))
+
+pub taken-found : (round : ℕ) (old kept after : List InFlight) (at : ℕ) (flight : InFlight) → Found round old kept at flight → after ≡ taken_off kept at flight round →
+    due_in after round ≡ drop 1 (due_in old round)
+taken-found round old kept after at flight f left =
+    ap (λ xs. due_in xs round) left
+    ∙ sym (ap (drop 1) (due_in-old old kept round round f.keeps (omega arith) ∙ due_in-first kept at flight round f.here f.before f.due))
+
+pub later-found : (round : ℕ) (old kept after : List InFlight) (at : ℕ) (flight : InFlight) → Found round old kept at flight → after ≡ taken_off kept at flight round →
+    (later : ℕ) → round < later → due_in after later ≡ due_in old later
+later-found round old kept after at flight f left later order =
+    ap (λ xs. due_in xs later) left
+    ∙ due_in-taken_off kept at flight round later f.here f.due order
+    ∙ sym (due_in-old old kept round later f.keeps (omega arith))
+
+-- where none is due
+pub first-none : (round : ℕ) (old kept : List InFlight) → kept ≡ filter (is_kept round) old → due_in kept round ≡ [] → None ≡ slice_get (due_in old round) 0
+first-none round old kept keeps none = ap (λ xs. slice_get xs 0) (sym (due_in-old old kept round round keeps (omega arith) ∙ none))
+
+pub taken-none : (round : ℕ) (old kept : List InFlight) → kept ≡ filter (is_kept round) old → due_in kept round ≡ [] → due_in kept round ≡ drop 1 (due_in old round)
+taken-none round old kept keeps none = none ∙ sym (ap (drop 1) (due_in-old old kept round round keeps (omega arith) ∙ none))
+
+pub later-none : (round : ℕ) (old kept : List InFlight) → kept ≡ filter (is_kept round) old → (later : ℕ) → round < later → due_in kept later ≡ due_in old later
+later-none round old kept keeps later order = sym (due_in-old old kept round later keeps (omega arith))
+
+-- ---- none arrives early
+
+arrives_late : (fate : Option Fate) (sent round : ℕ) → arrives_in fate sent round ≡ true → sent ≤ round
+arrives_late None sent round comes = let is = eqb-true round sent comes in omega arith
+arrives_late (Some Lose) sent round comes = absurd (cc)
+arrives_late (Some (Hold held)) sent round comes = let is = eqb-true round (sent + held) comes in omega arith
+arrives_late (Some Twice) sent round comes = elim (or_cases (eqb round sent) (eqb round (sent + 1)) comes) [
+  | inl first ↦ let is = eqb-true round sent first in omega arith
+  | inr second ↦ let is = eqb-true round (sent + 1) second in omega arith
+]
+
+none_before : (sent : List Departure) (round : ℕ) → All (λ packet. round < packet.round) sent → arrivals sent round ≡ []
+none_before [] round all = refl
+none_before (packet ∷ rest) round all =
+    let first = All-head (λ (p : Departure). round < p.round) packet rest all in
+    let others = none_before rest round (All-tail (λ (p : Departure). round < p.round) packet rest all) in
+    rw (false_from_ne_true (arrives_in packet.fate packet.round round) (λ comes. let late = arrives_late packet.fate packet.round round comes in absurd (omega arith))) others
+
+pub none_arrives_early : NoneArrivesEarly
+none_arrives_early = record { each = arrives_late; all = none_before }

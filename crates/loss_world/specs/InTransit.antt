@@ -3,14 +3,14 @@ use Rattle.std.specs.Prelude.{ℕ, ◌+◌, ◌≤◌, Bool, ◌&&◌, nat_le, L
 use Rattle.loss_world.specs.declared.fate.Fate.{Fate}
 use Rattle.loss_world.specs.declared.fate.Fate.TheVariants.{Lose, Hold, Twice}
 use Rattle.loss_world.specs.declared.fate.Rounds.{Rounds}
-use Rattle.loss_world.specs.Arrivals.{Packet}
+use Rattle.loss_world.specs.Arrivals.{Departure}
 
 -- a packet that is still to arrive
 pub record InFlight : Type 0 where
   pub rounds : Rounds
   pub bytes : List ℕ
 
--- what a world holds: the packets that are still to arrive, and how many packets' bytes it has memory for
+-- what a world holds: the packets that are still to arrive, and how many buffers it has, each with room for one packet
 pub record Held : Type 0 where
   pub flights : List InFlight
   pub buffers : ℕ
@@ -23,7 +23,7 @@ rounds_of (Some (Hold held)) sent = Some (record { next = sent + held; last = se
 rounds_of (Some Twice) sent = Some (record { next = sent; last = sent + 1 })
 
 -- what a packet is when it is sent: nothing where it is lost
-abbrev pub flight_of : Packet → List InFlight
+abbrev pub flight_of : Departure → List InFlight
 flight_of packet =
     option_to_list (option_map (λ rounds. record { rounds = rounds; bytes = packet.bytes }) (rounds_of packet.fate packet.round))
 

@@ -1,3 +1,4 @@
 pub mod Arrivals
+pub mod Examples
 pub mod History
 pub mod InTransit

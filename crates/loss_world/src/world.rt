@@ -1,8 +1,9 @@
 //! One direction of one endpoint.
-ghost use Rattle.std.specs.Prelude.{◌≡◌, ◌+◌, ◌-◌, ◌<◌, ◌≤◌, max, nat_le, List, [], ◌∷◌, ◌++◌, length, take, drop, filter, IfOk, OnOk, OnErr, IfSome, IfNone, IsTrue, option_map, unwrap_or, slice_get, Some, vec_len, vec_capacity};
-ghost use Rattle.loss_world.specs.History.{Event, Sends, Asks, asked_of, next_arrival, StandsFor};
+ghost use Rattle.std.specs.Prelude.{◌≡◌, ℕ, ◌+◌, ◌-◌, ◌<◌, ◌≤◌, max, nat_le, List, [], ◌∷◌, ◌++◌, length, take, drop, filter, IfOk, OnOk, OnErr, IfSome, IfNone, IsTrue, option_map, unwrap_or, slice_get, Some, vec_len, vec_capacity};
+ghost use Rattle.loss_world.specs.History.{WorldCall, Departs, AsksFor, asked_of, next_arrival, WorldStandsFor};
 ghost use Rattle.loss_world.specs.InTransit.{InFlight, is_due, due_in, rest_of};
 
+use crate::buffer::Buffer;
 use crate::fate::{Rounds, arrival_rounds};
 use crate::flight::Flight;
 use crate::{Fate, NoMemory};
@@ -10,12 +11,12 @@ use std::alloc::Global;
 use std::marker::Model;
 
 /// The packets of one direction of one endpoint. Clauses see those that are still to arrive, in the order of sending, and how
-/// many buffers the world holds.
+/// many buffers the world holds, of 2,048 bytes each.
 #[derive(Drop)]
 pub struct World {
     flights: Vec<Flight>,
     /// The buffers of packets that have arrived for the last time.
-    spare: Vec<Vec<u8>>,
+    spare: Vec<Buffer>,
 }
 
 impl Model for World {
@@ -32,7 +33,7 @@ impl Model for World {
 impl World {
     /// A world in which nothing was sent.
     pub fn open(alloc: Global) -> Result<World, NoMemory>
-        ensures stands { IfOk result (λ world. StandsFor world []) }
+        ensures stands { IfOk result (λ world. WorldStandsFor world []) }
         ensures buffers { IfOk result (λ world. world.buffers ≡ 0) }
     {
         let flights = Vec::with_capacity(alloc, 1)?;
@@ -45,10 +46,10 @@ impl World {
     pub fn send(&mut self, round: u32, fate: Option<Fate>, bytes: &[u8]) -> Result<(), NoMemory>
         requires { length bytes.now ≤ 2048 }
         ensures refused { OnErr result (self.new ≡ self.old) }
-        ensures stands { OnOk result ((history : List Event) →
-            StandsFor self.old history →
+        ensures stands { OnOk result ((history : List WorldCall) →
+            WorldStandsFor self.old history →
             asked_of history ≤ round →
-            StandsFor self.new (Sends (record { round = round; fate = fate; bytes = bytes.now }) ∷ history)) }
+            WorldStandsFor self.new (Departs (record { round = round; fate = fate; bytes = bytes.now }) ∷ history)) }
         ensures buffers { self.new.buffers ≤ max self.old.buffers (length self.new.flights) }
     {
         match arrival_rounds(round, fate) {
@@ -57,26 +58,29 @@ impl World {
         }
     }
 
-    /// The next packet that arrives in this round, by the order of sending: its bytes are the front of `buf`. None where none is
-    /// left. The round is not below one that was asked for before.
+    /// The next packet that arrives in this round, by the order of sending: its bytes are the front of `buf`. It is taken away
+    /// from what is due in the round. None where none is left. The round is not below one that was asked for before.
     pub fn arrive(&mut self, round: u32, buf: &mut [u8; 2048]) -> Option<usize>
-        ensures arrival { (history : List Event) →
-            StandsFor self.old history →
+        ensures first { option_map (λ length. take length buf.new) result ≡ slice_get (due_in self.old.flights round) 0 }
+        ensures taken { due_in self.new.flights round ≡ drop 1 (due_in self.old.flights round) }
+        ensures later { (later : ℕ) → round < later → due_in self.new.flights later ≡ due_in self.old.flights later }
+        ensures arrival { (history : List WorldCall) →
+            WorldStandsFor self.old history →
             asked_of history ≤ round →
             option_map (λ length. take length buf.new) result ≡ next_arrival history round }
         ensures within { IfSome result (λ length. length ≤ 2048) }
         ensures rest { drop (unwrap_or result 0) buf.new ≡ drop (unwrap_or result 0) buf.old }
-        ensures stands { (history : List Event) →
-            StandsFor self.old history →
+        ensures stands { (history : List WorldCall) →
+            WorldStandsFor self.old history →
             asked_of history ≤ round →
-            StandsFor self.new (Asks round ∷ history) }
+            WorldStandsFor self.new (AsksFor round ∷ history) }
         ensures buffers { self.new.buffers ≤ self.old.buffers }
     {
         let round = u64::from(round);
         self.forget_before(round);
         match first_due(&self.flights, round) {
             Some(at) => {
-                let length = self.flights[at].copy_to(buf);
+                let length = self.flights[at].packet.copy_to(buf);
                 self.take_off(at, round);
                 Some(length)
             }
@@ -93,8 +97,8 @@ impl World {
     {
         self.flights.reserve(1)?;
         self.spare.reserve(self.flights.len() + 1)?;
-        let bytes = copy_into_spare(&mut self.spare, bytes)?;
-        self.flights.push_reserved(Flight { rounds, bytes });
+        let packet = copy_into_spare(&mut self.spare, bytes)?;
+        self.flights.push_reserved(Flight { rounds, packet });
         Ok(())
     }
 
@@ -119,7 +123,7 @@ impl World {
             flight.rounds.next = round + 1;
         } else {
             let gone = self.flights.remove(at);
-            self.spare.push_reserved(gone.bytes);
+            self.spare.push_reserved(gone.packet);
         }
     }
 }
@@ -140,23 +144,19 @@ fn first_due(flights: &[Flight], round: u64) -> Option<usize>
 }
 
 /// A copy of the bytes, in a spare buffer where there is one.
-fn copy_into_spare(spare: &mut Vec<Vec<u8>>, bytes: &[u8]) -> Result<Vec<u8>, NoMemory>
-    ensures bytes { IfOk result (λ copy. copy.items ≡ bytes.now) }
+fn copy_into_spare(spare: &mut Vec<Buffer>, bytes: &[u8]) -> Result<Buffer, NoMemory>
+    requires { length bytes.now ≤ 2048 }
+    ensures bytes { IfOk result (λ copy. copy ≡ bytes.now) }
     ensures used { OnOk result (vec_len spare.new ≡ vec_len spare.old - 1) }
     ensures refused { OnErr result (vec_len spare.new ≡ vec_len spare.old) }
     ensures capacity { vec_capacity spare.new ≡ vec_capacity spare.old }
 {
-    let Some(mut buffer) = spare.pop() else {
-        return Ok(Vec::from_slice(*spare.allocator(), bytes)?);
+    let mut buffer = match spare.pop() {
+        Some(buffer) => buffer,
+        None => Buffer::open(*spare.allocator())?,
     };
-    buffer.clear();
-    match buffer.extend_from_slice(bytes) {
-        Ok(()) => Ok(buffer),
-        Err(_) => {
-            spare.push_reserved(buffer);
-            Err(NoMemory)
-        }
-    }
+    buffer.fill(bytes);
+    Ok(buffer)
 }
 
 #[cfg(test)]

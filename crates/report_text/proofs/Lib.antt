@@ -1,6 +1,7 @@
 pub mod Pieces
 pub mod NumberText
 pub mod NumbersRead
-pub mod Small
+pub mod Within
+pub mod RefusalNames
 pub mod LineKinds
 pub mod Spelling

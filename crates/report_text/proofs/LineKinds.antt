@@ -1,81 +1,95 @@
--- A line by its name: bytes that begin with a name are a line of that kind, and of no other.
-use Rattle.std.proofs.Common.{◌≡◌, ◌≢◌, ◌<◌, ◌≤◌, ◌^◌, ℕ, List, [], ◌∷◌, ◌++◌, All, Bool, Option, get_or, drop, codes, ap, arith}
+-- A line by its kind: the first two bytes tell the kind, and so bytes that begin with a name are a line of that kind alone.
+use Rattle.std.proofs.Common.{◌≡◌, ◌≢◌, ◌<◌, ◌≤◌, ℕ, List, ◌++◌, Bool, Option, cond, eqb, get_or, codes, refl, sym, ap, subst, ◌∙◌, arith}
 use Rattle.report_text.specs.declared.line.Line.{Line}
 use Rattle.report_text.specs.declared.line.Line.TheVariants as line
-use Rattle.report_text.specs.Lines.{fields, numbers, core_field, bit, line_bytes, IsLine}
-use Rattle.report_text.proofs.Small.{each_fits, bit_fits}
+use Rattle.report_text.specs.Lines.{line_bytes, IsLine}
 
-pub fits_batch : (batch src dst : ℕ) (clear : Bool) (add : ℕ) → IsLine (line.Batch batch src dst clear add) → All (λ n. n < 2 ^ 32) (batch ∷ src ∷ dst ∷ bit clear ∷ add ∷ [])
-fits_batch batch src dst clear add ok = each_fits (batch ∷ src ∷ dst ∷ bit clear ∷ add ∷ []) (ok.1, (omega (arith, ok.0.0), (omega (arith, ok.0.1), (bit_fits clear, (ok.2, tt)))))
+pub data Kind : Type 0 where
+  Batch : Kind
+  Slot : Kind
+  Sent : Kind
+  Refused : Kind
+  Flow : Kind
+  Count : Kind
+  End : Kind
+  Made : Kind
 
-pub of_batch : (text : List ℕ) (X : Line → Type 0) → ((batch src dst : ℕ) (clear : Bool) (add : ℕ) → IsLine (line.Batch batch src dst clear add) → All (λ n. n < 2 ^ 32) (batch ∷ src ∷ dst ∷ bit clear ∷ add ∷ []) → text ≡ numbers (batch ∷ src ∷ dst ∷ bit clear ∷ add ∷ []) → X (line.Batch batch src dst clear add)) → (l : Line) → IsLine l → codes "batch" ++ text ≡ line_bytes l → X l
-of_batch text X known (line.Batch batch src dst clear add) ok is = known batch src dst clear add ok (fits_batch batch src dst clear add ok) (ap (drop 5) is)
-of_batch text X known (line.Slot slot src dst core) ok is = absurd (omega (arith, ap (λ (bs : List ℕ). get_or bs 0 0) is))
-of_batch text X known (line.Sent slot src dst) ok is = absurd (omega (arith, ap (λ (bs : List ℕ). get_or bs 0 0) is))
-of_batch text X known (line.Flow src dst demanded allocated pending) ok is = absurd (omega (arith, ap (λ (bs : List ℕ). get_or bs 0 0) is))
-of_batch text X known (line.Count src dst demanded acknowledged flight pending lost sent missed) ok is = absurd (omega (arith, ap (λ (bs : List ℕ). get_or bs 0 0) is))
-of_batch text X known (line.End rounds) ok is = absurd (omega (arith, ap (λ (bs : List ℕ). get_or bs 0 0) is))
+abbrev pub name : Kind → List ℕ
+name Batch = codes "batch"
+name Slot = codes "slot"
+name Sent = codes "sent"
+name Refused = codes "refused"
+name Flow = codes "flow"
+name Count = codes "count"
+name End = codes "end"
+name Made = codes "made"
 
-pub fits_slot : (slot src dst : ℕ) (core : Option ℕ) → IsLine (line.Slot slot src dst core) → All (λ n. n < 2 ^ 32) (slot ∷ src ∷ dst ∷ [])
-fits_slot slot src dst core ok = each_fits (slot ∷ src ∷ dst ∷ []) (ok.1, (omega (arith, ok.0.0), (omega (arith, ok.0.1), tt)))
+-- what a line of a kind tells
+abbrev pub Fields : Kind → Type 0
+Fields Batch = (batch src dst : ℕ) × (clear : Bool) × ℕ
+Fields Slot = (slot src dst : ℕ) × Option ℕ
+Fields Sent = (slot src : ℕ) × ℕ
+Fields Refused = (round : ℕ) × ℕ
+Fields Flow = (src dst demanded allocated : ℕ) × ℕ
+Fields Count = (src dst demanded acknowledged flight pending lost sent : ℕ) × ℕ
+Fields End = ℕ
+Fields Made = (number flows demanded acknowledged flight pending lost sent : ℕ) × ℕ
 
-pub of_slot : (text : List ℕ) (X : Line → Type 0) → ((slot src dst : ℕ) (core : Option ℕ) → IsLine (line.Slot slot src dst core) → All (λ n. n < 2 ^ 32) (slot ∷ src ∷ dst ∷ []) → text ≡ numbers (slot ∷ src ∷ dst ∷ []) ++ fields (core_field core ∷ []) → X (line.Slot slot src dst core)) → (l : Line) → IsLine l → codes "slot" ++ text ≡ line_bytes l → X l
-of_slot text X known (line.Batch batch src dst clear add) ok is = absurd (omega (arith, ap (λ (bs : List ℕ). get_or bs 0 0) is))
-of_slot text X known (line.Slot slot src dst core) ok is = known slot src dst core ok (fits_slot slot src dst core ok) (ap (drop 4) is)
-of_slot text X known (line.Sent slot src dst) ok is = absurd (omega (arith, ap (λ (bs : List ℕ). get_or bs 1 0) is))
-of_slot text X known (line.Flow src dst demanded allocated pending) ok is = absurd (omega (arith, ap (λ (bs : List ℕ). get_or bs 0 0) is))
-of_slot text X known (line.Count src dst demanded acknowledged flight pending lost sent missed) ok is = absurd (omega (arith, ap (λ (bs : List ℕ). get_or bs 0 0) is))
-of_slot text X known (line.End rounds) ok is = absurd (omega (arith, ap (λ (bs : List ℕ). get_or bs 0 0) is))
+abbrev pub build : (kind : Kind) → Fields kind → Line
+build Batch f = line.Batch f.0 f.1 f.2 f.3 f.4
+build Slot f = line.Slot f.0 f.1 f.2 f.3
+build Sent f = line.Sent f.0 f.1 f.2
+build Refused f = line.Refused f.0 f.1
+build Flow f = line.Flow f.0 f.1 f.2 f.3 f.4
+build Count f = line.Count f.0 f.1 f.2 f.3 f.4 f.5 f.6 f.7 f.8
+build End f = line.End f
+build Made f = line.Made f.0 f.1 f.2 f.3 f.4 f.5 f.6 f.7 f.8
 
-pub fits_sent : (slot src dst : ℕ) → IsLine (line.Sent slot src dst) → All (λ n. n < 2 ^ 32) (slot ∷ src ∷ dst ∷ [])
-fits_sent slot src dst ok = each_fits (slot ∷ src ∷ dst ∷ []) (ok.1, (omega (arith, ok.0.0), (omega (arith, ok.0.1), tt)))
+-- the kind that two bytes tell: only `slot` and `sent` begin alike
+abbrev kind_by : ℕ → ℕ → Kind
+kind_by first second =
+    cond (eqb first 98) Batch (cond (eqb first 99) Count (cond (eqb first 101) End (cond (eqb first 102) Flow
+    (cond (eqb first 109) Made (cond (eqb first 114) Refused (cond (eqb second 108) Slot Sent))))))
 
-pub of_sent : (text : List ℕ) (X : Line → Type 0) → ((slot src dst : ℕ) → IsLine (line.Sent slot src dst) → All (λ n. n < 2 ^ 32) (slot ∷ src ∷ dst ∷ []) → text ≡ numbers (slot ∷ src ∷ dst ∷ []) → X (line.Sent slot src dst)) → (l : Line) → IsLine l → codes "sent" ++ text ≡ line_bytes l → X l
-of_sent text X known (line.Batch batch src dst clear add) ok is = absurd (omega (arith, ap (λ (bs : List ℕ). get_or bs 0 0) is))
-of_sent text X known (line.Slot slot src dst core) ok is = absurd (omega (arith, ap (λ (bs : List ℕ). get_or bs 1 0) is))
-of_sent text X known (line.Sent slot src dst) ok is = known slot src dst ok (fits_sent slot src dst ok) (ap (drop 4) is)
-of_sent text X known (line.Flow src dst demanded allocated pending) ok is = absurd (omega (arith, ap (λ (bs : List ℕ). get_or bs 0 0) is))
-of_sent text X known (line.Count src dst demanded acknowledged flight pending lost sent missed) ok is = absurd (omega (arith, ap (λ (bs : List ℕ). get_or bs 0 0) is))
-of_sent text X known (line.End rounds) ok is = absurd (omega (arith, ap (λ (bs : List ℕ). get_or bs 0 0) is))
+abbrev kind_told : List ℕ → Kind
+kind_told bytes = kind_by (get_or bytes 0 0) (get_or bytes 1 0)
 
-pub fits_flow : (src dst demanded allocated pending : ℕ) → IsLine (line.Flow src dst demanded allocated pending) → All (λ n. n < 2 ^ 32) (src ∷ dst ∷ demanded ∷ allocated ∷ pending ∷ [])
-fits_flow src dst demanded allocated pending ok = each_fits (src ∷ dst ∷ demanded ∷ allocated ∷ pending ∷ []) (omega (arith, ok.0.0), (omega (arith, ok.0.1), (ok.1, (ok.2, (ok.3, tt)))))
+-- a line has the kind that its bytes tell
+line_told : (l : Line) → (f : Fields (kind_told (line_bytes l))) × (build (kind_told (line_bytes l)) f ≡ l)
+line_told (line.Batch batch src dst clear add) = ((batch, src, dst, clear, add), refl)
+line_told (line.Slot slot src dst core) = ((slot, src, dst, core), refl)
+line_told (line.Sent slot src dst) = ((slot, src, dst), refl)
+line_told (line.Refused round number) = ((round, number), refl)
+line_told (line.Flow src dst demanded allocated pending) = ((src, dst, demanded, allocated, pending), refl)
+line_told (line.Count src dst demanded acknowledged flight pending lost sent missed) = ((src, dst, demanded, acknowledged, flight, pending, lost, sent, missed), refl)
+line_told (line.End rounds) = (rounds, refl)
+line_told (line.Made number flows demanded acknowledged flight pending lost sent missed) = ((number, flows, demanded, acknowledged, flight, pending, lost, sent, missed), refl)
 
-pub of_flow : (text : List ℕ) (X : Line → Type 0) → ((src dst demanded allocated pending : ℕ) → IsLine (line.Flow src dst demanded allocated pending) → All (λ n. n < 2 ^ 32) (src ∷ dst ∷ demanded ∷ allocated ∷ pending ∷ []) → text ≡ numbers (src ∷ dst ∷ demanded ∷ allocated ∷ pending ∷ []) → X (line.Flow src dst demanded allocated pending)) → (l : Line) → IsLine l → codes "flow" ++ text ≡ line_bytes l → X l
-of_flow text X known (line.Batch batch src dst clear add) ok is = absurd (omega (arith, ap (λ (bs : List ℕ). get_or bs 0 0) is))
-of_flow text X known (line.Slot slot src dst core) ok is = absurd (omega (arith, ap (λ (bs : List ℕ). get_or bs 0 0) is))
-of_flow text X known (line.Sent slot src dst) ok is = absurd (omega (arith, ap (λ (bs : List ℕ). get_or bs 0 0) is))
-of_flow text X known (line.Flow src dst demanded allocated pending) ok is = known src dst demanded allocated pending ok (fits_flow src dst demanded allocated pending ok) (ap (drop 4) is)
-of_flow text X known (line.Count src dst demanded acknowledged flight pending lost sent missed) ok is = absurd (omega (arith, ap (λ (bs : List ℕ). get_or bs 0 0) is))
-of_flow text X known (line.End rounds) ok is = absurd (omega (arith, ap (λ (bs : List ℕ). get_or bs 0 0) is))
+name_told : (kind : Kind) (text : List ℕ) → kind_told (name kind ++ text) ≡ kind
+name_told Batch text = refl
+name_told Slot text = refl
+name_told Sent text = refl
+name_told Refused text = refl
+name_told Flow text = refl
+name_told Count text = refl
+name_told End text = refl
+name_told Made text = refl
 
-pub fits_count : (src dst demanded acknowledged flight pending lost sent missed : ℕ) → IsLine (line.Count src dst demanded acknowledged flight pending lost sent missed) → All (λ n. n < 2 ^ 32) (src ∷ dst ∷ demanded ∷ acknowledged ∷ flight ∷ pending ∷ lost ∷ sent ∷ missed ∷ [])
-fits_count src dst demanded acknowledged flight pending lost sent missed ok = each_fits (src ∷ dst ∷ demanded ∷ acknowledged ∷ flight ∷ pending ∷ lost ∷ sent ∷ missed ∷ []) (omega (arith, ok.0.0), (omega (arith, ok.0.1), (ok.1, (ok.2, (ok.3, (ok.4, (ok.5, (ok.6, (ok.7, tt)))))))))
+-- what holds of each line of a kind holds of a line whose bytes begin with the kind's name
+pub of_kind : (kind : Kind) (text : List ℕ) (X : Line → Type 0) → ((f : Fields kind) → IsLine (build kind f) → name kind ++ text ≡ line_bytes (build kind f) → X (build kind f))
+    → (l : Line) → IsLine l → name kind ++ text ≡ line_bytes l → X l
+of_kind kind text X known l ok is =
+    let same : kind_told (line_bytes l) ≡ kind = ap kind_told (sym is) ∙ name_told kind text in
+    let told = subst (λ (k : Kind). (f : Fields k) × (build k f ≡ l)) same (line_told l) in
+    subst X told.1 (known told.0 (subst IsLine (sym told.1) ok) (subst (λ (m : Line). name kind ++ text ≡ line_bytes m) (sym told.1) is))
 
-pub of_count : (text : List ℕ) (X : Line → Type 0) → ((src dst demanded acknowledged flight pending lost sent missed : ℕ) → IsLine (line.Count src dst demanded acknowledged flight pending lost sent missed) → All (λ n. n < 2 ^ 32) (src ∷ dst ∷ demanded ∷ acknowledged ∷ flight ∷ pending ∷ lost ∷ sent ∷ missed ∷ []) → text ≡ numbers (src ∷ dst ∷ demanded ∷ acknowledged ∷ flight ∷ pending ∷ lost ∷ sent ∷ missed ∷ []) → X (line.Count src dst demanded acknowledged flight pending lost sent missed)) → (l : Line) → IsLine l → codes "count" ++ text ≡ line_bytes l → X l
-of_count text X known (line.Batch batch src dst clear add) ok is = absurd (omega (arith, ap (λ (bs : List ℕ). get_or bs 0 0) is))
-of_count text X known (line.Slot slot src dst core) ok is = absurd (omega (arith, ap (λ (bs : List ℕ). get_or bs 0 0) is))
-of_count text X known (line.Sent slot src dst) ok is = absurd (omega (arith, ap (λ (bs : List ℕ). get_or bs 0 0) is))
-of_count text X known (line.Flow src dst demanded allocated pending) ok is = absurd (omega (arith, ap (λ (bs : List ℕ). get_or bs 0 0) is))
-of_count text X known (line.Count src dst demanded acknowledged flight pending lost sent missed) ok is = known src dst demanded acknowledged flight pending lost sent missed ok (fits_count src dst demanded acknowledged flight pending lost sent missed ok) (ap (drop 5) is)
-of_count text X known (line.End rounds) ok is = absurd (omega (arith, ap (λ (bs : List ℕ). get_or bs 0 0) is))
-
-pub fits_end : (rounds : ℕ) → IsLine (line.End rounds) → All (λ n. n < 2 ^ 32) (rounds ∷ [])
-fits_end rounds ok = each_fits (rounds ∷ []) (ok, tt)
-
-pub of_end : (text : List ℕ) (X : Line → Type 0) → ((rounds : ℕ) → IsLine (line.End rounds) → All (λ n. n < 2 ^ 32) (rounds ∷ []) → text ≡ numbers (rounds ∷ []) → X (line.End rounds)) → (l : Line) → IsLine l → codes "end" ++ text ≡ line_bytes l → X l
-of_end text X known (line.Batch batch src dst clear add) ok is = absurd (omega (arith, ap (λ (bs : List ℕ). get_or bs 0 0) is))
-of_end text X known (line.Slot slot src dst core) ok is = absurd (omega (arith, ap (λ (bs : List ℕ). get_or bs 0 0) is))
-of_end text X known (line.Sent slot src dst) ok is = absurd (omega (arith, ap (λ (bs : List ℕ). get_or bs 0 0) is))
-of_end text X known (line.Flow src dst demanded allocated pending) ok is = absurd (omega (arith, ap (λ (bs : List ℕ). get_or bs 0 0) is))
-of_end text X known (line.Count src dst demanded acknowledged flight pending lost sent missed) ok is = absurd (omega (arith, ap (λ (bs : List ℕ). get_or bs 0 0) is))
-of_end text X known (line.End rounds) ok is = known rounds ok (fits_end rounds ok) (ap (drop 3) is)
-
--- each name ends at a comma by the sixth byte
-pub name_ends : (l : Line) (bytes : List ℕ) (n : ℕ) → bytes ≡ line_bytes l → 6 ≤ n → ((i : ℕ) → i < n → get_or bytes i 0 ≢ 44) → ⊥
+-- each name ends at a comma by the eighth byte
+pub name_ends : (l : Line) (bytes : List ℕ) (n : ℕ) → bytes ≡ line_bytes l → 8 ≤ n → ((i : ℕ) → i < n → get_or bytes i 0 ≢ 44) → ⊥
 name_ends (line.Batch batch src dst clear add) bytes n is long before = before 5 (omega arith) (ap (λ (bs : List ℕ). get_or bs 5 0) is)
 name_ends (line.Slot slot src dst core) bytes n is long before = before 4 (omega arith) (ap (λ (bs : List ℕ). get_or bs 4 0) is)
 name_ends (line.Sent slot src dst) bytes n is long before = before 4 (omega arith) (ap (λ (bs : List ℕ). get_or bs 4 0) is)
+name_ends (line.Refused round number) bytes n is long before = before 7 (omega arith) (ap (λ (bs : List ℕ). get_or bs 7 0) is)
 name_ends (line.Flow src dst demanded allocated pending) bytes n is long before = before 4 (omega arith) (ap (λ (bs : List ℕ). get_or bs 4 0) is)
 name_ends (line.Count src dst demanded acknowledged flight pending lost sent missed) bytes n is long before = before 5 (omega arith) (ap (λ (bs : List ℕ). get_or bs 5 0) is)
 name_ends (line.End rounds) bytes n is long before = before 3 (omega arith) (ap (λ (bs : List ℕ). get_or bs 3 0) is)
+name_ends (line.Made number flows demanded acknowledged flight pending lost sent missed) bytes n is long before = before 4 (omega arith) (ap (λ (bs : List ℕ). get_or bs 4 0) is)

@@ -1,6 +1,6 @@
 -- A line spelled piece by piece.
 use Rattle.std.proofs.Common.{◌≡◌, ◌<◌, ◌≤◌, ◌+◌, ◌-◌, ℕ, List, [], ◌∷◌, ◌++◌, length, get_or, take, drop, map, decimal, refl, sym, ap, ◌∙◌, arith}
-use Rattle.std.proofs.lemmas.List.{drop-drop, append_assoc, take_more, map-append}
+use Rattle.std.proofs.lemmas.List.{drop-drop, append_assoc, length-append, take_more, map-append}
 use Rattle.report_text.specs.Lines.{fields, numbers}
 
 -- what was left alone from some place on was left alone from any later one on
@@ -23,3 +23,20 @@ numbers_more name values i d below =
     ap (λ (ns : List ℕ). name ++ numbers ns) (take_more values i d below)
     ∙ (ap (λ (bs : List ℕ). name ++ bs) (numbers-append (take i values) (get_or values i d ∷ []))
     ∙ sym (append_assoc name (numbers (take i values)) (numbers (get_or values i d ∷ []))))
+
+-- a buffer that begins with a text up to a place, and is as it was from there on
+pub record IsSpelled (text : List ℕ) (at : ℕ) (buf old : List ℕ) : Type 0 where
+  pub end : at ≡ length text
+  pub written : take at buf ≡ text
+  pub rest : drop at buf ≡ drop at old
+
+-- one number more
+pub spelled_more : (front values : List ℕ) (i d n at next : ℕ) (buf new old : List ℕ) → i < length values → n ≡ get_or values i d → IsSpelled (front ++ numbers (take i values)) at buf old
+    → next ≡ at + length (numbers (n ∷ [])) → take next new ≡ take at buf ++ numbers (n ∷ []) → drop next new ≡ drop next buf → IsSpelled (front ++ numbers (take (i + 1) values)) next new old
+spelled_more front values i d n at next buf new old below is so_far end written rest =
+    let more = numbers_more front values i d below ∙ ap (λ (m : ℕ). (front ++ numbers (take i values)) ++ numbers (m ∷ [])) (sym is) in
+    record {
+      end = end ∙ omega (arith, so_far.end, ap length more, length-append (front ++ numbers (take i values)) (numbers (n ∷ [])));
+      written = written ∙ (ap (λ (bs : List ℕ). bs ++ numbers (n ∷ [])) so_far.written ∙ sym more);
+      rest = rest ∙ later_rest at next buf old (omega (arith, end)) so_far.rest;
+    }

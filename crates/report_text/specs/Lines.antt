@@ -1,8 +1,9 @@
 -- The bytes of each output line, without its line feed (this project's own profile): its name, and then its fields, each
 -- after a comma; numbers are plain decimal.
-use Rattle.std.specs.Prelude.{ℕ, ◌<◌, ◌^◌, List, [], ◌∷◌, ◌++◌, Bool, true, false, Option, Some, None, IfSome, codes, decimal, map}
+use Rattle.std.specs.Prelude.{ℕ, ◌+◌, ◌≤◌, ⊤, List, [], ◌∷◌, ◌++◌, Bool, true, false, Option, Some, None, IfSome, codes, decimal, map, slice_index}
 use Rattle.report_text.specs.declared.line.Line.{Line}
 use Rattle.report_text.specs.declared.line.Line.TheVariants as line
+use Rattle.report_text.specs.Names.{refusal_name, IsRefusal}
 
 -- each field after a comma
 abbrev pub fields : List (List ℕ) → List ℕ
@@ -25,23 +26,51 @@ abbrev pub line_bytes : Line → List ℕ
 line_bytes (line.Batch batch src dst clear add) = codes "batch" ++ numbers (batch ∷ src ∷ dst ∷ bit clear ∷ add ∷ [])
 line_bytes (line.Slot slot src dst core) = codes "slot" ++ numbers (slot ∷ src ∷ dst ∷ []) ++ fields (core_field core ∷ [])
 line_bytes (line.Sent slot src dst) = codes "sent" ++ numbers (slot ∷ src ∷ dst ∷ [])
+line_bytes (line.Refused round number) = codes "refused" ++ numbers (round ∷ []) ++ fields (refusal_name number ∷ [])
 line_bytes (line.Flow src dst demanded allocated pending) = codes "flow" ++ numbers (src ∷ dst ∷ demanded ∷ allocated ∷ pending ∷ [])
 line_bytes (line.Count src dst demanded acknowledged flight pending lost sent missed) =
     codes "count" ++ numbers (src ∷ dst ∷ demanded ∷ acknowledged ∷ flight ∷ pending ∷ lost ∷ sent ∷ missed ∷ [])
 line_bytes (line.End rounds) = codes "end" ++ numbers (rounds ∷ [])
+line_bytes (line.Made number flows demanded acknowledged flight pending lost sent missed) =
+    codes "made" ++ numbers (number ∷ flows ∷ demanded ∷ acknowledged ∷ flight ∷ pending ∷ lost ∷ sent ∷ missed ∷ [])
 
--- the two endpoints of a line are numbers of 16 bits
-abbrev pub AreEndpoints : ℕ → ℕ → Type 0
-AreEndpoints src dst = (src < 2 ^ 16) × (dst < 2 ^ 16)
+-- ---- the range of each field
 
--- each number fits the type of its field: 16 bits for endpoints and cores, and 32 for the others
+-- the most that an endpoint's or a core's field holds, which has 16 bits, a sum's, which has 64, and any other number's, which has 32
+abbrev pub endpoint_most : ℕ
+endpoint_most = 65535
+
+abbrev pub sum_most : ℕ
+sum_most = 18446744073709551615
+
+abbrev pub number_most : ℕ
+number_most = 4294967295
+
+-- from place i on, each number is at most what its field holds
+abbrev pub WithinFrom : ℕ → List ℕ → List ℕ → Type 0
+WithinFrom i [] ns = ⊤
+WithinFrom i (most ∷ mosts) ns = (slice_index ns i ≤ most) × WithinFrom (i + 1) mosts ns
+
+abbrev pub AreWithin : List ℕ → List ℕ → Type 0
+AreWithin mosts ns = WithinFrom 0 mosts ns
+
+-- each number fits its field, and a refusal has a name
 abbrev pub IsLine : Line → Type 0
-IsLine (line.Batch batch src dst clear add) = AreEndpoints src dst × (batch < 2 ^ 32) × (add < 2 ^ 32)
-IsLine (line.Slot slot src dst core) = AreEndpoints src dst × (slot < 2 ^ 32) × IfSome core (λ c. c < 2 ^ 16)
-IsLine (line.Sent slot src dst) = AreEndpoints src dst × (slot < 2 ^ 32)
+IsLine (line.Batch batch src dst clear add) = AreWithin (number_most ∷ endpoint_most ∷ endpoint_most ∷ 1 ∷ number_most ∷ []) (batch ∷ src ∷ dst ∷ bit clear ∷ add ∷ [])
+IsLine (line.Slot slot src dst core) = AreWithin (number_most ∷ endpoint_most ∷ endpoint_most ∷ []) (slot ∷ src ∷ dst ∷ []) × IfSome core (λ c. c ≤ endpoint_most)
+IsLine (line.Sent slot src dst) = AreWithin (number_most ∷ endpoint_most ∷ endpoint_most ∷ []) (slot ∷ src ∷ dst ∷ [])
+IsLine (line.Refused round number) = AreWithin (number_most ∷ []) (round ∷ []) × IsRefusal number
 IsLine (line.Flow src dst demanded allocated pending) =
-    AreEndpoints src dst × (demanded < 2 ^ 32) × (allocated < 2 ^ 32) × (pending < 2 ^ 32)
+    AreWithin (endpoint_most ∷ endpoint_most ∷ number_most ∷ number_most ∷ number_most ∷ []) (src ∷ dst ∷ demanded ∷ allocated ∷ pending ∷ [])
 IsLine (line.Count src dst demanded acknowledged flight pending lost sent missed) =
-    AreEndpoints src dst × (demanded < 2 ^ 32) × (acknowledged < 2 ^ 32) × (flight < 2 ^ 32) × (pending < 2 ^ 32)
-    × (lost < 2 ^ 32) × (sent < 2 ^ 32) × (missed < 2 ^ 32)
-IsLine (line.End rounds) = rounds < 2 ^ 32
+    AreWithin (endpoint_most ∷ endpoint_most ∷ number_most ∷ number_most ∷ number_most ∷ number_most ∷ number_most ∷ number_most ∷ number_most ∷ [])
+    (src ∷ dst ∷ demanded ∷ acknowledged ∷ flight ∷ pending ∷ lost ∷ sent ∷ missed ∷ [])
+IsLine (line.End rounds) = AreWithin (number_most ∷ []) (rounds ∷ [])
+IsLine (line.Made number flows demanded acknowledged flight pending lost sent missed) =
+    AreWithin (number_most ∷ number_most ∷ sum_most ∷ sum_most ∷ sum_most ∷ sum_most ∷ sum_most ∷ sum_most ∷ sum_most ∷ [])
+    (number ∷ flows ∷ demanded ∷ acknowledged ∷ flight ∷ pending ∷ lost ∷ sent ∷ missed ∷ [])
+
+-- what a line must keep to be written, beside the types of its numbers
+abbrev pub HasName : Line → Type 0
+HasName (line.Refused round number) = IsRefusal number
+HasName _ = ⊤

@@ -1,7 +1,16 @@
-ghost use Rattle.std.specs.Prelude.{◌≡◌, ◌≢◌, ◌<◌, ◌≤◌, ◌^◌, ℕ, List, [], ◌∷◌, ◌++◌, length, codes, decimal, Some, IfSome, IsSomeAnd, slice_index, slice_index_or, true, MatchBool, ◌⊎◌, All, Bool, Option};
-ghost use Rattle.report_text.specs.Lines.{fields, numbers, core_field, bit};
+ghost use Rattle.std.specs.Prelude.{◌≡◌, ◌≢◌, ◌<◌, ◌≤◌, ◌^◌, ℕ, List, [], ◌∷◌, ◌++◌, length, codes, decimal, Some, IfSome, IsSomeAnd, slice_index, slice_index_or, true, Bool, MatchBool, ◌⊎◌, Option};
+ghost use Rattle.report_text.specs.Lines.{fields, numbers, core_field, bit, AreWithin, endpoint_most};
+ghost use Rattle.report_text.specs.Names.{refusal_name, IsRefusal};
 
+use crate::names::number_named;
 use std::str;
+
+/// The most that the field of an endpoint, of a core, of any other number and of a sum holds.
+pub(crate) const ENDPOINT: u64 = 65_535;
+
+pub(crate) const NUMBER: u64 = 4_294_967_295;
+
+pub(crate) const SUM: u64 = 18_446_744_073_709_551_615;
 
 /// How many bytes stand before the first comma.
 pub(crate) fn field_len(text: &[u8]) -> usize
@@ -22,9 +31,9 @@ fn begins_plain(field: &[u8]) -> bool
 }
 
 /// Reads a number in plain decimal.
-fn number(field: &[u8]) -> Option<u32>
+fn number(field: &[u8]) -> Option<u64>
     ensures spelled { IfSome result (λ n. field.now ≡ decimal n) }
-    ensures only { (n : ℕ) → n < 2 ^ 32 → field.now ≡ decimal n → IsSomeAnd result (λ m. m ≡ n) }
+    ensures only { (n : ℕ) → n < 2 ^ 64 → field.now ≡ decimal n → IsSomeAnd result (λ m. m ≡ n) }
 {
     if !begins_plain(field) {
         return None;
@@ -35,36 +44,40 @@ fn number(field: &[u8]) -> Option<u32>
     text.parse().ok()
 }
 
-/// Reads the number after a comma, and answers the bytes behind its field.
-fn next_number(text: &[u8]) -> Option<(u32, &[u8])>
-    ensures spelled { IfSome result (λ x. text.now ≡ 44 ∷ decimal x.0 ++ x.1.now) }
-    ensures only { (n : ℕ) (rest : List ℕ) → n < 2 ^ 32 → slice_index_or rest 0 44 ≡ 44 → text.now ≡ 44 ∷ decimal n ++ rest → IsSomeAnd result (λ x. (x.0 ≡ n) × (x.1.now ≡ rest)) }
+/// Reads the number after a comma, which is at most `most`, and answers the bytes behind its field.
+fn next_number(text: &[u8], most: u64) -> Option<(u64, &[u8])>
+    ensures spelled { IfSome result (λ x. (text.now ≡ 44 ∷ decimal x.0 ++ x.1.now) × (x.0 ≤ most)) }
+    ensures only { (n : ℕ) (rest : List ℕ) → n ≤ most → slice_index_or rest 0 44 ≡ 44 → text.now ≡ 44 ∷ decimal n ++ rest → IsSomeAnd result (λ x. (x.0 ≡ n) × (x.1.now ≡ rest)) }
 {
     let text = text.strip_prefix(b",")?;
     let (field, rest) = text.split_at(field_len(text));
-    Some((number(field)?, rest))
+    let number = number(field)?;
+    if number > most {
+        return None;
+    }
+    Some((number, rest))
 }
 
-/// Reads a number for each value, each after a comma, and answers the bytes behind them.
-pub(crate) fn read_numbers<'a>(text: &'a [u8], values: &mut [u32]) -> Option<&'a [u8]>
+/// Reads a number for each of `values`, each after a comma and at most what stood there, and answers the bytes behind them.
+pub(crate) fn read_numbers<'a>(text: &'a [u8], values: &mut [u64]) -> Option<&'a [u8]>
     ensures count { length values.new ≡ length values.old }
-    ensures spelled { IfSome result (λ rest. text.now ≡ numbers values.new ++ rest.now) }
-    ensures only { (ns rest : List ℕ) → length ns ≡ length values.old → All (λ n. n < 2 ^ 32) ns → slice_index_or rest 0 44 ≡ 44 → text.now ≡ numbers ns ++ rest → IsSomeAnd result (λ r. (values.new ≡ ns) × (r.now ≡ rest)) }
+    ensures spelled { IfSome result (λ rest. (text.now ≡ numbers values.new ++ rest.now) × AreWithin values.old values.new) }
+    ensures only { (ns rest : List ℕ) → length ns ≡ length values.old → AreWithin values.old ns → slice_index_or rest 0 44 ≡ 44 → text.now ≡ numbers ns ++ rest → IsSomeAnd result (λ r. (values.new ≡ ns) × (r.now ≡ rest)) }
 {
     let mut rest = text;
     for value in values.iter_mut() {
-        let (number, more) = next_number(rest)?;
+        let (number, more) = next_number(rest, *value)?;
         *value = number;
         rest = more;
     }
     Some(rest)
 }
 
-/// Reads a number for each value, each after a comma, and nothing more.
-pub(crate) fn read_all(text: &[u8], values: &mut [u32]) -> bool
+/// Reads a number for each of `values`, each after a comma and at most what stood there, and nothing more.
+pub(crate) fn read_all(text: &[u8], values: &mut [u64]) -> bool
     ensures count { length values.new ≡ length values.old }
-    ensures spelled { result ≡ true → text.now ≡ numbers values.new }
-    ensures only { (ns : List ℕ) → length ns ≡ length values.old → All (λ n. n < 2 ^ 32) ns → text.now ≡ numbers ns → MatchBool result (values.new ≡ ns) ⊥ }
+    ensures spelled { result ≡ true → (text.now ≡ numbers values.new) × AreWithin values.old values.new }
+    ensures only { (ns : List ℕ) → length ns ≡ length values.old → AreWithin values.old ns → text.now ≡ numbers ns → MatchBool result (values.new ≡ ns) ⊥ }
 {
     match read_numbers(text, values) {
         Some(rest) => rest.is_empty(),
@@ -82,35 +95,30 @@ fn has_no_core(text: &[u8]) -> bool
 /// Reads the field of a core: a comma, and then a number of 16 bits, or a hyphen for none.
 pub(crate) fn read_core(text: &[u8]) -> Option<Option<u16>>
     ensures spelled { IfSome result (λ core. text.now ≡ fields (core_field core ∷ [])) }
-    ensures only { (core : Option ℕ) → IfSome core (λ c. c < 2 ^ 16) → text.now ≡ fields (core_field core ∷ []) → IsSomeAnd result (λ c. c ≡ core) }
+    ensures only { (core : Option ℕ) → IfSome core (λ c. c ≤ endpoint_most) → text.now ≡ fields (core_field core ∷ []) → IsSomeAnd result (λ c. c ≡ core) }
 {
     if has_no_core(text) {
         return Some(None);
     }
-    let (core, rest) = next_number(text)?;
+    let (core, rest) = next_number(text, ENDPOINT)?;
     if !rest.is_empty() {
         return None;
     }
-    let core = endpoint(core)?;
-    Some(Some(core))
+    Some(Some(core as u16))
 }
 
-/// A number as an endpoint, where it fits 16 bits.
-pub(crate) fn endpoint(number: u32) -> Option<u16>
-    ensures spelled { IfSome result (λ n. n ≡ number) }
-    ensures only { number < 2 ^ 16 → IsSomeAnd result (λ n. n ≡ number) }
+/// Reads the field of a refusal's name: a comma, and then the name.
+pub(crate) fn read_name(text: &[u8]) -> Option<u8>
+    ensures spelled { IfSome result (λ number. IsRefusal number × (text.now ≡ fields (refusal_name number ∷ []))) }
+    ensures only { (number : ℕ) → IsRefusal number → text.now ≡ fields (refusal_name number ∷ []) → IsSomeAnd result (λ n. n ≡ number) }
 {
-    u16::try_from(number).ok()
+    number_named(text.strip_prefix(b",")?)
 }
 
 /// A flag, which is spelled 0 or 1.
-pub(crate) fn flag(number: u32) -> Option<bool>
-    ensures spelled { IfSome result (λ b. bit b ≡ number) }
-    ensures only { (b : Bool) → bit b ≡ number → IsSomeAnd result (λ r. r ≡ b) }
+pub(crate) fn flag(number: u64) -> bool
+    requires { number ≤ 1 }
+    ensures { bit result ≡ number }
 {
-    match number {
-        0 => Some(false),
-        1 => Some(true),
-        _ => None,
-    }
+    number == 1
 }

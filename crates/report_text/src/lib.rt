@@ -4,6 +4,7 @@
 mod fields;
 mod laws;
 mod line;
+mod names;
 mod read;
 mod write;
 

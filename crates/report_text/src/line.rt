@@ -22,6 +22,11 @@ pub enum Line {
         src: u16,
         dst: u16,
     },
+    /// A packet from outside that was refused, by the number of its refusal.
+    Refused {
+        round: u32,
+        number: u8,
+    },
     /// What became of a flow's demand in a plan.
     Flow {
         src: u16,
@@ -45,5 +50,17 @@ pub enum Line {
     /// The last line.
     End {
         rounds: u32,
+    },
+    /// What became of all demand in a replay of a made trace: how many flows there are, and the sums of their counts.
+    Made {
+        number: u32,
+        flows: u32,
+        demanded: u64,
+        acknowledged: u64,
+        flight: u64,
+        pending: u64,
+        lost: u64,
+        sent: u64,
+        missed: u64,
     },
 }

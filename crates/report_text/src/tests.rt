@@ -1,7 +1,7 @@
 use crate::{Line, read_line, write_line};
 use std::process::Abort;
 
-const LINES: [(Line, &str); 14] = [
+const LINES: [(Line, &str); 19] = [
     (
         Line::Batch {
             batch: 0,
@@ -64,6 +64,27 @@ const LINES: [(Line, &str); 14] = [
             dst: u16::MAX,
         },
         "sent,4294967295,65535,65535",
+    ),
+    (
+        Line::Refused {
+            round: 0,
+            number: 1,
+        },
+        "refused,0,short",
+    ),
+    (
+        Line::Refused {
+            round: u32::MAX,
+            number: 24,
+        },
+        "refused,4294967295,repeat",
+    ),
+    (
+        Line::Refused {
+            round: 2,
+            number: 26,
+        },
+        "refused,2,otherversion",
     ),
     (
         Line::Flow {
@@ -129,9 +150,37 @@ const LINES: [(Line, &str); 14] = [
     ),
     (Line::End { rounds: 0 }, "end,0"),
     (Line::End { rounds: u32::MAX }, "end,4294967295"),
+    (
+        Line::Made {
+            number: 0,
+            flows: 0,
+            demanded: 1,
+            acknowledged: 2,
+            flight: 3,
+            pending: 4,
+            lost: 5,
+            sent: 6,
+            missed: 7,
+        },
+        "made,0,0,1,2,3,4,5,6,7",
+    ),
+    (
+        Line::Made {
+            number: u32::MAX,
+            flows: u32::MAX,
+            demanded: u64::MAX,
+            acknowledged: u64::MAX,
+            flight: u64::MAX,
+            pending: u64::MAX,
+            lost: u64::MAX,
+            sent: u64::MAX,
+            missed: u64::MAX,
+        },
+        "made,4294967295,4294967295,18446744073709551615,18446744073709551615,18446744073709551615,18446744073709551615,18446744073709551615,18446744073709551615,18446744073709551615",
+    ),
 ];
 
-const NEARLY_LINES: [&str; 32] = [
+const NEARLY_LINES: [&str; 37] = [
     "",
     ",",
     "end",
@@ -164,6 +213,11 @@ const NEARLY_LINES: [&str; 32] = [
     "sent,1,0,65536",
     "flow,0,1,2,3,4,5",
     "count,0,1,2,3,4,5,6,7",
+    "refused,0,",
+    "refused,0,shorts",
+    "refused,short",
+    "made,4294967296,0,1,2,3,4,5,6,7",
+    "made,0,0,1,2,3,4,5,6,18446744073709551616",
 ];
 
 #[test]

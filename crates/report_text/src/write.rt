@@ -1,11 +1,15 @@
-ghost use Rattle.std.specs.Prelude.{◌≡◌, ◌+◌, ◌*◌, ◌<◌, ◌≤◌, [], ◌∷◌, ◌++◌, length, take, drop, decimal};
-ghost use Rattle.report_text.specs.Lines.{line_bytes, numbers};
+ghost use Rattle.std.specs.Prelude.{◌≡◌, ◌+◌, ◌*◌, ◌^◌, ◌<◌, ◌≤◌, [], ◌∷◌, ◌++◌, length, take, drop};
+ghost use Rattle.report_text.specs.Lines.{line_bytes, numbers, HasName};
+ghost use Rattle.report_text.specs.Names.{IsRefusal};
 
 use crate::Line;
+use crate::names::refusal_name;
 use itoa::Buffer;
 
-/// The most bytes that a number's field takes, with its comma.
-const FIELD: usize = 11;
+/// The most bytes that a number of 32 bits takes in its field, with the comma.
+const NUMBER: usize = 11;
+/// The most bytes that a sum takes.
+const SUM: usize = 21;
 
 /// Copies bytes to this place, and answers where they end.
 fn put(buf: &mut [u8; 192], at: usize, bytes: &[u8]) -> usize
@@ -21,10 +25,11 @@ fn put(buf: &mut [u8; 192], at: usize, bytes: &[u8]) -> usize
 }
 
 /// Spells a number after a comma.
-fn put_number(buf: &mut [u8; 192], at: usize, number: u32) -> usize
-    requires { at + FIELD ≤ 192 }
+fn put_number(buf: &mut [u8; 192], at: usize, number: u64) -> usize
+    requires { at + SUM ≤ 192 }
     ensures end { result ≡ at + length (numbers (number ∷ [])) }
-    ensures fits { result ≤ at + FIELD }
+    ensures fits { result ≤ at + SUM }
+    ensures short { number < 2 ^ 32 → result ≤ at + NUMBER }
     ensures written { take result buf.new ≡ take at buf.old ++ numbers (number ∷ []) }
     ensures rest { drop result buf.new ≡ drop result buf.old }
 {
@@ -35,21 +40,38 @@ fn put_number(buf: &mut [u8; 192], at: usize, number: u32) -> usize
 
 /// Spells a name and its numbers at the front of the buffer.
 fn put_all(buf: &mut [u8; 192], name: &[u8], values: &[u32]) -> usize
-    requires { length name.now + FIELD * length values.now ≤ 192 }
+    requires { length name.now + NUMBER * length values.now + NUMBER ≤ 192 }
     ensures end { result ≡ length (name.now ++ numbers values.now) }
-    ensures fits { result ≤ length name.now + FIELD * length values.now }
+    ensures fits { result ≤ length name.now + NUMBER * length values.now }
     ensures written { take result buf.new ≡ name.now ++ numbers values.now }
     ensures rest { drop result buf.new ≡ drop result buf.old }
 {
     let mut at = put(buf, 0, name);
     for value in values {
-        at = put_number(buf, at, *value);
+        at = put_number(buf, at, u64::from(*value));
+    }
+    at
+}
+
+/// Spells sums from a place on.
+fn put_sums(buf: &mut [u8; 192], start: usize, sums: &[u64]) -> usize
+    requires { start + SUM * length sums.now ≤ 192 }
+    ensures end { result ≡ start + length (numbers sums.now) }
+    ensures fits { result ≤ start + SUM * length sums.now }
+    ensures written { take result buf.new ≡ take start buf.old ++ numbers sums.now }
+    ensures rest { drop result buf.new ≡ drop result buf.old }
+{
+    let mut at = start;
+    for sum in sums {
+        at = put_number(buf, at, *sum);
     }
     at
 }
 
 /// Writes a line with its line feed at the front of the buffer, and answers the length.
 pub fn write_line(line: &Line, buf: &mut [u8; 192]) -> usize
+    // The number of a refusal is one that has a name: 1 to 12, 21 to 24 or 26.
+    requires { HasName line.now }
     ensures length { result ≡ length (line_bytes line.now) + 1 }
     ensures within { result ≤ 192 }
     ensures written { take result buf.new ≡ line_bytes line.now ++ 10 ∷ [] }
@@ -60,6 +82,7 @@ pub fn write_line(line: &Line, buf: &mut [u8; 192]) -> usize
 }
 
 fn put_line(line: &Line, buf: &mut [u8; 192]) -> usize
+    requires { HasName line.now }
     ensures end { result ≡ length (line_bytes line.now) }
     ensures fits { result < 192 }
     ensures written { take result buf.new ≡ line_bytes line.now }
@@ -84,6 +107,7 @@ fn put_line(line: &Line, buf: &mut [u8; 192]) -> usize
             core,
         } => put_slot(buf, slot, src, dst, core),
         Line::Sent { slot, src, dst } => put_all(buf, b"sent", &[slot, src.into(), dst.into()]),
+        Line::Refused { round, number } => put_refused(buf, round, number),
         Line::Flow {
             src,
             dst,
@@ -121,6 +145,21 @@ fn put_line(line: &Line, buf: &mut [u8; 192]) -> usize
             ],
         ),
         Line::End { rounds } => put_all(buf, b"end", &[rounds]),
+        Line::Made {
+            number,
+            flows,
+            demanded,
+            acknowledged,
+            flight,
+            pending,
+            lost,
+            sent,
+            missed,
+        } => {
+            let at = put_all(buf, b"made", &[number, flows]);
+            let sums = [demanded, acknowledged, flight, pending, lost, sent, missed];
+            put_sums(buf, at, &sums)
+        }
     }
 }
 
@@ -135,4 +174,16 @@ fn put_slot(buf: &mut [u8; 192], slot: u32, src: u16, dst: u16, core: Option<u16
         Some(core) => put_number(buf, at, core.into()),
         None => put(buf, at, b",-"),
     }
+}
+
+fn put_refused(buf: &mut [u8; 192], round: u32, number: u8) -> usize
+    requires { IsRefusal number }
+    ensures end { result ≡ length (line_bytes (Line.Refused round number)) }
+    ensures fits { result < 192 }
+    ensures written { take result buf.new ≡ line_bytes (Line.Refused round number) }
+    ensures rest { drop result buf.new ≡ drop result buf.old }
+{
+    let at = put_all(buf, b"refused", &[round]);
+    let at = put(buf, at, b",");
+    put(buf, at, refusal_name(number))
 }

@@ -8,19 +8,19 @@ use Rattle.greedy_rules.specs.declared.flows.Flow.{Flow}
 use Rattle.greedy_rules.specs.SlotTable.{destination_of, IsSlotOf}
 use Rattle.greedy_rules.specs.Schedule.{slot_in}
 use Rattle.path_workers.specs.CoreTable.{CoreSlots, core_of}
-use Rattle.greedy_rules.proofs.Pairs.{AllPairs-head, AllPairs-tail}
+use Rattle.list_facts.proofs.Pairs.{AllPairs-head, AllPairs-tail}
 use Rattle.slot_publisher.specs.declared.publisher.Hop.{Hop}
-use Rattle.slot_publisher.specs.Window.{Packet, with_cores, NamesCores}
+use Rattle.slot_publisher.specs.Window.{RoutedFlow, with_cores, NamesCores}
 use Rattle.slot_publisher.specs.Told.{packet_from}
 use Rattle.slot_publisher.specs.Places.{hop_of, packet_by, packets_by}
 
 -- ---- the packet of a source
 
-other_packet : (src endpoint : ℕ) (cell : Option Hop) (packets : List Packet) → src ≢ endpoint → packet_from endpoint (cons_option (option_map (packet_by src) cell) packets) ≡ packet_from endpoint packets
+other_packet : (src endpoint : ℕ) (cell : Option Hop) (packets : List RoutedFlow) → src ≢ endpoint → packet_from endpoint (cons_option (option_map (packet_by src) cell) packets) ≡ packet_from endpoint packets
 other_packet src endpoint None packets other = refl
 other_packet src endpoint (Some hop) packets other = cond-false (src == endpoint) (Some (packet_by src hop)) (packet_from endpoint packets) (ne_eqb src endpoint other)
 
-this_packet : (src : ℕ) (cell : Option Hop) (packets : List Packet) → packet_from src packets ≡ None → packet_from src (cons_option (option_map (packet_by src) cell) packets) ≡ option_map (packet_by src) cell
+this_packet : (src : ℕ) (cell : Option Hop) (packets : List RoutedFlow) → packet_from src packets ≡ None → packet_from src (cons_option (option_map (packet_by src) cell) packets) ≡ option_map (packet_by src) cell
 this_packet src None packets none = none
 this_packet src (Some hop) packets none = cond-true (src == src) (Some (packet_by src hop)) (packet_from src packets) (eq-eqb src src refl)
 
@@ -86,7 +86,7 @@ packets_by-slot core_of_source (flow ∷ slot) cell src (suc n) rises above belo
           same source (omega arith) (omega arith)
           ∙ ap (option_map (hop_at source)) (other_source source flow slot (λ e. omega arith))) in
           ap (λ (c : Option Hop). cons_option (option_map (packet_by src) c) (packets_by cell (src + 1) n)) found
-          ∙ (ap (λ (packets : List Packet). packet_by src (hop flow.dst) ∷ packets) rest
+          ∙ (ap (λ (packets : List RoutedFlow). packet_by src (hop flow.dst) ∷ packets) rest
           ∙ ap (λ (s : ℕ). record { flow = record { src = s; dst = flow.dst }; core = core_of_source s } ∷ with_cores core_of_source slot) (sym here))
       | inr other ↦
           let all : All (λ f. src < f.src) (flow ∷ slot) =

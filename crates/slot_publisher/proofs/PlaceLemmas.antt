@@ -12,9 +12,9 @@ use Rattle.greedy_rules.specs.Schedule.{slot_in}
 use Rattle.greedy_rules.specs.SlotTable.{IsSlotOf}
 use Rattle.path_workers.specs.CoreTable.{CoreSlots, core_of}
 use Rattle.slot_publisher.specs.declared.publisher.Hop.{Hop}
-use Rattle.slot_publisher.specs.Window.{Packet, with_cores, slots_with_cores}
+use Rattle.slot_publisher.specs.Window.{RoutedFlow, with_cores, slots_with_cores}
 use Rattle.slot_publisher.specs.Told.{packet_from}
-use Rattle.slot_publisher.specs.Places.{hop_of, hop_in, packet_by, packets_by, slots_in}
+use Rattle.slot_publisher.specs.Places.{hop_of, hop_in, packet_by, packets_by, slots_of_places}
 use Rattle.slot_publisher.proofs.PacketLemmas.{packet_from-at, packets_by-slot}
 
 pub same_place : (room endpoint slot other at : ℕ) → slot < room → at < room → endpoint * room + slot ≡ other * room + at → (endpoint ≡ other) × (slot ≡ at)
@@ -24,28 +24,26 @@ same_place room endpoint slot other at slot_in_row at_in_row same = elim (cases_
   | inr (inr after) ↦ absurd (omega (arith, row_fits other room endpoint room after (omega arith)))
 ]
 
--- what a write at an endpoint's place of a slot leaves in that slot, and in the others
-pub put_here : (spec : ℕ → Option Hop) (room slot at : ℕ) (hops : List (Option Hop)) (hop : Option Hop) → slot < room → at * room + slot < length hops → hop ≡ spec at
-    → ((endpoint : ℕ) → endpoint < at → hop_in room hops slot endpoint ≡ spec endpoint)
-    → (endpoint : ℕ) → endpoint < at + 1 → hop_in room (set hops (at * room + slot) hop) slot endpoint ≡ spec endpoint
-put_here spec room slot at hops hop in_row within is below endpoint up_to = elim (cases_eq endpoint at) [
+-- what a write at a slot's place of an endpoint leaves in the row of that endpoint, and in the others
+pub put_here : (spec : ℕ → Option Hop) (room slot at : ℕ) (hops : List (Option Hop)) (hop : Option Hop) → slot < room → at * room + slot < length hops → hop ≡ spec slot
+    → ((other : ℕ) → other < slot → hop_in room hops other at ≡ spec other)
+    → (other : ℕ) → other < slot + 1 → hop_in room (set hops (at * room + slot) hop) other at ≡ spec other
+put_here spec room slot at hops hop in_row within is below other up_to = elim (cases_eq other slot) [
   | inl here ↦
-      ap (λ (e : ℕ). hop_in room (set hops (at * room + slot) hop) slot e) here
+      ap (λ (s : ℕ). hop_in room (set hops (at * room + slot) hop) s at) here
       ∙ (get_or-set_same hops (at * room + slot) hop None within
       ∙ (is ∙ ap spec (sym here)))
-  | inr other ↦
-      get_or-set_other hops (at * room + slot) (endpoint * room + slot) hop None (λ same. other (same_place room endpoint slot at slot in_row in_row same).0)
-      ∙ below endpoint (omega arith)
+  | inr apart ↦ get_or-set_other hops (at * room + slot) (at * room + other) hop None (λ same. apart (omega arith)) ∙ below other (omega arith)
 ]
 
-pub put_others : (room slot at : ℕ) (hops : List (Option Hop)) (hop : Option Hop) (other endpoint : ℕ) → slot < room → other < room → other ≢ slot
+pub put_others : (room slot at : ℕ) (hops : List (Option Hop)) (hop : Option Hop) (other endpoint : ℕ) → slot < room → other < room → endpoint ≢ at
     → hop_in room (set hops (at * room + slot) hop) other endpoint ≡ hop_in room hops other endpoint
 put_others room slot at hops hop other endpoint in_row other_in_row apart =
-    get_or-set_other hops (at * room + slot) (endpoint * room + other) hop None (λ same. apart (same_place room endpoint other at slot other_in_row in_row same).1)
+    get_or-set_other hops (at * room + slot) (endpoint * room + other) hop None (λ same. apart (same_place room endpoint other at slot other_in_row in_row same).0)
 
-pub slots_in-none : (endpoints room b : ℕ) (hops : List (Option Hop)) → slots_in endpoints room (0 * b) hops ≡ []
-unfolding slots_in
-slots_in-none endpoints room b hops = let none : 0 * b ≡ 0 = omega arith in ap (λ (n : ℕ). slots_in endpoints room n hops) none
+pub slots_of_places-none : (endpoints room b : ℕ) (hops : List (Option Hop)) → slots_of_places endpoints room (0 * b) hops ≡ []
+unfolding slots_of_places
+slots_of_places-none endpoints room b hops = let none : 0 * b ≡ 0 = omega arith in ap (λ (n : ℕ). slots_of_places endpoints room n hops) none
 
 map_range : {X : Type 0} (f g : ℕ → X) (a n : ℕ) → ((k : ℕ) → a ≤ k → k < a + n → f k ≡ g k) → map f (range_with_len a n) ≡ map g (range_with_len a n)
 map_range f g a zero same = refl
@@ -56,10 +54,10 @@ map_range {X} f g a (suc n) same =
 -- a window whose places hold what a table of slots sends, by the cores of another, holds these slots
 pub slots_as_put : (endpoints room n : ℕ) (hops : List (Option Hop)) (slots : List (List Flow)) (cores : CoreSlots) → n ≡ length slots → All (IsSlotOf endpoints) slots
     → ((slot endpoint : ℕ) → slot < length slots → endpoint < endpoints → hop_in room hops slot endpoint ≡ hop_of (core_of cores slot) (slot_in slots slot) endpoint)
-    → slots_in endpoints room n hops ≡ slots_with_cores slots cores
-unfolding slots_in
+    → slots_of_places endpoints room n hops ≡ slots_with_cores slots cores
+unfolding slots_of_places
 slots_as_put endpoints room n hops slots cores is each held =
-    let put : ℕ → List Packet = λ at. with_cores (core_of cores at) (slot_in slots at) in
+    let put : ℕ → List RoutedFlow = λ at. with_cores (core_of cores at) (slot_in slots at) in
     map_range (λ slot. packets_by (hop_in room hops slot) 0 endpoints) put 0 n (λ at low high.
     let inside : at < length slots = omega arith in
     let slot : IsSlotOf endpoints (slot_in slots at) = each at [] inside in
@@ -71,11 +69,11 @@ slots_as_put endpoints room n hops slots cores is each held =
 
 -- an endpoint's packets of b slots are those that its places name, which lie side by side
 pub packets_of_row : (endpoints room n : ℕ) (hops : List (Option Hop)) (endpoint place b from m : ℕ) → endpoint < endpoints → place + b ≤ n → from ≡ endpoint * room + place → m ≡ b → from + b ≤ length hops
-    → map (packet_from endpoint) (take b (drop place (slots_in endpoints room n hops))) ≡ map (option_map (packet_by endpoint)) (take m (drop from hops))
-unfolding slots_in
+    → map (packet_from endpoint) (take b (drop place (slots_of_places endpoints room n hops))) ≡ map (option_map (packet_by endpoint)) (take m (drop from hops))
+unfolding slots_of_places
 packets_of_row endpoints room n hops endpoint place b from m below held is as_many within =
-    let all : List (List Packet) = map (λ slot. packets_by (hop_in room hops slot) 0 endpoints) (range_with_len 0 n) in
-    let slots : List (List Packet) = take b (drop place all) in
+    let all : List (List RoutedFlow) = map (λ slot. packets_by (hop_in room hops slot) 0 endpoints) (range_with_len 0 n) in
+    let slots : List (List RoutedFlow) = take b (drop place all) in
     let row : List (Option Hop) = take m (drop from hops) in
     let length-all : length all ≡ n = length-map-range_with_len (λ slot. packets_by (hop_in room hops slot) 0 endpoints) 0 n in
     let length-slots : length slots ≡ b = omega (arith, length-take b (drop place all), length-drop place all) in

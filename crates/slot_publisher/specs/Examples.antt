@@ -1,10 +1,10 @@
 -- What is told of a small window in full.
 use Rattle.std.specs.Prelude.{◌≡◌, ℕ, [], ◌∷◌, Option, Some, None}
 use Rattle.fcp_framing.specs.declared.packet.Told.{Told}
-use Rattle.slot_publisher.specs.Window.{Packet, Window}
-use Rattle.slot_publisher.specs.Told.{told_of}
+use Rattle.slot_publisher.specs.Window.{RoutedFlow, Window}
+use Rattle.slot_publisher.specs.Told.{slots_told}
 
-abbrev pub packet : ℕ → ℕ → Option ℕ → Packet
+abbrev pub packet : ℕ → ℕ → Option ℕ → RoutedFlow
 packet src dst core = record { flow = record { src = src; dst = dst }; core = core }
 
 -- batches 8 and 9, of two slots each; endpoints 0 and 1 share a rack
@@ -23,12 +23,12 @@ told offset core dst = record { offset = offset; core = core; dst = dst }
 
 -- Endpoint 0 sends in both slots of batch 8, first within its rack and then to another by core 1.
 abbrev pub BothSlotsAreTold : Type 0
-BothSlotsAreTold = told_of a_window 0 8 ≡ told 0 255 1 ∷ told 1 1 3 ∷ []
+BothSlotsAreTold = slots_told a_window 0 8 ≡ told 0 255 1 ∷ told 1 1 3 ∷ []
 
 -- In batch 9 it sends in the second slot alone.
 abbrev pub TheSecondSlotIsTold : Type 0
-TheSecondSlotIsTold = told_of a_window 0 9 ≡ told 1 2 2 ∷ []
+TheSecondSlotIsTold = slots_told a_window 0 9 ≡ told 1 2 2 ∷ []
 
 -- Endpoint 2 sends nothing in batch 8.
 abbrev pub NothingIsTold : Type 0
-NothingIsTold = told_of a_window 2 8 ≡ []
+NothingIsTold = slots_told a_window 2 8 ≡ []

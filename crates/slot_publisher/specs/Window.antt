@@ -7,7 +7,7 @@ use Rattle.greedy_rules.specs.Schedule.{slot_in}
 use Rattle.path_workers.specs.CoreTable.{CoreSlots, core_of}
 
 -- a packet of a slot: its flow, and the core that it goes by, if it goes by one
-pub record Packet : Type 0 where
+pub record RoutedFlow : Type 0 where
   pub flow : Flow
   pub core : Option ℕ
 
@@ -18,14 +18,14 @@ pub record Window : Type 0 where
   pub b : ℕ
   pub first_batch : ℕ
   pub count : ℕ
-  pub slots : List (List Packet)
+  pub slots : List (List RoutedFlow)
 
 -- the flows of a slot, each with the core that is named for its source
-abbrev pub with_cores : (ℕ → Option ℕ) → List Flow → List Packet
+abbrev pub with_cores : (ℕ → Option ℕ) → List Flow → List RoutedFlow
 with_cores core_of_source slot = map (λ flow. record { flow = flow; core = core_of_source flow.src }) slot
 
 -- the slots of a table with the cores of another
-abbrev pub slots_with_cores : List (List Flow) → CoreSlots → List (List Packet)
+abbrev pub slots_with_cores : List (List Flow) → CoreSlots → List (List RoutedFlow)
 slots_with_cores slots cores = map (λ at. with_cores (core_of cores at) (slot_in slots at)) (range_with_len 0 (length slots))
 
 -- a core that is named for a packet of these slots is below 64
@@ -33,5 +33,5 @@ abbrev pub NamesCores : List (List Flow) → CoreSlots → Type 0
 NamesCores slots cores = (at : ℕ) → at < length slots → All (λ flow. IfSome (core_of cores at flow.src) (λ core. core < 64)) (slot_in slots at)
 
 -- the slots of a batch of the window
-abbrev pub slots_of_batch : Window → ℕ → List (List Packet)
+abbrev pub slots_of_batch : Window → ℕ → List (List RoutedFlow)
 slots_of_batch window batch = take window.b (drop ((batch - window.first_batch) * window.b) window.slots)

@@ -6,7 +6,7 @@ ghost use Rattle.fcp_framing.specs.declared.packet.Told.{Told as ToldSlot};
 ghost use Rattle.fcp_framing.specs.Spelling.{IsCore};
 ghost use Rattle.path_workers.specs.CoreTable.{core_of};
 ghost use Rattle.slot_publisher.specs.Window.{slots_with_cores, slots_of_batch, NamesCores};
-ghost use Rattle.slot_publisher.specs.Told.{told_from, told_of, IsToldOf};
+ghost use Rattle.slot_publisher.specs.Told.{told_from, slots_told, IsToldOf};
 ghost use Rattle.slot_publisher.specs.Places.{hop_in, hop_of as hop_in_slot, packet_by, IsHop};
 
 use arrayvec::ArrayVec;
@@ -41,7 +41,7 @@ pub struct Publisher {
 impl Model for Publisher {
     ghost use Rattle.std.specs.Prelude.{◌≡◌, ◌<◌, ◌≤◌, ◌*◌, vec_len, All};
     ghost use Rattle.slot_publisher.specs.Window.{Window};
-    ghost use Rattle.slot_publisher.specs.Places.{slots_in, IsHop};
+    ghost use Rattle.slot_publisher.specs.Places.{slots_of_places, IsHop};
 
     ghost Value = { Window };
 
@@ -51,7 +51,7 @@ impl Model for Publisher {
       b = p.b;
       first_batch = p.first_batch;
       count = p.count;
-      slots = slots_in p.endpoints (p.batches * p.b) (p.count * p.b) p.hops.items;
+      slots = slots_of_places p.endpoints (p.batches * p.b) (p.count * p.b) p.hops.items;
     } };
 
     ghost invariant = { λ p.
@@ -100,7 +100,7 @@ impl Publisher {
         let room = self.batches as usize * self.b as usize;
         self.first_batch = first_batch;
         self.count = slots.slots() / u16::from(self.b);
-        put_slots(slots, cores, room, &mut self.hops);
+        put_rows(slots, cores, room, &mut self.hops);
     }
 
     /// Appends what the endpoint is told of a batch that is held: its slots, rising by offset, with destination and core.
@@ -109,7 +109,7 @@ impl Publisher {
         requires first { self.now.first_batch ≤ batch }
         requires last { batch < self.now.first_batch + self.now.count }
         requires empty { into.old.items ≡ [] }
-        ensures told { into.new.items ≡ told_of self.now endpoint batch }
+        ensures told { into.new.items ≡ slots_told self.now endpoint batch }
         // These are exactly its slots of the batch.
         ensures only { All (IsToldOf (slots_of_batch self.now batch) endpoint) into.new.items }
         ensures all { (told : ToldSlot) →
@@ -129,8 +129,8 @@ impl Publisher {
     }
 }
 
-/// Writes every slot to its place in each endpoint's row of `room` places.
-fn put_slots(slots: &SlotTable, cores: &CoreTable, room: usize, hops: &mut [Option<Hop>])
+/// Writes each endpoint's row of `room` places: what it sends in every slot.
+fn put_rows(slots: &SlotTable, cores: &CoreTable, room: usize, hops: &mut [Option<Hop>])
     requires room { length slots.now.slots ≤ room }
     requires places { slots.now.endpoints * room ≡ length hops.old }
     requires core_slots { length slots.now.slots ≤ cores.now.slots }
@@ -143,28 +143,33 @@ fn put_slots(slots: &SlotTable, cores: &CoreTable, room: usize, hops: &mut [Opti
         hop_in room hops.new slot endpoint ≡ hop_in_slot (core_of cores.now slot) (slot_in slots.now.slots slot) endpoint }
     ensures hops { All (IsHop slots.now.endpoints) hops.new }
 {
-    for slot in 0..slots.slots() {
-        put_slot(slots, cores, slot, room, hops);
+    for endpoint in 0..slots.endpoints() {
+        put_row(slots, cores, endpoint, room, hops);
     }
 }
 
-/// Writes a slot to its place in each endpoint's row.
-fn put_slot(slots: &SlotTable, cores: &CoreTable, slot: u16, room: usize, hops: &mut [Option<Hop>])
-    requires slot { slot < length slots.now.slots }
-    requires room { slot < room }
+/// Writes an endpoint's row, whose places lie side by side.
+fn put_row(
+    slots: &SlotTable,
+    cores: &CoreTable,
+    endpoint: u16,
+    room: usize,
+    hops: &mut [Option<Hop>],
+)
+    requires endpoint { endpoint < slots.now.endpoints }
+    requires room { length slots.now.slots ≤ room }
     requires places { slots.now.endpoints * room ≡ length hops.old }
-    requires core_slots { slot < cores.now.slots }
+    requires core_slots { length slots.now.slots ≤ cores.now.slots }
     requires core_endpoints { slots.now.endpoints ≤ cores.now.endpoints }
-    requires each { IsSlotOf slots.now.endpoints (slot_in slots.now.slots slot) }
     requires cores { NamesCores slots.now.slots cores.now }
     requires hops { All (IsHop slots.now.endpoints) hops.old }
-    ensures here { (endpoint : ℕ) →
-        endpoint < slots.now.endpoints →
+    ensures here { (slot : ℕ) →
+        slot < length slots.now.slots →
         hop_in room hops.new slot endpoint ≡ hop_in_slot (core_of cores.now slot) (slot_in slots.now.slots slot) endpoint }
-    ensures others { (at endpoint : ℕ) → at < room → at ≢ slot → hop_in room hops.new at endpoint ≡ hop_in room hops.old at endpoint }
+    ensures others { (slot other : ℕ) → slot < room → other ≢ endpoint → hop_in room hops.new slot other ≡ hop_in room hops.old slot other }
     ensures hops { All (IsHop slots.now.endpoints) hops.new }
 {
-    for endpoint in 0..slots.endpoints() {
+    for slot in 0..slots.slots() {
         hops[endpoint as usize * room + slot as usize] = hop_of(slots, cores, slot, endpoint);
     }
 }

@@ -30,21 +30,22 @@ pub struct Line {
     /// The number that arrives in a round to come, 0 for none.
     numbers: [u32; 128],
     /// The acknowledgement that arrives in a round to come.
-    acks: [(u32, u64); 128],
+    acks: [(u32, u128); 128],
     random: u64,
     pub seen: Seen,
 }
 
 impl Line {
-    pub fn open(alloc: Global) -> Result<Line, Fail>
-        ensures { IfOk result (λ line. line.sender.newest ≡ 0) }
+    pub fn open(alloc: Global, version: u8) -> Result<Line, Fail>
+        ensures { IfOk result (λ line. line.sender.outstanding.newest ≡ 0) }
     {
-        let sender = SendWindow::open(alloc)?;
-        let plain = Plain::open(alloc)?;
+        let mut sender = SendWindow::open(alloc, 1)?;
+        sender.restart(version);
+        let plain = Plain::open(alloc, version)?;
         Ok(Line {
             alloc,
             sender,
-            receiver: TakeWindow::new(),
+            receiver: TakeWindow::new(version),
             plain,
             numbers: [0; 128],
             acks: [(0, 0); 128],
@@ -66,9 +67,9 @@ impl Line {
 
     /// Sends a new number, or the newest again, which is lost, held or repeated on the way.
     pub fn send(&mut self, rt: &impl Abort, round: u32) -> Result<(), Fail>
-        requires few { self.old.sender.newest ≤ round }
+        requires few { self.old.sender.outstanding.newest ≤ round }
         requires last { round < 2 ^ 31 }
-        ensures { self.new.sender.newest ≤ round + 1 }
+        ensures { self.new.sender.outstanding.newest ≤ round + 1 }
     {
         let content = self.draw();
         assert_eq!(rt; self.sender.may_send(), self.plain.may_send());
@@ -113,7 +114,7 @@ impl Line {
         let ack = self.receiver.ack();
         assert_eq!(rt; ack, self.plain.ack());
         let (fate, hold) = (self.draw(), self.draw());
-        let is_storm = round / 128 % 16 == 0;
+        let is_storm = round / 256 % 32 == 0;
         if fate >= 64 && !is_storm {
             let later = round.wrapping_add(if fate < 128 { hold % 16 } else { 0 });
             self.acks[later as usize % 128] = ack;
@@ -122,7 +123,7 @@ impl Line {
 
     /// Reads the acknowledgement that arrives in the round, and now and then one of a number that was not sent.
     pub fn acknowledge(&mut self, rt: &impl Abort, round: u32) -> Result<(), Fail>
-        ensures { self.new.sender.newest ≡ self.old.sender.newest }
+        ensures { self.new.sender.outstanding.newest ≡ self.old.sender.outstanding.newest }
     {
         let place = round as usize % 128;
         let (mut high, mask) = self.acks[place];

@@ -14,6 +14,9 @@ struct Known {
 /// All numbers, by number.
 #[derive(Drop)]
 pub struct Plain {
+    /// How far a number may come after a greater one, and how far a new one may be above the oldest open one.
+    reorder: u32,
+    span: u32,
     numbers: Vec<Known>,
     newest: u32,
     highest: u32,
@@ -21,10 +24,13 @@ pub struct Plain {
 }
 
 impl Plain {
-    pub fn open(alloc: Global) -> Result<Plain, AllocError> {
+    pub fn open(alloc: Global, version: u8) -> Result<Plain, AllocError> {
+        let (reorder, span) = if version == 1 { (4, 64) } else { (16, 128) };
         let mut numbers = Vec::new(alloc);
         numbers.push(Known::default())?;
         Ok(Plain {
+            reorder,
+            span,
             numbers,
             newest: 0,
             highest: 0,
@@ -45,7 +51,7 @@ impl Plain {
     }
 
     pub fn may_send(&self) -> bool {
-        self.oldest_open > self.newest || self.newest - self.oldest_open < 64
+        self.oldest_open > self.newest || self.newest - self.oldest_open < self.span
     }
 
     pub fn send(&mut self, content: u32) -> Result<(), AllocError> {
@@ -57,7 +63,7 @@ impl Plain {
     }
 
     pub fn take(&mut self, number: u32) -> Taken {
-        let is_near = self.highest.saturating_sub(number) <= 4;
+        let is_near = self.highest.saturating_sub(number) <= self.reorder;
         let Some(known) = self.numbers.get_mut(number as usize) else {
             return Taken::Old;
         };
@@ -74,11 +80,11 @@ impl Plain {
         Taken::Fresh
     }
 
-    pub fn ack(&self) -> (u32, u64) {
+    pub fn ack(&self) -> (u32, u128) {
         let mut mask = 0;
-        for i in 0..64 {
+        for i in 0..self.span.min(128) {
             if i + 1 < self.highest && self.known(self.highest - 1 - i).taken {
-                mask |= 1u64 << i;
+                mask |= 1u128 << i;
             }
         }
         (self.highest, mask)
@@ -89,18 +95,19 @@ impl Plain {
         &mut self,
         alloc: Global,
         high: u32,
-        mask: u64,
+        mask: u128,
     ) -> Result<Vec<Decided<u32>>, AllocError> {
         let mut found = Vec::new(alloc);
         if high > self.newest {
             return Ok(found);
         }
+        let (reorder, span) = (self.reorder, self.span);
         for number in self.oldest_open..=self.newest {
             let Some(known) = self.numbers.get_mut(number as usize) else {
                 continue;
             };
-            let shown = is_shown(number, high, mask);
-            if !known.decided && (shown || high.saturating_sub(number) > 4) {
+            let shown = is_shown(span, number, high, mask);
+            if !known.decided && (shown || high.saturating_sub(number) > reorder) {
                 known.decided = true;
                 found.push(Decided {
                     number,
@@ -123,10 +130,10 @@ impl Plain {
     }
 }
 
-fn is_shown(number: u32, high: u32, mask: u64) -> bool {
+fn is_shown(span: u32, number: u32, high: u32, mask: u128) -> bool {
     if number >= high {
         return number == high;
     }
     let place = high - number - 1;
-    place < 64 && mask >> place & 1 == 1
+    place < span.min(128) && mask >> place & 1 == 1
 }

@@ -2,14 +2,15 @@ use Rattle.std.proofs.Common.{◌≡◌, ◌+◌, ◌-◌, ◌^◌, ◌≤◌, d
 use Rattle.arrayvec.specs.ArrayVec.{array_vec_len}
 use Rattle.ack_window.specs.Acknowledgement.{decision_by}
 use Rattle.ack_window.specs.Kept.{RisesWithin}
+use Rattle.ack_window.specs.Versions.{reorder_of, span_of}
 use Rattle.ack_window.proofs.Sending.{HasJudged}
 use Rattle.ack_window.proofs.send_window.decide.Given as goal
 
 abbrev pub invariant-numbers : goal.invariant-numbers
 invariant-numbers g l =
-    HasJudged (decision_by 4 64 l.ack) l.fn.found.items l.found.items l.fn.unresolved.items l.unresolved.items l.at
+    HasJudged (decision_by (reorder_of l.version) (span_of l.version) l.ack) l.fn.found.items l.found.items l.fn.unresolved.items l.unresolved.items l.at
     × RisesWithin 0 (2 ^ 32) (drop l.at l.unresolved.items)
-    × (array_vec_len l.found + deque_len l.unresolved ≤ 65)
+    × (array_vec_len l.found + deque_len l.unresolved ≤ 129)
     × (l.at ≤ deque_len l.unresolved)
     × (deque_capacity l.unresolved ≡ deque_capacity l.fn.unresolved)
 

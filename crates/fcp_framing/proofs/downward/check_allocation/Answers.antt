@@ -1,5 +1,4 @@
 use Rattle.std.proofs.Common.{◌≡◌, ℕ, ◌+◌, ◌*◌, false, [], ◌∷◌, ap, sym, ◌∙◌, arith}
-use Rattle.std.specs.Int.{w64}
 use Rattle.std.specs.List.{find}
 use Rattle.std.proofs.lemmas.Bool.Decides.{nat_tests}
 use Rattle.std.proofs.lemmas.Result.{err_from_is_err_and}
@@ -12,7 +11,7 @@ use Rattle.fcp_framing.proofs.downward.check_allocation.Goals as goal
 pub returns-in_err-check_destinations : goal.returns-in_err-check_destinations
 unfolding first_refusal
 returns-in_err-check_destinations c =
-    let holds = refuses_allocation w64 c.args.endpoints c.args.slots c.args.bytes.now in
+    let holds = refuses_allocation c.args.endpoints c.args.slots c.args.bytes.now in
     let short : holds Short ≡ false = grind (arith, nat_tests) in
     let list = find_in holds (Endpoint ∷ Count ∷ Order ∷ []) (SelfFlow ∷ TooMuch ∷ Mask ∷ Trailing ∷ Epoch ∷ Seq ∷ []) _ (sym (c.in_err-check_destinations.ensures c.args.slots)) in
     let answer = err_from_is_err_and c.from_residual.result c.from_residual.ensures.1 in
@@ -21,7 +20,7 @@ returns-in_err-check_destinations c =
 pub returns-in_err-check_told : goal.returns-in_err-check_told
 unfolding first_refusal
 returns-in_err-check_told c =
-    let holds = refuses_allocation w64 c.args.endpoints c.args.slots c.args.bytes.now in
+    let holds = refuses_allocation c.args.endpoints c.args.slots c.args.bytes.now in
     let short : holds Short ≡ false = grind (arith, nat_tests) in
     let list = find_on holds (Endpoint ∷ Count ∷ Order ∷ []) (SelfFlow ∷ TooMuch ∷ Mask ∷ Trailing ∷ Epoch ∷ Seq ∷ []) (sym (c.in_ok-check_destinations.ensures c.args.slots)) in
     let lines = find_in holds (SelfFlow ∷ TooMuch ∷ []) (Mask ∷ Trailing ∷ Epoch ∷ Seq ∷ []) _ (sym (c.in_err-check_told.ensures c.args.endpoints)) in
@@ -32,10 +31,10 @@ pub returns : goal.returns
 unfolding first_refusal
 returns c =
     let bytes = c.args.bytes.now in
-    let holds = refuses_allocation w64 c.args.endpoints c.args.slots bytes in
+    let holds = refuses_allocation c.args.endpoints c.args.slots bytes in
     let short : holds Short ≡ false = grind (arith, nat_tests) in
-    let end : 30 + 4 * c.u16_at.result ≡ allocation_length w64 bytes = ap (λ (count : ℕ). 30 + 4 * count) c.u16_at.ensures in
-    let fields = c.check_fields.ensures ∙ ap (λ (place : ℕ). find (refuses_fields w64 place bytes) (Mask ∷ Trailing ∷ Epoch ∷ Seq ∷ [])) end in
+    let end : c.header-header.result + 4 * c.count.result ≡ allocation_length bytes = omega (arith, c.header-header.ensures, c.count.ensures) in
+    let fields = c.check_fields.ensures ∙ ap (λ (place : ℕ). find (refuses_fields place bytes) (Mask ∷ Trailing ∷ Epoch ∷ Seq ∷ [])) end in
     let lines = find_on holds (SelfFlow ∷ TooMuch ∷ []) (Mask ∷ Trailing ∷ Epoch ∷ Seq ∷ []) (sym (c.in_ok-check_told.ensures c.args.endpoints)) in
     let list = find_on holds (Endpoint ∷ Count ∷ Order ∷ []) (SelfFlow ∷ TooMuch ∷ Mask ∷ Trailing ∷ Epoch ∷ Seq ∷ []) (sym (c.in_ok-check_destinations.ensures c.args.slots)) in
     rw short (fields ∙ sym lines ∙ sym list)

@@ -6,7 +6,7 @@ use Rattle.fcp_framing.proofs.encoding.put_demands.Given as goal
 
 abbrev pub invariant-loop-demand : goal.invariant-loop-demand
 invariant-loop-demand l = record {
-  place : l.end ≡ 26 + 6 * l.demand-index;
+  place : l.end ≡ l.start + 6 * l.demand-index;
   whole : length l.buf ≡ 2048;
-  list : l.buf ≡ with_bytes 26 (flat_map demand_bytes (take l.demand-index l.demands)) l.initial.buf;
+  list : l.buf ≡ with_bytes l.start (flat_map demand_bytes (take l.demand-index l.demands)) l.initial.buf;
 }

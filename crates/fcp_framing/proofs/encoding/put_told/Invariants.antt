@@ -6,7 +6,7 @@ use Rattle.fcp_framing.proofs.encoding.put_told.Given as goal
 
 abbrev pub invariant-loop-slot : goal.invariant-loop-slot
 invariant-loop-slot l = record {
-  place : l.end ≡ 30 + 4 * l.slot-index;
+  place : l.end ≡ l.start + 4 * l.slot-index;
   whole : length l.buf ≡ 2048;
-  list : l.buf ≡ with_bytes 30 (flat_map told_bytes (take l.slot-index l.told)) l.initial.buf;
+  list : l.buf ≡ with_bytes l.start (flat_map told_bytes (take l.slot-index l.told)) l.initial.buf;
 }

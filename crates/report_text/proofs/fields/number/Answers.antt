@@ -16,10 +16,10 @@ returns-in_default-clause-only c = λ n small is. absurd (c.in_default.ensures.c
 pub returns-clause-spelled : goal.returns-clause-spelled
 returns-clause-spelled c =
     let plain = c.if-not-begins_plain.ensures in
-    let read = subst (λ l. ParsesUnsigned 32 10 l c.parse.result) c.in-Ok.ensures.cases.0 c.parse.ensures.value.0 in
+    let read = subst (λ l. ParsesUnsigned 64 10 l c.parse.result) c.in-Ok.ensures.cases.0 c.parse.ensures.value.0 in
     subst (λ r. IfSome r (λ n. c.args.field.now ≡ decimal n)) (sym c.ok.ensures.value) (parsed_is_decimal c.args.field.now c.parse.result plain.0 plain.1 read)
 
 pub returns-clause-only : goal.returns-clause-only
 returns-clause-only c = λ n small is.
-    let read = subst (λ l. ParsesUnsigned 32 10 l c.parse.result) c.in-Ok.ensures.cases.0 c.parse.ensures.value.0 in
+    let read = subst (λ l. ParsesUnsigned 64 10 l c.parse.result) c.in-Ok.ensures.cases.0 c.parse.ensures.value.0 in
     subst (λ r. IsSomeAnd r (λ m. m ≡ n)) (sym (c.ok.ensures.value ∙ decimal_is_parsed c.args.field.now c.parse.result n small is read)) refl

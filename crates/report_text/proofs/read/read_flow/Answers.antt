@@ -1,25 +1,12 @@
-use Rattle.std.proofs.Common.{[], ◌∷◌, ◌∙◌, ap, refl, arith, Some, get_or, List, ℕ}
+use Rattle.std.proofs.Common.{[], ◌∷◌, ap, drop, refl, Some, get_or, List, ℕ}
 use Rattle.report_text.specs.declared.line.Line.TheVariants as line
-use Rattle.report_text.proofs.LineKinds.{of_flow}
+use Rattle.report_text.proofs.LineKinds.{of_kind, Flow}
 use Rattle.report_text.proofs.read.read_flow.Goals as goal
 
 pub returns-then-not-read_all-clause-only : goal.returns-then-not-read_all-clause-only
-returns-then-not-read_all-clause-only c = of_flow c.args.text.now _ (λ src dst demanded allocated pending ok fits is.
-    absurd (c.if-not-read_all.ensures.only (src ∷ dst ∷ demanded ∷ allocated ∷ pending ∷ []) refl fits is))
-
-pub returns-in_err-endpoint-clause-only : goal.returns-in_err-endpoint-clause-only
-returns-in_err-endpoint-clause-only c = of_flow c.args.text.now _ (λ src dst demanded allocated pending ok fits is.
-    let same = c.if-not-read_all.ensures.only (src ∷ dst ∷ demanded ∷ allocated ∷ pending ∷ []) refl fits is in
-    absurd (c.in_err-endpoint.ensures.only (omega (arith, ap (λ (vs : List ℕ). get_or vs 0 0) same, ok.0.0))))
-
-pub returns-in_err-endpoint-2-clause-only : goal.returns-in_err-endpoint-2-clause-only
-returns-in_err-endpoint-2-clause-only c = of_flow c.args.text.now _ (λ src dst demanded allocated pending ok fits is.
-    let same = c.if-not-read_all.ensures.only (src ∷ dst ∷ demanded ∷ allocated ∷ pending ∷ []) refl fits is in
-    absurd (c.in_err-endpoint-2.ensures.only (omega (arith, ap (λ (vs : List ℕ). get_or vs 1 0) same, ok.0.1))))
+returns-then-not-read_all-clause-only c = of_kind Flow c.args.text.now _ (λ f ok is. absurd (c.if-not-read_all.ensures.only (f.0 ∷ f.1 ∷ f.2 ∷ f.3 ∷ f.4 ∷ []) refl ok (ap (drop 4) is)))
 
 pub returns-clause-only : goal.returns-clause-only
-returns-clause-only c = of_flow c.args.text.now _ (λ src dst demanded allocated pending ok fits is.
-    let same = c.if-not-read_all.ensures.only (src ∷ dst ∷ demanded ∷ allocated ∷ pending ∷ []) refl fits is in
-    let from = c.in_ok-endpoint.ensures.only (omega (arith, ap (λ (vs : List ℕ). get_or vs 0 0) same, ok.0.0)) ∙ ap (λ (vs : List ℕ). get_or vs 0 0) same in
-    let to = c.in_ok-endpoint-2.ensures.only (omega (arith, ap (λ (vs : List ℕ). get_or vs 1 0) same, ok.0.1)) ∙ ap (λ (vs : List ℕ). get_or vs 1 0) same in
-    λ i. Some (line.Flow (from i) (to i) (get_or (same i) 2 0) (get_or (same i) 3 0) (get_or (same i) 4 0)))
+returns-clause-only c = of_kind Flow c.args.text.now _ (λ f ok is.
+    let same = c.if-not-read_all.ensures.only (f.0 ∷ f.1 ∷ f.2 ∷ f.3 ∷ f.4 ∷ []) refl ok (ap (drop 4) is) in
+    ap (λ (vs : List ℕ). Some (line.Flow (get_or vs 0 0) (get_or vs 1 0) (get_or vs 2 0) (get_or vs 3 0) (get_or vs 4 0))) same)

@@ -7,7 +7,7 @@ use Rattle.loss_world.proofs.world.World.take_off.Goals as goal
 pub returns-then-round-flight-clause-flights : goal.returns-then-round-flight-clause-flights
 returns-then-round-flight-clause-flights c = λ flight here.
     let flights = c.self.inside.flights.items in
-    let found : InFlight = record { rounds = c.flight.inside.rounds; bytes = c.flight.inside.bytes.items } in
+    let found : InFlight = record { rounds = c.flight.inside.rounds; bytes = c.flight.inside.packet } in
     let there = subst (λ (xs : List InFlight). slice_get xs c.args.at ≡ Some flight) (sym (ap (λ held. held.flights) c.self.view_is)) here in
     let is = c.flight.view_is ∙ c.index_mut-flight.ensures.value ∙ ap (λ d. get_or flights c.args.at d) (sym c.flight.view_is) in
     let later : InFlight = record { rounds = record { next = c.args.round + 1; last = found.rounds.last }; bytes = found.bytes } in
@@ -17,7 +17,7 @@ returns-then-round-flight-clause-flights c = λ flight here.
 pub returns-else-round-flight-clause-flights : goal.returns-else-round-flight-clause-flights
 returns-else-round-flight-clause-flights c = λ flight here.
     let flights = c.self.inside.flights.items in
-    let found : InFlight = record { rounds = c.flight.inside.rounds; bytes = c.flight.inside.bytes.items } in
+    let found : InFlight = record { rounds = c.flight.inside.rounds; bytes = c.flight.inside.packet } in
     let there = subst (λ (xs : List InFlight). slice_get xs c.args.at ≡ Some flight) (sym (ap (λ held. held.flights) c.self.view_is)) here in
     let is = c.flight.view_is ∙ c.index_mut-flight.ensures.value ∙ ap (λ d. get_or flights c.args.at d) (sym c.flight.view_is) in
     let unchanged : set flights c.args.at c.index_mut-flight.result.now ≡ flights =

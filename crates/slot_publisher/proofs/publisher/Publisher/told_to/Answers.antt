@@ -6,7 +6,7 @@ use Rattle.std.proofs.lemmas.List.Elements.{All-take, All-drop}
 use Rattle.fcp_framing.specs.declared.packet.Told.{Told}
 use Rattle.fcp_framing.specs.Spelling.{IsCore}
 use Rattle.slot_publisher.specs.declared.publisher.Hop.{Hop}
-use Rattle.slot_publisher.specs.Window.{Window, Packet, slots_of_batch}
+use Rattle.slot_publisher.specs.Window.{Window, RoutedFlow, slots_of_batch}
 use Rattle.slot_publisher.specs.Told.{packet_from, told_from, IsToldOf}
 use Rattle.slot_publisher.specs.Places.{packet_by, IsHop}
 use Rattle.slot_publisher.proofs.PlaceLemmas.{packets_of_row, places_fit}
@@ -55,16 +55,16 @@ returns-clause-told c = told c c.args.endpoint ∙ ap (told_from 0) (sym (packet
 
 pub returns-clause-only : goal.returns-clause-only
 returns-clause-only c =
-    let slots : List (List Packet) = slots_of_batch c.args.self.now c.args.batch in
+    let slots : List (List RoutedFlow) = slots_of_batch c.args.self.now c.args.batch in
     subst (All (IsToldOf slots c.args.endpoint)) (sym (returns-clause-told c)) (told_only c.args.endpoint slots)
 
 pub returns-clause-all : goal.returns-clause-all
 returns-clause-all c = λ told' below is.
-    let slots : List (List Packet) = slots_of_batch c.args.self.now c.args.batch in
+    let slots : List (List RoutedFlow) = slots_of_batch c.args.self.now c.args.batch in
     let b : c.self.inside.b ≡ c.args.self.now.b = ap (λ (w : Window). w.b) c.self.view_is in
     let size : length slots ≡ c.self.inside.b =
     sym (length-map slots (packet_from c.args.endpoint))
-    ∙ (ap (λ (ps : List (Option Packet)). length ps) (packets c).0 ∙ (length-map (row c) (option_map (packet_by c.args.endpoint)) ∙ (packets c).1)) in
+    ∙ (ap (λ (ps : List (Option RoutedFlow)). length ps) (packets c).0 ∙ (length-map (row c) (option_map (packet_by c.args.endpoint)) ∙ (packets c).1)) in
     subst (λ (items : List Told). Contains items told') (sym (returns-clause-told c)) (told_all c.args.endpoint slots told' (omega (arith, below)) is)
 
 pub returns-clause-rising : goal.returns-clause-rising
@@ -89,7 +89,7 @@ returns-clause-cores c = subst (All (λ (told : Told). IsCore told.core)) (sym (
 pub returns-clause-others : goal.returns-clause-others
 returns-clause-others c out =
     let window = c.args.self.now in
-    let GoesOut : List Packet → Type 0 = All (λ packet. packet.flow.src ≢ packet.flow.dst) in
+    let GoesOut : List RoutedFlow → Type 0 = All (λ packet. packet.flow.src ≢ packet.flow.dst) in
     let place : ℕ = (c.args.batch - window.first_batch) * window.b in
     subst (All (λ (told : Told). told.dst ≢ c.args.endpoint)) (sym (returns-clause-told c))
     (told_others c.args.endpoint (slots_of_batch window c.args.batch) (All-take GoesOut window.b (drop place window.slots) (All-drop GoesOut place window.slots out)))
