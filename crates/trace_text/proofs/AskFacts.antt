@@ -1,16 +1,16 @@
 -- Asks that rise by their ranks, and the part of them that one source asks for in one round.
-use Rattle.std.proofs.Common.{◌≡◌, ℕ, zero, suc, ◌+◌, ◌-◌, ◌*◌, ◌<◌, ◌≤◌, List, [], ◌∷◌, ◌++◌, length, get_or, take, drop, map, Bool, true, false, cond, All, refl, sym, ap, subst, ◌∙◌, arith, length-drop, length-take, append-nil, length-append}
+use Rattle.std.proofs.Common.{◌≡◌, ℕ, zero, suc, ◌+◌, ◌-◌, ◌*◌, ◌<◌, ◌≤◌, List, [], ◌∷◌, ◌++◌, length, get_or, take, drop, map, Bool, true, false, cond, All, refl, sym, ap, subst, ◌∙◌, arith, length-append}
 use Rattle.std.proofs.Math.Seq.{get_or-append_seam}
 use Rattle.std.specs.Prelude.{◌==◌, ◌&&◌, nat_lt, filter, sum_by}
 use Rattle.std.specs.List.{range_with_len}
 use Rattle.std.specs.List.Sorted.{IsNonDecreasingBy}
 use Rattle.std.proofs.lemmas.Bool.Decides.{nat_tests}
-use Rattle.std.proofs.lemmas.List.{take-append-drop, get_or-take, get_or-drop, drop-drop}
-use Rattle.std.proofs.lemmas.List.Elements.{filter-append}
 use Rattle.std.proofs.lemmas.List.Sums.{sum_by-cons}
-use Rattle.trace_text.specs.Asks.{rank_of, slots_asked, is_asked_by, has_rank_in, IsAmong, IsRisingFrom, IsKept, BeginsAt}
+use Rattle.trace_text.specs.Asks.{rank_of, slots_asked, is_asked_by, IsAmong, IsRisingFrom, IsKept}
+use Rattle.trace_text.specs.Ranks.{has_rank_in}
 use Rattle.trace_text.specs.Trace.{some_below}
 use Rattle.trace_text.specs.declared.ask.Ask.{Ask}
+use Rattle.trace_text.proofs.RankFacts.{filter-part, filter-filter}
 
 -- one more, above the last
 pub rising-more : (low : ℕ) (asks : List Ask) (last next : Ask) → IsRisingFrom low (asks ++ last ∷ []) → rank_of last < rank_of next → IsRisingFrom low ((asks ++ last ∷ []) ++ next ∷ [])
@@ -92,97 +92,19 @@ rising-sorted low (ask ∷ asks) rising zero (suc j) d le lt = let above = risin
 rising-sorted low (ask ∷ asks) rising (suc i) zero d le lt = absurd (omega arith)
 rising-sorted low (ask ∷ asks) rising (suc i) (suc j) d le lt = rising-sorted (rank_of ask + 1) asks rising.1 i j d (omega arith) (omega arith)
 
--- a filter that all pass, or none
-filter_every : {X : Type 0} (p : X → Bool) (xs : List X) → All (λ x. p x ≡ true) xs → filter p xs ≡ xs
-filter_every p [] all = refl
-filter_every p (x ∷ xs) all = let here : p x ≡ true = all 0 x (omega arith) in rw here (ap (λ l. x ∷ l) (filter_every p xs (λ k d lt. all (suc k) d (omega arith))))
-
-filter_no : {X : Type 0} (p : X → Bool) (xs : List X) → All (λ x. p x ≡ false) xs → filter p xs ≡ []
-filter_no p [] all = refl
-filter_no p (x ∷ xs) all = let here : p x ≡ false = all 0 x (omega arith) in rw here (filter_no p xs (λ k d lt. all (suc k) d (omega arith)))
-
--- what holds from one place to another holds of that part
-all-take : {X : Type 0} (P : X → Type 0) (xs : List X) (i : ℕ) → ((k : ℕ) (d : X) → k < i → P (get_or xs k d)) → All P (take i xs)
-all-take P xs i each k d lt =
-    let short = length-take i xs in
-    let low : k < i = omega arith in
-    subst P (sym (get_or-take i xs k d low)) (each k d low)
-
-all-drop : {X : Type 0} (P : X → Type 0) (xs : List X) (i : ℕ) → ((k : ℕ) (d : X) → i ≤ k → k < length xs → P (get_or xs k d)) → All P (drop i xs)
-all-drop P xs i each k d lt =
-    let short = length-drop i xs in
-    subst P (sym (get_or-drop i xs k d)) (each (i + k) d (omega arith) (omega arith))
-
--- the asks of these ranks are those from where the low ones begin to where the high ones do
-pub filter-part : (asks : List Ask) (low high i j : ℕ) → low ≤ high → BeginsAt asks low i → BeginsAt asks high j
-    → (i ≤ j) × (take (j - i) (drop i asks) ≡ filter (has_rank_in low high) asks)
-filter-part asks low high i j order at_low at_high = (ordered, sym (parts ∙ kept))
-  where
-    none : Ask
-    none = record { round = 0; src = 0; dst = 0; slots = 0 }
-
-    crossed : j < i → ⊥
-    crossed lt =
-        let below : nat_lt (rank_of (get_or asks j none)) low ≡ true = at_low.1.0 j none (omega arith) lt in
-        let above : nat_lt (rank_of (get_or asks j none)) high ≡ false = at_high.1.1 j none (omega arith) (omega arith) in
-        grind (arith, nat_tests)
-
-    ordered : i ≤ j
-    ordered = omega (arith, crossed)
-
-    p : Ask → Bool
-    p = has_rank_in low high
-
-    front : filter p (take i asks) ≡ []
-    front = filter_no p (take i asks) (all-take (λ a. p a ≡ false) asks i (λ k d lt.
-        let below : nat_lt (rank_of (get_or asks k d)) low ≡ true = at_low.1.0 k d (omega arith) lt in grind (arith, nat_tests)))
-
-    middle : filter p (take (j - i) (drop i asks)) ≡ take (j - i) (drop i asks)
-    middle = filter_every p (take (j - i) (drop i asks)) (all-take (λ a. p a ≡ true) (drop i asks) (j - i) (λ k d lt.
-        let above : nat_lt (rank_of (get_or asks (i + k) d)) low ≡ false = at_low.1.1 (i + k) d (omega arith) (omega (arith, at_high.0)) in
-        let below : nat_lt (rank_of (get_or asks (i + k) d)) high ≡ true = at_high.1.0 (i + k) d (omega arith) (omega arith) in
-        rw (get_or-drop i asks k d) (grind (arith, nat_tests))))
-
-    back : filter p (drop (j - i) (drop i asks)) ≡ []
-    back =
-        let same : i + (j - i) ≡ j = omega (arith, ordered) in
-        rw (drop-drop (j - i) i asks, same) (filter_no p (drop j asks) (all-drop (λ a. p a ≡ false) asks j (λ k d le lt.
-        let above : nat_lt (rank_of (get_or asks k d)) high ≡ false = at_high.1.1 k d le lt in grind (arith, nat_tests))))
-
-    parts : filter p asks ≡ filter p (take i asks) ++ (filter p (take (j - i) (drop i asks)) ++ filter p (drop (j - i) (drop i asks)))
-    parts =
-        ap (filter p) (sym (take-append-drop i asks)) ∙ filter-append p (take i asks) (drop i asks)
-        ∙ ap (λ l. filter p (take i asks) ++ l) (ap (filter p) (sym (take-append-drop (j - i) (drop i asks))) ∙ filter-append p (take (j - i) (drop i asks)) (drop (j - i) (drop i asks)))
-
-    kept : filter p (take i asks) ++ (filter p (take (j - i) (drop i asks)) ++ filter p (drop (j - i) (drop i asks))) ≡ take (j - i) (drop i asks)
-    kept = rw (front, middle, back) (append-nil (take (j - i) (drop i asks)))
-
--- a part of a part
-pub filter-filter : (asks : List Ask) (low high a b : ℕ) → a ≤ low → high ≤ b → filter (has_rank_in low high) (filter (has_rank_in a b) asks) ≡ filter (has_rank_in low high) asks
-filter-filter [] low high a b p q = refl
-filter-filter (ask ∷ asks) low high a b p q = by (has_rank_in a b ask) refl (has_rank_in low high ask) refl (filter-filter asks low high a b p q)
-  where
-    by : (x : Bool) → has_rank_in a b ask ≡ x → (y : Bool) → has_rank_in low high ask ≡ y
-        → filter (has_rank_in low high) (filter (has_rank_in a b) asks) ≡ filter (has_rank_in low high) asks
-        → filter (has_rank_in low high) (cond x (ask ∷ filter (has_rank_in a b) asks) (filter (has_rank_in a b) asks)) ≡ cond y (ask ∷ filter (has_rank_in low high) asks) (filter (has_rank_in low high) asks)
-    by true e true f rest = rw (f, rest) refl
-    by true e false f rest = rw (f, rest) refl
-    by false e true f rest = absurd (grind (arith, nat_tests))
-    by false e false f rest = rest
-
 -- an ask has the ranks of its round and source
 block-rank : (round src : ℕ) (ask : Ask) → src < 256 → ask.src < 256 → ask.dst < 256
-    → has_rank_in ((round * 256 + src) * 256) ((round * 256 + src) * 256 + 256) ask ≡ is_asked_by round src ask
+    → has_rank_in rank_of ((round * 256 + src) * 256) ((round * 256 + src) * 256 + 256) ask ≡ is_asked_by round src ask
 block-rank round src ask low low2 low3 = by (ask.round == round) refl (ask.src == src) refl
   where
-    by : (a : Bool) → (ask.round == round) ≡ a → (b : Bool) → (ask.src == src) ≡ b → has_rank_in ((round * 256 + src) * 256) ((round * 256 + src) * 256 + 256) ask ≡ (a && b)
+    by : (a : Bool) → (ask.round == round) ≡ a → (b : Bool) → (ask.src == src) ≡ b → has_rank_in rank_of ((round * 256 + src) * 256) ((round * 256 + src) * 256 + 256) ask ≡ (a && b)
     by true e true f = grind (arith, nat_tests)
     by true e false f = grind (arith, nat_tests)
     by false e b f = grind (arith, nat_tests)
 
 -- the ranks of one round and source
 pub filter-block : (asks : List Ask) (round src : ℕ) → src < 256 → All (IsAmong 256) asks
-    → filter (has_rank_in ((round * 256 + src) * 256) ((round * 256 + src) * 256 + 256)) asks ≡ filter (is_asked_by round src) asks
+    → filter (has_rank_in rank_of ((round * 256 + src) * 256) ((round * 256 + src) * 256 + 256)) asks ≡ filter (is_asked_by round src) asks
 filter-block [] round src low among = refl
 filter-block (ask ∷ asks) round src low among =
     let here = among 0 ask (omega arith) in
@@ -283,20 +205,20 @@ asked-pairs endpoints round src asks rising among =
 -- the asks of one round
 pub round-part : (endpoints rounds : ℕ) (asks : List Ask) (starts : List ℕ) (round start end : ℕ) → IsKept endpoints rounds asks starts → round < rounds
     → start ≡ get_or starts round 0 → end ≡ get_or starts (round + 1) 0
-    → (start ≤ end) × (take (end - start) (drop start asks) ≡ filter (has_rank_in (round * 65536) ((round + 1) * 65536)) asks)
+    → (start ≤ end) × (take (end - start) (drop start asks) ≡ filter (has_rank_in rank_of (round * 65536) ((round + 1) * 65536)) asks)
 round-part endpoints rounds asks starts round start end kept low at at2 =
-    rw (at, at2) (filter-part asks (round * 65536) ((round + 1) * 65536) (get_or starts round 0) (get_or starts (round + 1) 0) (omega arith)
+    rw (at, at2) (filter-part rank_of asks (round * 65536) ((round + 1) * 65536) (get_or starts round 0) (get_or starts (round + 1) 0) (omega arith)
     (kept.begin round (omega arith)) (kept.begin (round + 1) (omega arith)))
 
 -- what one source asks for in one round, found in the asks of the round
 pub round-asked : (endpoints rounds : ℕ) (asks : List Ask) (starts : List ℕ) (round src start end : ℕ) → IsKept endpoints rounds asks starts → round < rounds → src < endpoints
     → start ≡ get_or starts round 0 → end ≡ get_or starts (round + 1) 0
-    → map pair_of (filter (has_rank_in ((round * 256 + src) * 256) ((round * 256 + src) * 256 + 256)) (take (end - start) (drop start asks)))
+    → map pair_of (filter (has_rank_in rank_of ((round * 256 + src) * 256) ((round * 256 + src) * 256 + 256)) (take (end - start) (drop start asks)))
     ≡ some_below endpoints (λ dst. sum_by (slots_asked round src dst) asks)
 round-asked endpoints rounds asks starts round src start end kept low low2 at at2 =
     let few = kept.few in
     let part = (round-part endpoints rounds asks starts round start end kept low at at2).1 in
-    ap (λ l. map pair_of (filter (has_rank_in ((round * 256 + src) * 256) ((round * 256 + src) * 256 + 256)) l)) part
-    ∙ ap (map pair_of) (filter-filter asks ((round * 256 + src) * 256) ((round * 256 + src) * 256 + 256) (round * 65536) ((round + 1) * 65536) (omega arith) (omega arith))
+    ap (λ l. map pair_of (filter (has_rank_in rank_of ((round * 256 + src) * 256) ((round * 256 + src) * 256 + 256)) l)) part
+    ∙ ap (map pair_of) (filter-filter rank_of asks ((round * 256 + src) * 256) ((round * 256 + src) * 256 + 256) (round * 65536) ((round + 1) * 65536) (omega arith) (omega arith))
     ∙ ap (map pair_of) (filter-block asks round src (omega arith) (among-more endpoints 256 asks kept.few kept.among))
     ∙ asked-pairs endpoints round src asks kept.rising kept.among

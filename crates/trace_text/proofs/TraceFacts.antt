@@ -1,12 +1,11 @@
 -- A text row by row: what is known of the rows that were read is known of the text.
-use Rattle.std.proofs.Common.{◌≡◌, ◌≢◌, ℕ, ◌+◌, ◌≤◌, List, [], ◌∷◌, ◌++◌, length, Bool, true, false, cond, Some, Result, Ok, Err, IfOk, IfErr, refl, sym, ap, subst, ◌∙◌, arith}
-use Rattle.std.specs.Prelude.{◌==◌, ◌&&◌, sum_by, unwrap_or}
-use Rattle.std.proofs.lemmas.List.Sums.{sum_by-cons}
+use Rattle.std.proofs.Common.{◌≡◌, ◌≢◌, ℕ, ◌+◌, List, [], ◌∷◌, ◌++◌, length, Some, Result, Ok, Err, IfOk, IfErr, refl, sym, ap, subst, ◌∙◌}
+use Rattle.std.specs.Prelude.{sum_by, unwrap_or}
 use Rattle.trace_text.specs.Fields.{Record}
-use Rattle.trace_text.specs.Rows.{Row, Net, Ask, Meets, Boot, Raw, End}
-use Rattle.trace_text.specs.Earlier.{net_of, end_of, slots_of, slots_in_round}
+use Rattle.trace_text.specs.Rows.{Row}
+use Rattle.trace_text.specs.Earlier.{net_of, end_of, slots_in_round}
 use Rattle.trace_text.specs.Faults.{read_row}
-use Rattle.trace_text.specs.Trace.{TraceContent, IsFaultOf, content_by, content_or_fault, ended, records_of, rows_after, trace_of}
+use Rattle.trace_text.specs.Trace.{TraceContent, IsFaultOf, content_by, content_or_fault, ended, events_of, records_of, rows_after, trace_of}
 use Rattle.trace_text.specs.Standing.{Finishes, TakesRow, StandsFor}
 use Rattle.trace_text.specs.Valid.{IsTrace}
 use Rattle.trace_text.specs.declared.command.Command.{Command}
@@ -15,31 +14,13 @@ use Rattle.trace_text.specs.declared.fault.TraceRefused.{TraceRefused}
 use Rattle.trace_text.specs.declared.fault.TraceRefused.TheVariants as refused
 use Rattle.trace_text.specs.declared.rows.Rows.{Rows}
 
--- what a flow asks for in one round it asks for
-row-le : (round src dst : ℕ) (row : Row) → slots_in_round round src dst row ≤ slots_of src dst row
-row-le round src dst (Ask r s d slots) = by (r == round) (s == src) (d == dst)
-  where
-    by : (a b c : Bool) → cond (a && b && c) slots 0 ≤ cond (b && c) slots 0
-    by true b c = omega arith
-    by false b c = omega arith
-row-le round src dst (Net racks hosts cores) = omega arith
-row-le round src dst (Meets r endpoint down fate) = omega arith
-row-le round src dst (Boot r endpoint) = omega arith
-row-le round src dst (Raw r packet) = omega arith
-row-le round src dst (End rounds) = omega arith
-
-pub in_round-le : (round src dst : ℕ) (rows : List Row) → sum_by (slots_in_round round src dst) rows ≤ sum_by (slots_of src dst) rows
-in_round-le round src dst [] = omega arith
-in_round-le round src dst (row ∷ rows) =
-    omega (arith, sum_by-cons (slots_in_round round src dst) row rows, sum_by-cons (slots_of src dst) row rows, row-le round src dst row, in_round-le round src dst rows)
-
 -- the rows have ended
 pub ended-some : (before : List Row) (rounds : ℕ) → length before ≢ 0 → end_of before ≡ Some rounds
-    → content_or_fault (ended before (end_of before)) ≡ Ok (content_by (net_of before) rounds (λ round src dst. sum_by (slots_in_round round src dst) before))
+    → content_or_fault (ended before (end_of before)) ≡ Ok (content_by (net_of before) rounds (λ round src dst. sum_by (slots_in_round round src dst) before) (events_of before))
 ended-some [] rounds some e = absurd (some refl)
 ended-some (row ∷ rows) rounds some e =
     ap content_or_fault (ap (ended (row ∷ rows)) e)
-    ∙ ap (λ o. Ok (content_by (net_of (row ∷ rows)) (unwrap_or o 0) (λ round src dst. sum_by (slots_in_round round src dst) (row ∷ rows)))) e
+    ∙ ap (λ o. Ok (content_by (net_of (row ∷ rows)) (unwrap_or o 0) (λ round src dst. sum_by (slots_in_round round src dst) (row ∷ rows)) (events_of (row ∷ rows)))) e
 
 -- a row was read
 pub rows_after-ok : (command : Command) (fields : Record) (records : List Record) (before : List Row) (row : Row) → read_row command before fields ≡ Ok row

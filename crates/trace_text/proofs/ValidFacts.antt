@@ -1,21 +1,29 @@
 -- What is asked for in a trace rises, lies within the net, and is bounded for each flow.
-use Rattle.std.proofs.Common.{◌≡◌, ℕ, zero, suc, ◌+◌, ◌<◌, ◌≤◌, List, [], ◌∷◌, length, get_or, map, Bool, true, false, cond, All, refl, sym, ap, subst, ◌∙◌, arith}
+use Rattle.std.proofs.Common.{◌≡◌, ◌≢◌, ℕ, zero, suc, ◌+◌, ◌<◌, ◌≤◌, List, [], ◌∷◌, length, get_or, map, Bool, true, false, cond, All, AllPairs, Option, None, IfSome, refl, sym, ap, subst, ◌∙◌, arith}
 use Rattle.std.specs.Prelude.{◌==◌, ◌&&◌, nat_lt, filter, sum_by}
 use Rattle.std.specs.List.{range_with_len}
 use Rattle.std.specs.List.Sorted.{IsStrictlyIncreasing}
 use Rattle.std.proofs.lemmas.Bool.Decides.{nat_tests}
+use Rattle.std.proofs.lemmas.List.{length-map, get_or-map}
 use Rattle.std.proofs.lemmas.List.Elements.{All-filter, filter_passes}
 use Rattle.std.proofs.lemmas.List.FromFn.{get_or-map-range_with_len, length-map-range_with_len}
+use Rattle.std.proofs.lemmas.List.Kept.{AllPairs-from_increasing}
 use Rattle.std.proofs.lemmas.List.Sums.{sum_by-cons}
-use Rattle.std.proofs.Math.ListN.{get_or-eq_default}
-use Rattle.std.proofs.lemmas.Bool.{ltb-false}
 use Rattle.clos_topology.specs.Network.{Network, endpoints_of}
-use Rattle.trace_text.specs.Rows.{Row, Net, Ask, Meets, Boot, Raw, End}
-use Rattle.trace_text.specs.Earlier.{slots_of, slots_in_round}
-use Rattle.trace_text.specs.Trace.{asked_at, content_by, each_below, some_below}
-use Rattle.trace_text.specs.Valid.{AreAsked, IsTrace, amount_for}
-use Rattle.trace_text.specs.Standing.{IsWhole}
-use Rattle.trace_text.proofs.ContentFacts.{asked_at-content_by}
+use Rattle.clos_topology.specs.Limits.{IsNetwork}
+use Rattle.trace_text.specs.Asks.{IsAmong, slots_asked, slots_for}
+use Rattle.trace_text.specs.Events.{AreAmong, events_kept, is_boot_of}
+use Rattle.trace_text.specs.Faults.{is_fate}
+use Rattle.trace_text.specs.Trace.{Events, of_way, content_by, each_below, table_of, some_below}
+use Rattle.trace_text.proofs.ContentFacts.{below-at, below-cases, table-cases}
+use Rattle.loss_world.specs.declared.fate.Fate.{Fate}
+use Rattle.trace_text.specs.Valid.{IsAskList, IsTrace, amount_for, total_asked}
+use Rattle.trace_text.specs.declared.ask.Ask.{Ask}
+use Rattle.trace_text.specs.declared.events.GivenFate.{GivenFate}
+use Rattle.trace_text.specs.declared.events.Boot.{Boot}
+use Rattle.trace_text.specs.declared.events.RawPacket.{RawPacket}
+use Rattle.trace_text.proofs.AskFacts.{own-none}
+use Rattle.trace_text.proofs.EventFacts.{holds-told, versions-told, short-told}
 use mathlib.Core.Path.{fun_ext}
 
 -- a sum is at most another where each term is
@@ -27,6 +35,11 @@ sum_by-below f g (x ∷ xs) le = omega (arith, sum_by-cons f x xs, sum_by-cons g
 sum_by-plus : {X : Type 0} (f g : X → ℕ) (xs : List X) → sum_by (λ x. f x + g x) xs ≡ sum_by f xs + sum_by g xs
 sum_by-plus f g [] = refl
 sum_by-plus f g (x ∷ xs) = omega (arith, sum_by-cons (λ y. f y + g y) x xs, sum_by-cons f x xs, sum_by-cons g x xs, sum_by-plus f g xs)
+
+-- a sum over what is made of each
+sum_by-map : {X Y : Type 0} (f : Y → ℕ) (g : X → Y) (xs : List X) → sum_by f (map g xs) ≡ sum_by (λ x. f (g x)) xs
+sum_by-map f g [] = refl
+sum_by-map f g (x ∷ xs) = omega (arith, sum_by-cons f (g x) (map g xs), sum_by-cons (λ y. f (g y)) x xs, sum_by-map f g xs)
 
 -- pairs whose first parts rise, from low on
 abbrev RisesFrom : ℕ → List (ℕ × ℕ) → Type 0
@@ -86,42 +99,29 @@ each-made endpoints f k d lt =
     let is = get_or-map-range_with_len pair 0 endpoints k k d long (omega arith) in
     subst (λ (p : ℕ × ℕ). (p.0 < endpoints) × (p.1 ≡ f p.0)) (sym is) (long, refl)
 
-some-asked : (endpoints src : ℕ) (f : ℕ → ℕ) → f src ≡ 0 → AreAsked endpoints src (some_below endpoints f)
-some-asked endpoints src f none = record {
-  rising = rises-strictly 0 (some_below endpoints f) (some-rises endpoints 0 f);
-  each = λ k d lt.
-      let p = get_or (some_below endpoints f) k d in
-      let made : p.0 < endpoints × (p.1 ≡ f p.0) = All-filter (λ p. nat_lt 0 p.1) (λ p. (p.0 < endpoints) × (p.1 ≡ f p.0)) (each_below endpoints (λ x. (x, f x))) (each-made endpoints f) k d lt in
-      let some : nat_lt 0 p.1 ≡ true = filter_passes (λ p. nat_lt 0 p.1) (each_below endpoints (λ x. (x, f x))) k d lt in
-      let above : 0 < p.1 = grind (arith, nat_tests) in
-      (made.0, (λ same. let zero_is : f p.0 ≡ 0 = ap f same ∙ none in let amount = made.1 in omega arith), above);
+some-asked : (endpoints : ℕ) (f : ℕ → ℕ) → All (λ (p : ℕ × ℕ). (p.0 < endpoints) × (p.1 ≡ f p.0) × (0 < p.1)) (some_below endpoints f)
+some-asked endpoints f k d lt =
+    let p = get_or (some_below endpoints f) k d in
+    let made : p.0 < endpoints × (p.1 ≡ f p.0) = All-filter (λ p. nat_lt 0 p.1) (λ p. (p.0 < endpoints) × (p.1 ≡ f p.0)) (each_below endpoints (λ x. (x, f x))) (each-made endpoints f) k d lt in
+    let some : nat_lt 0 p.1 ≡ true = filter_passes (λ p. nat_lt 0 p.1) (each_below endpoints (λ x. (x, f x))) k d lt in
+    let above : 0 < p.1 = grind (arith, nat_tests) in
+    (made.0, made.1, above)
+
+rises : (ps : List (ℕ × ℕ)) → IsStrictlyIncreasing (map (λ p. p.0) ps) → AllPairs (λ p q. p.0 < q.0) ps
+rises ps rising i j d lt below =
+    let first : ℕ × ℕ → ℕ = λ p. p.0 in
+    let long : j < length (map first ps) = omega (arith, length-map ps first) in
+    let pairs : get_or (map first ps) i 0 < get_or (map first ps) j 0 = AllPairs-from_increasing (map first ps) rising i j 0 lt long in
+    omega (arith, get_or-map first ps i d 0 (omega arith), get_or-map first ps j d 0 below)
+
+ask_list : (endpoints : ℕ) (f : ℕ → ℕ) → IsAskList endpoints (some_below endpoints f)
+ask_list endpoints f = record {
+  rising = rises (some_below endpoints f) (rises-strictly 0 (some_below endpoints f) (some-rises endpoints 0 f));
+  in_range = λ k d lt. (some-asked endpoints f k d lt).0;
+  some = λ k d lt. (some-asked endpoints f k d lt).2;
 }
 
--- outside the net and the rounds nothing is asked for
-asked_at-cases : (net : Network) (rounds : ℕ) (f : ℕ → ℕ → ℕ → ℕ) (round src : ℕ) (P : List (ℕ × ℕ) → Type 0) → P [] → P (some_below (endpoints_of net) (f round src)) → P (asked_at (content_by net rounds f) round src)
-asked_at-cases net rounds f round src P none some = by (nat_lt round rounds) refl (nat_lt src (endpoints_of net)) refl
-  where
-    endpoints : ℕ
-    endpoints = endpoints_of net
-
-    row : ℕ → List (List (ℕ × ℕ))
-    row r = each_below endpoints (λ s. some_below endpoints (f r s))
-
-    by : (a : Bool) → nat_lt round rounds ≡ a → (b : Bool) → nat_lt src endpoints ≡ b → P (asked_at (content_by net rounds f) round src)
-    by true e true g =
-        let low : round < rounds = grind (arith, nat_tests) in
-        let low2 : src < endpoints = grind (arith, nat_tests) in
-        subst P (sym (asked_at-content_by net rounds f round src low low2)) some
-    by true e false g =
-        let low : round < rounds = grind (arith, nat_tests) in
-        let high : length (row round) ≤ src = omega (arith, length-map-range_with_len (λ s. some_below endpoints (f round s)) 0 endpoints, ltb-false src endpoints g) in
-        let here : get_or (each_below rounds row) round [] ≡ row round = get_or-map-range_with_len row 0 rounds round round [] low (omega arith) in
-        subst P (sym (ap (λ l. get_or l src []) here ∙ get_or-eq_default (row round) [] high)) none
-    by false e b g =
-        let high : length (each_below rounds row) ≤ round = omega (arith, length-map-range_with_len row 0 rounds, ltb-false round rounds e) in
-        subst P (sym (ap (λ l. get_or l src []) (get_or-eq_default (each_below rounds row) [] high))) none
-
--- a row asks in one round at most
+-- an ask is one of one round at most
 some-round : (count low : ℕ) (round slots : ℕ) (b : Bool)
     → (sum_by (λ r. cond ((round == r) && b) slots 0) (range_with_len low count) ≤ cond b slots 0)
     × (round < low → sum_by (λ r. cond ((round == r) && b) slots 0) (range_with_len low count) ≡ 0)
@@ -147,59 +147,123 @@ none-round : (count low : ℕ) → sum_by (λ (r : ℕ). 0) (range_with_len low 
 none-round zero low = refl
 none-round (suc count) low = sum_by-cons (λ (r : ℕ). 0) low (range_with_len (low + 1) count) ∙ omega (arith, none-round count (low + 1))
 
-row-rounds : (count src dst : ℕ) (row : Row) → sum_by (λ r. slots_in_round r src dst row) (range_with_len 0 count) ≤ slots_of src dst row
-row-rounds count src dst (Ask round s d slots) =
-    let grouped : sum_by (λ r. cond ((round == r) && (s == src) && (d == dst)) slots 0) (range_with_len 0 count) ≡ sum_by (λ r. cond ((round == r) && ((s == src) && (d == dst))) slots 0) (range_with_len 0 count) =
-    ap (λ g. sum_by g (range_with_len 0 count)) (fun_ext (λ r. by (round == r))) in
-    rw grouped (some-round count 0 round slots ((s == src) && (d == dst))).0
+ask-rounds : (count src dst : ℕ) (ask : Ask) → sum_by (λ r. slots_asked r src dst ask) (range_with_len 0 count) ≤ slots_for src dst ask
+ask-rounds count src dst ask =
+    let grouped : sum_by (λ r. slots_asked r src dst ask) (range_with_len 0 count) ≡ sum_by (λ r. cond ((ask.round == r) && ((ask.src == src) && (ask.dst == dst))) ask.slots 0) (range_with_len 0 count) =
+    ap (λ g. sum_by g (range_with_len 0 count)) (fun_ext (λ r. by (ask.round == r))) in
+    rw grouped (some-round count 0 ask.round ask.slots ((ask.src == src) && (ask.dst == dst))).0
   where
-    by : (a : Bool) → cond (a && (s == src) && (d == dst)) slots 0 ≡ cond (a && ((s == src) && (d == dst))) slots 0
+    by : (a : Bool) → cond (a && (ask.src == src) && (ask.dst == dst)) ask.slots 0 ≡ cond (a && ((ask.src == src) && (ask.dst == dst))) ask.slots 0
     by true = refl
     by false = refl
-row-rounds count src dst (Net racks hosts cores) = omega (arith, none-round count 0)
-row-rounds count src dst (Meets r endpoint down fate) = omega (arith, none-round count 0)
-row-rounds count src dst (Boot r endpoint) = omega (arith, none-round count 0)
-row-rounds count src dst (Raw r packet) = omega (arith, none-round count 0)
-row-rounds count src dst (End rounds) = omega (arith, none-round count 0)
 
-rounds-le : (count src dst : ℕ) (rows : List Row) → sum_by (λ r. sum_by (slots_in_round r src dst) rows) (range_with_len 0 count) ≤ sum_by (slots_of src dst) rows
+rounds-le : (count src dst : ℕ) (asks : List Ask) → sum_by (λ r. sum_by (slots_asked r src dst) asks) (range_with_len 0 count) ≤ sum_by (slots_for src dst) asks
 rounds-le count src dst [] = omega (arith, none-round count 0)
-rounds-le count src dst (row ∷ rows) =
-    let split : sum_by (λ r. sum_by (slots_in_round r src dst) (row ∷ rows)) (range_with_len 0 count) ≡ sum_by (λ r. slots_in_round r src dst row + sum_by (slots_in_round r src dst) rows) (range_with_len 0 count) =
-    ap (λ g. sum_by g (range_with_len 0 count)) (fun_ext (λ r. sum_by-cons (slots_in_round r src dst) row rows)) in
+rounds-le count src dst (ask ∷ asks) =
+    let split : sum_by (λ r. sum_by (slots_asked r src dst) (ask ∷ asks)) (range_with_len 0 count) ≡ sum_by (λ r. slots_asked r src dst ask + sum_by (slots_asked r src dst) asks) (range_with_len 0 count) =
+    ap (λ g. sum_by g (range_with_len 0 count)) (fun_ext (λ r. sum_by-cons (slots_asked r src dst) ask asks)) in
     omega (
       arith,
       split,
-      sum_by-plus (λ r. slots_in_round r src dst row) (λ r. sum_by (slots_in_round r src dst) rows) (range_with_len 0 count),
-      sum_by-cons (slots_of src dst) row rows,
-      row-rounds count src dst row,
-      rounds-le count src dst rows,
+      sum_by-plus (λ r. slots_asked r src dst ask) (λ r. sum_by (slots_asked r src dst) asks) (range_with_len 0 count),
+      sum_by-cons (slots_for src dst) ask asks,
+      ask-rounds count src dst ask,
+      rounds-le count src dst asks,
     )
 
-none-asked : (endpoints src : ℕ) → AreAsked endpoints src []
-none-asked endpoints src = record { rising = λ k lt. absurd (omega arith); each = λ k d lt. absurd (omega arith) }
+-- what a flow asks for in one round it asks for
+pub asked-le : (round src dst : ℕ) (asks : List Ask) → sum_by (slots_asked round src dst) asks ≤ sum_by (slots_for src dst) asks
+asked-le round src dst asks = sum_by-below (slots_asked round src dst) (slots_for src dst) asks (λ ask. by (ask.round == round) (ask.src == src) (ask.dst == dst) ask.slots)
+  where
+    by : (a b c : Bool) (slots : ℕ) → cond (a && b && c) slots 0 ≤ cond (b && c) slots 0
+    by true b c slots = omega arith
+    by false b c slots = omega arith
 
-abbrev row : ℕ → (ℕ → ℕ → ℕ → ℕ) → ℕ → List (List (ℕ × ℕ))
-row endpoints f round = each_below endpoints (λ src. some_below endpoints (f round src))
+-- a boot is one of one round at most
+boots-le : (count endpoint : ℕ) (boots : List Boot) → sum_by (λ r. length (map (λ boot. boot.version) (filter (is_boot_of r endpoint) boots))) (range_with_len 0 count) ≤ length boots
+boots-le count endpoint [] = omega (arith, none-round count 0)
+boots-le count endpoint (boot ∷ boots) =
+    let told : ℕ → ℕ = λ r. length (map (λ (b : Boot). b.version) (filter (is_boot_of r endpoint) boots)) in
+    let split : sum_by (λ r. length (map (λ (b : Boot). b.version) (filter (is_boot_of r endpoint) (boot ∷ boots)))) (range_with_len 0 count)
+    ≡ sum_by (λ r. cond ((boot.round == r) && (boot.endpoint == endpoint)) 1 0 + told r) (range_with_len 0 count) =
+    ap (λ g. sum_by g (range_with_len 0 count)) (fun_ext (λ r. by ((boot.round == r) && (boot.endpoint == endpoint)) (filter (is_boot_of r endpoint) boots))) in
+    omega (
+      arith,
+      split,
+      sum_by-plus (λ r. cond ((boot.round == r) && (boot.endpoint == endpoint)) 1 0) told (range_with_len 0 count),
+      (some-round count 0 boot.round 1 (boot.endpoint == endpoint)).0,
+      at_most (boot.endpoint == endpoint),
+      boots-le count endpoint boots,
+    )
+  where
+    by : (b : Bool) (rest : List Boot) → length (map (λ (b : Boot). b.version) (cond b (boot ∷ rest) rest)) ≡ cond b 1 0 + length (map (λ (b : Boot). b.version) rest)
+    by true rest = omega arith
+    by false rest = omega arith
 
-pub content_by-valid : (net : Network) (rounds : ℕ) (f : ℕ → ℕ → ℕ → ℕ) (rows : List Row) → IsWhole net → rounds ≤ 100000 → ((round src : ℕ) → f round src src ≡ 0)
-    → ((round src dst : ℕ) → f round src dst ≡ sum_by (slots_in_round round src dst) rows) → ((src dst : ℕ) → sum_by (slots_of src dst) rows ≤ 100000000) → IsTrace (content_by net rounds f)
-content_by-valid net rounds f rows whole short own is bounded = record {
-  net = whole.0;
-  enough = whole.1;
-  rounds = short;
-  by_round = length-map-range_with_len (row endpoints f) 0 rounds;
-  by_source = λ k d lt.
-      let low : k < rounds = omega (arith, length-map-range_with_len (row endpoints f) 0 rounds) in
-      ap length (get_or-map-range_with_len (row endpoints f) 0 rounds k k d low (omega arith)) ∙ length-map-range_with_len (λ src. some_below endpoints (f k src)) 0 endpoints;
-  asked = λ round src. asked_at-cases net rounds f round src (AreAsked endpoints src) (none-asked endpoints src) (some-asked endpoints src (f round src) (own round src));
-  bounded = λ round src dst.
-      let below : sum_by (λ r. amount_for dst (asked_at (content_by net rounds f) r src)) (range_with_len 0 round) ≤ sum_by (λ r. f r src dst) (range_with_len 0 round) =
-      sum_by-below _ _ (range_with_len 0 round) (λ r. asked_at-cases net rounds f r src (λ l. amount_for dst l ≤ f r src dst) (omega arith) (some-amount endpoints 0 (f r src) dst).0) in
-      let same : sum_by (λ r. f r src dst) (range_with_len 0 round) ≡ sum_by (λ r. sum_by (slots_in_round r src dst) rows) (range_with_len 0 round) =
-      ap (λ g. sum_by g (range_with_len 0 round)) (fun_ext (λ r. is r src dst)) in
-      omega (arith, below, same, rounds-le round src dst rows, bounded src dst);
+    at_most : (b : Bool) → cond b 1 0 ≤ 1
+    at_most true = omega arith
+    at_most false = omega arith
+
+-- what a source asks for, in a round
+abbrev some_asked : ℕ → (ℕ → ℕ → ℕ → ℕ) → ℕ → ℕ → List (ℕ × ℕ)
+some_asked endpoints f round src = some_below endpoints (f round src)
+
+total-le : (endpoints rounds src dst : ℕ) (f : ℕ → ℕ → ℕ → ℕ) → total_asked (table_of rounds endpoints (some_asked endpoints f)) src dst ≤ sum_by (λ r. f r src dst) (range_with_len 0 rounds)
+total-le endpoints rounds src dst f =
+    rw (sum_by-map (λ (l : List (List (ℕ × ℕ))). amount_for dst (get_or l src [])) (λ r. each_below endpoints (some_asked endpoints f r)) (range_with_len 0 rounds))
+    (sum_by-below _ _ (range_with_len 0 rounds) (λ r. below-cases (λ l. amount_for dst l ≤ f r src dst) endpoints (some_asked endpoints f r) [] src (omega arith) (some-amount endpoints 0 (f r src) dst).0))
+
+pub content_by-sound : (net : Network) (rounds : ℕ) (asks : List Ask) (fates : List GivenFate) (boots : List Boot) (raws : List RawPacket) (bytes : List ℕ) → IsNetwork net → 1 ≤ rounds → rounds ≤ 100000 → All (IsAmong (endpoints_of net)) asks
+    → ((src dst : ℕ) → sum_by (slots_for src dst) asks ≤ 100000000) → AreAmong (endpoints_of net) fates boots raws bytes → length boots ≤ 67108864
+    → IsTrace (content_by net rounds (λ round src dst. sum_by (slots_asked round src dst) asks) (events_kept fates boots raws bytes))
+content_by-sound net rounds asks fates boots raws bytes limits some few among bounded within few_boots = record {
+  net = limits;
+  some_round = some;
+  few_rounds = few;
+  rounds = length-map-range_with_len row 0 rounds;
+  sources = λ k d lt. ap length (row-at k d lt) ∙ length-map-range_with_len (some_asked endpoints f k) 0 endpoints;
+  asks = λ k d lt. subst (All (IsAskList endpoints)) (sym (row-at k d lt)) (λ src e below.
+      let low : src < endpoints = omega (arith, length-map-range_with_len (some_asked endpoints f k) 0 endpoints) in
+      subst (IsAskList endpoints) (sym (below-at endpoints (some_asked endpoints f k) e src low)) (ask_list endpoints (f k src)));
+  apart = λ round src. table-cases (All (λ p. p.0 ≢ src)) rounds endpoints (some_asked endpoints f) [] round src (λ k d lt. absurd (omega arith)) (λ k d lt same.
+      let p = get_or (some_below endpoints (f round src)) k d in
+      let told = some-asked endpoints (f round src) k d lt in
+      let none : f round src p.0 ≡ 0 = ap (f round src) same ∙ own-none endpoints round src asks among in
+      omega (arith, told.1, told.2, none));
+  bounded = λ src dst. omega (arith, total-le endpoints rounds src dst f, rounds-le rounds src dst asks, bounded src dst);
+  holds = λ round endpoint up. fate-holds round endpoint up;
+  versions = λ round endpoint. table-cases (All (λ version. (1 ≤ version) × (version ≤ 2))) rounds endpoints events.boots [] round endpoint (λ k d lt. absurd (omega arith))
+      (versions-told endpoints boots round endpoint within.each_boot);
+  few_boots = λ endpoint. omega (arith, boots-all endpoint, boots-le rounds endpoint boots, few_boots);
+  short = λ round. below-cases (All (λ packet. length packet ≤ 2048)) rounds events.raw [] round (λ k d lt. absurd (omega arith)) (short-told bytes raws round within.each_raw);
 }
   where
     endpoints : ℕ
     endpoints = endpoints_of net
+
+    f : ℕ → ℕ → ℕ → ℕ
+    f = λ round src dst. sum_by (slots_asked round src dst) asks
+
+    events : Events
+    events = events_kept fates boots raws bytes
+
+    row : ℕ → List (List (ℕ × ℕ))
+    row = λ round. each_below endpoints (some_asked endpoints f round)
+
+    row-at : (k : ℕ) (d : List (List (ℕ × ℕ))) → k < length (each_below rounds row) → get_or (each_below rounds row) k d ≡ row k
+    row-at k d lt = let low : k < rounds = omega (arith, length-map-range_with_len row 0 rounds) in below-at rounds row d k low
+
+    fate-holds : (round endpoint : ℕ) (up : Bool) → IfSome (of_way up (get_or (get_or (table_of rounds endpoints (λ r e. (events.fates r e true, events.fates r e false))) round []) endpoint (None, None))) (λ fate. is_fate fate ≡ true)
+    fate-holds round endpoint up =
+        table-cases (λ (p : Option Fate × Option Fate). IfSome (of_way up p) (λ fate. is_fate fate ≡ true)) rounds endpoints (λ r e. (events.fates r e true, events.fates r e false)) (None, None) round endpoint (no_fate up) (a_fate up)
+      where
+        no_fate : (u : Bool) → IfSome (of_way u (None, None)) (λ fate. is_fate fate ≡ true)
+        no_fate true = tt
+        no_fate false = tt
+
+        a_fate : (u : Bool) → IfSome (of_way u (events.fates round endpoint true, events.fates round endpoint false)) (λ fate. is_fate fate ≡ true)
+        a_fate true = holds-told endpoints fates round endpoint true within.each_fate
+        a_fate false = holds-told endpoints fates round endpoint false within.each_fate
+
+    boots-all : (endpoint : ℕ) → sum_by (λ r. length (get_or (get_or (table_of rounds endpoints events.boots) r []) endpoint [])) (range_with_len 0 rounds) ≤ sum_by (λ r. length (events.boots r endpoint)) (range_with_len 0 rounds)
+    boots-all endpoint = sum_by-below _ _ (range_with_len 0 rounds) (λ r. table-cases (λ (l : List ℕ). length l ≤ length (events.boots r endpoint)) rounds endpoints events.boots [] r endpoint (omega arith) (omega arith))

@@ -1,6 +1,9 @@
 -- The asks that are kept of a trace, and their order: by round, then source, then destination.
-use Rattle.std.specs.Prelude.{◌≢◌, ℕ, ◌+◌, ◌*◌, ◌<◌, ◌≤◌, ◌==◌, ◌&&◌, List, [], ◌∷◌, Bool, ⊤, true, false, nat_lt, nat_le, ◌≡◌, length, slice_index, if◌then◌else◌, All}
-use Rattle.std.specs.List.Sorted.{IsPartitionPoint}
+use Rattle.std.specs.Prelude.{◌≢◌, ℕ, ◌+◌, ◌*◌, ◌<◌, ◌≤◌, ◌==◌, ◌&&◌, List, [], ◌∷◌, Bool, ⊤, ◌≡◌, length, map, slice_index, if◌then◌else◌, All}
+use Rattle.std.specs.List.{flat_map, range_with_len}
+use Rattle.clos_topology.specs.Network.{endpoints_of}
+use Rattle.trace_text.specs.Ranks.{BeginsAt}
+use Rattle.trace_text.specs.Trace.{TraceContent, asked_at}
 use Rattle.trace_text.specs.declared.ask.Ask.{Ask}
 
 -- there are at most 256 endpoints
@@ -18,6 +21,10 @@ pub record IsAmong (endpoints : ℕ) (ask : Ask) : Type 0 where
 abbrev pub slots_asked : ℕ → ℕ → ℕ → Ask → ℕ
 slots_asked round src dst ask = if (ask.round == round) && (ask.src == src) && (ask.dst == dst) then ask.slots else 0
 
+-- the same in whatever round
+abbrev pub slots_for : ℕ → ℕ → Ask → ℕ
+slots_for src dst ask = if (ask.src == src) && (ask.dst == dst) then ask.slots else 0
+
 -- an ask of this round and source
 abbrev pub is_asked_by : ℕ → ℕ → Ask → Bool
 is_asked_by round src ask = (ask.round == round) && (ask.src == src)
@@ -27,13 +34,12 @@ abbrev pub IsRisingFrom : ℕ → List Ask → Type 0
 IsRisingFrom low [] = ⊤
 IsRisingFrom low (ask ∷ asks) = (low ≤ rank_of ask) × IsRisingFrom (rank_of ask + 1) asks
 
--- its rank is at least low, and below high
-abbrev pub has_rank_in : ℕ → ℕ → Ask → Bool
-has_rank_in low high ask = nat_le low (rank_of ask) && nat_lt (rank_of ask) high
+-- the asks of a round, rising by source and then destination
+abbrev pub ask_for : ℕ → ℕ → ℕ × ℕ → Ask
+ask_for round src asked = record { round = round; src = src; dst = asked.0; slots = asked.1 }
 
--- from where on the asks have at least this rank
-abbrev pub BeginsAt : List Ask → ℕ → ℕ → Type 0
-BeginsAt asks rank at = (at ≤ length asks) × IsPartitionPoint (λ ask. nat_lt (rank_of ask) rank ≡ true) (λ ask. nat_lt (rank_of ask) rank ≡ false) asks at
+abbrev pub asks_in : TraceContent → ℕ → List Ask
+asks_in trace round = flat_map (λ src. map (ask_for round src) (asked_at trace round src)) (range_with_len 0 (endpoints_of trace.net))
 
 -- what a trace keeps: one ask a round and flow, rising, and where the asks of each round begin
 pub record IsKept (endpoints rounds : ℕ) (asks : List Ask) (starts : List ℕ) : Type 0 where
@@ -41,4 +47,4 @@ pub record IsKept (endpoints rounds : ℕ) (asks : List Ask) (starts : List ℕ)
   pub rising : IsRisingFrom 0 asks
   pub among : All (IsAmong endpoints) asks
   pub each : length starts ≡ rounds + 1
-  pub begin : (round : ℕ) → round ≤ rounds → BeginsAt asks (round * 65536) (slice_index starts round)
+  pub begin : (round : ℕ) → round ≤ rounds → BeginsAt rank_of asks (round * 65536) (slice_index starts round)

@@ -15,4 +15,3 @@ fault_number fault.Sum = 8
 fault_number fault.NoEnd = 9
 fault_number fault.NotHere = 10
 fault_number fault.TwoFates = 11
-fault_number fault.Cores = 12

@@ -6,9 +6,11 @@ use Rattle.std.specs.Str.{bytes_eq}
 use Rattle.clos_topology.specs.Network.{endpoints_of}
 use Rattle.clos_topology.specs.Limits as limits
 use Rattle.trace_text.specs.Fields.{Record, field}
-use Rattle.trace_text.specs.Rows.{Row, Net, Ask, Meets, Boot, Raw, End, Fate, Hold, kind_of, field_count, is_readable, row_of}
+use Rattle.loss_world.specs.declared.fate.Fate.{Fate}
+use Rattle.loss_world.specs.declared.fate.Fate.TheVariants.{Hold}
+use Rattle.trace_text.specs.Rows.{Row, Net, Ask, Meets, Boot, Raw, End, kind_of, may_have, is_readable, row_of}
 use Rattle.trace_text.specs.Stage.{takes_kind}
-use Rattle.trace_text.specs.Earlier.{net_of, named_round, greatest_round, end_of, slots_of, gives_fate}
+use Rattle.trace_text.specs.Earlier.{net_of, named_round, greatest_round, end_of, slots_of, fate_in}
 use Rattle.trace_text.specs.declared.command.Command.{Command}
 use Rattle.trace_text.specs.declared.kind.Kind.{Kind}
 use Rattle.trace_text.specs.declared.fault.Fault.{Fault}
@@ -25,19 +27,14 @@ abbrev pub is_fate : Fate → Bool
 is_fate (Hold rounds) = is_between 1 100 rounds
 is_fate fate = true
 
--- each field is in its range, in a net of so many endpoints; a byte of a packet takes two digits
+-- each field is in its range, in a net of so many endpoints
 abbrev pub is_in_range : ℕ → Row → Bool
 is_in_range endpoints (Net racks hosts cores) = limits.is_in_range racks hosts cores
 is_in_range endpoints (Ask round src dst slots) = is_round round && nat_lt src endpoints && nat_lt dst endpoints && is_between 1 100000000 slots
-is_in_range endpoints (Meets round endpoint down fate) = is_round round && nat_lt endpoint endpoints && is_fate fate
-is_in_range endpoints (Boot round endpoint) = is_round round && nat_lt endpoint endpoints
-is_in_range endpoints (Raw round packet) = is_round round && nat_le (length packet) 4096
+is_in_range endpoints (Meets round endpoint up fate) = is_round round && nat_lt endpoint endpoints && is_fate fate
+is_in_range endpoints (Boot round endpoint version) = is_round round && nat_lt endpoint endpoints && is_between 1 2 version
+is_in_range endpoints (Raw round packet) = is_round round && nat_le (length packet) 2048
 is_in_range endpoints (End rounds) = is_between 1 100000 rounds
-
--- a net of several racks has more hosts in a rack than cores
-abbrev pub lacks_cores : Row → Bool
-lacks_cores (Net racks hosts cores) = limits.lacks_cores racks hosts cores
-lacks_cores row = false
 
 -- an endpoint asks for itself
 abbrev pub is_self_flow : Row → Bool
@@ -62,14 +59,13 @@ asks_too_much before row = false
 
 -- an earlier row gave a fate to the same packet
 abbrev pub has_two_fates : List Row → Row → Bool
-has_two_fates before (Meets round endpoint down fate) = list_any (gives_fate round endpoint down) before
+has_two_fates before (Meets round endpoint up fate) = list_any (λ row. is_some (fate_in round endpoint up row)) before
 has_two_fates before row = false
 
 -- the fault of a row that could be read, or the row
 unfoldable pub checked : List Row → Row → Result Row Fault
 checked before row =
     if not (is_in_range (endpoints_of (net_of before)) row) then Err fault.Range
-    else if lacks_cores row then Err fault.Cores
     else if is_self_flow row then Err fault.SelfFlow
     else if is_out_of_order before row then Err fault.Order
     else if asks_too_much before row then Err fault.Sum
@@ -80,7 +76,7 @@ checked before row =
 unfoldable pub read_kind : Command → List Row → Record → Kind → Result Row Fault
 read_kind command before fields k =
     if not (takes_kind command k) then Err fault.NotHere
-    else if not (length fields == field_count k) then Err fault.Fields
+    else if not (may_have k (length fields)) then Err fault.Fields
     else if not (is_readable k fields) then Err fault.Number
     else checked before (row_of k fields)
 

@@ -1,9 +1,10 @@
 -- The fields of a row of a trace: numbers, ways and hexadecimal bytes, by this project's own profile.
-use Rattle.std.specs.Prelude.{ℕ, ◌%◌, List, [], length, Bool, not, ◌&&◌, ◌||◌, ◌==◌, nat_lt, nat_le, slice_index, slice_index_or, codes}
+use Rattle.std.specs.Prelude.{ℕ, ◌%◌, List, [], length, Result, Ok, Err, Bool, not, ◌&&◌, ◌||◌, ◌==◌, nat_lt, nat_le, slice_index, slice_index_or, codes}
 use Rattle.std.specs.List.{list_all}
-use Rattle.std.specs.Char.{is_ascii_digit, is_digit}
+use Rattle.std.specs.Char.{is_ascii_digit}
 use Rattle.std.specs.Str.{bytes_eq}
 use Rattle.std.specs.Str.Parse.{digits_value}
+use Rattle.hex.specs.Hex.{decode_of, is_hex_digit}
 
 -- the bytes of a field, and the fields of a row with the one that names its kind
 abbrev pub Field : Type 0
@@ -36,12 +37,20 @@ abbrev pub has_number : Record → ℕ → Bool
 has_number fields at = is_number (field fields at)
 
 -- the ways of a packet: up to the arbiter, and down to the endpoint
-abbrev pub is_down : Field → Bool
-is_down text = bytes_eq text (codes "down")
+abbrev pub is_up : Field → Bool
+is_up text = bytes_eq text (codes "up")
 
 abbrev pub is_way : Field → Bool
-is_way text = bytes_eq text (codes "up") || is_down text
+is_way text = is_up text || bytes_eq text (codes "down")
 
 -- hexadecimal digits of whole bytes, in either case; no digit stands for no bytes
 unfoldable pub is_hex : Field → Bool
-is_hex text = list_all (λ c. is_digit c 16) text && (length text % 2 == 0)
+is_hex text = list_all is_hex_digit text && (length text % 2 == 0)
+
+-- the bytes that they write
+abbrev pub bytes_or_none : {E : Type 0} → Result (List ℕ) E → List ℕ
+bytes_or_none (Ok bytes) = bytes
+bytes_or_none (Err e) = []
+
+abbrev pub bytes_of : Field → List ℕ
+bytes_of text = bytes_or_none (decode_of text)

@@ -3,9 +3,12 @@ pub mod Rows
 pub mod Stage
 pub mod Earlier
 pub mod Faults
+pub mod Ranks
 pub mod Asks
+pub mod Events
 pub mod Standing
 pub mod Records
 pub mod Trace
 pub mod Valid
+pub mod Made
 pub mod FaultNumbers

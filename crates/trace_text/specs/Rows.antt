@@ -1,23 +1,19 @@
 -- The rows of a trace: their kinds, how many fields each kind has, and what these say. This project's own profile.
-use Rattle.std.specs.Prelude.{ℕ, Bool, ◌&&◌, Option, Some, None, if◌then◌else◌, codes}
+use Rattle.std.specs.Prelude.{ℕ, Bool, ◌&&◌, ◌||◌, ◌==◌, List, length, Option, Some, None, if◌then◌else◌, codes}
 use Rattle.std.specs.Str.{bytes_eq}
-use Rattle.trace_text.specs.Fields.{Field, Record, field, number_at, has_number, is_way, is_down, is_hex}
+use Rattle.loss_world.specs.declared.fate.Fate.{Fate}
+use Rattle.loss_world.specs.declared.fate.Fate.TheVariants.{Lose, Twice, Hold}
+use Rattle.trace_text.specs.Fields.{Field, Record, field, number_at, has_number, is_way, is_up, is_hex, bytes_of}
 use Rattle.trace_text.specs.declared.kind.Kind.{Kind}
 use Rattle.trace_text.specs.declared.kind.Kind.TheVariants as kind
 
--- what a packet meets: it is lost, comes twice, or is held for some rounds
-pub data Fate : Type 0 where
-  Lose : Fate
-  Twice : Fate
-  Hold : (rounds : ℕ) → Fate
-
--- a row, read field by field; a raw packet stays in hexadecimal
+-- a row, read field by field: what a packet of an endpoint meets on its way up or down, a boot and its version, a raw packet
 pub data Row : Type 0 where
   Net : (racks hosts cores : ℕ) → Row
   Ask : (round src dst slots : ℕ) → Row
-  Meets : (round endpoint : ℕ) (down : Bool) (fate : Fate) → Row
-  Boot : (round endpoint : ℕ) → Row
-  Raw : (round : ℕ) (packet : Field) → Row
+  Meets : (round endpoint : ℕ) (up : Bool) (fate : Fate) → Row
+  Boot : (round endpoint version : ℕ) → Row
+  Raw : (round : ℕ) (packet : List ℕ) → Row
   End : (rounds : ℕ) → Row
 
 -- the kind that a row's first field names
@@ -28,16 +24,23 @@ kind_of name =
     else if bytes_eq name (codes "hold") then Some kind.Hold else if bytes_eq name (codes "boot") then Some kind.Boot
     else if bytes_eq name (codes "raw") then Some kind.Raw else if bytes_eq name (codes "end") then Some kind.End else None
 
--- how many fields a row has with its first
-abbrev pub field_count : Kind → ℕ
-field_count kind.Net = 4
-field_count kind.Ask = 5
-field_count kind.Lose = 4
-field_count kind.Twice = 4
-field_count kind.Hold = 5
-field_count kind.Boot = 3
-field_count kind.Raw = 3
-field_count kind.End = 2
+-- a row of a kind has so many fields with its first; a boot may leave out its version
+abbrev pub may_have : Kind → ℕ → Bool
+may_have kind.Net count = count == 4
+may_have kind.Ask count = count == 5
+may_have kind.Lose count = count == 4
+may_have kind.Twice count = count == 4
+may_have kind.Hold count = count == 5
+may_have kind.Boot count = count == 3 || count == 4
+may_have kind.Raw count = count == 3
+may_have kind.End count = count == 2
+
+-- the version of a boot, which is 1 where it is left out
+abbrev pub has_version : Record → Bool
+has_version fields = length fields == 3 || has_number fields 3
+
+abbrev pub version_of : Record → ℕ
+version_of fields = if length fields == 3 then 1 else number_at fields 3
 
 -- each field that is to be a number, a way or bytes is one
 abbrev pub is_readable : Kind → Record → Bool
@@ -46,7 +49,7 @@ is_readable kind.Ask fields = has_number fields 1 && has_number fields 2 && has_
 is_readable kind.Lose fields = has_number fields 1 && has_number fields 2 && is_way (field fields 3)
 is_readable kind.Twice fields = has_number fields 1 && has_number fields 2 && is_way (field fields 3)
 is_readable kind.Hold fields = has_number fields 1 && has_number fields 2 && is_way (field fields 3) && has_number fields 4
-is_readable kind.Boot fields = has_number fields 1 && has_number fields 2
+is_readable kind.Boot fields = has_number fields 1 && has_number fields 2 && has_version fields
 is_readable kind.Raw fields = has_number fields 1 && is_hex (field fields 2)
 is_readable kind.End fields = has_number fields 1
 
@@ -54,9 +57,9 @@ is_readable kind.End fields = has_number fields 1
 abbrev pub row_of : Kind → Record → Row
 row_of kind.Net fields = Net (number_at fields 1) (number_at fields 2) (number_at fields 3)
 row_of kind.Ask fields = Ask (number_at fields 1) (number_at fields 2) (number_at fields 3) (number_at fields 4)
-row_of kind.Lose fields = Meets (number_at fields 1) (number_at fields 2) (is_down (field fields 3)) Lose
-row_of kind.Twice fields = Meets (number_at fields 1) (number_at fields 2) (is_down (field fields 3)) Twice
-row_of kind.Hold fields = Meets (number_at fields 1) (number_at fields 2) (is_down (field fields 3)) (Hold (number_at fields 4))
-row_of kind.Boot fields = Boot (number_at fields 1) (number_at fields 2)
-row_of kind.Raw fields = Raw (number_at fields 1) (field fields 2)
+row_of kind.Lose fields = Meets (number_at fields 1) (number_at fields 2) (is_up (field fields 3)) Lose
+row_of kind.Twice fields = Meets (number_at fields 1) (number_at fields 2) (is_up (field fields 3)) Twice
+row_of kind.Hold fields = Meets (number_at fields 1) (number_at fields 2) (is_up (field fields 3)) (Hold (number_at fields 4))
+row_of kind.Boot fields = Boot (number_at fields 1) (number_at fields 2) (version_of fields)
+row_of kind.Raw fields = Raw (number_at fields 1) (bytes_of (field fields 2))
 row_of kind.End fields = End (number_at fields 1)

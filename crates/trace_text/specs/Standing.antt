@@ -1,15 +1,17 @@
 -- What is kept of the rows so far, and what it stands for.
-use Rattle.std.specs.Prelude.{◌≡◌, ◌≢◌, ℕ, ◌+◌, ◌*◌, ◌<◌, ◌≤◌, List, [], ◌∷◌, ◌++◌, length, Option, Some, None, Bool, true, false, MatchOption, IsSome, IfSome, All, sum_by, slice_index, Result, Ok, Err, ⊤}
+use Rattle.std.specs.Prelude.{◌≡◌, ◌≢◌, ℕ, ◌+◌, ◌*◌, ◌<◌, ◌≤◌, List, [], ◌∷◌, ◌++◌, length, Option, Some, None, Bool, true, false, ◌&&◌, IsSome, IfSome, All, sum_by, slice_index, Result, Ok, Err, ⊤}
 use Rattle.clos_topology.specs.Network.{Network, endpoints_of}
-use Rattle.clos_topology.specs.Limits.{IsNetwork, HasEnoughCores}
+use Rattle.clos_topology.specs.Limits.{IsNetwork}
 use Rattle.clos_topology.specs.declared.net.NetRefused.{NetRefused}
 use Rattle.clos_topology.specs.declared.net.NetRefused.TheVariants as net_refused
-use Rattle.trace_text.specs.Rows.{Row, Net, Ask, End, field_count, is_readable, row_of}
-use Rattle.trace_text.specs.Fields.{Record}
+use Rattle.loss_world.specs.declared.fate.Fate.{Fate}
+use Rattle.trace_text.specs.Rows.{Row, Net, Ask, Meets, Boot, Raw, End, may_have, is_readable, row_of}
+use Rattle.trace_text.specs.Fields.{Field, Record, field, has_number, number_at, is_way, is_up, is_hex, bytes_of}
 use Rattle.trace_text.specs.Stage.{takes_kind}
-use Rattle.trace_text.specs.Earlier.{net_of, greatest_round, end_of, slots_of, slots_in_round}
-use Rattle.trace_text.specs.Faults.{read_row, read_kind}
-use Rattle.trace_text.specs.Asks.{IsAmong, slots_asked}
+use Rattle.trace_text.specs.Earlier.{net_of, greatest_round, end_of, slots_of, slots_in_round, latest_fate}
+use Rattle.trace_text.specs.Faults.{read_row, read_kind, is_between, is_fate}
+use Rattle.trace_text.specs.Asks.{IsAmong, slots_asked, slots_for}
+use Rattle.trace_text.specs.Events.{AreAmong, AreEventsOf, way_number}
 use Rattle.trace_text.specs.Trace.{TraceContent, IsFaultOf, content_or_fault, ended}
 use Rattle.trace_text.specs.Valid.{IsTrace}
 use Rattle.trace_text.specs.declared.command.Command.{Command}
@@ -18,18 +20,21 @@ use Rattle.trace_text.specs.declared.fault.Fault.{Fault}
 use Rattle.trace_text.specs.declared.fault.Fault.TheVariants as fault
 use Rattle.trace_text.specs.declared.fault.TraceRefused.{TraceRefused}
 use Rattle.trace_text.specs.declared.fault.TraceRefused.TheVariants as refused
-use Rattle.trace_text.specs.declared.plan_row.PlanRow.{PlanRow}
-use Rattle.trace_text.specs.declared.plan_row.PlanRow.TheVariants as plan
+use Rattle.trace_text.specs.declared.taken_row.TakenRow.{TakenRow}
+use Rattle.trace_text.specs.declared.taken_row.TakenRow.TheVariants as taken
 use Rattle.trace_text.specs.declared.rows.Rows.{Rows}
 
 -- the row
-abbrev pub row_value : PlanRow → Row
-row_value (plan.Net net) = Net net.racks net.hosts net.cores
-row_value (plan.Ask round src dst slots) = Ask round src dst slots
-row_value (plan.End rounds) = End rounds
+abbrev pub row_value : TakenRow → Row
+row_value (taken.Net net) = Net net.racks net.hosts net.cores
+row_value (taken.Ask round src dst slots) = Ask round src dst slots
+row_value (taken.Meets round endpoint up fate) = Meets round endpoint up fate
+row_value (taken.Boot round endpoint version) = Boot round endpoint version
+row_value (taken.Raw round packet) = Raw round (bytes_of packet.now)
+row_value (taken.End rounds) = End rounds
 
 -- the row or its fault
-abbrev pub as_rows : Result PlanRow Fault → Result Row Fault
+abbrev pub as_rows : Result TakenRow Fault → Result Row Fault
 as_rows (Ok row) = Ok (row_value row)
 as_rows (Err fault) = Err fault
 
@@ -37,32 +42,36 @@ abbrev pub row_unless : Row → Option Fault → Result Row Fault
 row_unless row None = Ok row
 row_unless row (Some fault) = Err fault
 
--- the fields read as this row, where they can be read
-abbrev pub IsReadAs : Kind → Record → Option PlanRow → Type 0
-IsReadAs kind fields row = MatchOption row (is_readable kind fields ≡ false) (λ row. (is_readable kind fields ≡ true) × (row_of kind fields ≡ row_value row))
-
 -- the net, or the fault of a row that would tell it
 abbrev pub net_or_fault : Result Network NetRefused → Result Network Fault
 net_or_fault (Ok net) = Ok net
 net_or_fault (Err net_refused.Range) = Err fault.Range
-net_or_fault (Err net_refused.Cores) = Err fault.Cores
 
--- a net within the limits, with enough cores
-abbrev pub IsWhole : Network → Type 0
-IsWhole net = IsNetwork net × HasEnoughCores net
+-- a packet in hexadecimal, which is not too long
+abbrev pub IsPacket : Field → Type 0
+IsPacket packet = (is_hex packet ≡ true) × (length packet ≤ 4096)
 
-abbrev pub HasWholeNet : PlanRow → Type 0
-HasWholeNet (plan.Net net) = IsWhole net
-HasWholeNet row = ⊤
+-- what is checked where a row is read is within its limits
+abbrev pub IsWhole : TakenRow → Type 0
+IsWhole (taken.Net net) = IsNetwork net
+IsWhole (taken.Meets round endpoint up fate) = is_fate fate ≡ true
+IsWhole (taken.Boot round endpoint version) = is_between 1 2 version ≡ true
+IsWhole (taken.Raw round packet) = IsPacket packet.now
+IsWhole row = ⊤
 
--- a row that can be read, and is whole where it is a net; or its fault, whatever stands before it
-abbrev pub ReadsKind : Command → Kind → Record → Result PlanRow Fault → Type 0
-ReadsKind command kind fields (Ok row) = (takes_kind command kind ≡ true) × (length fields ≡ field_count kind) × (is_readable kind fields ≡ true) × (row_of kind fields ≡ row_value row) × HasWholeNet row
+-- the fields read as a row that gives this fate, where they can be read
+abbrev pub MeetsFate : Record → Fate → Result TakenRow Fault → Type 0
+MeetsFate fields fate (Ok row) = (has_number fields 1 && has_number fields 2 && is_way (field fields 3) ≡ true) × (Meets (number_at fields 1) (number_at fields 2) (is_up (field fields 3)) fate ≡ row_value row) × IsWhole row
+MeetsFate fields fate (Err why) = (has_number fields 1 && has_number fields 2 && is_way (field fields 3) ≡ false) × (why ≡ fault.Number)
+
+-- a row that can be read, and is whole; or its fault, whatever stands before it
+abbrev pub ReadsKind : Command → Kind → Record → Result TakenRow Fault → Type 0
+ReadsKind command kind fields (Ok row) = (takes_kind command kind ≡ true) × (may_have kind (length fields) ≡ true) × (is_readable kind fields ≡ true) × (row_of kind fields ≡ row_value row) × IsWhole row
 ReadsKind command kind fields (Err fault) = (before : List Row) → read_kind command before fields kind ≡ Err fault
 
 -- the row is a net
-abbrev pub is_net : PlanRow → Bool
-is_net (plan.Net net) = true
+abbrev pub is_net : TakenRow → Bool
+is_net (taken.Net net) = true
 is_net row = false
 
 -- how many endpoints the net has, where there is one
@@ -73,7 +82,7 @@ endpoints_kept (Some net) = endpoints_of net
 -- the net is that of the first row, where there is one
 abbrev pub IsNetOf : List Row → Option Network → Type 0
 IsNetOf before None = length before ≡ 0
-IsNetOf before (Some net) = (0 < length before) × (net_of before ≡ net) × IsWhole net
+IsNetOf before (Some net) = (0 < length before) × (net_of before ≡ net) × IsNetwork net
 
 -- what is kept stands for these rows
 pub record StandsFor (before : List Row) (rows : Rows) : Type 0 where
@@ -81,22 +90,31 @@ pub record StandsFor (before : List Row) (rows : Rows) : Type 0 where
   pub net : IsNetOf before rows.net
   pub round : rows.round ≡ greatest_round before
   pub ended : rows.end ≡ end_of before
-  pub short : IfSome rows.end (λ rounds. rounds ≤ 100000)
+  pub short : IfSome rows.end (λ rounds. (1 ≤ rounds) × (rounds ≤ 100000))
   pub table : length rows.totals.items ≡ endpoints_kept rows.net * endpoints_kept rows.net
   pub totals : (src dst : ℕ) → src < endpoints_kept rows.net → dst < endpoints_kept rows.net → slice_index rows.totals.items (src * endpoints_kept rows.net + dst) ≡ sum_by (slots_of src dst) before
   pub bounded : (src dst : ℕ) → sum_by (slots_of src dst) before ≤ 100000000
   pub asks : (round src dst : ℕ) → sum_by (slots_asked round src dst) rows.asks.items ≡ sum_by (slots_in_round round src dst) before
+  pub flows : (src dst : ℕ) → sum_by (slots_for src dst) rows.asks.items ≡ sum_by (slots_of src dst) before
   pub among : All (IsAmong (endpoints_kept rows.net)) rows.asks.items
+  pub ways : length rows.fated.items ≡ endpoints_kept rows.net * 2
+  pub fated : (endpoint : ℕ) (up : Bool) → endpoint < endpoints_kept rows.net → slice_index rows.fated.items (endpoint * 2 + way_number up) ≡ latest_fate endpoint up before
+  pub events : AreEventsOf before rows.events.fates.items rows.events.boots.items rows.events.raws.items rows.events.bytes.items
+  pub few : length rows.events.boots.items ≤ length before
+  pub bounds : AreAmong (endpoints_kept rows.net) rows.events.fates.items rows.events.boots.items rows.events.raws.items rows.events.bytes.items
 
 -- what is kept stands for some rows
 abbrev pub Stands : Rows → Type 0
 Stands rows = (before : List Row) × StandsFor before rows
 
 -- what the code relies on of a row without fault
-abbrev pub IsAllowed : Rows → PlanRow → Type 0
-IsAllowed rows (plan.Net net) = (rows.net ≡ None) × IsWhole net
-IsAllowed rows (plan.Ask round src dst slots) = (src < endpoints_kept rows.net) × (dst < endpoints_kept rows.net) × (src ≢ dst) × (0 < slots) × (slice_index rows.totals.items (src * endpoints_kept rows.net + dst) + slots ≤ 100000000)
-IsAllowed rows (plan.End rounds) = IsSome rows.net × (rows.end ≡ None) × (rounds ≤ 100000)
+abbrev pub IsAllowed : Rows → TakenRow → Type 0
+IsAllowed rows (taken.Net net) = (rows.net ≡ None) × IsNetwork net
+IsAllowed rows (taken.Ask round src dst slots) = (rows.round ≤ round) × (src < endpoints_kept rows.net) × (dst < endpoints_kept rows.net) × (src ≢ dst) × (0 < slots) × (slice_index rows.totals.items (src * endpoints_kept rows.net + dst) + slots ≤ 100000000)
+IsAllowed rows (taken.Meets round endpoint up fate) = (rows.round ≤ round) × (round ≤ 99999) × (endpoint < endpoints_kept rows.net) × (is_fate fate ≡ true)
+IsAllowed rows (taken.Boot round endpoint version) = (rows.round ≤ round) × (endpoint < endpoints_kept rows.net) × (is_between 1 2 version ≡ true)
+IsAllowed rows (taken.Raw round packet) = (rows.round ≤ round) × IsSome rows.net × IsPacket packet.now
+IsAllowed rows (taken.End rounds) = IsSome rows.net × (rows.end ≡ None) × (1 ≤ rounds) × (rounds ≤ 100000)
 
 -- a row was taken, or its number and fault are told
 abbrev pub TakesRow : Command → List Row → Record → Rows → Result (Unit {0}) TraceRefused → Type 0

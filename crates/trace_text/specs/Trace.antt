@@ -1,11 +1,12 @@
 -- A text as a trace: its rows, or the first faulty one. This project's own profile.
-use Rattle.std.specs.Prelude.{◌≡◌, ⊤, ℕ, ◌+◌, List, [], ◌∷◌, ◌++◌, length, Option, Some, None, Result, Ok, Err, nat_lt, filter, sum_by, map, slice_index_or, unwrap_or}
-use Rattle.std.specs.List.{range_with_len}
+use Rattle.std.specs.Prelude.{◌≡◌, ⊤, ℕ, ◌+◌, ◌-◌, List, [], ◌∷◌, ◌++◌, length, Option, Some, None, Result, Ok, Err, nat_lt, filter, sum_by, map, slice_get, slice_index_or, unwrap_or, Bool, true, false}
+use Rattle.std.specs.List.{range_with_len, filter_map}
 use Rattle.clos_topology.specs.Network.{Network, endpoints_of}
+use Rattle.loss_world.specs.declared.fate.Fate.{Fate}
 use Rattle.csv.specs.Reading.{default_config, records, strip_bom}
 use Rattle.trace_text.specs.Fields.{Record}
 use Rattle.trace_text.specs.Rows.{Row}
-use Rattle.trace_text.specs.Earlier.{net_of, end_of, slots_in_round}
+use Rattle.trace_text.specs.Earlier.{net_of, end_of, slots_in_round, fate_in, boot_in, packet_in}
 use Rattle.trace_text.specs.Faults.{read_row}
 use Rattle.trace_text.specs.declared.command.Command.{Command}
 use Rattle.trace_text.specs.declared.fault.Fault.{Fault}
@@ -48,27 +49,72 @@ abbrev pub some_below : ℕ → (ℕ → ℕ) → List (ℕ × ℕ)
 some_below bound amount = filter (λ p. nat_lt 0 p.1) (each_below bound (λ dst. (dst, amount dst)))
 
 -- what a trace holds: its net, how many rounds it has, and for each round and source the destinations that are asked
--- for, rising, each with the sum of its asks in the round
+-- for, rising, each with the sum of its asks in the round; for each round and endpoint the fates of its packets up and down,
+-- where rows give some, and the versions of its boots; and the raw packets of each round. Boots and raw packets stand in the
+-- order of rows
 pub record TraceContent : Type 0 where
   pub net : Network
   pub rounds : ℕ
   pub asked : List (List (List (ℕ × ℕ)))
+  pub fates : List (List (Option Fate × Option Fate))
+  pub boots : List (List (List ℕ))
+  pub raw : List (List (List ℕ))
+
+-- the last of some, if there is one
+abbrev pub last_of : List ℕ → Option ℕ
+last_of xs = slice_get xs (length xs - 1)
 
 -- what a source asks for in a round
 abbrev pub asked_at : TraceContent → ℕ → ℕ → List (ℕ × ℕ)
 asked_at trace round src = slice_index_or (slice_index_or trace.asked round []) src []
 
--- a trace in which so much is asked for in a round by a source for a destination
-abbrev pub content_by : Network → ℕ → (ℕ → ℕ → ℕ → ℕ) → TraceContent
-content_by net rounds amount = record {
+-- what befalls the packet of an endpoint in a round, on its way up or down
+abbrev pub of_way : {A : Type 0} → Bool → A × A → A
+of_way true p = p.0
+of_way false p = p.1
+
+abbrev pub fate_at : TraceContent → ℕ → ℕ → Bool → Option Fate
+fate_at trace round endpoint up = of_way up (slice_index_or (slice_index_or trace.fates round []) endpoint (None, None))
+
+-- the versions of an endpoint's boots in a round, and the raw packets of a round
+abbrev pub boots_at : TraceContent → ℕ → ℕ → List ℕ
+boots_at trace round endpoint = slice_index_or (slice_index_or trace.boots round []) endpoint []
+
+abbrev pub raw_at : TraceContent → ℕ → List (List ℕ)
+raw_at trace round = slice_index_or trace.raw round []
+
+-- what is made of each round and endpoint
+abbrev pub table_of : {A : Type 0} → ℕ → ℕ → (ℕ → ℕ → A) → List (List A)
+table_of rounds endpoints f = each_below rounds (λ round. each_below endpoints (f round))
+
+-- what happens in a trace beside its asks
+pub record Events : Type 0 where
+  pub fates : ℕ → ℕ → Bool → Option Fate
+  pub boots : ℕ → ℕ → List ℕ
+  pub raw : ℕ → List (List ℕ)
+
+-- a trace in which so much is asked for in a round by a source for a destination, and this happens
+abbrev pub content_by : Network → ℕ → (ℕ → ℕ → ℕ → ℕ) → Events → TraceContent
+content_by net rounds amount events = record {
   net = net;
   rounds = rounds;
-  asked = each_below rounds (λ round. each_below (endpoints_of net) (λ src. some_below (endpoints_of net) (amount round src)));
+  asked = table_of rounds (endpoints_of net) (λ round src. some_below (endpoints_of net) (amount round src));
+  fates = table_of rounds (endpoints_of net) (λ round endpoint. (events.fates round endpoint true, events.fates round endpoint false));
+  boots = table_of rounds (endpoints_of net) events.boots;
+  raw = each_below rounds events.raw;
+}
+
+-- what happens in these rows; no packet has two fates
+abbrev pub events_of : List Row → Events
+events_of rows = record {
+  fates = λ round endpoint up. slice_get (filter_map (fate_in round endpoint up) rows) 0;
+  boots = λ round endpoint. filter_map (boot_in round endpoint) rows;
+  raw = λ round. filter_map (packet_in round) rows;
 }
 
 -- what these rows are together
 abbrev pub content_of : List Row → TraceContent
-content_of rows = content_by (net_of rows) (unwrap_or (end_of rows) 0) (λ round src dst. sum_by (slots_in_round round src dst) rows)
+content_of rows = content_by (net_of rows) (unwrap_or (end_of rows) 0) (λ round src dst. sum_by (slots_in_round round src dst) rows) (events_of rows)
 
 abbrev pub content_or_fault : Result (List Row) FaultyRow → Result TraceContent FaultyRow
 content_or_fault (Ok rows) = Ok (content_of rows)

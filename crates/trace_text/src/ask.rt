@@ -1,6 +1,5 @@
 // What one endpoint asks for.
-ghost use Rattle.std.specs.Prelude.{◌≡◌};
-ghost use Rattle.trace_text.specs.Asks.{rank_of};
+use crate::order::Ranked;
 
 /// How many slots a source asks for towards a destination in a round.
 #[derive(Clone, Copy, Debug, PartialEq, Eq)]
@@ -11,11 +10,12 @@ pub struct Ask {
     pub slots: u32,
 }
 
-impl Ask {
-    /// Its place among all asks: by round, then source, then destination.
-    pub fn rank(&self) -> u64
-        ensures { result ≡ rank_of self.now }
-    {
+impl Ranked for Ask {
+    ghost use Rattle.trace_text.specs.Asks.{rank_of};
+
+    ghost rank_of = { rank_of };
+
+    fn rank(&self) -> u64 {
         (u64::from(self.round) * 256 + u64::from(self.src)) * 256 + u64::from(self.dst)
     }
 }

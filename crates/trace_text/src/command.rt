@@ -14,9 +14,9 @@ impl Command {
     pub(crate) fn takes(self, kind: Kind) -> bool
         ensures { result ≡ takes_kind self kind }
     {
-        match kind {
-            Kind::Net | Kind::Ask | Kind::End => true,
-            Kind::Lose | Kind::Twice | Kind::Hold | Kind::Boot | Kind::Raw => false,
+        match self {
+            Command::Plan => matches!(kind, Kind::Net | Kind::Ask | Kind::End),
+            Command::Replay => true,
         }
     }
 }

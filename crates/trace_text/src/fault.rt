@@ -17,11 +17,10 @@ pub enum Fault {
     NoEnd,
     NotHere,
     TwoFates,
-    Cores,
 }
 
 impl Fault {
-    /// The number by which a program names the fault, from 1 to 12.
+    /// The number by which a program names the fault, from 1 to 11.
     pub fn number(self) -> u8
         ensures { result ≡ fault_number self }
     {
@@ -37,7 +36,6 @@ impl Fault {
             Fault::NoEnd => 9,
             Fault::NotHere => 10,
             Fault::TwoFates => 11,
-            Fault::Cores => 12,
         }
     }
 }

@@ -1,7 +1,8 @@
 // The fields of a row.
 ghost use Rattle.std.specs.Prelude.{◌≡◌, true, false, MatchOption};
 ghost use Rattle.csv.specs.Records.{fields_of};
-ghost use Rattle.trace_text.specs.Fields.{field, has_number, number_at};
+ghost use Rattle.hex.specs.Hex.{is_hex_digit};
+ghost use Rattle.trace_text.specs.Fields.{field, has_number, number_at, is_way, is_up, is_hex};
 
 use crate::number::read_number;
 use csv::ByteRecord;
@@ -21,4 +22,36 @@ pub fn number_at(fields: &ByteRecord, at: usize) -> Option<u32>
     ensures { MatchOption result (has_number (fields_of fields.now) at ≡ false) (λ n. (has_number (fields_of fields.now) at ≡ true) × (n ≡ number_at (fields_of fields.now) at)) }
 {
     read_number(field(fields, at))
+}
+
+/// Whether the field at a place names the way up, if it names one.
+pub fn way_at(fields: &ByteRecord, at: usize) -> Option<bool>
+    ensures { MatchOption result (is_way (field (fields_of fields.now) at) ≡ false) (λ up. (is_way (field (fields_of fields.now) at) ≡ true) × (up ≡ is_up (field (fields_of fields.now) at))) }
+{
+    let way = field(fields, at);
+    if way == b"up".as_slice() {
+        Some(true)
+    } else if way == b"down".as_slice() {
+        Some(false)
+    } else {
+        None
+    }
+}
+
+/// Whether a field writes whole bytes in hexadecimal digits, in either case.
+pub fn is_hex(text: &[u8]) -> bool
+    ensures { result ≡ is_hex text.now }
+{
+    for byte in text {
+        if !is_hex_digit(*byte) {
+            return false;
+        }
+    }
+    text.len() % 2 == 0
+}
+
+fn is_hex_digit(byte: u8) -> bool
+    ensures { result ≡ is_hex_digit byte }
+{
+    matches!(byte, b'0'..=b'9' | b'a'..=b'f' | b'A'..=b'F')
 }

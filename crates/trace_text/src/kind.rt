@@ -1,6 +1,6 @@
 // The kinds of rows.
 ghost use Rattle.std.specs.Prelude.{◌≡◌};
-ghost use Rattle.trace_text.specs.Rows.{kind_of, field_count};
+ghost use Rattle.trace_text.specs.Rows.{kind_of, may_have};
 
 /// What the first field of a row names.
 #[derive(Clone, Copy, Debug, PartialEq, Eq)]
@@ -40,15 +40,16 @@ impl Kind {
         }
     }
 
-    /// How many fields a row of the kind has, with the one that names it.
-    pub fn field_count(self) -> usize
-        ensures { result ≡ field_count self }
+    /// Whether a row of the kind may have so many fields, with the one that names it. A boot may leave out its version.
+    pub fn may_have(self, fields: usize) -> bool
+        ensures { result ≡ may_have self fields }
     {
         match self {
-            Kind::End => 2,
-            Kind::Boot | Kind::Raw => 3,
-            Kind::Net | Kind::Lose | Kind::Twice => 4,
-            Kind::Ask | Kind::Hold => 5,
+            Kind::End => fields == 2,
+            Kind::Raw => fields == 3,
+            Kind::Boot => fields == 3 || fields == 4,
+            Kind::Net | Kind::Lose | Kind::Twice => fields == 4,
+            Kind::Ask | Kind::Hold => fields == 5,
         }
     }
 }

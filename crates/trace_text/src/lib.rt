@@ -3,19 +3,23 @@
 
 mod ask;
 mod command;
+mod events;
 mod fault;
 mod fields;
 mod kind;
+mod make;
 mod number;
 mod order;
-mod plan_row;
 mod read;
 mod records;
 mod rows;
+mod taken_row;
 mod trace;
 
+pub use ask::Ask;
 pub use command::Command;
 pub use fault::{Fault, TraceRefused};
+pub use make::make_trace;
 pub use read::read_trace;
 pub use trace::Trace;
 

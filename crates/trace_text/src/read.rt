@@ -45,5 +45,5 @@ fn finish(rows: Rows) -> Result<Trace, TraceRefused>
             fault: Fault::NoEnd,
         });
     };
-    Ok(Trace::of(rows.alloc, net, rounds, rows.asks)?)
+    Ok(Trace::of(rows.alloc, net, rounds, rows.asks, rows.events)?)
 }

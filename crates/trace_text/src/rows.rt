@@ -1,19 +1,26 @@
 // The rows of a trace so far, and the faults that rest on them.
-ghost use Rattle.std.specs.Prelude.{◌≡◌, ◌+◌, ◌*◌, ◌<◌, ◌≤◌, ◌∷◌, [], ◌++◌, List, length, true, nat_lt, is_some, slice_index, ◌||◌, IfNone, IsSome, OnOk, IfOk};
+ghost use Rattle.std.specs.Prelude.{◌≡◌, ◌+◌, ◌*◌, ◌<◌, ◌≤◌, ◌∷◌, [], ◌++◌, List, length, true, ◌==◌, nat_lt, is_some, slice_index, ◌||◌, IfNone, IsSome, OnOk, IfOk};
 ghost use Rattle.csv.specs.Records.{fields_of};
+ghost use Rattle.clos_topology.specs.Limits.{IsNetwork};
+ghost use Rattle.trace_text.specs.Fields.{bytes_of};
 ghost use Rattle.trace_text.specs.Rows.{Row};
 ghost use Rattle.trace_text.specs.Rows as row;
-ghost use Rattle.trace_text.specs.Faults.{read_row, checked, is_in_range};
-ghost use Rattle.trace_text.specs.Standing.{StandsFor, Stands, IsAllowed, IsWhole, HasWholeNet, is_net, endpoints_kept, row_value, as_rows, row_unless, TakesRow};
-ghost use Rattle.trace_text.specs.declared.plan_row.PlanRow.TheVariants as plan;
+ghost use Rattle.trace_text.specs.Faults.{read_row, checked, is_in_range, is_between, is_fate};
+ghost use Rattle.std.specs.List.{list_any};
+ghost use Rattle.trace_text.specs.Earlier.{fate_in};
+ghost use Rattle.trace_text.specs.Events.{way_number};
+ghost use Rattle.trace_text.specs.Standing.{StandsFor, Stands, IsAllowed, IsWhole, IsPacket, is_net, endpoints_kept, row_value, as_rows, row_unless, TakesRow};
+ghost use Rattle.trace_text.specs.declared.taken_row.TakenRow.TheVariants as taken;
 
 use crate::ask::Ask;
+use crate::events::{Boot, EventRows, GivenFate};
 use crate::fields::field;
 use crate::kind::Kind;
-use crate::plan_row::PlanRow;
+use crate::taken_row::TakenRow;
 use crate::{Command, Fault, TraceRefused};
 use clos_topology::Net;
 use csv::ByteRecord;
+use loss_world::Fate;
 use no_memory::NoMemory;
 use std::alloc::Global;
 
@@ -34,6 +41,9 @@ pub struct Rows {
     // What each flow asked for, by source and then destination.
     pub totals: Vec<u32>,
     pub asks: Vec<Ask>,
+    // The round after the latest in which a packet was given a fate, by endpoint and way; 0 for none.
+    pub fated: Vec<u32>,
+    pub events: EventRows,
 }
 
 impl Rows {
@@ -48,12 +58,14 @@ impl Rows {
             end: None,
             totals: Vec::new(alloc),
             asks: Vec::new(alloc),
+            fated: Vec::new(alloc),
+            events: EventRows::new(alloc),
         }
     }
 
     /// The row with these fields, or its fault.
     #[tactic(auto, unfolding(crate::specs::Faults::read_row, crate::specs::Faults::read_kind))]
-    pub fn judge(&self, command: Command, fields: &ByteRecord) -> Result<PlanRow, Fault>
+    pub fn judge<'a>(&self, command: Command, fields: &'a ByteRecord) -> Result<TakenRow<'a>, Fault>
         requires { Stands self.now }
         ensures row { (before : List Row) → StandsFor before self.now → read_row command before (fields_of fields.now) ≡ as_rows result }
         ensures allowed { IfOk result (λ row. IsAllowed self.now row) }
@@ -65,10 +77,12 @@ impl Rows {
         let Some(kind) = Kind::of(name) else {
             return Err(Fault::Kind);
         };
-        let row = PlanRow::read(command, kind, fields)?;
-        match self.fault_of(&row) {
-            Some(fault) => Err(fault),
-            None => Ok(row),
+        match TakenRow::read(command, kind, fields) {
+            Ok(row) => match self.fault_of(&row) {
+                Some(fault) => Err(fault),
+                None => Ok(row),
+            },
+            Err(fault) => Err(fault),
         }
     }
 
@@ -88,30 +102,42 @@ impl Rows {
     }
 
     // What is wrong with a row that could be read.
-    fn fault_of(&self, row: &PlanRow) -> Option<Fault>
+    fn fault_of(&self, row: &TakenRow) -> Option<Fault>
         requires stands { Stands self.now }
-        requires whole { HasWholeNet row.now }
+        requires whole { IsWhole row.now }
         requires first { IfNone self.now.net (is_net row.now ≡ true) }
         ensures fault { (before : List Row) → StandsFor before self.now → checked before (row_value row.now) ≡ row_unless (row_value row.now) result }
         ensures allowed { IfNone result (IsAllowed self.now row.now) }
     {
         match row {
-            PlanRow::Net(net) => self.net_fault(net),
-            PlanRow::Ask {
+            TakenRow::Net(net) => self.net_fault(net),
+            TakenRow::Ask {
                 round,
                 src,
                 dst,
                 slots,
             } => self.ask_fault(*round, *src, *dst, *slots),
-            PlanRow::End { rounds } => self.end_fault(*rounds),
+            TakenRow::Meets {
+                round,
+                endpoint,
+                up,
+                fate,
+            } => self.fate_fault(*round, *endpoint, *up, *fate),
+            TakenRow::Boot {
+                round,
+                endpoint,
+                version,
+            } => self.boot_fault(*round, *endpoint, *version),
+            TakenRow::Raw { round, packet } => self.raw_fault(*round, packet),
+            TakenRow::End { rounds } => self.end_fault(*rounds),
         }
     }
 
     #[tactic(auto, unfolding(crate::specs::Faults::checked))]
     fn net_fault(&self, net: &Net) -> Option<Fault>
-        requires { IsWhole net.now }
+        requires { IsNetwork net.now }
         ensures fault { (before : List Row) → StandsFor before self.now → checked before (row.Net net.now.racks net.now.hosts net.now.cores) ≡ row_unless (row.Net net.now.racks net.now.hosts net.now.cores) result }
-        ensures allowed { IfNone result (IsAllowed self.now (plan.Net net.now)) }
+        ensures allowed { IfNone result (IsAllowed self.now (taken.Net net.now)) }
     {
         if self.net.is_some() {
             return Some(Fault::Order);
@@ -123,7 +149,7 @@ impl Rows {
     fn ask_fault(&self, round: u32, src: u32, dst: u32, slots: u32) -> Option<Fault>
         requires { Stands self.now }
         ensures fault { (before : List Row) → StandsFor before self.now → checked before (row.Ask round src dst slots) ≡ row_unless (row.Ask round src dst slots) result }
-        ensures allowed { IfNone result (IsAllowed self.now (plan.Ask round src dst slots)) }
+        ensures allowed { IfNone result (IsAllowed self.now (taken.Ask round src dst slots)) }
     {
         if !self.is_ask(round, src, dst, slots) {
             return Some(Fault::Range);
@@ -141,9 +167,59 @@ impl Rows {
     }
 
     #[tactic(auto, unfolding(crate::specs::Faults::checked))]
+    fn fate_fault(&self, round: u32, endpoint: u32, up: bool, fate: Fate) -> Option<Fault>
+        requires stands { Stands self.now }
+        requires fate { is_fate fate ≡ true }
+        ensures fault { (before : List Row) → StandsFor before self.now → checked before (row.Meets round endpoint up fate) ≡ row_unless (row.Meets round endpoint up fate) result }
+        ensures allowed { IfNone result (IsAllowed self.now (taken.Meets round endpoint up fate)) }
+    {
+        if round > LAST_ROUND || endpoint >= self.endpoints() {
+            return Some(Fault::Range);
+        }
+        if self.is_past(round) {
+            return Some(Fault::Order);
+        }
+        if self.has_fate(round, endpoint, up) {
+            return Some(Fault::TwoFates);
+        }
+        None
+    }
+
+    #[tactic(auto, unfolding(crate::specs::Faults::checked))]
+    fn boot_fault(&self, round: u32, endpoint: u32, version: u8) -> Option<Fault>
+        requires { is_between 1 2 version ≡ true }
+        ensures fault { (before : List Row) → StandsFor before self.now → checked before (row.Boot round endpoint version) ≡ row_unless (row.Boot round endpoint version) result }
+        ensures allowed { IfNone result (IsAllowed self.now (taken.Boot round endpoint version)) }
+    {
+        if round > LAST_ROUND || endpoint >= self.endpoints() {
+            return Some(Fault::Range);
+        }
+        if self.is_past(round) {
+            return Some(Fault::Order);
+        }
+        None
+    }
+
+    #[tactic(auto, unfolding(crate::specs::Faults::checked))]
+    fn raw_fault(&self, round: u32, packet: &[u8]) -> Option<Fault>
+        requires net { IsSome self.now.net }
+        requires packet { IsPacket packet.now }
+        ensures fault { (before : List Row) → StandsFor before self.now → checked before (row.Raw round (bytes_of packet.now)) ≡ row_unless (row.Raw round (bytes_of packet.now)) result }
+        ensures allowed { IfNone result (IsAllowed self.now (taken.Raw round packet.entry)) }
+    {
+        if round > LAST_ROUND {
+            return Some(Fault::Range);
+        }
+        if self.is_past(round) {
+            return Some(Fault::Order);
+        }
+        None
+    }
+
+    #[tactic(auto, unfolding(crate::specs::Faults::checked))]
     fn end_fault(&self, rounds: u32) -> Option<Fault>
         requires { IsSome self.now.net }
-        ensures allowed { IfNone result (IsAllowed self.now (plan.End rounds)) }
+        ensures allowed { IfNone result (IsAllowed self.now (taken.End rounds)) }
         ensures fault { (before : List Row) → StandsFor before self.now → checked before (row.End rounds) ≡ row_unless (row.End rounds) result }
     {
         if !(1..=MOST_ROUNDS).contains(&rounds) {
@@ -156,21 +232,33 @@ impl Rows {
     }
 
     // Keeps a row without fault.
-    fn push(&mut self, row: PlanRow) -> Result<(), NoMemory>
+    fn push(&mut self, row: TakenRow) -> Result<(), NoMemory>
         requires stands { Stands self.old }
         requires allowed { IsAllowed self.old row }
         requires room { self.old.count < 4294967295 }
-        ensures { (before : List Row) → StandsFor before self.old → OnOk result (StandsFor (before ++ row_value row ∷ []) self.new) }
+        ensures { (before : List Row) → StandsFor before self.old → OnOk result (StandsFor (before ++ row_value row.entry ∷ []) self.new) }
     {
         match row {
-            PlanRow::Net(net) => self.push_net(net),
-            PlanRow::Ask {
+            TakenRow::Net(net) => self.push_net(net),
+            TakenRow::Ask {
                 round,
                 src,
                 dst,
                 slots,
             } => self.push_ask(round, src, dst, slots),
-            PlanRow::End { rounds } => {
+            TakenRow::Meets {
+                round,
+                endpoint,
+                up,
+                fate,
+            } => self.push_fate(round, endpoint, up, fate),
+            TakenRow::Boot {
+                round,
+                endpoint,
+                version,
+            } => self.push_boot(round, endpoint, version),
+            TakenRow::Raw { round, packet } => self.push_raw(round, packet),
+            TakenRow::End { rounds } => {
                 self.end = Some(rounds);
                 self.count += 1;
                 Ok(())
@@ -179,11 +267,12 @@ impl Rows {
     }
 
     fn push_net(&mut self, net: Net) -> Result<(), NoMemory>
-        requires { IsAllowed self.old (plan.Net net) }
+        requires { IsAllowed self.old (taken.Net net) }
         ensures { (before : List Row) → StandsFor before self.old → OnOk result (StandsFor (before ++ row.Net net.racks net.hosts net.cores ∷ []) self.new) }
     {
         let endpoints = usize::from(net.endpoints());
         self.totals = vec![in self.alloc; 0; endpoints * endpoints]?;
+        self.fated = vec![in self.alloc; 0; endpoints * 2]?;
         self.net = Some(net);
         self.count = 1;
         Ok(())
@@ -191,7 +280,7 @@ impl Rows {
 
     fn push_ask(&mut self, round: u32, src: u32, dst: u32, slots: u32) -> Result<(), NoMemory>
         requires stands { Stands self.old }
-        requires allowed { IsAllowed self.old (plan.Ask round src dst slots) }
+        requires allowed { IsAllowed self.old (taken.Ask round src dst slots) }
         requires room { self.old.count < 4294967295 }
         ensures { (before : List Row) → StandsFor before self.old → OnOk result (StandsFor (before ++ row.Ask round src dst slots ∷ []) self.new) }
     {
@@ -203,7 +292,54 @@ impl Rows {
             slots,
         })?;
         self.totals[at] += slots;
-        self.round = self.round.max(round);
+        self.round = round;
+        self.count += 1;
+        Ok(())
+    }
+
+    fn push_fate(&mut self, round: u32, endpoint: u32, up: bool, fate: Fate) -> Result<(), NoMemory>
+        requires stands { Stands self.old }
+        requires allowed { IsAllowed self.old (taken.Meets round endpoint up fate) }
+        requires room { self.old.count < 4294967295 }
+        ensures { (before : List Row) → StandsFor before self.old → OnOk result (StandsFor (before ++ row.Meets round endpoint up fate ∷ []) self.new) }
+    {
+        let at = self.way_of(endpoint, up);
+        self.events.fates.push(GivenFate {
+            round,
+            endpoint: endpoint as u16,
+            up,
+            fate,
+        })?;
+        self.fated[at] = round + 1;
+        self.round = round;
+        self.count += 1;
+        Ok(())
+    }
+
+    fn push_boot(&mut self, round: u32, endpoint: u32, version: u8) -> Result<(), NoMemory>
+        requires stands { Stands self.old }
+        requires allowed { IsAllowed self.old (taken.Boot round endpoint version) }
+        requires room { self.old.count < 4294967295 }
+        ensures { (before : List Row) → StandsFor before self.old → OnOk result (StandsFor (before ++ row.Boot round endpoint version ∷ []) self.new) }
+    {
+        self.events.boots.push(Boot {
+            round,
+            endpoint: endpoint as u16,
+            version,
+        })?;
+        self.round = round;
+        self.count += 1;
+        Ok(())
+    }
+
+    fn push_raw(&mut self, round: u32, packet: &[u8]) -> Result<(), NoMemory>
+        requires stands { Stands self.old }
+        requires allowed { IsAllowed self.old (taken.Raw round packet) }
+        requires room { self.old.count < 4294967295 }
+        ensures { (before : List Row) → StandsFor before self.old → OnOk result (StandsFor (before ++ row.Raw round (bytes_of packet.now) ∷ []) self.new) }
+    {
+        self.events.push_raw(round, packet)?;
+        self.round = round;
         self.count += 1;
         Ok(())
     }
@@ -235,6 +371,27 @@ impl Rows {
         ensures bounded { result ≤ 100000000 }
     {
         self.totals[self.place_of(src, dst)]
+    }
+
+    // Whether an earlier row gave a fate to the packet of this round, endpoint and way.
+    fn has_fate(&self, round: u32, endpoint: u32, up: bool) -> bool
+        requires stands { Stands self.now }
+        requires endpoint { endpoint < endpoints_kept self.now.net }
+        requires round { round ≤ 99999 }
+        requires late { self.now.round ≤ round }
+        ensures { (before : List Row) → StandsFor before self.now → result ≡ list_any (λ row. is_some (fate_in round endpoint up row)) before }
+    {
+        self.fated[self.way_of(endpoint, up)] == round + 1
+    }
+
+    // Where a way of an endpoint stands.
+    fn way_of(&self, endpoint: u32, up: bool) -> usize
+        requires stands { Stands self.now }
+        requires endpoint { endpoint < endpoints_kept self.now.net }
+        ensures place { result ≡ endpoint * 2 + way_number up }
+        ensures within { result < length self.now.fated.items }
+    {
+        endpoint as usize * 2 + usize::from(up)
     }
 
     // Where the total of a flow stands.

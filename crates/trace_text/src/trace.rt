@@ -1,12 +1,19 @@
 // What a trace holds.
 ghost use Rattle.std.specs.Prelude.{◌≡◌, ◌<◌, ◌≤◌, ◌^◌, ℕ, Some, length, map, slice_get, sum_by, All, IfOk};
 ghost use Rattle.clos_topology.specs.Network.{endpoints_of};
-ghost use Rattle.trace_text.specs.Asks.{slots_asked, IsAmong};
-ghost use Rattle.trace_text.specs.Trace.{asked_at, content_by};
+ghost use Rattle.clos_topology.specs.Limits.{IsNetwork};
+ghost use Rattle.trace_text.specs.Asks.{slots_asked, slots_for, asks_in, IsAmong};
+ghost use Rattle.trace_text.specs.Events.{AreAmong, events_kept};
+ghost use Rattle.trace_text.specs.Trace.{asked_at, fate_at, boots_at, raw_at, content_by, last_of};
+ghost use Rattle.trace_text.specs.Valid.{IsTrace};
 
 use crate::ask::Ask;
-use crate::order::{between, gather, starts_of};
+use crate::events::{
+    Boot, EventRows, GivenFate, RawPacket, boot_rank, fate_rank, packet_of, raws_of,
+};
+use crate::order::{Ranked, between, gather, sort, starts_of};
 use clos_topology::Net;
+use loss_world::Fate;
 use no_memory::NoMemory;
 use std::alloc::{AllocError, Global};
 use std::marker::Model;
@@ -20,6 +27,14 @@ pub struct Trace {
     asks: Vec<Ask>,
     // Where those of each round begin, and where the last end.
     starts: Vec<usize>,
+    // By round, then endpoint, then way.
+    fates: Vec<GivenFate>,
+    // By round, then endpoint; those of one in the order of rows.
+    boots: Vec<Boot>,
+    // By round; those of one in the order of rows.
+    raws: Vec<RawPacket>,
+    // The bytes of all raw packets.
+    bytes: Vec<u8>,
 }
 
 impl Model for Trace {
@@ -27,57 +42,94 @@ impl Model for Trace {
     ghost use Rattle.clos_topology.specs.Network.{endpoints_of};
     ghost use Rattle.trace_text.specs.Trace.{TraceContent, content_by};
     ghost use Rattle.trace_text.specs.Asks.{IsKept, slots_asked};
+    ghost use Rattle.trace_text.specs.Events.{AreKept, events_kept};
+    ghost use Rattle.trace_text.specs.Valid.{IsTrace};
 
     ghost Value = { TraceContent };
 
-    ghost view = { λ t. content_by t.net t.rounds (λ round src dst. sum_by (slots_asked round src dst) t.asks.items) };
+    ghost view = { λ t. content_by t.net t.rounds (λ round src dst. sum_by (slots_asked round src dst) t.asks.items) (events_kept t.fates.items t.boots.items t.raws.items t.bytes.items) };
 
-    ghost invariant = { λ t. IsKept (endpoints_of t.net) t.rounds t.asks.items t.starts.items };
+    ghost invariant = { λ t.
+        IsKept (endpoints_of t.net) t.rounds t.asks.items t.starts.items
+        × AreKept (endpoints_of t.net) t.fates.items t.boots.items t.raws.items t.bytes.items
+        × IsTrace (content_by t.net t.rounds (λ round src dst. sum_by (slots_asked round src dst) t.asks.items) (events_kept t.fates.items t.boots.items t.raws.items t.bytes.items)) };
 }
 
 impl Trace {
-    /// A trace of these asks, in any order.
+    /// A trace of these asks, in any order, and these events.
     pub(crate) fn of(
         alloc: Global,
         net: Net,
         rounds: u32,
         mut asks: Vec<Ask>,
+        events: EventRows,
     ) -> Result<Trace, NoMemory>
-        requires few { endpoints_of net ≤ 256 }
+        requires net { IsNetwork net }
+        requires some { 1 ≤ rounds }
+        requires few { rounds ≤ 100000 }
         requires among { All (IsAmong (endpoints_of net)) asks.items }
-        requires bounded { (round src dst : ℕ) → sum_by (slots_asked round src dst) asks.items < 2 ^ 32 }
-        ensures { IfOk result (λ trace. trace ≡ content_by net rounds (λ round src dst. sum_by (slots_asked round src dst) asks.items)) }
+        requires bounded { (src dst : ℕ) → sum_by (slots_for src dst) asks.items ≤ 100000000 }
+        requires events { AreAmong (endpoints_of net) events.fates.items events.boots.items events.raws.items events.bytes.items }
+        requires boots { length events.boots.items ≤ 67108864 }
+        ensures content { IfOk result (λ trace. trace ≡ content_by net rounds (λ round src dst. sum_by (slots_asked round src dst) asks.items) (events_kept events.fates.items events.boots.items events.raws.items events.bytes.items)) }
+        ensures sound { IfOk result IsTrace }
     {
+        let EventRows {
+            mut fates,
+            mut boots,
+            mut raws,
+            bytes,
+        } = events;
         asks.sort_unstable_by_key(|ask| ask.rank());
         let asks = gather(alloc, &asks)?;
         let starts = starts_of(alloc, rounds, &asks)?;
+        sort(&mut fates)?;
+        sort(&mut boots)?;
+        sort(&mut raws)?;
         Ok(Trace {
             net,
             rounds,
             asks,
             starts,
+            fates,
+            boots,
+            raws,
+            bytes,
         })
     }
 
     /// The net whose endpoints ask.
     pub fn net(&self) -> &Net
-        ensures { result.now ≡ self.now.net }
+        ensures net { result.now ≡ self.now.net }
+        ensures sound { IsTrace self.now }
     {
         &self.net
     }
 
     /// How many endpoints the net has.
     pub fn endpoints(&self) -> u16
-        ensures { result ≡ endpoints_of self.now.net }
+        ensures number { result ≡ endpoints_of self.now.net }
+        ensures sound { IsTrace self.now }
     {
         self.net.endpoints()
     }
 
     /// How many rounds the trace has. They are numbered from 0.
     pub fn rounds(&self) -> u32
-        ensures { result ≡ self.now.rounds }
+        ensures number { result ≡ self.now.rounds }
+        ensures sound { IsTrace self.now }
     {
         self.rounds
+    }
+
+    /// The asks of the round, one a flow, rising by source and then destination.
+    pub fn asks_in(&self, round: u32) -> &[Ask]
+        requires { round < self.now.rounds }
+        ensures { result.now ≡ asks_in self.now round }
+    {
+        let start = self.starts[round as usize];
+        let end = self.starts[round as usize + 1];
+        &self.asks[start..end]
     }
 
     /// How many destinations the source asks for in the round.
@@ -109,5 +161,66 @@ impl Trace {
         let end = self.starts[round as usize + 1];
         let low = (u64::from(round) * 256 + u64::from(src)) * 256;
         between(&self.asks[start..end], low, low + 256)
+    }
+
+    /// What befalls the packet that goes up from the endpoint in the round, or down to it; None where no row names it.
+    pub fn fate(&self, round: u32, endpoint: u16, up: bool) -> Option<Fate>
+        requires round { round < self.now.rounds }
+        requires endpoint { endpoint < endpoints_of self.now.net }
+        ensures { result ≡ fate_at self.now round endpoint up }
+    {
+        let rank = fate_rank(round, endpoint, up);
+        match between(&self.fates, rank, rank + 1).first() {
+            Some(given) => Some(given.fate),
+            None => None,
+        }
+    }
+
+    /// How often the endpoint boots in the round.
+    pub fn boots(&self, round: u32, endpoint: u16) -> u32
+        requires round { round < self.now.rounds }
+        requires endpoint { endpoint < endpoints_of self.now.net }
+        ensures { result ≡ length (boots_at self.now round endpoint) }
+    {
+        self.boots_of(round, endpoint).len() as u32
+    }
+
+    /// The version of the last of these boots, if there is one.
+    pub fn boot_version(&self, round: u32, endpoint: u16) -> Option<u8>
+        requires round { round < self.now.rounds }
+        requires endpoint { endpoint < endpoints_of self.now.net }
+        ensures { result ≡ last_of (boots_at self.now round endpoint) }
+    {
+        match self.boots_of(round, endpoint).last() {
+            Some(boot) => Some(boot.version),
+            None => None,
+        }
+    }
+
+    fn boots_of(&self, round: u32, endpoint: u16) -> &[Boot]
+        requires round { round < self.now.rounds }
+        requires endpoint { endpoint < endpoints_of self.now.net }
+        ensures boots { map (λ boot. boot.version) result.now ≡ boots_at self.now round endpoint }
+        ensures few { length result.now ≤ 67108864 }
+    {
+        let rank = boot_rank(round, endpoint);
+        between(&self.boots, rank, rank + 1)
+    }
+
+    /// How many raw packets the round has.
+    pub fn raw_count(&self, round: u32) -> usize
+        requires { round < self.now.rounds }
+        ensures { result ≡ length (raw_at self.now round) }
+    {
+        raws_of(&self.raws, round).len()
+    }
+
+    /// One of these packets, counted from 0 in the order of rows.
+    pub fn raw(&self, round: u32, at: usize) -> &[u8]
+        requires round { round < self.now.rounds }
+        requires at { at < length (raw_at self.now round) }
+        ensures { slice_get (raw_at self.now round) at ≡ Some result.now }
+    {
+        packet_of(&self.bytes, &raws_of(&self.raws, round)[at])
     }
 }

@@ -1,31 +1,34 @@
-use Rattle.std.proofs.Common.{◌≡◌, ◌≢◌, length, ℕ, sum_by, All, sym, ap, subst, ◌∙◌, Some, Ok, arith}
-use Rattle.clos_topology.specs.Network.{endpoints_of}
-use Rattle.trace_text.specs.Asks.{slots_asked, IsAmong}
+use Rattle.std.proofs.Common.{◌≡◌, ◌≢◌, length, ℕ, sum_by, sym, ap, ◌∙◌, Some, Ok, arith}
+use Rattle.clos_topology.specs.Network.{Network}
+use Rattle.trace_text.specs.Asks.{slots_asked}
 use Rattle.trace_text.specs.Earlier.{end_of, net_of}
+use Rattle.trace_text.specs.Events.{events_kept}
 use Rattle.trace_text.specs.Trace.{content_by}
 use Rattle.trace_text.proofs.ContentFacts.{content_by-same}
-use Rattle.trace_text.specs.Valid.{IsTrace}
-use Rattle.trace_text.proofs.AskFacts.{own-none}
-use Rattle.trace_text.proofs.TraceFacts.{ended-some, in_round-le}
-use Rattle.trace_text.proofs.ValidFacts.{content_by-valid}
+use Rattle.trace_text.proofs.EventRowFacts.{events-same}
+use Rattle.trace_text.proofs.TraceFacts.{ended-some}
 use Rattle.trace_text.proofs.read.finish.Goals as goal
 
 pub of-requires-clause-bounded : goal.of-requires-clause-bounded
-of-requires-clause-bounded c = λ round src dst.
+of-requires-clause-bounded c = λ src dst.
     let before = c.requires.stands.0 in
     let stands = c.requires.stands.1 in
-    omega (arith, stands.asks round src dst, in_round-le round src dst before, stands.bounded src dst)
+    omega (arith, stands.flows src dst, stands.bounded src dst)
+
+pub of-requires-clause-boots : goal.of-requires-clause-boots
+of-requires-clause-boots c = let stands = c.requires.stands.1 in omega (arith, stands.few, stands.count, c.requires.room)
 
 pub returns : goal.returns
 returns c = λ before stands.
     let is = rw c.in-Some.is at stands.net in
-    let net = c.in-Some.net in
     let rounds = c.in-Some-end.rounds in
     let some : length before ≢ 0 = omega (arith, is.0) in
     let end : end_of before ≡ Some rounds = sym stands.ended ∙ c.in-Some-end.is in
-    let among : All (IsAmong (endpoints_of net)) c.args.rows.asks.items = rw c.in-Some.is at stands.among in
-    let amount : ℕ → ℕ → ℕ → ℕ = λ round src dst. sum_by (slots_asked round src dst) c.args.rows.asks.items in (
-      ended-some before rounds some end ∙ ap Ok (sym (c.in_ok-of.ensures ∙ ap (λ n. content_by n rounds amount) (sym is.1) ∙ content_by-same (net_of before) rounds _ _ stands.asks)),
-      subst IsTrace (sym c.in_ok-of.ensures)
-          (content_by-valid net rounds amount before is.2 (rw c.in-Some-end.is at stands.short) (λ round src. own-none (endpoints_of net) round src c.args.rows.asks.items among) stands.asks stands.bounded),
+    let amount : ℕ → ℕ → ℕ → ℕ = λ round src dst. sum_by (slots_asked round src dst) c.args.rows.asks.items in
+    let events = c.args.rows.events in
+    let kept = events_kept events.fates.items events.boots.items events.raws.items events.bytes.items in (
+      ended-some before rounds some end
+          ∙ ap Ok (sym (c.in_ok-of.ensures.content ∙ ap (λ (n : Network). content_by n rounds amount kept) (sym is.1)
+          ∙ content_by-same (net_of before) rounds _ _ _ _ stands.asks (events-same before events.fates.items events.boots.items events.raws.items events.bytes.items stands.events))),
+      c.in_ok-of.ensures.sound,
     )

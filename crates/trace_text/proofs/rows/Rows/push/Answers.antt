@@ -3,6 +3,7 @@ use Rattle.std.proofs.lemmas.List.Sums.{sum_by_push}
 use Rattle.trace_text.specs.Rows.{End}
 use Rattle.trace_text.specs.Earlier.{slots_of, slots_in_round}
 use Rattle.trace_text.proofs.RowFacts.{length-more, net-more, greatest_round-more, end_of-more}
+use Rattle.trace_text.proofs.EventRowFacts.{no_event, latest_fate-more}
 use Rattle.trace_text.proofs.rows.Rows.push.Goals as goal
 
 pub returns-in-End : goal.returns-in-End
@@ -14,10 +15,16 @@ returns-in-End c = λ before s.
       net = net-more before row c.args.self.now.net allowed.0 s.net;
       round = omega (arith, greatest_round-more before row, s.round);
       ended = rw (end_of-more before row, ← s.ended, allowed.1) refl;
-      short = allowed.2;
+      short = (allowed.2, allowed.3);
       table = s.table;
       totals = λ src dst low low2. omega (arith, s.totals src dst low low2, sum_by_push (slots_of src dst) before row);
       bounded = λ src dst. omega (arith, s.bounded src dst, sum_by_push (slots_of src dst) before row);
       asks = λ round src dst. omega (arith, s.asks round src dst, sum_by_push (slots_in_round round src dst) before row);
+      flows = λ src dst. omega (arith, s.flows src dst, sum_by_push (slots_of src dst) before row);
       among = s.among;
+      ways = s.ways;
+      fated = λ endpoint up low. omega (arith, s.fated endpoint up low, latest_fate-more endpoint up before row);
+      events = no_event before row _ _ _ _ (λ round endpoint up. refl) (λ round endpoint. refl) (λ round. refl) s.events;
+      few = omega (arith, length-more before row, s.few);
+      bounds = s.bounds;
     })

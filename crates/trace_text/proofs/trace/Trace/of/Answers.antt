@@ -1,9 +1,12 @@
-use Rattle.std.proofs.Common.{◌∙◌, rules}
-use Rattle.std.proofs.lemmas.List.Sorted.{All-permutation, IsNonDecreasingBy-from_sort_by_key, sum_by-IsPermutation}
+use Rattle.std.proofs.Common.{◌≡◌, length, sym, subst, ◌∙◌, arith, rules}
+use Rattle.std.proofs.lemmas.List.Sorted.{All-permutation, IsNonDecreasingBy-from_sort_by_key, sum_by-IsPermutation, length_permutation}
 use Rattle.clos_topology.specs.Network.{endpoints_of}
 use Rattle.trace_text.specs.Asks.{rank_of, slots_asked, IsAmong}
+use Rattle.trace_text.specs.Valid.{IsTrace}
 use Rattle.trace_text.proofs.AskFacts.{rising-sorted, among-more}
 use Rattle.trace_text.proofs.ContentFacts.{content_by-same}
+use Rattle.trace_text.proofs.EventFacts.{among-permuted, events-ordered}
+use Rattle.trace_text.proofs.ValidFacts.{asked-le, content_by-sound}
 use Rattle.trace_text.proofs.trace.Trace.of.Goals as goal
 
 pub gather-requires-clause-sorted : goal.gather-requires-clause-sorted
@@ -14,27 +17,60 @@ gather-requires-clause-sorted c =
 pub gather-requires-clause-small : goal.gather-requires-clause-small
 gather-requires-clause-small c =
     rw c.deref.ensures.value
-    (among-more (endpoints_of c.args.net) 256 _ c.requires.few (All-permutation (IsAmong (endpoints_of c.args.net)) _ _ c.sort_unstable_by_key.ensures.permutation c.requires.among))
+    (among-more (endpoints_of c.args.net) 256 _ c.requires.net.most_endpoints (All-permutation (IsAmong (endpoints_of c.args.net)) _ _ c.sort_unstable_by_key.ensures.permutation c.requires.among))
 
 pub gather-requires-clause-bounded : goal.gather-requires-clause-bounded
 gather-requires-clause-bounded c = λ round src dst.
-    rw (c.deref.ensures.value, sum_by-IsPermutation (slots_asked round src dst) _ _ c.sort_unstable_by_key.ensures.permutation) (c.requires.bounded round src dst)
+    rw (c.deref.ensures.value, sum_by-IsPermutation (slots_asked round src dst) _ _ c.sort_unstable_by_key.ensures.permutation)
+    (omega (arith, asked-le round src dst c.args.asks.items, c.requires.bounded src dst))
 
 pub starts_of-requires : goal.starts_of-requires
 starts_of-requires c = rw c.deref-2.ensures.value (rising-sorted 0 c.in_ok-asks.asks.items c.in_ok-asks.ensures.rising)
 
-pub invariant_of-result : goal.invariant_of-result
-invariant_of-result c = record {
-  few = c.requires.few;
-  rising = c.in_ok-asks.ensures.rising;
-  among = c.in_ok-asks.ensures.among (endpoints_of c.args.net)
-      (rw c.deref.ensures.value (All-permutation (IsAmong (endpoints_of c.args.net)) _ _ c.sort_unstable_by_key.ensures.permutation c.requires.among));
-  each = c.in_ok-starts.ensures.each;
-  begin = rw c.deref-2.ensures.value at c.in_ok-starts.ensures.begin;
-}
-
-pub returns : goal.returns
-returns c =
-    content_by-same c.args.net c.args.rounds _ _
+pub returns-clause-content : goal.returns-clause-content
+returns-clause-content c =
+    let events = c.args.events in
+    content_by-same c.args.net c.args.rounds _ _ _ _
     (λ round src dst. c.in_ok-asks.ensures.sums round src dst
     ∙ rw c.deref.ensures.value (sum_by-IsPermutation (slots_asked round src dst) _ _ c.sort_unstable_by_key.ensures.permutation))
+    (events-ordered events.fates.items c.sort.new.items.items events.boots.items c.sort-2.new.items.items events.raws.items c.sort-3.new.items.items events.bytes.items
+    c.in_ok-sort.ensures.stable c.in_ok-sort-2.ensures.stable c.in_ok-sort-3.ensures.stable)
+
+pub returns-clause-sound : goal.returns-clause-sound
+returns-clause-sound c =
+    let events = c.args.events in
+    subst IsTrace (sym (returns-clause-content c))
+    (content_by-sound c.args.net c.args.rounds c.args.asks.items events.fates.items events.boots.items events.raws.items events.bytes.items c.requires.net c.requires.some c.requires.few c.requires.among
+    c.requires.bounded c.requires.events c.requires.boots)
+
+pub invariant_of-result : goal.invariant_of-result
+invariant_of-result c =
+    let few = c.requires.net.most_endpoints in
+    let events = c.args.events in
+    let boots : length c.sort-2.new.items.items ≡ length events.boots.items = length_permutation events.boots.items c.sort-2.new.items.items c.sort-2.ensures.same in (
+      record {
+        few = few;
+        rising = c.in_ok-asks.ensures.rising;
+        among = c.in_ok-asks.ensures.among (endpoints_of c.args.net)
+            (rw c.deref.ensures.value (All-permutation (IsAmong (endpoints_of c.args.net)) _ _ c.sort_unstable_by_key.ensures.permutation c.requires.among));
+        each = c.in_ok-starts.ensures.each;
+        begin = rw c.deref-2.ensures.value at c.in_ok-starts.ensures.begin;
+      },
+      record {
+        among = among-permuted (endpoints_of c.args.net) events.fates.items c.sort.new.items.items events.boots.items c.sort-2.new.items.items events.raws.items c.sort-3.new.items.items events.bytes.items
+            c.sort.ensures.same c.sort-2.ensures.same c.sort-3.ensures.same c.requires.events;
+        fates_rise = c.in_ok-sort.ensures.sorted;
+        boots_rise = c.in_ok-sort-2.ensures.sorted;
+        raws_rise = c.in_ok-sort-3.ensures.sorted;
+        few = omega (arith, boots, c.requires.boots);
+      },
+      subst IsTrace
+          (sym
+          (content_by-same c.args.net c.args.rounds _ _ _ _
+          (λ round src dst. c.in_ok-asks.ensures.sums round src dst
+          ∙ rw c.deref.ensures.value (sum_by-IsPermutation (slots_asked round src dst) _ _ c.sort_unstable_by_key.ensures.permutation))
+          (events-ordered events.fates.items c.sort.new.items.items events.boots.items c.sort-2.new.items.items events.raws.items c.sort-3.new.items.items events.bytes.items
+          c.in_ok-sort.ensures.stable c.in_ok-sort-2.ensures.stable c.in_ok-sort-3.ensures.stable)))
+          (content_by-sound c.args.net c.args.rounds c.args.asks.items events.fates.items events.boots.items events.raws.items events.bytes.items c.requires.net c.requires.some c.requires.few
+          c.requires.among c.requires.bounded c.requires.events c.requires.boots),
+    )

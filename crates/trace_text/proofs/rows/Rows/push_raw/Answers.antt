@@ -1,0 +1,44 @@
+use Rattle.std.proofs.Common.{◌++◌, length, sym, ◌∙◌, arith, length-append}
+use Rattle.std.proofs.lemmas.List.Sums.{sum_by_push}
+use Rattle.std.proofs.lemmas.List.Elements.{All-push}
+use Rattle.trace_text.specs.Rows.{Raw}
+use Rattle.trace_text.specs.Earlier.{slots_of, slots_in_round, end_of}
+use Rattle.trace_text.specs.Events.{IsWithin}
+use Rattle.trace_text.specs.Fields.{bytes_of}
+use Rattle.trace_text.proofs.HexFacts.{hex-bytes}
+use Rattle.trace_text.proofs.RowFacts.{length-more, net-more, greatest_round-more, end_of-more, option_or-none}
+use Rattle.trace_text.proofs.EventRowFacts.{raw-event, latest_fate-more}
+use Rattle.trace_text.proofs.rows.Rows.push_raw.Goals as goal
+
+pub returns : goal.returns
+returns c = λ before s.
+    let packet = bytes_of c.args.packet.now in
+    let row = Raw c.args.round packet in
+    let events = c.args.self.now.events in
+    let told = c.in_ok-push_raw.ensures in
+    let hex = (hex-bytes c.args.packet.now c.requires.allowed.2.0).1 in
+    record {
+      count = omega (arith, length-more before row, s.count);
+      net = net-more before row c.args.self.now.net c.requires.allowed.1 s.net;
+      round = omega (arith, greatest_round-more before row, s.round, c.requires.allowed.0);
+      ended = s.ended ∙ sym (end_of-more before row ∙ option_or-none (end_of before));
+      table = s.table;
+      totals = λ src dst low low2. omega (arith, s.totals src dst low low2, sum_by_push (slots_of src dst) before row);
+      short = s.short;
+      bounded = λ src dst. omega (arith, s.bounded src dst, sum_by_push (slots_of src dst) before row);
+      asks = λ r src dst. omega (arith, s.asks r src dst, sum_by_push (slots_in_round r src dst) before row);
+      flows = λ src dst. omega (arith, s.flows src dst, sum_by_push (slots_of src dst) before row);
+      among = s.among;
+      ways = s.ways;
+      fated = λ endpoint up low. omega (arith, s.fated endpoint up low, latest_fate-more endpoint up before row);
+      events = rw (told.fates, told.boots, told.raws, told.bytes)
+          (raw-event before c.args.round packet events.fates.items events.boots.items events.raws.items events.bytes.items s.bounds.each_raw s.events);
+      few = rw told.boots (omega (arith, length-more before row, s.few));
+      bounds = rw (told.fates, told.boots, told.raws, told.bytes) (record {
+        each_fate = s.bounds.each_fate;
+        each_boot = s.bounds.each_boot;
+        each_raw = All-push (IsWithin (length (events.bytes.items ++ packet))) events.raws.items _
+            (λ k d lt. let here = s.bounds.each_raw k d lt in (omega (arith, here.0, length-append events.bytes.items packet), here.1))
+            (omega (arith, length-append events.bytes.items packet), omega (arith, hex, c.requires.allowed.2.1));
+      });
+    }

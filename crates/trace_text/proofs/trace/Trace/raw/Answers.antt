@@ -1,0 +1,44 @@
+use Rattle.std.proofs.Common.{◌<◌, length, ap, ◌∙◌, arith}
+use Rattle.std.specs.Prelude.{filter, sum_by, slice_get}
+use Rattle.std.proofs.lemmas.List.{length-map}
+use Rattle.std.proofs.lemmas.List.Elements.{All-filter}
+use Rattle.trace_text.specs.Asks.{slots_asked}
+use Rattle.trace_text.specs.Events.{IsWithin, events_kept, is_raw_of, packet_of}
+use Rattle.trace_text.proofs.ContentFacts.{raw_at-content_by}
+use Rattle.trace_text.proofs.EventFacts.{at-map}
+use Rattle.trace_text.proofs.trace.Trace.raw.Goals as goal
+
+pub bounds-raws_of-at : goal.bounds-raws_of-at
+bounds-raws_of-at c =
+    let t = c.self.inside in
+    let low : c.args.round < t.rounds = rw (← c.self.view_is) at c.requires.round in
+    let below = rw (
+      ← c.self.view_is,
+      raw_at-content_by t.net t.rounds (λ round src dst. sum_by (slots_asked round src dst) t.asks.items) (events_kept t.fates.items t.boots.items t.raws.items t.bytes.items) c.args.round low,
+      length-map (filter (is_raw_of c.args.round) t.raws.items) (packet_of t.bytes.items),
+    ) at c.requires.at in
+    rw (c.raws_of.ensures, c.deref-2.ensures.value) below
+
+pub offset_bounds-raws_of-at : goal.offset_bounds-raws_of-at
+offset_bounds-raws_of-at c = let below = bounds-raws_of-at c in let fits = c.raws_of.type_inv.1 in omega arith
+
+pub packet_of-requires : goal.packet_of-requires
+packet_of-requires c =
+    let t = c.self.inside in
+    let below = rw (c.raws_of.ensures, c.deref-2.ensures.value) at (bounds-raws_of-at c) in
+    rw (c.raws_of.ensures, c.deref-2.ensures.value, c.deref.ensures.value)
+    (All-filter (is_raw_of c.args.round) (IsWithin (length t.bytes.items)) t.raws.items c.self.invariant.1.among.each_raw c.args.at _ below)
+
+pub returns : goal.returns
+returns c =
+    let t = c.self.inside in
+    let low : c.args.round < t.rounds = rw (← c.self.view_is) at c.requires.round in
+    let below =
+    rw (
+      ← c.self.view_is,
+      raw_at-content_by t.net t.rounds (λ round src dst. sum_by (slots_asked round src dst) t.asks.items) (events_kept t.fates.items t.boots.items t.raws.items t.bytes.items) c.args.round low,
+      length-map (filter (is_raw_of c.args.round) t.raws.items) (packet_of t.bytes.items),
+    ) at c.requires.at in
+    rw (← c.self.view_is, c.packet_of.ensures, c.raws_of.ensures, c.deref-2.ensures.value, c.deref.ensures.value)
+    (ap (λ l. slice_get l c.args.at) (raw_at-content_by t.net t.rounds (λ round src dst. sum_by (slots_asked round src dst) t.asks.items) (events_kept t.fates.items t.boots.items t.raws.items t.bytes.items) c.args.round low)
+    ∙ at-map (packet_of t.bytes.items) (filter (is_raw_of c.args.round) t.raws.items) c.args.at _ below)
