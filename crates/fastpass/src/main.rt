@@ -14,28 +14,22 @@ const MEMORY: u8 = 5;
 const UNREADABLE: u8 = 8;
 
 fn main(rt: HostRuntime) -> ExitCode {
-    match words_and_run(&rt) {
-        Ok(status) => ExitCode::from(status),
-        Err(error) if error.kind() == ErrorKind::OutOfMemory => ExitCode::from(MEMORY),
-        Err(_) => ExitCode::from(UNREADABLE),
-    }
-}
-
-/// Runs on the words after the program's name.
-fn words_and_run(rt: &HostRuntime) -> io::Result<u8> {
-    let mut args = Vec::new(rt.alloc());
-    for arg in env::args(rt)? {
-        args.push(arg)?;
-    }
+    let args = match args_of(&rt) {
+        Ok(args) => args,
+        Err(error) if error.kind() == ErrorKind::OutOfMemory => return ExitCode::from(MEMORY),
+        Err(_) => return ExitCode::from(UNREADABLE),
+    };
     let mut words = Vec::new(rt.alloc());
     for arg in args.iter().skip(1) {
-        words.push(arg.as_str())?;
+        if words.push(arg.as_str()).is_err() {
+            return ExitCode::from(MEMORY);
+        }
     }
     let mut src = StdSource::new(rt.stdin());
     let mut out = StdSink::new(rt.stdout());
     let mut notes = StdSink::new(rt.stderr());
-    Ok(run(
-        rt,
+    ExitCode::from(run(
+        &rt,
         rt.alloc(),
         &words,
         &mut src,
@@ -43,4 +37,13 @@ fn words_and_run(rt: &HostRuntime) -> io::Result<u8> {
         &mut notes,
         &OpenGate,
     ))
+}
+
+/// The program's name and the words after it.
+fn args_of(rt: &HostRuntime) -> io::Result<Vec<String>> {
+    let mut args = Vec::new(rt.alloc());
+    for arg in env::args(rt)? {
+        args.push(arg)?;
+    }
+    Ok(args)
 }

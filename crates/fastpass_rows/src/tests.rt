@@ -1,7 +1,9 @@
 use fastpass_run::run;
 use fp_edge::{MemSink, MemSource, OpenGate};
 use std::alloc::{AllocError, Global};
+use std::sync::Wait;
 use std::test::Fail;
+use std::thread::Threads;
 
 mod racks;
 
@@ -34,19 +36,26 @@ fn source(alloc: Global, trace: &[u8]) -> Result<MemSource, AllocError> {
     Ok(MemSource::new(copied(alloc, trace)?, PIECE, Vec::new(alloc)))
 }
 
-fn run_with(
+fn run_with<R: Threads + Wait + Sync>(
+    rt: &R,
     alloc: Global,
     words: &[&str],
     mut src: MemSource,
     mut out: MemSink,
     mut notes: MemSink,
 ) -> Came {
-    let status = run(&(), alloc, words, &mut src, &mut out, &mut notes, &OpenGate);
+    let status = run(rt, alloc, words, &mut src, &mut out, &mut notes, &OpenGate);
     Came { status, out, notes }
 }
 
-fn run_on(alloc: Global, words: &[&str], trace: &[u8]) -> Result<Came, Fail> {
+fn run_on<R: Threads + Wait + Sync>(
+    rt: &R,
+    alloc: Global,
+    words: &[&str],
+    trace: &[u8],
+) -> Result<Came, Fail> {
     Ok(run_with(
+        rt,
         alloc,
         words,
         source(alloc, trace)?,
@@ -57,8 +66,14 @@ fn run_on(alloc: Global, words: &[&str], trace: &[u8]) -> Result<Came, Fail> {
 
 #[test]
 fn plans_are_written_whole(rt: HostRuntime) -> Result<(), Fail> {
-    let cases: [(&[&str], &[u8], &[u8]); 5] = [
+    let cases: [(&[&str], &[u8], &[u8]); 6] = [
         (&["plan", "--batch", "2"], THREE_FLOWS, THREE_FLOWS_PLANNED),
+        // The path workers are no matter.
+        (
+            &["plan", "--paths", "16", "--batch", "2"],
+            THREE_FLOWS,
+            THREE_FLOWS_PLANNED,
+        ),
         // Nothing is asked for.
         (&["plan"], b"net,1,2,1\nend,1\n", b"end,1\n"),
         (
@@ -80,7 +95,7 @@ fn plans_are_written_whole(rt: HostRuntime) -> Result<(), Fail> {
         ),
     ];
     for (words, trace, text) in cases.iter() {
-        let came = run_on(rt.alloc(), words, trace)?;
+        let came = run_on(&rt, rt.alloc(), words, trace)?;
         assert_eq!(rt; came.status, 0);
         assert!(rt; came.out.held() == *text);
         assert!(rt; came.notes.held().is_empty());
@@ -109,7 +124,7 @@ fn a_batch_of_64_slots_leaves_the_rest(rt: HostRuntime) -> Result<(), Fail> {
         ),
     ];
     for (trace, slots, end) in cases.iter() {
-        let came = run_on(rt.alloc(), &["plan", "--batch", "64"], trace)?;
+        let came = run_on(&rt, rt.alloc(), &["plan", "--batch", "64"], trace)?;
         assert_eq!(rt; came.status, 0);
         let mut lines = came.out.held().split(|byte| *byte == b'\n').skip(1);
         for slot in 1..=*slots {
@@ -123,7 +138,7 @@ fn a_batch_of_64_slots_leaves_the_rest(rt: HostRuntime) -> Result<(), Fail> {
 
 #[test]
 fn other_words_are_refused(rt: HostRuntime) -> Result<(), Fail> {
-    let cases: [&[&str]; 9] = [
+    let cases: [&[&str]; 12] = [
         &[],
         &["plan", "--batch", "0"],
         &["plan", "--batch", "65"],
@@ -133,9 +148,12 @@ fn other_words_are_refused(rt: HostRuntime) -> Result<(), Fail> {
         &["plan", "--batch", "02"],
         &["plans"],
         &["plan", "--window", "2"],
+        &["plan", "--paths", "0"],
+        &["plan", "--paths", "17"],
+        &["plan", "--paths", "2", "--batch", "2", "--paths", "2"],
     ];
     for words in cases.iter() {
-        let came = run_on(rt.alloc(), words, THREE_FLOWS)?;
+        let came = run_on(&rt, rt.alloc(), words, THREE_FLOWS)?;
         assert_eq!(rt; came.status, 1);
         assert!(rt; came.notes.held() == b"words\n".as_slice());
         assert!(rt; came.out.held().is_empty());
@@ -168,10 +186,10 @@ fn faulty_traces_tell_row_and_fault(rt: HostRuntime) -> Result<(), Fail> {
         ),
         (b"net,1,2,1\n", b"row,2,9\n"),
         (b"net,1,2,1\nlose,0,0,up\n", b"row,2,10\n"),
-        (b"net,2,3,2\n", b"row,1,12\n"),
+        (b"net,2,3,2\n", b"row,2,9\n"),
     ];
     for (trace, note) in cases.iter() {
-        let came = run_on(rt.alloc(), &["plan"], trace)?;
+        let came = run_on(&rt, rt.alloc(), &["plan"], trace)?;
         assert_eq!(rt; came.status, 2);
         assert!(rt; came.notes.held() == *note);
         assert!(rt; came.out.held().is_empty());
@@ -179,51 +197,61 @@ fn faulty_traces_tell_row_and_fault(rt: HostRuntime) -> Result<(), Fail> {
     Ok(())
 }
 
-// The second write fails, and the first took at most 4 bytes.
+// A write that fails is the last, whichever it is: before it each took 4 bytes.
 #[test]
 fn a_failed_write_leaves_a_front(rt: HostRuntime) -> Result<(), Fail> {
     let alloc = rt.alloc();
-    let mut failing = Vec::new(alloc);
-    failing.push(2)?;
-    let out = MemSink::new(alloc, 1_000_000, 4, failing)?;
-    let words = ["plan", "--batch", "2"];
-    let came = run_with(
-        alloc,
-        &words,
-        source(alloc, THREE_FLOWS)?,
-        out,
-        sink(alloc)?,
-    );
-    assert_eq!(rt; came.status, 4);
-    assert!(rt; came.notes.held() == b"write\n".as_slice());
-    assert!(rt; came.out.held().len() <= 8);
-    assert!(rt; THREE_FLOWS_PLANNED.starts_with(came.out.held()));
+    for call in 0..8u32 {
+        let mut failing = Vec::new(alloc);
+        failing.push(call)?;
+        let out = MemSink::new(alloc, 1_000_000, 4, failing)?;
+        let words = ["plan", "--batch", "2"];
+        let came = run_with(
+            &rt,
+            alloc,
+            &words,
+            source(alloc, THREE_FLOWS)?,
+            out,
+            sink(alloc)?,
+        );
+        assert_eq!(rt; came.status, 4);
+        assert!(rt; came.notes.held() == b"write\n".as_slice());
+        assert_eq!(rt; came.out.held().len(), call as usize * 4);
+        assert!(rt; THREE_FLOWS_PLANNED.starts_with(came.out.held()));
+    }
     Ok(())
 }
 
+// The trace has 52 bytes: six reads of at most 10, and the one that finds its end.
 #[test]
 fn a_failed_read_writes_nothing(rt: HostRuntime) -> Result<(), Fail> {
     let alloc = rt.alloc();
-    let mut failing = Vec::new(alloc);
-    failing.push(1)?;
-    let src = MemSource::new(copied(alloc, THREE_FLOWS)?, 10, failing);
-    let words = ["plan", "--batch", "2"];
-    let came = run_with(alloc, &words, src, sink(alloc)?, sink(alloc)?);
-    assert_eq!(rt; came.status, 3);
-    assert!(rt; came.notes.held() == b"read\n".as_slice());
-    assert!(rt; came.out.held().is_empty());
+    for call in 0..7u32 {
+        let mut failing = Vec::new(alloc);
+        failing.push(call)?;
+        let src = MemSource::new(copied(alloc, THREE_FLOWS)?, 10, failing);
+        let words = ["plan", "--batch", "2"];
+        let came = run_with(&rt, alloc, &words, src, sink(alloc)?, sink(alloc)?);
+        assert_eq!(rt; came.status, 3);
+        assert!(rt; came.notes.held() == b"read\n".as_slice());
+        assert!(rt; came.out.held().is_empty());
+    }
     Ok(())
 }
 
+// As many bytes as the limit are judged, and one more is too many.
 #[test]
 fn an_input_above_the_limit_is_refused(rt: HostRuntime) -> Result<(), Fail> {
     let alloc = rt.alloc();
-    let bytes = vec![in alloc; b'x'; 67_108_865]?;
-    let src = MemSource::new(bytes, PIECE, Vec::new(alloc));
-    let came = run_with(alloc, &["plan"], src, sink(alloc)?, sink(alloc)?);
-    assert_eq!(rt; came.status, 6);
-    assert!(rt; came.notes.held() == b"big\n".as_slice());
-    assert!(rt; came.out.held().is_empty());
+    let cases: [(usize, u8, &[u8]); 2] = [(67_108_864, 2, b"row,1,1\n"), (67_108_865, 6, b"big\n")];
+    for (size, status, note) in cases.iter() {
+        let bytes = vec![in alloc; b'x'; *size]?;
+        let src = MemSource::new(bytes, PIECE, Vec::new(alloc));
+        let came = run_with(&rt, alloc, &["plan"], src, sink(alloc)?, sink(alloc)?);
+        assert_eq!(rt; came.status, *status);
+        assert!(rt; came.notes.held() == *note);
+        assert!(rt; came.out.held().is_empty());
+    }
     Ok(())
 }
 
@@ -235,7 +263,14 @@ fn a_fault_of_the_notes_changes_no_status(rt: HostRuntime) -> Result<(), Fail> {
         failing.push(call)?;
     }
     let notes = MemSink::new(alloc, 1_000_000, PIECE, failing)?;
-    let came = run_with(alloc, &[], source(alloc, THREE_FLOWS)?, sink(alloc)?, notes);
+    let came = run_with(
+        &rt,
+        alloc,
+        &[],
+        source(alloc, THREE_FLOWS)?,
+        sink(alloc)?,
+        notes,
+    );
     assert_eq!(rt; came.status, 1);
     assert!(rt; came.notes.held().is_empty());
     Ok(())

@@ -3,7 +3,7 @@ use Rattle.std.proofs.Common.{◌≡◌, ◌<◌, ◌≤◌, ◌+◌, ◌-◌, �
 use Rattle.std.proofs.lemmas.List.{append-nil, append_assoc, take-append-drop, take-take, take_all, length-take, drop-drop, drop-take, drop_more}
 use Rattle.greedy_rules.specs.declared.flows.Flow.{Flow}
 use Rattle.greedy_rules.specs.declared.flows.Entry.{Entry}
-use Rattle.greedy_rules.specs.Slot.{is_taken}
+use Rattle.greedy_rules.specs.Batches.{DemandBatch}
 use Rattle.greedy_rules.specs.SlotTable.{Slots}
 use Rattle.greedy_rules.specs.Schedule.{first_slot, schedule}
 use Rattle.path_workers.specs.CoreTable.{CoreSlots}
@@ -12,14 +12,14 @@ use Rattle.trace_text.specs.Trace.{TraceContent}
 use Rattle.window_engine.specs.Batches.{plan_batches}
 use Rattle.window_engine.specs.Scheduled.{Cores, cores_from}
 use Rattle.window_engine.specs.Step.{StepContent}
-use Rattle.fastpass_run.specs.Text.{text_of, entry_line, slots_lines, batch_lines, batches_lines}
+use Rattle.fastpass_run.specs.Text.{text_of, no_batch, entry_line, slots_lines, batch_lines, batches_lines}
 use Rattle.fastpass_run.specs.Progress.{window_lines, rounds_lines, cores_of_step}
 use Rattle.fastpass_run.proofs.TextLemmas.{text_of-append}
 
 times_more : (n b : ℕ) → suc n * b ≡ b + n * b
 times_more n b = grind arith
 
-batches_lines-append : (cores : Cores) (b k : ℕ) (xs ys : List (List Entry)) (slots : List (List Flow))
+batches_lines-append : (cores : Cores) (b k : ℕ) (xs ys : List DemandBatch) (slots : List (List Flow))
     → batches_lines cores b k (xs ++ ys) slots ≡ batches_lines cores b k xs (take (length xs * b) slots) ++ batches_lines cores b (k + length xs) ys (drop (length xs * b) slots)
 batches_lines-append cores b k [] ys slots =
     let none : 0 * b ≡ 0 = omega arith in
@@ -50,12 +50,12 @@ take-plus m n xs =
 places : (k n b : ℕ) → (k + n) * b ≡ k * b + n * b
 places k n b = grind arith
 
-front_more : (cores : Cores) (b j k n : ℕ) (batches : List (List Entry)) (slots : List (List Flow)) → k + n ≤ length batches
+front_more : (cores : Cores) (b j k n : ℕ) (batches : List DemandBatch) (slots : List (List Flow)) → k + n ≤ length batches
     → batches_lines cores b j (take (k + n) batches) (take ((k + n) * b) slots)
     ≡ batches_lines cores b j (take k batches) (take (k * b) slots) ++ batches_lines cores b (j + k) (take n (drop k batches)) (take (n * b) (drop (k * b) slots))
 front_more cores b j k n batches slots within =
-    let xs : List (List Entry) = take k batches in
-    let ys : List (List Entry) = take n (drop k batches) in
+    let xs : List DemandBatch = take k batches in
+    let ys : List DemandBatch = take n (drop k batches) in
     let here : List (List Flow) = take ((k + n) * b) slots in
     let count : length xs ≡ k = omega (arith, length-take k batches) in
     let size : length xs * b ≡ k * b = ap (λ (m : ℕ). m * b) count in
@@ -63,7 +63,7 @@ front_more cores b j k n batches slots within =
     let at : j + length xs ≡ j + k = omega arith in
     let first : take (k * b) here ≡ take (k * b) slots = take-take (k * b) ((k + n) * b) slots (omega arith) in
     let rest : drop (k * b) here ≡ take (n * b) (drop (k * b) slots) = ap (λ (m : ℕ). drop (k * b) (take m slots)) all ∙ drop-take (k * b) (n * b) slots in
-    ap (λ (bs : List (List Entry)). batches_lines cores b j bs here) (take-plus k n batches)
+    ap (λ (bs : List DemandBatch). batches_lines cores b j bs here) (take-plus k n batches)
     ∙ (batches_lines-append cores b j xs ys here
     ∙ (ap (λ (m : ℕ). batches_lines cores b j xs (take m here) ++ batches_lines cores b (j + length xs) ys (drop m here)) size
     ∙ (ap (λ (m : ℕ). batches_lines cores b j xs (take (k * b) here) ++ batches_lines cores b m ys (drop (k * b) here)) at
@@ -74,7 +74,7 @@ pub rounds_more : (cores : Cores) (b k n : ℕ) (trace : TraceContent) → k + n
     → text_of (rounds_lines cores b (k + n) trace) ≡ text_of (rounds_lines cores b k trace) ++ text_of (window_lines cores b k n trace)
 rounds_more cores b k n trace within =
     let same : 0 + k ≡ k = omega arith in
-    let slots : List (List Flow) = schedule is_taken b (plan_batches trace) in
+    let slots : List (List Flow) = schedule b (plan_batches trace) in
     ap text_of (front_more cores b 0 k n (plan_batches trace) slots within
     ∙ ap (λ (m : ℕ). rounds_lines cores b k trace ++ batches_lines cores b m (take n (drop k (plan_batches trace))) (take (n * b) (drop (k * b) slots))) same)
     ∙ text_of-append (rounds_lines cores b k trace) (window_lines cores b k n trace)
@@ -90,27 +90,27 @@ rounds_whole cores b k n all trace more within =
     ∙ ap (λ (t : List ℕ). t ++ text_of (window_lines cores b (k + n) rest trace)) (rounds_more cores b k n trace (omega arith)))
 
 -- one batch more of a step
-one_batch : (cores : Cores) (b j k : ℕ) (batches : List (List Entry)) (slots : List (List Flow)) → k < length batches
-    → batches_lines cores b (j + k) (take 1 (drop k batches)) (take (1 * b) (drop (k * b) slots)) ≡ batch_lines cores b (j + k) (get_or batches k []) (take b (drop (k * b) slots))
+one_batch : (cores : Cores) (b j k : ℕ) (batches : List DemandBatch) (slots : List (List Flow)) → k < length batches
+    → batches_lines cores b (j + k) (take 1 (drop k batches)) (take (1 * b) (drop (k * b) slots)) ≡ batch_lines cores b (j + k) (get_or batches k no_batch) (take b (drop (k * b) slots))
 one_batch cores b j k batches slots below =
-    let none : List Entry = [] in
+    let none : DemandBatch = no_batch in
     let rest : List (List Flow) = drop (k * b) slots in
     let size : 1 * b ≡ b = omega arith in
-    ap (λ (bs : List (List Entry)). batches_lines cores b (j + k) (take 1 bs) (take (1 * b) rest)) (drop_more batches k none below)
+    ap (λ (bs : List DemandBatch). batches_lines cores b (j + k) (take 1 bs) (take (1 * b) rest)) (drop_more batches k none below)
     ∙ (append-nil (batch_lines cores b (j + k) (get_or batches k none) (take b (take (1 * b) rest)))
     ∙ ap (batch_lines cores b (j + k) (get_or batches k none)) (ap (λ (m : ℕ). take b (take m rest)) size ∙ take-take b b rest (omega arith)))
 
-pub batches_more : (cores : Cores) (b j k : ℕ) (batches : List (List Entry)) (slots : List (List Flow)) → k < length batches
+pub batches_more : (cores : Cores) (b j k : ℕ) (batches : List DemandBatch) (slots : List (List Flow)) → k < length batches
     → text_of (batches_lines cores b j (take (k + 1) batches) (take ((k + 1) * b) slots))
-    ≡ text_of (batches_lines cores b j (take k batches) (take (k * b) slots)) ++ text_of (batch_lines cores b (j + k) (get_or batches k []) (take b (drop (k * b) slots)))
+    ≡ text_of (batches_lines cores b j (take k batches) (take (k * b) slots)) ++ text_of (batch_lines cores b (j + k) (get_or batches k no_batch) (take b (drop (k * b) slots)))
 batches_more cores b j k batches slots below =
     let before : List Line = batches_lines cores b j (take k batches) (take (k * b) slots) in
     ap text_of (front_more cores b j k 1 batches slots (omega arith) ∙ ap (λ (ls : List Line). before ++ ls) (one_batch cores b j k batches slots below))
-    ∙ text_of-append before (batch_lines cores b (j + k) (get_or batches k []) (take b (drop (k * b) slots)))
+    ∙ text_of-append before (batch_lines cores b (j + k) (get_or batches k no_batch) (take b (drop (k * b) slots)))
 
-pub batches_whole : (cores : Cores) (b j k : ℕ) (batches : List (List Entry)) (slots : List (List Flow)) → k < length batches → length slots ≡ length batches * b
+pub batches_whole : (cores : Cores) (b j k : ℕ) (batches : List DemandBatch) (slots : List (List Flow)) → k < length batches → length slots ≡ length batches * b
     → text_of (batches_lines cores b j batches slots)
-    ≡ (text_of (batches_lines cores b j (take k batches) (take (k * b) slots)) ++ text_of (batch_lines cores b (j + k) (get_or batches k []) (take b (drop (k * b) slots))))
+    ≡ (text_of (batches_lines cores b j (take k batches) (take (k * b) slots)) ++ text_of (batch_lines cores b (j + k) (get_or batches k no_batch) (take b (drop (k * b) slots))))
     ++ text_of (batches_lines cores b (j + (k + 1)) (take (length batches - (k + 1)) (drop (k + 1) batches)) (take ((length batches - (k + 1)) * b) (drop ((k + 1) * b) slots)))
 batches_whole cores b j k batches slots below long =
     let n : ℕ = length batches in
@@ -120,7 +120,7 @@ batches_whole cores b j k batches slots below long =
     let all_batches : batches ≡ take n batches = sym (take_all n batches (omega arith)) in
     let all_slots : slots ≡ take size slots = sym (take_all size slots (omega arith)) in
     let later : List Line = batches_lines cores b (j + (k + 1)) (take rest (drop (k + 1) batches)) (take (rest * b) (drop ((k + 1) * b) slots)) in
-    ap (λ (bs : List (List Entry)). text_of (batches_lines cores b j bs slots)) all_batches
+    ap (λ (bs : List DemandBatch). text_of (batches_lines cores b j bs slots)) all_batches
     ∙ (ap (λ (xs : List (List Flow)). text_of (batches_lines cores b j (take n batches) xs)) all_slots
     ∙ (ap (λ (m : ℕ). text_of (batches_lines cores b j (take m batches) (take (m * b) slots))) parts
     ∙ (ap text_of (front_more cores b j (k + 1) rest batches slots (omega arith))
@@ -128,20 +128,20 @@ batches_whole cores b j k batches slots below long =
     ∙ ap (λ (t : List ℕ). t ++ text_of later) (batches_more cores b j k batches slots below)))))
 
 -- a batch of a step: its entries and then its slots
-pub batch_text : (b at k base from : ℕ) (step : StepContent) (batch : List Entry) (table : Slots) (cores : CoreSlots) → k ≡ step.first_allocated + at → batch ≡ get_or step.batches at [] → base ≡ first_slot b step.first_allocated
-    → from ≡ at * b → table ≡ step.slots → cores ≡ step.cores
-    → text_of (map (entry_line k) batch) ++ text_of (slots_lines (cores_from base cores) (base + from) (take b (drop from table.slots)))
-    ≡ text_of (batch_lines (cores_of_step b step) b (step.first_allocated + at) (get_or step.batches at []) (take b (drop (at * b) step.slots.slots)))
+pub batch_text : (b at k base from : ℕ) (step : StepContent) (batch : DemandBatch) (table : Slots) (cores : CoreSlots) → k ≡ step.window.span.first + at → batch ≡ get_or step.batches at no_batch → base ≡ first_slot b step.window.span.first
+    → from ≡ at * b → table ≡ step.window.slots → cores ≡ step.window.cores
+    → text_of (map (entry_line k) batch.entries) ++ text_of (slots_lines (cores_from base cores) (base + from) (take b (drop from table.slots)))
+    ≡ text_of (batch_lines (cores_of_step b step) b (step.window.span.first + at) (get_or step.batches at no_batch) (take b (drop (at * b) step.window.slots.slots)))
 batch_text b at k base from step batch table cores k_is batch_is base_is from_is table_is cores_are =
-    let n : ℕ = step.first_allocated + at in
-    let entries : List Line = map (entry_line n) (get_or step.batches at []) in
-    let number : base + from ≡ first_slot b n = omega (arith, places step.first_allocated at b) in
+    let n : ℕ = step.window.span.first + at in
+    let entries : List Line = map (entry_line n) (get_or step.batches at no_batch).entries in
+    let number : base + from ≡ first_slot b n = omega (arith, places step.window.span.first at b) in
     let Slots_of : ℕ → CoreSlots → ℕ → ℕ → Slots → List ℕ = λ f c m low t. text_of (slots_lines (cores_from f c) m (take b (drop low t.slots))) in
-    ap (λ (m : ℕ). text_of (map (entry_line m) batch) ++ Slots_of base cores (base + from) from table) k_is
-    ∙ (ap (λ (es : List Entry). text_of (map (entry_line n) es) ++ Slots_of base cores (base + from) from table) batch_is
+    ap (λ (m : ℕ). text_of (map (entry_line m) batch.entries) ++ Slots_of base cores (base + from) from table) k_is
+    ∙ (ap (λ (x : DemandBatch). text_of (map (entry_line n) x.entries) ++ Slots_of base cores (base + from) from table) batch_is
     ∙ (ap (λ (m : ℕ). text_of entries ++ Slots_of base cores m from table) number
     ∙ (ap (λ (m : ℕ). text_of entries ++ Slots_of m cores (first_slot b n) from table) base_is
-    ∙ (ap (λ (m : ℕ). text_of entries ++ Slots_of (first_slot b step.first_allocated) cores (first_slot b n) m table) from_is
-    ∙ (ap (λ (t : Slots). text_of entries ++ Slots_of (first_slot b step.first_allocated) cores (first_slot b n) (at * b) t) table_is
-    ∙ (ap (λ (c : CoreSlots). text_of entries ++ Slots_of (first_slot b step.first_allocated) c (first_slot b n) (at * b) step.slots) cores_are
-    ∙ sym (text_of-append entries (slots_lines (cores_of_step b step) (first_slot b n) (take b (drop (at * b) step.slots.slots))))))))))
+    ∙ (ap (λ (m : ℕ). text_of entries ++ Slots_of (first_slot b step.window.span.first) cores (first_slot b n) m table) from_is
+    ∙ (ap (λ (t : Slots). text_of entries ++ Slots_of (first_slot b step.window.span.first) cores (first_slot b n) (at * b) t) table_is
+    ∙ (ap (λ (c : CoreSlots). text_of entries ++ Slots_of (first_slot b step.window.span.first) c (first_slot b n) (at * b) step.window.slots) cores_are
+    ∙ sym (text_of-append entries (slots_lines (cores_of_step b step) (first_slot b n) (take b (drop (at * b) step.window.slots.slots))))))))))

@@ -5,7 +5,7 @@ use Rattle.std.proofs.lemmas.Bool.Decides.{nat_tests}
 use Rattle.std.proofs.lemmas.List.{get_or-take, get_or-drop, length-take, length-drop}
 use Rattle.greedy_rules.specs.declared.flows.Flow.{Flow}
 use Rattle.greedy_rules.specs.declared.flows.Entry.{Entry}
-use Rattle.greedy_rules.specs.Slot.{is_taken}
+use Rattle.greedy_rules.specs.Batches.{DemandBatch}
 use Rattle.greedy_rules.specs.Schedule.{first_slot, schedule, slot_in, slot_at}
 use Rattle.clos_topology.specs.Links.{CoreOf, IsClean}
 use Rattle.report_text.specs.declared.line.Line.{Line}
@@ -17,7 +17,7 @@ use Rattle.fastpass_run.specs.Progress.{window_lines, rounds_lines}
 use Rattle.fastpass_run.specs.Text.{entry_line, slot_line, slots_lines, batch_lines, batches_lines}
 
 abbrev pub all_slots : ℕ → TraceContent → List (List Flow)
-all_slots b trace = schedule is_taken b (plan_batches trace)
+all_slots b trace = schedule b (plan_batches trace)
 
 -- the slots of a window by their numbers
 within_window : (low count at : ℕ) (slots : List (List Flow)) → at < length (take count (drop low slots)) → (at < count) × (low + 1 + at ≤ length slots)
@@ -28,7 +28,7 @@ in_window low count at slots below =
     let place : low + at ≡ low + 1 + at - 1 = omega arith in
     get_or-take count (drop low slots) at [] (within_window low count at slots below).0 ∙ (get_or-drop low slots at [] ∙ ap (λ (m : ℕ). get_or slots m []) place)
 
-pub clean_in_window : (b first count : ℕ) (trace : TraceContent) (cores : Cores) → EverySlotIsScheduled b trace cores → AreClean trace.net cores (first_slot b first) (window_slots b trace first count)
+pub clean_in_window : (b first count : ℕ) (trace : TraceContent) (cores : Cores) → EverySlotIsScheduled b trace.net (plan_batches trace) cores → AreClean trace.net cores (first_slot b first) (window_slots b (plan_batches trace) first count)
 clean_in_window b first count trace cores scheduled at below =
     let low : ℕ = first * b in
     let size : ℕ = count * b in
@@ -50,8 +50,8 @@ spliced-there low count here there number below =
     let before : (nat_lt low number && nat_le number (low + count)) ≡ false = grind (arith, nat_tests) in
     cond-false (nat_lt low number && nat_le number (low + count)) (here number) (there number) before
 
-pub scheduled_spliced : (b first count : ℕ) (trace : TraceContent) (here there : Cores) → EverySlotIsScheduled b trace there → AreClean trace.net here (first_slot b first) (window_slots b trace first count)
-    → EverySlotIsScheduled b trace (spliced (first * b) (count * b) here there)
+pub scheduled_spliced : (b first count : ℕ) (trace : TraceContent) (here there : Cores) → EverySlotIsScheduled b trace.net (plan_batches trace) there → AreClean trace.net here (first_slot b first) (window_slots b (plan_batches trace) first count)
+    → EverySlotIsScheduled b trace.net (plan_batches trace) (spliced (first * b) (count * b) here there)
 scheduled_spliced b first count trace here there scheduled clean number positive within =
     let all : List (List Flow) = all_slots b trace in
     let low : ℕ = first * b in
@@ -73,7 +73,7 @@ scheduled_spliced b first count trace here there scheduled clean number positive
           (subst At is_number (subst (λ (slot : List Flow). IsClean trace.net.hosts trace.net.cores slot (here (low + 1 + at))) (in_window low size at all inside) (clean at inside)))
       | inr other ↦ subst Clean (sym (cond-false test (here number) (there number) other)) old.clean
     ] in
-    record { matching = old.matching; maximal = old.maximal; clean = new }
+    record { matching = old.matching; maximal = old.maximal; within_cores = old.within_cores; clean = new }
 
 -- equal cores give equal lines
 slots_lines-same : (f g : Cores) (number : ℕ) (slots : List (List Flow)) → ((i : ℕ) → i < length slots → f (number + i) ≡ g (number + i)) → slots_lines f number slots ≡ slots_lines g number slots
@@ -90,21 +90,21 @@ slots_lines-same f g number (slot ∷ slots) same =
 next_first : (b k : ℕ) → first_slot b (k + 1) ≡ first_slot b k + b
 next_first b k = grind arith
 
-batches_lines-same : (f g : Cores) (b k : ℕ) (batches : List (List Entry)) (slots : List (List Flow)) → ((number : ℕ) → first_slot b k ≤ number → number < first_slot b k + length slots → f number ≡ g number)
+batches_lines-same : (f g : Cores) (b k : ℕ) (batches : List DemandBatch) (slots : List (List Flow)) → ((number : ℕ) → first_slot b k ≤ number → number < first_slot b k + length slots → f number ≡ g number)
     → batches_lines f b k batches slots ≡ batches_lines g b k batches slots
 batches_lines-same f g b k [] slots same = refl
 batches_lines-same f g b k (batch ∷ batches) slots same =
     let n : ℕ = first_slot b k in
     let own = slots_lines-same f g n (take b slots) (λ i below. same (n + i) (omega arith) (omega (arith, length-take b slots))) in
     let later = batches_lines-same f g b (k + 1) batches (drop b slots) (λ number above below. same number (omega (arith, next_first b k)) (omega (arith, next_first b k, length-drop b slots))) in
-    ap (λ (lines : List Line). (map (entry_line k) batch ++ lines) ++ batches_lines f b (k + 1) batches (drop b slots)) own
+    ap (λ (lines : List Line). (map (entry_line k) batch.entries ++ lines) ++ batches_lines f b (k + 1) batches (drop b slots)) own
     ∙ ap (λ (lines : List Line). batch_lines g b k batch (take b slots) ++ lines) later
 
 pub window_spliced : (b first count : ℕ) (trace : TraceContent) (here there : Cores) → window_lines (spliced (first * b) (count * b) here there) b first count trace ≡ window_lines here b first count trace
 window_spliced b first count trace here there =
     let low : ℕ = first * b in
     let size : ℕ = count * b in
-    let slots : List (List Flow) = window_slots b trace first count in
+    let slots : List (List Flow) = window_slots b (plan_batches trace) first count in
     batches_lines-same (spliced low size here there) here b first (take count (drop first (plan_batches trace))) slots
     (λ number above below. spliced-here low size here there number (omega arith) (omega (arith, length-take size (drop low (all_slots b trace)))))
 

@@ -3,7 +3,7 @@ use Rattle.std.proofs.Common.{◌≡◌, ℕ, List, ◌∷◌, ◌++◌, [], tak
 use Rattle.std.proofs.lemmas.List.{append_assoc, take_all}
 use Rattle.greedy_rules.specs.declared.flows.Flow.{Flow}
 use Rattle.greedy_rules.specs.declared.flows.Entry.{Entry}
-use Rattle.greedy_rules.specs.Slot.{is_taken}
+use Rattle.greedy_rules.specs.Batches.{DemandBatch}
 use Rattle.greedy_rules.specs.Schedule.{schedule}
 use Rattle.report_text.specs.declared.line.Line.{Line}
 use Rattle.report_text.specs.declared.line.Line.TheVariants as line
@@ -23,15 +23,15 @@ end_text trace = line_bytes (line.End trace.rounds) ++ 10 ∷ []
 pub plan_parts : (cores : Cores) (trace : TraceContent) (b : ℕ) → IsTrace trace → EveryPlanHasItsSlots
     → text_of (rounds_lines cores b trace.rounds trace) ++ (text_of (flows_lines b trace) ++ end_text trace) ≡ plan_text cores b trace
 plan_parts cores trace b accepted slots =
-    let batches : List (List Entry) = plan_batches trace in
-    let all : List (List Flow) = schedule is_taken b batches in
+    let batches : List DemandBatch = plan_batches trace in
+    let all : List (List Flow) = schedule b batches in
     let counts = slots b trace accepted in
     let size : ℕ = trace.rounds * b in
     let rounds : List Line = batches_lines cores b 0 batches all in
     let all_batches : take trace.rounds batches ≡ batches = take_all trace.rounds batches (omega (arith, counts.0)) in
     let all_slots : take size all ≡ all = take_all size all (omega (arith, counts.1)) in
     let rest : List ℕ = text_of (flows_lines b trace) ++ end_text trace in
-    ap (λ (bs : List (List Entry)). text_of (batches_lines cores b 0 bs (take size all)) ++ rest) all_batches
+    ap (λ (bs : List DemandBatch). text_of (batches_lines cores b 0 bs (take size all)) ++ rest) all_batches
     ∙ (ap (λ (xs : List (List Flow)). text_of (batches_lines cores b 0 batches xs) ++ rest) all_slots
     ∙ (sym (append_assoc (text_of rounds) (text_of (flows_lines b trace)) (end_text trace))
     ∙ (ap (λ (t : List ℕ). (text_of rounds ++ text_of (flows_lines b trace)) ++ t) (sym (text_of-one (line.End trace.rounds)))

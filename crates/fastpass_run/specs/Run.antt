@@ -1,11 +1,12 @@
 -- What a run comes to: the words, the bytes read, the text written and the note (this project's own profile).
-use Rattle.std.specs.Prelude.{◌≡◌, ◌≢◌, ◌⊎◌, ℕ, ◌+◌, ◌≤◌, List, [], ◌∷◌, ◌++◌, length, Option, Some, None, Result, Ok, Err, codes, decimal, slice_index_or}
+use Rattle.std.specs.Prelude.{◌≡◌, ◌≢◌, ◌⊎◌, ℕ, ◌+◌, ◌≤◌, ◌<◌, List, [], ◌∷◌, ◌++◌, length, Option, Some, None, Result, Ok, Err, codes, decimal, slice_index_or}
 use Rattle.std.specs.Io.KnownBytes.{Consumes, Appends, IsAtEnd}
 use Rattle.fp_edge.specs.Faults.{Rose}
 use Rattle.trace_text.specs.declared.command.Command.TheVariants.{Plan}
 use Rattle.trace_text.specs.declared.fault.Fault.{Fault}
 use Rattle.trace_text.specs.FaultNumbers.{fault_number}
 use Rattle.trace_text.specs.Trace.{TraceContent, FaultyRow, trace_of}
+use Rattle.window_engine.specs.Batches.{plan_batches}
 use Rattle.window_engine.specs.Counts.{AllIsAllocatedOrPending}
 use Rattle.window_engine.specs.Scheduled.{Cores, EverySlotIsScheduled}
 use Rattle.fastpass_run.specs.Text.{plan_text}
@@ -27,8 +28,8 @@ pub record Plans (words : List (List ℕ)) (left left' held held' : Option (List
   pub read : IsRead left left' (Ok trace)
   pub cores : Cores
   pub written : Appends held held' (plan_text cores b trace)
-  pub slots : EverySlotIsScheduled b trace cores
-  pub ledger : AllIsAllocatedOrPending b trace
+  pub slots : EverySlotIsScheduled b trace.net (plan_batches trace) cores
+  pub ledger : AllIsAllocatedOrPending b (plan_batches trace)
 
 pub record BeginsPlan (words : List (List ℕ)) (left left' held held' : Option (List ℕ)) : Type 0 where
   pub b : ℕ
@@ -37,7 +38,7 @@ pub record BeginsPlan (words : List (List ℕ)) (left left' held held' : Option 
   pub read : IsRead left left' (Ok trace)
   pub cores : Cores
   pub written : AppendsFront held held' (plan_text cores b trace)
-  pub slots : EverySlotIsScheduled b trace cores
+  pub slots : EverySlotIsScheduled b trace.net (plan_batches trace) cores
 
 -- a row of the trace is faulty, and the first such row is this one
 pub record HasFaultyRow (left left' : Option (List ℕ)) (row : ℕ) (fault : Fault) : Type 0 where
@@ -106,3 +107,14 @@ abbrev pub Completes : List (List ℕ) → Option (List ℕ) → ℕ → ℕ →
 Completes words left sfaults sfaults' ofaults ofaults' status =
     (b : ℕ) (bytes : List ℕ) (trace : TraceContent) → batch_size_of words ≡ Some b → left ≡ Some bytes → length bytes ≤ LIMIT → trace_of Plan bytes ≡ Ok trace
     → ¬ Rose sfaults sfaults' → ¬ Rose ofaults ofaults' → (status ≡ 0) ⊎ (status ≡ 5)
+
+-- accepted words, a trace whose first faulty row is told, and no fault of the source: so says the status, or memory is wanting
+abbrev pub TellsFaults : List (List ℕ) → Option (List ℕ) → ℕ → ℕ → ℕ → Type 0
+TellsFaults words left sfaults sfaults' status =
+    (b : ℕ) (bytes : List ℕ) (faulty : FaultyRow) → batch_size_of words ≡ Some b → left ≡ Some bytes → length bytes ≤ LIMIT → trace_of Plan bytes ≡ Err faulty
+    → ¬ Rose sfaults sfaults' → (status ≡ 2) ⊎ (status ≡ 5)
+
+-- the same of more bytes than the limit
+abbrev pub TellsExcess : List (List ℕ) → Option (List ℕ) → ℕ → ℕ → ℕ → Type 0
+TellsExcess words left sfaults sfaults' status =
+    (b : ℕ) (bytes : List ℕ) → batch_size_of words ≡ Some b → left ≡ Some bytes → LIMIT < length bytes → ¬ Rose sfaults sfaults' → (status ≡ 6) ⊎ (status ≡ 5)

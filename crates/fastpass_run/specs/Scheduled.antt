@@ -3,13 +3,14 @@
 use Rattle.std.specs.Prelude.{ℕ}
 use Rattle.greedy_rules.specs.Schedule.{first_slot}
 use Rattle.trace_text.specs.Trace.{TraceContent}
+use Rattle.window_engine.specs.Batches.{plan_batches}
 use Rattle.window_engine.specs.Scheduled.{Cores, EverySlotIsScheduled, AreClean}
 use Rattle.window_engine.specs.Step.{window_slots}
 
 -- with some cores every slot of the trace's schedule is so, and what is told of them holds
 abbrev pub WithCores : ℕ → TraceContent → (Cores → Type 0) → Type 0
-WithCores b trace holds = (cores : Cores) × EverySlotIsScheduled b trace cores × holds cores
+WithCores b trace holds = (cores : Cores) × EverySlotIsScheduled b trace.net (plan_batches trace) cores × holds cores
 
 -- some cores make the slots of so many batches from this one on clean, and what is told of them holds
 abbrev pub WithCoresOfWindow : ℕ → ℕ → ℕ → TraceContent → (Cores → Type 0) → Type 0
-WithCoresOfWindow b first count trace holds = (cores : Cores) × AreClean trace.net cores (first_slot b first) (window_slots b trace first count) × holds cores
+WithCoresOfWindow b first count trace holds = (cores : Cores) × AreClean trace.net cores (first_slot b first) (window_slots b (plan_batches trace) first count) × holds cores

@@ -3,7 +3,7 @@
 use Rattle.std.specs.Prelude.{ℕ, zero, suc, ◌+◌, List, [], ◌∷◌, ◌++◌, map, take, drop, Option, Some, None}
 use Rattle.greedy_rules.specs.declared.flows.Flow.{Flow}
 use Rattle.greedy_rules.specs.declared.flows.Entry.{Entry}
-use Rattle.greedy_rules.specs.Slot.{is_taken}
+use Rattle.greedy_rules.specs.Batches.{DemandBatch}
 use Rattle.greedy_rules.specs.Schedule.{first_slot, schedule}
 use Rattle.clos_topology.specs.Network.{endpoints_of}
 use Rattle.clos_topology.specs.Links.{CoreOf}
@@ -27,12 +27,16 @@ abbrev pub slots_lines : Cores → ℕ → List (List Flow) → List Line
 slots_lines cores number [] = []
 slots_lines cores number (slot ∷ slots) = map (slot_line number (cores number)) slot ++ slots_lines cores (number + 1) slots
 
+-- what stands for a batch past the last
+abbrev pub no_batch : DemandBatch
+no_batch = record { entries = []; limits = record { hosts = 0; cores = 0 } }
+
 -- a batch with its slots
-abbrev pub batch_lines : Cores → ℕ → ℕ → List Entry → List (List Flow) → List Line
-batch_lines cores b k batch slots = map (entry_line k) batch ++ slots_lines cores (first_slot b k) slots
+abbrev pub batch_lines : Cores → ℕ → ℕ → DemandBatch → List (List Flow) → List Line
+batch_lines cores b k batch slots = map (entry_line k) batch.entries ++ slots_lines cores (first_slot b k) slots
 
 -- the batches from batch k on, each with the next b slots
-abbrev pub batches_lines : Cores → ℕ → ℕ → List (List Entry) → List (List Flow) → List Line
+abbrev pub batches_lines : Cores → ℕ → ℕ → List DemandBatch → List (List Flow) → List Line
 batches_lines cores b k [] slots = []
 batches_lines cores b k (batch ∷ batches) slots = batch_lines cores b k batch (take b slots) ++ batches_lines cores b (k + 1) batches (drop b slots)
 
@@ -55,12 +59,12 @@ each_source lines endpoints src zero = []
 each_source lines endpoints src (suc more) = each_destination lines src 0 endpoints ++ each_source lines endpoints (src + 1) more
 
 abbrev pub flows_lines : ℕ → TraceContent → List Line
-flows_lines b trace = each_source (λ flow. flow_lines_of flow (counts_of b trace flow)) (endpoints_of trace.net) 0 (endpoints_of trace.net)
+flows_lines b trace = each_source (λ flow. flow_lines_of flow (counts_of b (plan_batches trace) flow)) (endpoints_of trace.net) 0 (endpoints_of trace.net)
 
 -- the lines of a plan, in order
 abbrev pub plan_lines : Cores → ℕ → TraceContent → List Line
 plan_lines cores b trace =
-    (batches_lines cores b 0 (plan_batches trace) (schedule is_taken b (plan_batches trace)) ++ flows_lines b trace) ++ line.End trace.rounds ∷ []
+    (batches_lines cores b 0 (plan_batches trace) (schedule b (plan_batches trace)) ++ flows_lines b trace) ++ line.End trace.rounds ∷ []
 
 -- each line with a line feed
 abbrev pub text_of : List Line → List ℕ

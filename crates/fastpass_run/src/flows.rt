@@ -1,5 +1,7 @@
 ghost use Rattle.std.specs.Prelude.{◌≡◌, ◌<◌};
 ghost use Rattle.clos_topology.specs.Network.{endpoints_of};
+ghost use Rattle.trace_text.specs.Valid.{IsTrace};
+ghost use Rattle.window_engine.specs.Batches.{plan_batches};
 ghost use Rattle.window_engine.specs.Counts.{counts_of};
 ghost use Rattle.window_engine.specs.Standing.{Stands};
 ghost use Rattle.fastpass_run.specs.Text.{text_of, flow_lines_of, flows_lines, each_destination};
@@ -45,10 +47,11 @@ fn put_source<K: Sink>(
     engine: &Engine,
     src: u16,
 ) -> Result<(), Stop>
+    requires accepted { IsTrace trace.now }
     requires stands { Stands trace.now engine.now }
-    requires done { engine.now.round ≡ engine.now.rounds }
+    requires done { engine.now.collection.rounds ≡ engine.now.rounds }
     requires src { src < endpoints_of trace.now.net }
-    ensures { Passes (K.held sink.old) (K.held sink.new) (K.faults sink.old) (K.faults sink.new) gathered.old.items gathered.new.items (text_of (each_destination (λ flow. flow_lines_of flow (counts_of engine.now.b trace.now flow)) src 0 (endpoints_of trace.now.net))) result }
+    ensures { Passes (K.held sink.old) (K.held sink.new) (K.faults sink.old) (K.faults sink.new) gathered.old.items gathered.new.items (text_of (each_destination (λ flow. flow_lines_of flow (counts_of engine.now.allocation.b (plan_batches trace.now) flow)) src 0 (endpoints_of trace.now.net))) result }
 {
     for dst in 0..trace.endpoints() {
         let flow = Flow { src, dst };
@@ -64,9 +67,10 @@ pub(crate) fn put_flows<K: Sink>(
     trace: &Trace,
     engine: &Engine,
 ) -> Result<(), Stop>
+    requires accepted { IsTrace trace.now }
     requires stands { Stands trace.now engine.now }
-    requires done { engine.now.round ≡ engine.now.rounds }
-    ensures { Passes (K.held sink.old) (K.held sink.new) (K.faults sink.old) (K.faults sink.new) gathered.old.items gathered.new.items (text_of (flows_lines engine.now.b trace.now)) result }
+    requires done { engine.now.collection.rounds ≡ engine.now.rounds }
+    ensures { Passes (K.held sink.old) (K.held sink.new) (K.faults sink.old) (K.faults sink.new) gathered.old.items gathered.new.items (text_of (flows_lines engine.now.allocation.b trace.now)) result }
 {
     for src in 0..trace.endpoints() {
         put_source(sink, gathered, trace, engine, src)?;

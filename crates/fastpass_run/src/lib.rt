@@ -5,7 +5,7 @@ ghost use Rattle.std.specs.Prelude.{◌≡◌, ◌≢◌, ◌⊎◌, ◌↔◌, 
 ghost use Rattle.fp_edge.specs.Faults.{Rose};
 ghost use Rattle.fastpass_run.specs.Words.{batch_size_of};
 ghost use Rattle.fastpass_run.specs.Transfer.{Takes};
-ghost use Rattle.fastpass_run.specs.Run.{ComesTo, Plans, BeginsPlan, FaultyAtSome, IsUnwritten, Notes, Completes};
+ghost use Rattle.fastpass_run.specs.Run.{ComesTo, Plans, BeginsPlan, FaultyAtSome, IsUnwritten, Notes, TellsFaults, TellsExcess, Completes};
 ghost use Rattle.fastpass_run.specs.declared.transfer.TheConstants.{LIMIT};
 
 mod flows;
@@ -19,12 +19,14 @@ mod words;
 use crate::outcome::Failure;
 use fp_edge::{Gate, Sink, Source};
 use std::alloc::Global;
+use std::sync::Wait;
+use std::thread::Threads;
 use trace_text::{Command, read_trace};
 
 /// Does what the words ask for: reads the whole trace, and then writes the text. The status is 0, or 1 where the words are
 /// refused, 2 where a row is faulty, 3 and 4 where a read or a write failed, 5 for want of memory, and 6 where the trace
 /// has more than 67,108,864 bytes; all but 0 write a line to `notes`, whose own faults are passed over.
-pub fn run<R: Sync, S: Source, O: Sink, N: Sink, G: Gate + Sync>(
+pub fn run<R: Threads + Wait + Sync, S: Source, O: Sink, N: Sink, G: Gate + Sync>(
     rt: &R,
     alloc: Global,
     words: &[&str],
@@ -47,6 +49,8 @@ pub fn run<R: Sync, S: Source, O: Sink, N: Sink, G: Gate + Sync>(
     ensures memory { result ≡ 5 → IsUnwritten (O.held out.old) (O.held out.new) (O.faults out.old) (O.faults out.new) ⊎ BeginsPlan (map (λ word. word.now) words.now) (S.left src.old) (S.left src.new) (O.held out.old) (O.held out.new) }
     ensures big { result ≡ 6 → Takes (S.left src.old) (S.left src.new) (λ n. n ≡ LIMIT + 1) }
     ensures not_big { result ≢ 6 → Takes (S.left src.old) (S.left src.new) (λ n. n ≤ LIMIT) }
+    ensures faulty { TellsFaults (map (λ word. word.now) words.now) (S.left src.old) (S.faults src.old) (S.faults src.new) result }
+    ensures excess { TellsExcess (map (λ word. word.now) words.now) (S.left src.old) (S.faults src.old) (S.faults src.new) result }
     ensures complete { Completes (map (λ word. word.now) words.now) (S.left src.old) (S.faults src.old) (S.faults src.new) (O.faults out.old) (O.faults out.new) result }
 
     // The note.
@@ -57,7 +61,7 @@ pub fn run<R: Sync, S: Source, O: Sink, N: Sink, G: Gate + Sync>(
     outcome::status(outcome)
 }
 
-fn perform<R: Sync, S: Source, O: Sink, G: Gate + Sync>(
+fn perform<R: Threads + Wait + Sync, S: Source, O: Sink, G: Gate + Sync>(
     rt: &R,
     gate: &G,
     alloc: Global,
@@ -67,11 +71,11 @@ fn perform<R: Sync, S: Source, O: Sink, G: Gate + Sync>(
 ) -> Result<(), Failure>
     ensures { ComesTo (map (λ word. word.now) words.now) (S.left src.old) (S.left src.new) (S.faults src.old) (S.faults src.new) (O.held out.old) (O.held out.new) (O.faults out.old) (O.faults out.new) result }
 {
-    let Some(b) = words::batch_size(words) else {
+    let Some(setting) = words::setting(words) else {
         return Err(Failure::Words);
     };
     let text = transfer::read_all(alloc, src)?;
     let trace = read_trace(alloc, &text, Command::Plan)?;
-    plan::plan(rt, gate, alloc, &trace, b, out)?;
+    plan::plan(rt, gate, alloc, &trace, setting, out)?;
     Ok(())
 }

@@ -3,7 +3,7 @@ ghost use Rattle.std.specs.List.{slice_index_or};
 ghost use Rattle.greedy_rules.specs.Schedule.{slot_in};
 ghost use Rattle.path_workers.specs.CoreTable.{core_of};
 ghost use Rattle.window_engine.specs.Scheduled.{cores_from};
-ghost use Rattle.fastpass_run.specs.Text.{text_of, entry_line, slot_line, slots_lines, batch_lines, batches_lines};
+ghost use Rattle.fastpass_run.specs.Text.{text_of, no_batch, entry_line, slot_line, slots_lines, batch_lines, batches_lines};
 ghost use Rattle.fastpass_run.specs.Progress.{IsWindow, cores_of_step};
 ghost use Rattle.fastpass_run.specs.Flows.{flows_at};
 ghost use Rattle.fastpass_run.specs.Output.{Passes};
@@ -34,7 +34,7 @@ fn put_entries<K: Sink>(
     round: u32,
     batch: &Batch,
 ) -> Result<(), Stop>
-    ensures { Passes (K.held sink.old) (K.held sink.new) (K.faults sink.old) (K.faults sink.new) gathered.old.items gathered.new.items (text_of (map (entry_line round) batch.now)) result }
+    ensures { Passes (K.held sink.old) (K.held sink.new) (K.faults sink.old) (K.faults sink.new) gathered.old.items gathered.new.items (text_of (map (entry_line round) batch.now.entries)) result }
 {
     for at in 0..batch.len() {
         put_line(sink, gathered, &line_of(round, batch.entry(at)))?;
@@ -127,13 +127,14 @@ fn put_batch<K: Sink>(
 ) -> Result<(), Stop>
     requires b { (0 < b) × (b ≤ 64) }
     requires window { IsWindow b step.now }
-    requires at { at < step.now.allocated }
-    ensures { Passes (K.held sink.old) (K.held sink.new) (K.faults sink.old) (K.faults sink.new) gathered.old.items gathered.new.items (text_of (batch_lines (cores_of_step b step.now) b (step.now.first_allocated + at) (slice_index_or step.now.batches at []) (take b (drop (at * b) step.now.slots.slots)))) result }
+    requires at { at < step.now.window.span.count }
+    ensures { Passes (K.held sink.old) (K.held sink.new) (K.faults sink.old) (K.faults sink.new) gathered.old.items gathered.new.items (text_of (batch_lines (cores_of_step b step.now) b (step.now.window.span.first + at) (slice_index_or step.now.batches at no_batch) (take b (drop (at * b) step.now.window.slots.slots)))) result }
 {
-    let first = step.first_allocated();
-    put_entries(sink, gathered, first + at, &step.batches()[at as usize])?;
+    let span = step.allocated();
+    let number = span.first + at;
+    put_entries(sink, gathered, number, &step.batches()[at as usize])?;
     let from = at as u16 * u16::from(b);
-    let base = first * u32::from(b) + 1;
+    let base = span.first * u32::from(b) + 1;
     put_slots(sink, gathered, step.slots(), step.cores(), from, b, base)
 }
 
@@ -146,9 +147,10 @@ pub(crate) fn put_window<K: Sink>(
 ) -> Result<(), Stop>
     requires b { (0 < b) × (b ≤ 64) }
     requires window { IsWindow b step.now }
-    ensures { Passes (K.held sink.old) (K.held sink.new) (K.faults sink.old) (K.faults sink.new) gathered.old.items gathered.new.items (text_of (batches_lines (cores_of_step b step.now) b step.now.first_allocated step.now.batches step.now.slots.slots)) result }
+    ensures { Passes (K.held sink.old) (K.held sink.new) (K.faults sink.old) (K.faults sink.new) gathered.old.items gathered.new.items (text_of (batches_lines (cores_of_step b step.now) b step.now.window.span.first step.now.batches step.now.window.slots.slots)) result }
 {
-    for at in 0..step.allocated() {
+    let span = step.allocated();
+    for at in 0..span.count {
         put_batch(sink, gathered, step, b, at)?;
     }
     Ok(())

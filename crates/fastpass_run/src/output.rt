@@ -1,5 +1,5 @@
 ghost use Rattle.std.specs.Prelude.{◌≡◌, ◌+◌, [], ◌∷◌, ◌++◌, length, OnOk, IfErr};
-ghost use Rattle.report_text.specs.Lines.{line_bytes};
+ghost use Rattle.report_text.specs.Lines.{line_bytes, HasName};
 ghost use Rattle.fastpass_run.specs.Output.{Passes};
 ghost use Rattle.fastpass_run.specs.declared.output.Stop.TheVariants.{Memory};
 
@@ -63,6 +63,7 @@ fn make_room<K: Sink>(sink: &mut K, gathered: &mut Vec<u8>) -> Result<(), Stop>
 }
 
 fn gather(gathered: &mut Vec<u8>, line: &Line) -> Result<(), Stop>
+    requires { HasName line.now }
     ensures ok { OnOk result (gathered.new.items ≡ gathered.old.items ++ (line_bytes line.now ++ 10 ∷ [])) }
     ensures err { IfErr result (λ stop. stop ≡ Memory) }
 {
@@ -78,6 +79,7 @@ pub(crate) fn put_line<K: Sink>(
     gathered: &mut Vec<u8>,
     line: &Line,
 ) -> Result<(), Stop>
+    requires { HasName line.now }
     ensures { Passes (K.held sink.old) (K.held sink.new) (K.faults sink.old) (K.faults sink.new) gathered.old.items gathered.new.items (line_bytes line.now ++ 10 ∷ []) result }
 {
     make_room(sink, gathered)?;

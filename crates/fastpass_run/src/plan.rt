@@ -1,5 +1,6 @@
 ghost use Rattle.std.specs.Prelude.{◌≡◌, ◌≢◌, ◌<◌, ◌≤◌, ◌+◌, ℕ, [], OnOk};
 ghost use Rattle.trace_text.specs.Valid.{IsTrace};
+ghost use Rattle.window_engine.specs.Batches.{plan_batches};
 ghost use Rattle.window_engine.specs.Counts.{AllIsAllocatedOrPending};
 ghost use Rattle.window_engine.specs.Scheduled.{HasCores};
 ghost use Rattle.window_engine.specs.Standing.{Stands, window_of};
@@ -11,25 +12,26 @@ ghost use Rattle.fastpass_run.specs.Output.{Passes, Writes};
 use crate::flows::put_flows;
 use crate::lines::put_window;
 use crate::output::{GATHERED, Stop, flush, put_line};
+use crate::words::PlanSetting;
 use fp_edge::{Gate, Sink};
 use report_text::Line;
 use std::alloc::Global;
+use std::sync::Wait;
+use std::thread::Threads;
 use trace_text::Trace;
 use window_engine::{
-    Engine, Setting, every_plan_balances, every_plan_has_cores, every_plan_has_its_slots,
+    Engine, Setting, every_plan_balances, every_plan_has_its_slots, every_plan_is_recorded,
+    every_record_has_cores,
 };
 
 /// How many workers there are where nothing else is asked for.
 const WORKERS: u16 = 4;
 
-/// How many path workers.
-const PATHS: u16 = 2;
-
 /// How many rounds a window has.
 const WINDOW: u8 = 8;
 
 /// Plans the next window of rounds, and gives out its batches and slots.
-fn put_step<R: Sync, G: Gate + Sync, K: Sink>(
+fn put_step<R: Threads + Wait + Sync, G: Gate + Sync, K: Sink>(
     rt: &R,
     gate: &G,
     trace: &Trace,
@@ -38,15 +40,16 @@ fn put_step<R: Sync, G: Gate + Sync, K: Sink>(
     sink: &mut K,
     gathered: &mut Vec<u8>,
 ) -> Result<(), Stop>
+    requires accepted { IsTrace trace.now }
     requires stands { Stands trace.now engine.old }
-    requires more { engine.old.round ≢ engine.old.rounds }
-    requires b { engine.old.b ≡ b }
-    requires cores { HasCores b trace.now }
+    requires more { engine.old.collection.rounds ≢ engine.old.rounds }
+    requires b { engine.old.allocation.b ≡ b }
+    requires cores { HasCores b trace.now.net (plan_batches trace.now) }
     ensures stands { OnOk result (Stands trace.now engine.new) }
-    ensures round { OnOk result (engine.new.round ≡ engine.old.round + window_of engine.old) }
+    ensures round { OnOk result (engine.new.collection.rounds ≡ engine.old.collection.rounds + window_of engine.old) }
     ensures rounds { OnOk result (engine.new.rounds ≡ engine.old.rounds) }
-    ensures b { OnOk result (engine.new.b ≡ b) }
-    ensures passes { WithCoresOfWindow b engine.old.round (window_of engine.old) trace.now (λ cores. Passes (K.held sink.old) (K.held sink.new) (K.faults sink.old) (K.faults sink.new) gathered.old.items gathered.new.items (text_of (window_lines cores b engine.old.round (window_of engine.old) trace.now)) result) }
+    ensures b { OnOk result (engine.new.allocation.b ≡ b) }
+    ensures passes { WithCoresOfWindow b engine.old.collection.rounds (window_of engine.old) trace.now (λ cores. Passes (K.held sink.old) (K.held sink.new) (K.faults sink.old) (K.faults sink.new) gathered.old.items gathered.new.items (text_of (window_lines cores b engine.old.collection.rounds (window_of engine.old) trace.now)) result) }
 {
     every_plan_has_its_slots();
     let step = engine.step(rt, gate, trace)?;
@@ -54,7 +57,7 @@ fn put_step<R: Sync, G: Gate + Sync, K: Sink>(
 }
 
 /// Plans all rounds.
-fn put_rounds<R: Sync, G: Gate + Sync, K: Sink>(
+fn put_rounds<R: Threads + Wait + Sync, G: Gate + Sync, K: Sink>(
     rt: &R,
     gate: &G,
     trace: &Trace,
@@ -63,13 +66,14 @@ fn put_rounds<R: Sync, G: Gate + Sync, K: Sink>(
     sink: &mut K,
     gathered: &mut Vec<u8>,
 ) -> Result<(), Stop>
+    requires accepted { IsTrace trace.now }
     requires stands { Stands trace.now engine.old }
-    requires start { engine.old.round ≡ 0 }
-    requires b { engine.old.b ≡ b }
-    requires cores { HasCores b trace.now }
+    requires start { engine.old.collection.rounds ≡ 0 }
+    requires b { engine.old.allocation.b ≡ b }
+    requires cores { HasCores b trace.now.net (plan_batches trace.now) }
     ensures stands { OnOk result (Stands trace.now engine.new) }
-    ensures done { OnOk result (engine.new.round ≡ engine.new.rounds) }
-    ensures b { OnOk result (engine.new.b ≡ b) }
+    ensures done { OnOk result (engine.new.collection.rounds ≡ engine.new.rounds) }
+    ensures b { OnOk result (engine.new.allocation.b ≡ b) }
     ensures passes { WithCores b trace.now (λ cores. Passes (K.held sink.old) (K.held sink.new) (K.faults sink.old) (K.faults sink.new) gathered.old.items gathered.new.items (text_of (rounds_lines cores b trace.now.rounds trace.now)) result) }
 {
     every_plan_has_its_slots();
@@ -80,29 +84,31 @@ fn put_rounds<R: Sync, G: Gate + Sync, K: Sink>(
 }
 
 /// The text of a plan: the batches with their slots, what became of each flow's demand, and the end.
-fn put_lines<R: Sync, G: Gate + Sync, K: Sink>(
+fn put_lines<R: Threads + Wait + Sync, G: Gate + Sync, K: Sink>(
     rt: &R,
     gate: &G,
     alloc: Global,
     trace: &Trace,
-    b: u8,
+    setting: PlanSetting,
     sink: &mut K,
     gathered: &mut Vec<u8>,
 ) -> Result<(), Stop>
     requires accepted { IsTrace trace.now }
-    requires b { (0 < b) × (b ≤ 64) }
-    requires cores { HasCores b trace.now }
-    ensures { WithCores b trace.now (λ cores. Passes (K.held sink.old) (K.held sink.new) (K.faults sink.old) (K.faults sink.new) gathered.old.items gathered.new.items (plan_text cores b trace.now) result) }
+    requires b { (0 < setting.b) × (setting.b ≤ 64) }
+    requires paths { (0 < setting.paths) × (setting.paths ≤ 16) }
+    requires cores { HasCores setting.b trace.now.net (plan_batches trace.now) }
+    ensures { WithCores setting.b trace.now (λ cores. Passes (K.held sink.old) (K.held sink.new) (K.faults sink.old) (K.faults sink.new) gathered.old.items gathered.new.items (plan_text cores setting.b trace.now) result) }
 {
     every_plan_has_its_slots();
-    let setting = Setting {
+    let b = setting.b;
+    let how = Setting {
         replay: false,
         workers: WORKERS,
-        paths: PATHS,
+        paths: u16::from(setting.paths),
         b,
         g: WINDOW,
     };
-    let mut engine = Engine::open(alloc, trace, setting)?;
+    let mut engine = Engine::open(alloc, trace, how)?;
     put_rounds(rt, gate, trace, &mut engine, b, sink, gathered)?;
     put_flows(sink, gathered, trace, &engine)?;
     put_line(
@@ -115,22 +121,24 @@ fn put_lines<R: Sync, G: Gate + Sync, K: Sink>(
 }
 
 /// Plans a trace and writes the text.
-pub(crate) fn plan<R: Sync, G: Gate + Sync, K: Sink>(
+pub(crate) fn plan<R: Threads + Wait + Sync, G: Gate + Sync, K: Sink>(
     rt: &R,
     gate: &G,
     alloc: Global,
     trace: &Trace,
-    b: u8,
+    setting: PlanSetting,
     sink: &mut K,
 ) -> Result<(), Stop>
     requires accepted { IsTrace trace.now }
-    requires b { (0 < b) × (b ≤ 64) }
-    ensures writes { WithCores b trace.now (λ cores. Writes (K.held sink.old) (K.held sink.new) (K.faults sink.old) (K.faults sink.new) (plan_text cores b trace.now) result) }
-    ensures ledger { OnOk result (AllIsAllocatedOrPending b trace.now) }
+    requires b { (0 < setting.b) × (setting.b ≤ 64) }
+    requires paths { (0 < setting.paths) × (setting.paths ≤ 16) }
+    ensures writes { WithCores setting.b trace.now (λ cores. Writes (K.held sink.old) (K.held sink.new) (K.faults sink.old) (K.faults sink.new) (plan_text cores setting.b trace.now) result) }
+    ensures ledger { OnOk result (AllIsAllocatedOrPending setting.b (plan_batches trace.now)) }
 {
-    every_plan_has_cores();
+    every_plan_is_recorded();
+    every_record_has_cores();
     every_plan_balances();
     let mut gathered = Vec::with_capacity(alloc, GATHERED)?;
-    put_lines(rt, gate, alloc, trace, b, sink, &mut gathered)?;
+    put_lines(rt, gate, alloc, trace, setting, sink, &mut gathered)?;
     flush(sink, &mut gathered)
 }

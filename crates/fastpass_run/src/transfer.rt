@@ -11,6 +11,8 @@ use std::alloc::{AllocError, Global};
 /// The most bytes that an input may have.
 pub(crate) const LIMIT: usize = 67_108_864;
 
+const _: () = prove!(LIMIT == 67_108_864);
+
 /// The most bytes that are asked for at once.
 const PIECE: usize = 65_536;
 

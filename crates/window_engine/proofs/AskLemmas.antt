@@ -12,8 +12,7 @@ use Rattle.greedy_rules.specs.Flows.{flow_below}
 use Rattle.greedy_rules.specs.Batches.{IsAboveLast}
 use Rattle.clos_topology.specs.Network.{endpoints_of}
 use Rattle.trace_text.specs.Trace.{TraceContent, asked_at}
-use Rattle.window_engine.specs.Sound.{total_asked, IsAskList, IsSound}
-use Rattle.trace_text.specs.Valid.{amount_for}
+use Rattle.trace_text.specs.Valid.{amount_for, total_asked, IsAskList, IsTrace}
 use Rattle.window_engine.specs.Tallies.{Tallies, place_of}
 use Rattle.window_engine.specs.Batches.{Round, asks_for, is_asked, entry_for, entries_from}
 
@@ -132,13 +131,13 @@ pub sources_lower : (before : List Round) (round : Round) (src : ℕ) → All (�
 sources_lower before round src = entries_lower before src 0 (take src round) (omega (arith, length-take src round))
 
 -- what an accepted trace asks for in a round, by a source
-pub row_at : (trace : TraceContent) (round src : ℕ) → IsSound trace → round < trace.rounds → IsAskList (endpoints_of trace.net) (asked_at trace round src)
+pub row_at : (trace : TraceContent) (round src : ℕ) → IsTrace trace → round < trace.rounds → IsAskList (endpoints_of trace.net) (asked_at trace round src)
 row_at trace round src sound below =
     let within : round < length trace.asked = omega (arith, sound.rounds) in
     row_of (endpoints_of trace.net) (get_or trace.asked round []) src (sound.asks round [] within)
 
 -- a table's 0 tells that the flow opens
-pub opens_is : (trace : TraceContent) (round src dst : ℕ) (table : List ℕ) (d : ℕ) → IsSound trace → src < endpoints_of trace.net → dst < endpoints_of trace.net → Tallies (endpoints_of trace.net) (take round trace.asked) table
+pub opens_is : (trace : TraceContent) (round src dst : ℕ) (table : List ℕ) (d : ℕ) → IsTrace trace → src < endpoints_of trace.net → dst < endpoints_of trace.net → Tallies (endpoints_of trace.net) (take round trace.asked) table
     → (get_or table (place_of (endpoints_of trace.net) src dst) 0 == 0) ≡ not (is_asked (take round trace.asked) src dst)
 opens_is trace round src dst table d sound s t tallies =
     ap (λ (n : ℕ). n == 0) (tallies.at src dst s t)

@@ -11,10 +11,9 @@ use Rattle.greedy_rules.specs.declared.flows.Entry.{Entry}
 use Rattle.greedy_rules.specs.Flows.{same_flow}
 use Rattle.greedy_rules.specs.Batches.{entry_of}
 use Rattle.greedy_rules.specs.Demands.{need_with}
-use Rattle.window_engine.specs.Sound.{IsAskList}
-use Rattle.trace_text.specs.Valid.{amount_for}
+use Rattle.trace_text.specs.Valid.{amount_for, IsAskList}
 use Rattle.window_engine.specs.Tallies.{added_for, added_in}
-use Rattle.window_engine.specs.Counts.{added}
+use Rattle.greedy_rules.specs.Balance.{added_by}
 use Rattle.window_engine.specs.Batches.{Round, asks_for, entry_for, entries_from}
 use Rattle.window_engine.proofs.AskLemmas.{slots_if}
 
@@ -147,7 +146,7 @@ none_later dst (ask ∷ asks) above =
     let rest = none_later dst asks (All-tail (λ (p : ℕ × ℕ). dst < p.0) ask asks above) in
     omega (arith, sum_by-cons (slots_if dst) ask asks)
 
-pub added_own : (before : List Round) (src dst : ℕ) (asks : List (ℕ × ℕ)) → AllPairs (λ p q. p.0 < q.0) asks → added (entry_of (map (entry_for before src) asks) (flow_of src dst)) ≡ amount_for dst asks
+pub added_own : (before : List Round) (src dst : ℕ) (asks : List (ℕ × ℕ)) → AllPairs (λ p q. p.0 < q.0) asks → added_by (entry_of (map (entry_for before src) asks) (flow_of src dst)) ≡ amount_for dst asks
 added_own before src dst [] rising = refl
 added_own before src dst (ask ∷ asks) rising =
     let e : Entry = entry_for before src ask in
@@ -159,16 +158,16 @@ added_own before src dst (ask ∷ asks) rising =
           let later = none_later dst asks (λ k d below. let lt : ask.0 < (get_or asks k d).0 = rising 0 (suc k) d (omega arith) (omega arith) in omega arith) in
           let this : slots_if dst ask ≡ ask.1 = cond-true (ask.0 == dst) ask.1 0 same in
           let total : amount_for dst (ask ∷ asks) ≡ ask.1 = omega (arith, sum_by-cons (slots_if dst) ask asks) in
-          ap added (cond-true (same_flow e.flow (flow_of src dst)) (Some e) (entry_of rest (flow_of src dst)) (same_is before src dst ask ∙ same)) ∙ sym total
+          ap added_by (cond-true (same_flow e.flow (flow_of src dst)) (Some e) (entry_of rest (flow_of src dst)) (same_is before src dst ask ∙ same)) ∙ sym total
       | inr other ↦
           let this : slots_if dst ask ≡ 0 = cond-false (ask.0 == dst) ask.1 0 other in
           let total : amount_for dst (ask ∷ asks) ≡ amount_for dst asks = omega (arith, sum_by-cons (slots_if dst) ask asks) in
-          ap added (cond-false (same_flow e.flow (flow_of src dst)) (Some e) (entry_of rest (flow_of src dst)) (same_is before src dst ask ∙ other))
+          ap added_by (cond-false (same_flow e.flow (flow_of src dst)) (Some e) (entry_of rest (flow_of src dst)) (same_is before src dst ask ∙ other))
           ∙ (added_own before src dst asks tail ∙ sym total)
     ]
 
 -- an entry that doesn't clear adds to the need
-pub need_more : (es : List Entry) (flow : Flow) (need : ℕ) → All (λ e. e.clear ≡ false) es → need_with (entry_of es flow) need ≡ need + added (entry_of es flow)
+pub need_more : (es : List Entry) (flow : Flow) (need : ℕ) → All (λ e. e.clear ≡ false) es → need_with (entry_of es flow) need ≡ need + added_by (entry_of es flow)
 need_more [] flow need kept = omega arith
 need_more (e ∷ es) flow need kept =
     let rest = need_more es flow need (All-tail (λ (x : Entry). x.clear ≡ false) e es kept) in
@@ -176,10 +175,10 @@ need_more (e ∷ es) flow need kept =
       | inl same ↦
           let found : entry_of (e ∷ es) flow ≡ Some e = cond-true (same_flow e.flow flow) (Some e) (entry_of es flow) same in
           let keeps : (cond e.clear 0 need) ≡ need = cond-false e.clear 0 need (All-head (λ (x : Entry). x.clear ≡ false) e es kept) in
-          ap (λ (o : Option Entry). need_with o need) found ∙ (ap (λ (n : ℕ). n + e.add) keeps ∙ sym (ap (λ (o : Option Entry). need + added o) found))
+          ap (λ (o : Option Entry). need_with o need) found ∙ (ap (λ (n : ℕ). n + e.add) keeps ∙ sym (ap (λ (o : Option Entry). need + added_by o) found))
       | inr other ↦
           let found : entry_of (e ∷ es) flow ≡ entry_of es flow = cond-false (same_flow e.flow flow) (Some e) (entry_of es flow) other in
-          ap (λ (o : Option Entry). need_with o need) found ∙ (rest ∙ sym (ap (λ (o : Option Entry). need + added o) found))
+          ap (λ (o : Option Entry). need_with o need) found ∙ (rest ∙ sym (ap (λ (o : Option Entry). need + added_by o) found))
     ]
 
 -- the batch of a round, flow by flow
@@ -197,8 +196,8 @@ round_adds before round src dst =
     subst (λ (n : ℕ). added_in n dst (entries_from before 0 round) ≡ added_in n dst (map (entry_for before n) (get_or round src []))) at (added_at before 0 src dst round)
     ∙ adds_own before src dst (get_or round src [])
 
-pub round_added : (endpoints : ℕ) (before : List Round) (round : Round) (src dst : ℕ) → IsAskList endpoints (get_or round src []) → added (entry_of (entries_from before 0 round) (flow_of src dst)) ≡ amount_for dst (get_or round src [])
-round_added endpoints before round src dst asks = ap added (batch_entry before round src dst) ∙ added_own before src dst (get_or round src []) asks.rising
+pub round_added : (endpoints : ℕ) (before : List Round) (round : Round) (src dst : ℕ) → IsAskList endpoints (get_or round src []) → added_by (entry_of (entries_from before 0 round) (flow_of src dst)) ≡ amount_for dst (get_or round src [])
+round_added endpoints before round src dst asks = ap added_by (batch_entry before round src dst) ∙ added_own before src dst (get_or round src []) asks.rising
 
 pub round_needs : (endpoints : ℕ) (before : List Round) (round : Round) (src dst need : ℕ) → IsAskList endpoints (get_or round src []) → need_with (entry_of (entries_from before 0 round) (flow_of src dst)) need ≡ need + amount_for dst (get_or round src [])
 round_needs endpoints before round src dst need asks =

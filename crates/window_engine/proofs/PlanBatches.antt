@@ -1,56 +1,59 @@
 -- The batches of a plan, one by one: their entries rise, and are of flows between the trace's endpoints.
-use Rattle.std.proofs.Common.{◌≡◌, ◌<◌, ◌+◌, ℕ, zero, suc, List, [], ◌∷◌, ◌++◌, length, get_or, map, take, drop, IsTrue, All, AllPairs, refl, sym, ap, ◌∙◌, arith}
+use Rattle.std.proofs.Common.{◌≡◌, ◌<◌, ◌+◌, ◌^◌, ℕ, zero, suc, List, [], ◌∷◌, ◌++◌, length, get_or, map, take, drop, IsTrue, All, AllPairs, refl, sym, ap, ◌∙◌, arith}
 use Rattle.std.proofs.lemmas.Bool.Decides.{nat_tests}
 use Rattle.std.proofs.lemmas.List.{append-nil, append_assoc, take_more, length-drop, get_or-drop}
+use Rattle.std.proofs.lemmas.List.Sums.{sum_by_more, sum_by-take-le}
 use Rattle.std.proofs.lemmas.List.Elements.{All-nil, All-cons, All-head, All-tail, All-append, All-map}
 use Rattle.greedy_rules.specs.declared.flows.Entry.{Entry}
 use Rattle.greedy_rules.specs.Flows.{flow_below}
-use Rattle.greedy_rules.specs.Batches.{IsBatch}
+use Rattle.greedy_rules.specs.declared.limits.Limits.{Limits}
+use Rattle.greedy_rules.specs.Batches.{DemandBatch, IsBatch}
 use Rattle.greedy_rules.specs.Matching.{AreAmong}
-use Rattle.greedy_rules.proofs.Pairs.{AllPairs-nil, AllPairs-head, AllPairs-tail, AllPairs-cons}
+use Rattle.list_facts.proofs.Pairs.{AllPairs-nil, AllPairs-head, AllPairs-tail, AllPairs-cons}
 use Rattle.clos_topology.specs.Network.{endpoints_of}
-use Rattle.trace_text.specs.Trace.{TraceContent}
-use Rattle.window_engine.specs.Sound.{IsAskList, IsSound}
-use Rattle.window_engine.specs.Batches.{Round, entry_for, entries_from, batch_after, batches_after, plan_batches}
+use Rattle.trace_text.specs.Trace.{TraceContent, asked_at}
+use Rattle.trace_text.specs.Valid.{amount_for, total_asked, IsAskList, IsTrace}
+use Rattle.window_engine.specs.Batches.{Round, entry_for, entries_from, limits_of, batch_after, batches_after, plan_batches}
+use Rattle.window_engine.specs.Tallies.{Tallies, place_of, added_in, Adds}
 use Rattle.window_engine.proofs.AskLemmas.{row_of}
-use Rattle.window_engine.proofs.EntryLemmas.{all_entries}
+use Rattle.window_engine.proofs.EntryLemmas.{all_entries, round_adds}
 
 abbrev pub round_of : TraceContent → ℕ → Round
 round_of trace k = get_or trace.asked k []
 
-abbrev pub batch_of : TraceContent → ℕ → List Entry
-batch_of trace k = batch_after (take k trace.asked) (round_of trace k)
+abbrev pub batch_of : TraceContent → ℕ → DemandBatch
+batch_of trace k = batch_after (limits_of trace.net) (take k trace.asked) (round_of trace k)
 
-pub long : (trace : TraceContent) (k : ℕ) → IsSound trace → k < trace.rounds → k < length trace.asked
+pub long : (trace : TraceContent) (k : ℕ) → IsTrace trace → k < trace.rounds → k < length trace.asked
 long trace k sound below = omega (arith, sound.rounds)
 
-length-batches : (before rounds : List Round) → length (batches_after before rounds) ≡ length rounds
-length-batches before [] = refl
-length-batches before (round ∷ rounds) = ap suc (length-batches (before ++ round ∷ []) rounds)
+length-batches : (limits : Limits) (before rounds : List Round) → length (batches_after limits before rounds) ≡ length rounds
+length-batches limits before [] = refl
+length-batches limits before (round ∷ rounds) = ap suc (length-batches limits (before ++ round ∷ []) rounds)
 
-pub batch_count : (trace : TraceContent) → IsSound trace → length (plan_batches trace) ≡ trace.rounds
-batch_count trace sound = length-batches [] trace.asked ∙ sound.rounds
+pub batch_count : (trace : TraceContent) → IsTrace trace → length (plan_batches trace) ≡ trace.rounds
+batch_count trace sound = length-batches (limits_of trace.net) [] trace.asked ∙ sound.rounds
 
-batch_in : (before rounds : List Round) (k : ℕ) → k < length rounds → get_or (batches_after before rounds) k [] ≡ batch_after (before ++ take k rounds) (get_or rounds k [])
-batch_in before [] k below = absurd (omega arith)
-batch_in before (round ∷ rounds) zero below = ap (λ (rs : List Round). batch_after rs round) (sym (append-nil before))
-batch_in before (round ∷ rounds) (suc k) below =
-    batch_in (before ++ round ∷ []) rounds k (omega arith) ∙ ap (λ (rs : List Round). batch_after rs (get_or rounds k [])) (append_assoc before (round ∷ []) (take k rounds))
+batch_in : (limits : Limits) (before rounds : List Round) (k : ℕ) (d : DemandBatch) → k < length rounds → get_or (batches_after limits before rounds) k d ≡ batch_after limits (before ++ take k rounds) (get_or rounds k [])
+batch_in limits before [] k d below = absurd (omega arith)
+batch_in limits before (round ∷ rounds) zero d below = ap (λ (rs : List Round). batch_after limits rs round) (sym (append-nil before))
+batch_in limits before (round ∷ rounds) (suc k) d below =
+    batch_in limits (before ++ round ∷ []) rounds k d (omega arith) ∙ ap (λ (rs : List Round). batch_after limits rs (get_or rounds k [])) (append_assoc before (round ∷ []) (take k rounds))
 
-pub batch_at : (trace : TraceContent) (k : ℕ) → IsSound trace → k < trace.rounds → get_or (plan_batches trace) k [] ≡ batch_of trace k
-batch_at trace k sound below = batch_in [] trace.asked k (long trace k sound below)
+batch_at : (trace : TraceContent) (k : ℕ) (d : DemandBatch) → IsTrace trace → k < trace.rounds → get_or (plan_batches trace) k d ≡ batch_of trace k
+batch_at trace k d sound below = batch_in (limits_of trace.net) [] trace.asked k d (long trace k sound below)
 
 -- so many batches from one on, and one more
-pub batches_more : (trace : TraceContent) (first n : ℕ) → IsSound trace → first + n < trace.rounds
+pub batches_more : (trace : TraceContent) (first n : ℕ) → IsTrace trace → first + n < trace.rounds
     → take (n + 1) (drop first (plan_batches trace)) ≡ take n (drop first (plan_batches trace)) ++ batch_of trace (first + n) ∷ []
 batches_more trace first n sound below =
-    let batches : List (List Entry) = plan_batches trace in
-    let none : List Entry = [] in
+    let batches : List DemandBatch = plan_batches trace in
+    let none : DemandBatch = batch_of trace 0 in
     take_more (drop first batches) n none (omega (arith, length-drop first batches, batch_count trace sound))
-    ∙ ap (λ (es : List Entry). take n (drop first batches) ++ es ∷ []) (get_or-drop first batches n none ∙ batch_at trace (first + n) sound below)
+    ∙ ap (λ (x : DemandBatch). take n (drop first batches) ++ x ∷ []) (get_or-drop first batches n none ∙ batch_at trace (first + n) none sound below)
 
 -- the entries of all batches are of flows between the trace's endpoints
-among : (endpoints : ℕ) (before : List Round) (round : Round) → length round ≡ endpoints → All (IsAskList endpoints) round → AreAmong endpoints (batch_after before round)
+pub among : (endpoints : ℕ) (before : List Round) (round : Round) → length round ≡ endpoints → All (IsAskList endpoints) round → AreAmong endpoints (entries_from before 0 round)
 among endpoints before round wide lists =
     all_entries (λ e. (e.flow.src < endpoints) × (e.flow.dst < endpoints)) before 0 round
     (λ n within i d inside.
@@ -58,18 +61,10 @@ among endpoints before round wide lists =
     let src : 0 + n < endpoints = omega arith in
     (src, list.in_range i d inside))
 
-pub batch_among : (trace : TraceContent) (k : ℕ) → IsSound trace → k < trace.rounds → AreAmong (endpoints_of trace.net) (batch_of trace k)
+pub batch_among : (trace : TraceContent) (k : ℕ) → IsTrace trace → k < trace.rounds → AreAmong (endpoints_of trace.net) (batch_of trace k).entries
 batch_among trace k sound below =
     let within = long trace k sound below in
     among (endpoints_of trace.net) (take k trace.asked) (round_of trace k) (sound.sources k [] within) (sound.asks k [] within)
-
-pub batches_among : (endpoints : ℕ) (before rounds : List Round) → All (λ round. length round ≡ endpoints) rounds → All (All (IsAskList endpoints)) rounds → All (AreAmong endpoints) (batches_after before rounds)
-batches_among endpoints before [] wide asks = All-nil (AreAmong endpoints)
-batches_among endpoints before (round ∷ rounds) wide asks =
-    let Wide : Round → Type 0 = λ r. length r ≡ endpoints in
-    All-cons (AreAmong endpoints) (batch_after before round) (batches_after (before ++ round ∷ []) rounds)
-    (among endpoints before round (All-head Wide round rounds wide) (All-head (All (IsAskList endpoints)) round rounds asks))
-    (batches_among endpoints (before ++ round ∷ []) rounds (All-tail Wide round rounds wide) (All-tail (All (IsAskList endpoints)) round rounds asks))
 
 -- the entries of a batch rise
 AllPairs-append : {X : Type 0} (R : X → X → Type 0) (xs ys : List X) → AllPairs R xs → AllPairs R ys → All (λ x. All (R x) ys) xs → AllPairs R (xs ++ ys)
@@ -95,7 +90,7 @@ own_rise before src (ask ∷ asks) rising =
     (All-map (Rises (entry_for before src ask)) (entry_for before src) asks (λ k d below. by_destination before src ask (get_or asks k d) (AllPairs-head Less ask asks rising k d below)))
     (own_rise before src asks (AllPairs-tail Less ask asks rising))
 
-rise_from : (endpoints : ℕ) (before : List Round) (src : ℕ) (round : Round) → All (IsAskList endpoints) round → AllPairs Rises (entries_from before src round)
+pub rise_from : (endpoints : ℕ) (before : List Round) (src : ℕ) (round : Round) → All (IsAskList endpoints) round → AllPairs Rises (entries_from before src round)
 rise_from endpoints before src [] lists = AllPairs-nil Rises
 rise_from endpoints before src (asks ∷ round) lists =
     let here : IsAskList endpoints asks = All-head (IsAskList endpoints) asks round lists in
@@ -105,5 +100,23 @@ rise_from endpoints before src (asks ∷ round) lists =
     (rise_from endpoints before (src + 1) round (All-tail (IsAskList endpoints) asks round lists))
     (All-map (λ e. All (Rises e) later) (entry_for before src) asks (λ i d inside k e below. by_source (entry_for before src (get_or asks i d)) (get_or later k e) (above k e below)))
 
-pub batch_rises : (trace : TraceContent) (k : ℕ) → IsSound trace → k < trace.rounds → IsBatch (batch_of trace k)
-batch_rises trace k sound below = rise_from (endpoints_of trace.net) (take k trace.asked) 0 (round_of trace k) (sound.asks k [] (long trace k sound below))
+-- a round's slots come on top of those before
+total_more : (trace : TraceContent) (k src dst : ℕ) → IsTrace trace → k < trace.rounds
+    → total_asked (take (k + 1) trace.asked) src dst ≡ total_asked (take k trace.asked) src dst + amount_for dst (asked_at trace k src)
+total_more trace k src dst sound below = sum_by_more (λ (r : Round). amount_for dst (get_or r src [])) trace.asked k [] (long trace k sound below)
+
+-- and all fit
+total_fits : (trace : TraceContent) (k src dst : ℕ) → IsTrace trace → total_asked (take k trace.asked) src dst < 2 ^ 32
+total_fits trace k src dst sound = omega (arith, sound.bounded src dst, sum_by-take-le (λ (r : Round). amount_for dst (get_or r src [])) trace.asked k)
+
+pub batch_fits : (trace : TraceContent) (k : ℕ) (table : List ℕ) → IsTrace trace → k < trace.rounds → Tallies (endpoints_of trace.net) (take k trace.asked) table
+    → (src dst : ℕ) → src < endpoints_of trace.net → dst < endpoints_of trace.net → get_or table (place_of (endpoints_of trace.net) src dst) 0 + added_in src dst (batch_of trace k).entries < 2 ^ 32
+batch_fits trace k table sound below tallies src dst s t =
+    omega (arith, tallies.at src dst s t, round_adds (take k trace.asked) (round_of trace k) src dst, total_more trace k src dst sound below, total_fits trace (k + 1) src dst sound)
+
+pub tallies_more : (trace : TraceContent) (k : ℕ) (old new : List ℕ) → IsTrace trace → k < trace.rounds → Tallies (endpoints_of trace.net) (take k trace.asked) old
+    → Adds (endpoints_of trace.net) (batch_of trace k).entries old new → Tallies (endpoints_of trace.net) (take (k + 1) trace.asked) new
+tallies_more trace k old new sound below tallies adds = record {
+  long = adds.long ∙ tallies.long;
+  at = λ src dst s t. omega (arith, adds.at src dst s t, tallies.at src dst s t, round_adds (take k trace.asked) (round_of trace k) src dst, total_more trace k src dst sound below);
+}

@@ -1,130 +1,179 @@
--- The slots of a window, batch by batch.
-use Rattle.std.proofs.Common.{◌≡◌, ◌<◌, ◌≤◌, ◌+◌, ◌-◌, ◌*◌, ℕ, List, [], ◌++◌, length, get_or, take, drop, replicate, refl, sym, ap, ◌∙◌, arith}
+-- A window of batches that are recorded next: they may be allocated, and what their slots and the list after them are.
+use Rattle.std.proofs.Common.{◌≡◌, ◌<◌, ◌≤◌, ◌+◌, ◌-◌, ◌*◌, ℕ, List, [], ◌++◌, length, get_or, replicate, All, refl, sym, ap, ◌∙◌, subst, arith, length-append}
 use Rattle.std.proofs.lemmas.Nat.{mul-le}
-use Rattle.std.proofs.lemmas.List.{length-take, length-drop, length-append, length-replicate, take_at, drop_at, append-nil, get_or-take, get_or-drop, get_or_default}
+use Rattle.std.proofs.lemmas.List.{append-nil, length-replicate, get_or-append_right, get_or_default}
 use Rattle.greedy_rules.specs.declared.flows.Flow.{Flow}
-use Rattle.greedy_rules.specs.declared.flows.Entry.{Entry}
 use Rattle.greedy_rules.specs.declared.flows.Item.{Item}
-use Rattle.greedy_rules.specs.Allocation.{batch_slots, list_after_slots}
-use Rattle.greedy_rules.specs.Demands.{after_batch}
-use Rattle.greedy_rules.specs.Slot.{is_taken}
+use Rattle.greedy_rules.specs.Batches.{DemandBatch}
+use Rattle.greedy_rules.specs.Demands.{Demands, HasEachFlowOnce, AreBelow}
+use Rattle.greedy_rules.specs.Schedule.{first_slot, schedule, schedule_from, slot_in, slot_at, rest, rest_from}
+use Rattle.greedy_rules.specs.Fronts.{FrontsAreFronts, EveryBatchHasItsSlots}
+use Rattle.greedy_rules.specs.Matching.{IsMatching}
+use Rattle.greedy_rules.specs.Recorded.{MayBeApplied, IsLeftBy, RecordedBatchesMayBeApplied, LaterBatchesMayBeApplied, IsRecordedSlot, EveryRecordedSlot}
+use Rattle.greedy_rules.specs.Room.{FlowsFitPairs}
 use Rattle.greedy_rules.specs.SlotTable.{Slots}
-use Rattle.greedy_rules.specs.Schedule.{first_slot, schedule, slot_in, rest}
-use Rattle.clos_topology.specs.Network.{endpoints_of}
-use Rattle.path_workers.specs.Coloured.{NamesNoOther}
+use Rattle.slot_batches.specs.NextList.{IsListBefore}
+use Rattle.alloc_pipeline.specs.Ring.{RingWork}
+use Rattle.clos_topology.specs.Network.{Network, endpoints_of}
+use Rattle.clos_topology.specs.Links.{IsClean}
+use Rattle.path_workers.specs.Coloured.{IsFlowOf, IsWithinCores, NamesNoOther}
 use Rattle.path_workers.specs.CoreTable.{CoreSlots, core_of}
-use Rattle.trace_text.specs.Trace.{TraceContent}
-use Rattle.window_engine.specs.Sound.{IsSound}
-use Rattle.window_engine.specs.Batches.{plan_batches}
+use Rattle.window_engine.specs.Batches.{limits_of, AreOfNet}
 use Rattle.window_engine.specs.Scheduled.{AreClean, cores_from}
-use Rattle.window_engine.specs.Step.{IsPlanned, window_slots}
-use Rattle.window_engine.proofs.PlanBatches.{batch_of, batch_count, batch_at}
-use Rattle.window_engine.proofs.PlanLists.{rest_then}
-use Rattle.window_engine.proofs.PlanSchedule.{slots_then, length-schedule, slots_more}
+use Rattle.window_engine.specs.Standing.{Allocated, HasAllocated}
+use Rattle.window_engine.specs.Step.{IsWindowOf}
+use Rattle.window_engine.specs.Ready.{IsFit, IsReady, EveryWindowIsReady}
 
-places : (k n b : ℕ) → (k + n) * b ≡ k * b + n * b
-places k n b = grind arith
+-- the list that recorded batches leave fits where all flows do
+fits : (endpoints : ℕ) (batches : List DemandBatch) (list : List Item) → FlowsFitPairs → IsLeftBy endpoints batches list → length list ≤ endpoints * endpoints
+fits endpoints batches list fit left =
+    omega (
+      arith,
+      fit endpoints [] list (λ i j d lt below. absurd (omega arith)) (λ k d below. absurd (omega arith)) left.once (subst (AreBelow endpoints) (sym (append-nil list)) left.below),
+    )
 
-pub length-window : (b : ℕ) (trace : TraceContent) (first n : ℕ) → IsSound trace → first + n ≤ trace.rounds → length (window_slots b trace first n) ≡ n * b
-length-window b trace first n sound within =
-    let all : List (List Flow) = schedule is_taken b (plan_batches trace) in
-    let low : ℕ = first * b in
-    let size : ℕ = n * b in
-    let long : length all ≡ trace.rounds * b = length-schedule b (plan_batches trace) ∙ ap (λ (m : ℕ). m * b) (batch_count trace sound) in
-    let inside : (first + n) * b ≤ trace.rounds * b = mul-le (first + n) b trace.rounds b within (omega arith) in
-    omega (arith, length-take size (drop low all), length-drop low all, places first n b)
-
--- a table of the first p of n batches, the rest of it empty
-abbrev pub filled : ℕ → TraceContent → ℕ → ℕ → ℕ → List (List Flow)
-filled b trace first p n = window_slots b trace first p ++ replicate ((n - p) * b) []
-
-pub length-filled : (b : ℕ) (trace : TraceContent) (first p n : ℕ) → IsSound trace → first + p ≤ trace.rounds → length (filled b trace first p n) ≡ p * b + (n - p) * b
-length-filled b trace first p n sound within =
+fit_slot : (net : Network) (b : ℕ) (earlier batches : List DemandBatch) (window : List (List Flow)) → AreOfNet net (earlier ++ batches) → EveryRecordedSlot → EveryBatchHasItsSlots
+    → schedule b (earlier ++ batches) ≡ schedule b earlier ++ window → All (IsFit net) window
+fit_slot net b earlier batches window recorded slots count whole at d below =
+    let all : List (List Flow) = schedule b (earlier ++ batches) in
+    let front : List (List Flow) = schedule b earlier in
+    let start : ℕ = length earlier * b in
+    let number : ℕ = start + at + 1 in
     let none : List Flow = [] in
-    let more : ℕ = (n - p) * b in
-    omega (arith, length-append (window_slots b trace first p) (replicate more none), length-window b trace first p sound within, length-replicate more none)
+    let long : length front ≡ start = count b 0 [] earlier in
+    let within : number ≤ length all = omega (arith, ap length whole, length-append front window, long) in
+    let place : number - 1 - start ≡ at = omega arith in
+    let here : slot_at all number ≡ get_or window at d =
+    ap (λ (xs : List (List Flow)). slot_in xs (number - 1)) whole
+    ∙ (get_or-append_right front window start (number - 1) none long (omega arith)
+    ∙ (ap (λ (k : ℕ). get_or window k none) place ∙ get_or_default window at none d below)) in
+    let slot = slots (endpoints_of net) b (limits_of net) (earlier ++ batches) recorded number (omega arith) within in
+    subst (IsFit net) here (record { matching = slot.matching; flows = slot.in_range.in_range; degrees = slot.keeps })
 
-pub one_batch_left : (b p n : ℕ) → p < n → b ≤ (n - p) * b
-one_batch_left b p n below = omega (arith, mul-le 1 b (n - p) b (omega arith) (omega arith))
+pub ready : (net : Network) (most : ℕ) (earlier batches : List DemandBatch) (half : Allocated) → HasAllocated net most earlier half → AreOfNet net (earlier ++ batches)
+    → RecordedBatchesMayBeApplied → LaterBatchesMayBeApplied → EveryRecordedSlot → FrontsAreFronts → EveryBatchHasItsSlots → FlowsFitPairs → IsReady net earlier batches half
+ready net most earlier batches half has recorded all later slots fronts count fit =
+    let b : ℕ = half.b in
+    let n : ℕ = endpoints_of net in
+    let list : List Item = half.list.items in
+    let front = fronts b earlier batches in
+    let may = later n b (limits_of net) earlier batches recorded in
+    let From : ℕ → List Item → Type 0 = λ k l. MayBeApplied n b k l batches in
+    let then : rest_from b half.batches list batches ≡ rest b (earlier ++ batches) =
+    ap (λ (k : ℕ). rest_from b k list batches) has.number ∙ (ap (λ (l : List Item). rest_from b (length earlier) l batches) has.left ∙ sym front.1) in
+    let whole : schedule b (earlier ++ batches) ≡ schedule b earlier ++ schedule_from b half.batches list batches =
+    front.0
+    ∙ ap (λ (xs : List (List Flow)). schedule b earlier ++ xs)
+    (sym (ap (λ (k : ℕ). schedule_from b k list batches) has.number ∙ ap (λ (l : List Item). schedule_from b (length earlier) l batches) has.left)) in
+    record {
+      may = subst (λ (k : ℕ). From k list) (sym has.number) (subst (From (length earlier)) (sym has.left) may);
+      then = then;
+      room = omega (arith, has.room, ap length then, fits n (earlier ++ batches) (rest b (earlier ++ batches)) fit (all n b (limits_of net) (earlier ++ batches) recorded).left);
+      number = count b half.batches list batches;
+      whole = whole;
+      slots = fit_slot net b earlier batches (schedule_from b half.batches list batches) recorded slots count whole;
+    }
 
-pub empty_rest : (b : ℕ) (trace : TraceContent) (first p n : ℕ) (slots : List (List Flow)) → IsSound trace → first + p ≤ trace.rounds → slots ≡ filled b trace first p n → drop (p * b) slots ≡ replicate (length slots - p * b) []
-empty_rest b trace first p n slots sound within is =
+-- a table that was opened for just the window's slots
+pub exact : (slots window : List (List Flow)) (places n : ℕ) → slots ≡ window ++ replicate (places - n) [] → places ≡ n → slots ≡ window
+exact slots window places n is same =
     let none : List Flow = [] in
-    let more : ℕ = (n - p) * b in
-    let from : ℕ = p * b in
-    let left : more ≡ length slots - from = omega (arith, ap length is, length-filled b trace first p n sound within) in
-    ap (drop from) is ∙ (drop_at (window_slots b trace first p) (replicate more none) from (length-window b trace first p sound within) ∙ ap (λ (m : ℕ). replicate m none) left)
+    let left : places - n ≡ 0 = omega arith in
+    is ∙ (ap (λ (m : ℕ). window ++ replicate m none) left ∙ append-nil window)
 
--- one batch more comes in behind
-filled_more : (b : ℕ) (trace : TraceContent) (first p n : ℕ) (slots : List (List Flow)) → IsSound trace → p < n → first + n ≤ trace.rounds → slots ≡ filled b trace first p n
-    → (take (p * b) slots ++ slots_then b (first + p) (batch_of trace (first + p)) (rest is_taken b (take (first + p) (plan_batches trace)))) ++ replicate (length slots - (p * b + b)) [] ≡ filled b trace first (p + 1) n
-filled_more b trace first p n slots sound below within is =
-    let none : List Flow = [] in
-    let k : ℕ = first + p in
-    let more : ℕ = (n - p) * b in
-    let from : ℕ = p * b in
-    let list : List Item = rest is_taken b (take k (plan_batches trace)) in
-    let window : List (List Flow) = window_slots b trace first p in
-    let kept : take from slots ≡ window = ap (take from) is ∙ take_at window (replicate more none) from (length-window b trace first p sound (omega arith)) in
-    let rests : n - p ≡ 1 + (n - (p + 1)) = omega arith in
-    let split : more ≡ b + (n - (p + 1)) * b = ap (λ (m : ℕ). m * b) rests ∙ (places 1 (n - (p + 1)) b ∙ ap (λ (m : ℕ). m + (n - (p + 1)) * b) (let one : 1 * b ≡ b = omega arith in one)) in
-    let left : length slots - (from + b) ≡ (n - (p + 1)) * b = omega (arith, ap length is, length-filled b trace first p n sound (omega arith)) in
-    let here : get_or (plan_batches trace) k [] ≡ batch_of trace k = batch_at trace k sound (omega arith) in
-    let whole : window ++ slots_then b k (batch_of trace k) list ≡ window_slots b trace first (p + 1) =
-    ap (λ (es : List Entry). window ++ slots_then b k es list) (sym here) ∙ sym (slots_more b first p (plan_batches trace) (omega (arith, batch_count trace sound))) in
-    ap (λ (xs : List (List Flow)). (xs ++ slots_then b k (batch_of trace k) list) ++ replicate (length slots - (from + b)) none) kept
-    ∙ (ap (λ (xs : List (List Flow)). xs ++ replicate (length slots - (from + b)) none) whole ∙ ap (λ (m : ℕ). window_slots b trace first (p + 1) ++ replicate m none) left)
+abbrev ring_of : Network → ℕ → ℕ → RingWork
+ring_of net most b = record { endpoints = endpoints_of net; batches = most; b = b }
 
--- a batch given its slots, by whatever names the code has for its numbers
-pub batch_more : (b : ℕ) (trace : TraceContent) (first p n number size from : ℕ) (batch : List Entry) (list : List Item) (slots : List (List Flow)) → IsSound trace → p < n → first + n ≤ trace.rounds
-    → number ≡ first_slot b (first + p) → size ≡ b → from ≡ p * b → batch ≡ batch_of trace (first + p) → list ≡ rest is_taken b (take (first + p) (plan_batches trace)) → slots ≡ filled b trace first p n
-    → (list_after_slots is_taken number size (after_batch batch list) ≡ rest is_taken b (take (first + (p + 1)) (plan_batches trace)))
-    × ((take from slots ++ batch_slots is_taken number size (after_batch batch list)) ++ replicate (length slots - (from + size)) [] ≡ filled b trace first (p + 1) n)
-batch_more b trace first p n number size from batch list slots sound below within number_is size_is from_is batch_is list_is slots_is =
-    let next : first + p + 1 ≡ first + (p + 1) = omega arith in
-    rw (number_is, size_is, from_is, batch_is, list_is)
-    (sym (rest_then trace b (first + p) sound (omega arith)) ∙ ap (λ (m : ℕ). rest is_taken b (take m (plan_batches trace))) next, filled_more b trace first p n slots sound below within slots_is)
-
--- the whole window
-pub filled_whole : (b : ℕ) (trace : TraceContent) (first n : ℕ) (slots : List (List Flow)) → slots ≡ filled b trace first n n → slots ≡ window_slots b trace first n
-filled_whole b trace first n slots is =
-    let none : List Flow = [] in
-    let empty : (n - n) * b ≡ 0 = grind arith in
-    is ∙ (ap (λ (m : ℕ). window_slots b trace first n ++ replicate m none) empty ∙ append-nil (window_slots b trace first n))
-
--- a batch of the window is that of its round
-pub window_batch : (trace : TraceContent) (first p : ℕ) (batches : List (List Entry)) (batch : List Entry) → IsSound trace → p < length batches → first + length batches ≤ trace.rounds
-    → batches ≡ take (length batches) (drop first (plan_batches trace)) → batch ≡ get_or batches p batch → batch ≡ batch_of trace (first + p)
-window_batch trace first p batches batch sound below within are is =
-    let none : List Entry = [] in
-    is
-    ∙ (get_or_default batches p batch none below
-    ∙ (ap (λ (bs : List (List Entry)). get_or bs p none) are
-    ∙ (get_or-take (length batches) (drop first (plan_batches trace)) p none below
-    ∙ (get_or-drop first (plan_batches trace) p none ∙ batch_at trace (first + p) sound (omega arith)))))
-
-pub batch_number : (trace : TraceContent) (first count : ℕ) (batches : List (List Entry)) → IsSound trace → first + count ≤ trace.rounds → batches ≡ take count (drop first (plan_batches trace)) → length batches ≡ count
-batch_number trace first count batches sound within are =
-    omega (arith, ap length are, length-take count (drop first (plan_batches trace)), length-drop first (plan_batches trace), batch_count trace sound)
-
--- its slots fit where g rounds do
-pub window_within : (b : ℕ) (trace : TraceContent) (first count g : ℕ) (slots : List (List Flow)) → IsSound trace → first + count ≤ trace.rounds → count ≤ g → slots ≡ window_slots b trace first count → length slots ≤ g * b
-window_within b trace first count g slots sound within few is = omega (arith, ap length is, length-window b trace first count sound within, mul-le count b g b few (omega arith))
-
--- a window's batches, slots and cores together
-pub planned : (b : ℕ) (trace : TraceContent) (first count : ℕ) (batches : List (List Entry)) (slots : Slots) (cores : CoreSlots) → IsSound trace → first + count ≤ trace.rounds
-    → batches ≡ take count (drop first (plan_batches trace)) → slots.slots ≡ window_slots b trace first count → slots.endpoints ≡ endpoints_of trace.net → cores.slots ≡ length slots.slots → cores.endpoints ≡ slots.endpoints
-    → ((from : ℕ) → AreClean trace.net (cores_from from cores) from slots.slots) → ((at : ℕ) → at < length slots.slots → NamesNoOther trace.net.hosts (slot_in slots.slots at) (core_of cores at))
-    → IsPlanned trace b first count (record { batches = batches; first_collected = first; first_allocated = first; allocated = length batches; slots = slots; cores = cores })
-planned b trace first count batches slots cores sound within are slots_are serves core_slots core_endpoints clean others = record {
-  first_collected = refl;
-  batches = are;
-  first_allocated = refl;
-  allocated = batch_number trace first count batches sound within are;
-  slots = slots_are;
-  endpoints = serves;
-  core_slots = core_slots ∙ (ap length slots_are ∙ length-window b trace first count sound within);
-  core_endpoints = core_endpoints ∙ serves;
-  clean = clean (first_slot b first);
-  others = others;
+pub has_allocated_more : (net : Network) (most : ℕ) (earlier batches : List DemandBatch) (old new : Allocated) → HasAllocated net most earlier old → AreOfNet net (earlier ++ batches) → IsReady net earlier batches old
+    → new.b ≡ old.b → new.batches ≡ old.batches + length batches → new.list.items ≡ rest_from old.b old.batches old.list.items batches
+    → IsListBefore (first_slot old.b (old.batches + length batches)) new.list.items
+    → length new.list.items + new.list.spare ≡ length old.list.items + old.list.spare → new.ring ≡ old.ring → new.paths.net ≡ old.paths.net → new.paths.slots ≡ old.paths.slots → HasAllocated net most (earlier ++ batches) new
+has_allocated_more network most earlier batches old new has recorded is_ready b number list before spare ring net slots = record {
+  recorded = recorded;
+  number = omega (arith, has.number, length-append earlier batches);
+  size = (omega (arith, has.size.0), omega (arith, has.size.1));
+  left = list ∙ (is_ready.then ∙ ap (λ (m : ℕ). rest m (earlier ++ batches)) (sym b));
+  before = rw (b, number) before;
+  room = omega (arith, has.room);
+  ring = ring ∙ (has.ring ∙ ap (ring_of network most) (sym b));
+  serves = net ∙ has.serves;
+  colours = slots ∙ (has.colours ∙ ap (λ (m : ℕ). most * m) (sym b));
 }
+
+pub window_of : (net : Network) (b first n : ℕ) (window : List (List Flow)) (slots : Slots) (cores : CoreSlots) → slots.slots ≡ window → length window ≡ n * b → slots.endpoints ≡ endpoints_of net
+    → cores.slots ≡ n * b → cores.endpoints ≡ endpoints_of net → ((at : ℕ) → at < length slots.slots → IsClean net.hosts net.cores (slot_in slots.slots at) (core_of cores at))
+    → ((at : ℕ) → at < length slots.slots → NamesNoOther net.hosts (slot_in slots.slots at) (core_of cores at))
+    → IsWindowOf net b window (record { span = record { first = first; count = n }; slots = slots; cores = cores })
+window_of net b first n window slots cores is number endpoints core_slots core_endpoints clean others =
+    let base : ℕ = first_slot b first in
+    record {
+      is = is;
+      number = number;
+      endpoints = endpoints;
+      core_slots = core_slots;
+      core_endpoints = core_endpoints;
+      clean = λ at below.
+          let place : at ≡ base + at - base = omega arith in
+          subst (λ (k : ℕ). IsClean net.hosts net.cores (slot_in window at) (core_of cores k)) place
+          (subst (λ (xs : List (List Flow)). IsClean net.hosts net.cores (slot_in xs at) (core_of cores at)) is (clean at (omega (arith, ap length is))));
+      others = λ at below. subst (λ (xs : List (List Flow)). NamesNoOther net.hosts (slot_in xs at) (core_of cores at)) is (others at (omega (arith, ap length is)));
+    }
+
+-- ---- the same, as the code has it
+
+-- what is known of a half before a window
+abbrev pub HasNext : List DemandBatch → Allocated → Type 0
+HasNext batches half = (earlier : List DemandBatch) × HasAllocated half.paths.net half.ring.batches earlier half × AreOfNet half.paths.net (earlier ++ batches)
+
+pub every_window : RecordedBatchesMayBeApplied → LaterBatchesMayBeApplied → EveryRecordedSlot → FrontsAreFronts → EveryBatchHasItsSlots → FlowsFitPairs → EveryWindowIsReady
+every_window all later slots fronts count fit net most earlier batches half has recorded = ready net most earlier batches half has recorded all later slots fronts count fit
+
+pub ring_size : (net : Network) (most : ℕ) (earlier : List DemandBatch) (half : Allocated) → HasAllocated net most earlier half → half.ring.b ≡ half.b
+ring_size net most earlier half has = ap (λ (r : RingWork). r.b) has.ring
+
+pub ring_endpoints : (net : Network) (most : ℕ) (earlier : List DemandBatch) (half : Allocated) → HasAllocated net most earlier half → half.ring.endpoints ≡ endpoints_of net
+ring_endpoints net most earlier half has = ap (λ (r : RingWork). r.endpoints) has.ring
+
+-- the table of a window, by the numbers that the code has
+pub table_is : (earlier batches : List DemandBatch) (half : Allocated) (opened slots : List (List Flow)) (size : ℕ) → HasAllocated half.paths.net half.ring.batches earlier half → size ≡ half.b
+    → opened ≡ replicate (length batches * size) [] → slots ≡ schedule_from half.ring.b half.batches half.list.items batches ++ replicate (length opened - length batches * half.ring.b) []
+    → slots ≡ schedule_from half.b half.batches half.list.items batches
+table_is earlier batches half opened slots size has same zeros is =
+    let none : List Flow = [] in
+    let n : ℕ = length batches in
+    let b : ℕ = half.b in
+    let ring : half.ring.b ≡ b = ring_size half.paths.net half.ring.batches earlier half has in
+    let places : length opened ≡ n * b = ap length zeros ∙ (length-replicate (n * size) none ∙ ap (λ (m : ℕ). n * m) same) in
+    exact slots (schedule_from b half.batches half.list.items batches) (length opened) (n * b)
+    (is ∙ ap (λ (m : ℕ). schedule_from m half.batches half.list.items batches ++ replicate (length opened - n * m) none) ring) places
+
+pub few_slots : (earlier batches : List DemandBatch) (half : Allocated) (slots : List (List Flow)) → HasAllocated half.paths.net half.ring.batches earlier half → slots ≡ schedule_from half.b half.batches half.list.items batches
+    → IsReady half.paths.net earlier batches half → length batches ≤ half.ring.batches → length slots ≤ half.paths.slots
+few_slots earlier batches half slots has is is_ready few =
+    omega (arith, ap length is, is_ready.number, has.colours, mul-le (length batches) half.b half.ring.batches half.b few (omega arith))
+
+pub list_below : (net : Network) (most : ℕ) (batches : List DemandBatch) (half : Allocated) → HasAllocated net most batches half → RecordedBatchesMayBeApplied → AreBelow half.ring.endpoints half.list.items
+list_below net most batches half has all =
+    let left = (all (endpoints_of net) half.b (limits_of net) batches has.recorded).left in
+    subst (λ (n : ℕ). AreBelow n half.list.items) (sym (ring_endpoints net most batches half has)) (subst (AreBelow (endpoints_of net)) (sym has.left) left.below)
+
+-- a window's table once it is filled, and what was known before
+pub record IsTold (batches : List DemandBatch) (half : Allocated) (slots : List (List Flow)) : Type 0 where
+  pub earlier : List DemandBatch
+  pub has : HasAllocated half.paths.net half.ring.batches earlier half
+  pub ready : IsReady half.paths.net earlier batches half
+  pub is : slots ≡ schedule_from half.b half.batches half.list.items batches
+  pub fit : All (IsFit half.paths.net) slots
+
+pub told : (batches : List DemandBatch) (here now : Allocated) (opened slots : List (List Flow)) (size : ℕ) → EveryWindowIsReady → here ≡ now → HasNext batches now → size ≡ here.b → opened ≡ replicate (length batches * size) []
+    → slots ≡ schedule_from here.ring.b here.batches here.list.items batches ++ replicate (length opened - length batches * here.ring.b) [] → IsTold batches here slots
+told batches here now opened slots size law same stands size_is zeros is =
+    let (earlier, has, recorded) = subst (HasNext batches) (sym same) stands in
+    let is_ready = law here.paths.net here.ring.batches earlier batches here has recorded in
+    let table = table_is earlier batches here opened slots size has size_is zeros is in
+    record { earlier = earlier; has = has; ready = is_ready; is = table; fit = subst (All (IsFit here.paths.net)) (sym table) is_ready.slots }
+
+-- what is known of it after
+abbrev pub Goes : Allocated → List DemandBatch → Allocated → Type 0
+Goes old batches new =
+    (earlier : List DemandBatch) → HasAllocated old.paths.net old.ring.batches earlier old → AreOfNet old.paths.net (earlier ++ batches) → HasAllocated old.paths.net old.ring.batches (earlier ++ batches) new

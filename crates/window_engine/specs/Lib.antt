@@ -1,9 +1,8 @@
 pub mod Batches
-pub mod Sound
 pub mod Tallies
 pub mod Counts
 pub mod Scheduled
 pub mod Step
 pub mod Standing
 pub mod Settings
-pub mod Allocated
+pub mod Ready

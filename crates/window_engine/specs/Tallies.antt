@@ -2,7 +2,7 @@
 use Rattle.std.specs.Prelude.{◌≡◌, ◌<◌, ℕ, ◌+◌, ◌*◌, List, length, slice_index, sum_by, if◌then◌else◌}
 use Rattle.greedy_rules.specs.declared.flows.Entry.{Entry}
 use Rattle.greedy_rules.specs.Flows.{same_flow}
-use Rattle.window_engine.specs.Sound.{total_asked}
+use Rattle.trace_text.specs.Valid.{total_asked}
 use Rattle.window_engine.specs.Batches.{Round}
 
 -- a table of a number for each flow, by source and then destination

@@ -1,139 +1,119 @@
-ghost use Rattle.std.specs.Prelude.{◌≡◌, ◌<◌, ◌≤◌, ◌+◌, ◌-◌, ◌^◌, List, [], ◌++◌, length, take, drop, replicate, All, slice_set};
-ghost use Rattle.greedy_rules.specs.declared.flows.Item.{Item};
-ghost use Rattle.greedy_rules.specs.Batches.{entry_of};
-ghost use Rattle.greedy_rules.specs.Slot.{is_taken};
-ghost use Rattle.greedy_rules.specs.Schedule.{slot_in};
-ghost use Rattle.greedy_rules.specs.SlotTable.{IsSlotOf};
-ghost use Rattle.greedy_rules.specs.Demands.{need_with, AreBelow, OpensNewFlows, opened, after_batch};
-ghost use Rattle.greedy_rules.specs.Allocation.{batch_slots, list_after_slots};
-ghost use Rattle.slot_batches.specs.NextList.{IsListBefore};
-ghost use Rattle.slot_batches.specs.Stands.{endpoints_of, batch_size_of, first_slot_of, number_of, IsOpen, IsSameWork, Stands};
-ghost use Rattle.slot_batches.specs.Pieces.{IsGiving};
-ghost use Rattle.window_engine.specs.Allocated.{sources_below};
+ghost use Rattle.std.specs.Prelude.{◌≡◌, ◌<◌, ◌≤◌, ◌+◌, ◌*◌, ◌^◌, ℕ, List, [], ◌++◌, length, IfOk, OnOk};
+ghost use Rattle.greedy_rules.specs.Batches.{DemandBatch};
+ghost use Rattle.greedy_rules.specs.Schedule.{first_slot, schedule_from};
+ghost use Rattle.clos_topology.specs.Network.{Network};
+ghost use Rattle.window_engine.specs.Batches.{AreOfNet};
+ghost use Rattle.window_engine.specs.Standing.{Needs, HasAllocated};
+ghost use Rattle.window_engine.specs.Step.{IsWindowOf};
 
-use greedy_rules::{Batch, DemandList, Item, SlotTable};
-use slot_batches::{Stage, every_batch_leaves_a_list, lists_may_be_fed};
+use crate::laws::every_window_is_ready;
+use crate::needs::write_needs;
+use crate::window::{Span, Window};
+use alloc_pipeline::Ring;
+use clos_topology::Net;
+use fp_edge::Gate;
+use greedy_rules::{Batch, DemandList, SlotTable, recorded_batches_may_be_applied};
+use no_memory::NoMemory;
+use path_workers::{CoreTable, Paths};
+use std::alloc::Global;
+use std::marker::Model;
+use std::sync::Wait;
+use std::thread::Threads;
 
-/// Feeds the stage, which has begun the batch, the whole list.
-fn feed_list(stage: &mut Stage, batch: &Batch, list: &DemandList)
-    requires stands { Stands batch.now [] stage.old }
-    requires before { IsListBefore (first_slot_of stage.old) list.now.items }
-    requires in_range { AreBelow (endpoints_of stage.old) list.now.items }
-    requires opens { OpensNewFlows batch.now list.now.items }
-    requires needs { All (λ item. need_with (entry_of batch.now item.flow) item.need < 2 ^ 32) list.now.items }
-    ensures stands { Stands batch.now list.now.items stage.new }
-    ensures work { IsSameWork (endpoints_of stage.old) (batch_size_of stage.old) (number_of stage.old) (first_slot_of stage.old) stage.new }
-{
-    lists_may_be_fed();
-    for at in 0..list.len() {
-        stage.feed(batch, list.item(at));
-    }
+/// The half of an engine that gives batches their slots and cores, window after window.
+#[derive(Drop)]
+pub(crate) struct Allocation {
+    b: u8,
+    endpoints: u16,
+    // How many batches are done.
+    batches: u32,
+    list: DemandList,
+    ring: Ring,
+    paths: Paths,
 }
 
-/// Lets the source send in slot `to` of `out` where it sends in slot `place`; the sources below it were copied.
-fn copy_source(slots: &SlotTable, place: u16, src: u16, out: &mut SlotTable, to: u16)
-    requires place { place < length slots.now.slots }
-    requires src { src < slots.now.endpoints }
-    requires to { to < length out.old.slots }
-    requires endpoints { out.old.endpoints ≡ slots.now.endpoints }
-    requires slot { IsSlotOf slots.now.endpoints (slot_in slots.now.slots place) }
-    requires copied { slot_in out.old.slots to ≡ sources_below src (slot_in slots.now.slots place) }
-    ensures slots { out.new.slots ≡ slice_set out.old.slots to (sources_below (src + 1) (slot_in slots.now.slots place)) }
-    ensures endpoints { out.new.endpoints ≡ out.old.endpoints }
-{
-    if let Some(dst) = slots.to(place, src) {
-        out.put(to, src, dst);
-    }
+impl Model for Allocation {
+    ghost use Rattle.std.specs.Prelude.{◌≡◌};
+    ghost use Rattle.window_engine.specs.Standing.{Allocated};
+
+    ghost Value = { Allocated };
+
+    ghost view = { λ a. record { b = a.b; batches = a.batches; list = a.list; ring = a.ring; paths = a.paths } };
+
+    ghost invariant = { λ a. a.ring.endpoints ≡ a.endpoints };
 }
 
-/// Copies slot `place` into slot `to` of `out`, which is empty.
-fn copy_slot(slots: &SlotTable, place: u16, out: &mut SlotTable, to: u16)
-    requires place { place < length slots.now.slots }
-    requires to { to < length out.old.slots }
-    requires endpoints { out.old.endpoints ≡ slots.now.endpoints }
-    requires slot { IsSlotOf slots.now.endpoints (slot_in slots.now.slots place) }
-    requires empty { slot_in out.old.slots to ≡ [] }
-    ensures slots { out.new.slots ≡ slice_set out.old.slots to (slot_in slots.now.slots place) }
-    ensures endpoints { out.new.endpoints ≡ out.old.endpoints }
-{
-    for src in 0..slots.endpoints() {
-        copy_source(slots, place, src, out, to);
+impl Allocation {
+    /// Before the first batch, for windows of `g` batches of `b` slots.
+    pub(crate) fn open(
+        alloc: Global,
+        net: &Net,
+        workers: u16,
+        paths: u16,
+        b: u8,
+        g: u8,
+    ) -> Result<Allocation, NoMemory>
+        requires workers { (0 < workers) × (workers ≤ 16) }
+        requires paths { (0 < paths) × (paths ≤ 16) }
+        requires b { (0 < b) × (b ≤ 64) }
+        requires g { (0 < g) × (g ≤ 16) }
+        ensures stands { IfOk result (HasAllocated net.now g []) }
+        ensures b { IfOk result (λ half. half.b ≡ b) }
+    {
+        let endpoints = net.endpoints();
+        let flows = endpoints as usize * endpoints as usize;
+        Ok(Allocation {
+            b,
+            endpoints,
+            batches: 0,
+            list: DemandList::open(alloc, flows)?,
+            ring: Ring::open(alloc, workers, endpoints, u16::from(g), b)?,
+            paths: Paths::open(alloc, net, paths, u16::from(g) * u16::from(b))?,
+        })
     }
-}
 
-/// Copies all slots into `out`, from place `from` on, where it is empty.
-fn copy_slots(slots: &SlotTable, out: &mut SlotTable, from: u16)
-    requires endpoints { out.old.endpoints ≡ slots.now.endpoints }
-    requires places { from + length slots.now.slots ≤ length out.old.slots }
-    requires empty { drop from out.old.slots ≡ replicate (length out.old.slots - from) [] }
-    ensures slots { out.new.slots ≡ (take from out.old.slots ++ slots.now.slots) ++ replicate (length out.old.slots - (from + length slots.now.slots)) [] }
-    ensures endpoints { out.new.endpoints ≡ out.old.endpoints }
-{
-    let _places = out.slots();
-    for place in 0..slots.slots() {
-        copy_slot(slots, place, out, from + place);
+    /// Gives the next batches their slots and cores. After want of memory it is only to be dropped.
+    pub(crate) fn window<R: Threads + Wait + Sync, G: Gate + Sync>(
+        &mut self,
+        alloc: Global,
+        rt: &R,
+        gate: &G,
+        batches: &[Batch],
+    ) -> Result<Window, NoMemory>
+        requires stands { (earlier : List DemandBatch) × HasAllocated self.old.paths.net self.old.ring.batches earlier self.old × AreOfNet self.old.paths.net (earlier ++ batches.now) }
+        requires count { length batches.now ≤ self.old.ring.batches }
+        requires few { self.old.ring.batches ≤ 16 }
+        requires numbers { first_slot self.old.b (self.old.batches + length batches.now) ≤ 2 ^ 32 }
+        ensures stands { OnOk result ((earlier : List DemandBatch) →
+            HasAllocated self.old.paths.net self.old.ring.batches earlier self.old →
+            AreOfNet self.old.paths.net (earlier ++ batches.now) →
+            HasAllocated self.old.paths.net self.old.ring.batches (earlier ++ batches.now) self.new) }
+        ensures b { OnOk result (self.new.b ≡ self.old.b) }
+        ensures jobs { OnOk result (self.new.paths.jobs ≡ self.old.paths.jobs + length batches.now * self.old.b + self.old.paths.paths) }
+        ensures span { IfOk result (λ window. window.span ≡ record { first = self.old.batches; count = length batches.now }) }
+        ensures window { IfOk result (IsWindowOf self.old.paths.net self.old.b (schedule_from self.old.b self.old.batches self.old.list.items batches.now)) }
+    {
+        every_window_is_ready();
+        let count = batches.len() as u16 * u16::from(self.b);
+        let mut slots = SlotTable::open(alloc, count, self.endpoints)?;
+        self.ring.allocate(rt, gate, &mut self.list, self.batches, batches, &mut slots);
+        let mut cores = CoreTable::open(alloc, count, self.endpoints)?;
+        self.paths.colour_slots(rt, gate, &slots, &mut cores);
+        let span = Span {
+            first: self.batches,
+            count: batches.len() as u32,
+        };
+        self.batches += span.count;
+        Ok(Window { span, slots, cores })
     }
-}
 
-/// Appends the items, for which there is room.
-fn append_items(list: &mut DemandList, items: &[Item])
-    requires { length items.now ≤ list.old.spare }
-    ensures items { list.new.items ≡ list.old.items ++ items.now }
-    ensures spare { length list.new.items + list.new.spare ≡ length list.old.items + list.old.spare }
-{
-    for item in items {
-        list.push(*item);
+    /// Writes the need that each flow has left into the table, by source and then destination.
+    pub(crate) fn write_needs(&self, table: &mut [u32])
+        requires stands { (net : Network) × (most : ℕ) × (batches : List DemandBatch) × HasAllocated net most batches self.now }
+        requires long { length table.old ≡ self.now.ring.endpoints * self.now.ring.endpoints }
+        ensures { Needs self.now.ring.endpoints self.now.list.items table.new }
+    {
+        recorded_batches_may_be_applied();
+        write_needs(&self.list, self.endpoints, table);
     }
-}
-
-/// Takes over the list that the stage gives, piece by piece.
-fn take_list(stage: &mut Stage, list: &mut DemandList)
-    requires giving { (left : List Item) × IsGiving left 0 stage.old × (length left ≤ length list.old.items + list.old.spare) }
-    ensures list { (left : List Item) → IsGiving left 0 stage.old → list.new.items ≡ left }
-    ensures spare { length list.new.items + list.new.spare ≡ length list.old.items + list.old.spare }
-    ensures open { IsOpen stage.old → IsOpen stage.new }
-    ensures work { IsSameWork (endpoints_of stage.old) (batch_size_of stage.old) (number_of stage.old) (first_slot_of stage.old) stage.new }
-{
-    list.clear();
-    while let Some(piece) = stage.emit() {
-        append_items(list, &piece.items);
-    }
-}
-
-/// Greedy allocation of one batch by the stage, whose pieces bear `number`: the list is then the one that the batch leaves, and
-/// the batch's slots stand in `out` from place `from` on. Takes no memory.
-pub(crate) fn allocate_batch(
-    stage: &mut Stage,
-    list: &mut DemandList,
-    batch: &Batch,
-    number: u32,
-    first_slot: u32,
-    from: u16,
-    out: &mut SlotTable,
-)
-    requires open { IsOpen stage.old }
-    requires endpoints { endpoints_of stage.old ≡ out.old.endpoints }
-    requires first { 1 ≤ first_slot }
-    requires numbers { first_slot + batch_size_of stage.old ≤ 2 ^ 32 }
-    requires before { IsListBefore first_slot list.old.items }
-    requires opens { OpensNewFlows batch.now list.old.items }
-    requires in_range { AreBelow (endpoints_of stage.old) (list.old.items ++ opened batch.now) }
-    requires needs { All (λ item. need_with (entry_of batch.now item.flow) item.need < 2 ^ 32) list.old.items }
-    requires room { length (opened batch.now) ≤ list.old.spare }
-    requires places { from + batch_size_of stage.old ≤ length out.old.slots }
-    requires empty { drop from out.old.slots ≡ replicate (length out.old.slots - from) [] }
-    ensures open { IsOpen stage.new }
-    ensures stage_endpoints { endpoints_of stage.new ≡ endpoints_of stage.old }
-    ensures size { batch_size_of stage.new ≡ batch_size_of stage.old }
-    ensures list { list.new.items ≡ list_after_slots is_taken first_slot (batch_size_of stage.old) (after_batch batch.now list.old.items) }
-    ensures spare { length list.new.items + list.new.spare ≡ length list.old.items + list.old.spare }
-    ensures slots { out.new.slots ≡ (take from out.old.slots ++ batch_slots is_taken first_slot (batch_size_of stage.old) (after_batch batch.now list.old.items)) ++ replicate (length out.old.slots - (from + batch_size_of stage.old)) [] }
-    ensures endpoints { out.new.endpoints ≡ out.old.endpoints }
-{
-    every_batch_leaves_a_list();
-    stage.begin(batch, number, first_slot);
-    feed_list(stage, batch, list);
-    stage.finish(batch);
-    copy_slots(stage.slots(), out, from);
-    take_list(stage, list);
 }

@@ -3,14 +3,86 @@ ghost use Rattle.std.specs.List.{slice_index_or};
 ghost use Rattle.greedy_rules.specs.Matching.{AreAmong};
 ghost use Rattle.clos_topology.specs.Network.{endpoints_of};
 ghost use Rattle.trace_text.specs.Trace.{asked_at};
-ghost use Rattle.window_engine.specs.Sound.{IsSound};
-ghost use Rattle.window_engine.specs.Batches.{batch_after, entry_for, plan_batches};
+ghost use Rattle.window_engine.specs.Batches.{limits_of, batch_after, entry_for, plan_batches};
+ghost use Rattle.window_engine.specs.Standing.{HasCollected};
 ghost use Rattle.window_engine.specs.Tallies.{Tallies, place_of, added_in, Adds};
 
-use greedy_rules::{Batch, Entry, Flow};
+use clos_topology::Net;
+use greedy_rules::{Batch, Entry, Flow, Limits};
 use no_memory::NoMemory;
 use std::alloc::Global;
+use std::marker::Model;
 use trace_text::Trace;
+
+/// The half of an engine that collects what is asked for into batches, round after round.
+#[derive(Drop)]
+pub(crate) struct Collection {
+    endpoints: u16,
+    // The first round that isn't done.
+    rounds: u32,
+    // The slots asked for so far, by source and then destination.
+    asked: Vec<u32>,
+}
+
+impl Model for Collection {
+    ghost use Rattle.window_engine.specs.Standing.{Collected};
+
+    ghost Value = { Collected };
+
+    ghost view = { λ c. record { endpoints = c.endpoints; rounds = c.rounds; asked = c.asked.items } };
+}
+
+impl Collection {
+    /// Before the first round.
+    pub(crate) fn open(alloc: Global, trace: &Trace) -> Result<Collection, NoMemory>
+        ensures stands { IfOk result (HasCollected trace.now) }
+        ensures start { IfOk result (λ half. half.rounds ≡ 0) }
+    {
+        let endpoints = trace.endpoints();
+        let flows = endpoints as usize * endpoints as usize;
+        Ok(Collection {
+            endpoints,
+            rounds: 0,
+            asked: vec![in alloc; 0; flows]?,
+        })
+    }
+
+    /// How many rounds are done.
+    pub(crate) fn rounds(&self) -> u32
+        ensures { result ≡ self.now.rounds }
+    {
+        self.rounds
+    }
+
+    /// The slots of the flow that were asked for.
+    pub(crate) fn asked(&self, flow: Flow) -> u32
+        requires long { length self.now.asked ≡ self.now.endpoints * self.now.endpoints }
+        requires src { flow.src < self.now.endpoints }
+        requires dst { flow.dst < self.now.endpoints }
+        ensures { result ≡ slice_index self.now.asked (place_of self.now.endpoints flow.src flow.dst) }
+    {
+        self.asked[place(self.endpoints, flow)]
+    }
+
+    /// The batches of the next so many rounds. After want of memory it is only to be dropped.
+    pub(crate) fn window(
+        &mut self,
+        alloc: Global,
+        trace: &Trace,
+        count: u32,
+    ) -> Result<Vec<Batch>, NoMemory>
+        requires stands { HasCollected trace.now self.old }
+        requires within { self.old.rounds + count ≤ trace.now.rounds }
+        ensures batches { IfOk result (λ batches. batches.items ≡ take count (drop self.old.rounds (plan_batches trace.now))) }
+        ensures stands { OnOk result (HasCollected trace.now self.new) }
+        ensures rounds { OnOk result (self.new.rounds ≡ self.old.rounds + count) }
+    {
+        let _rounds = trace.rounds();
+        let batches = collect(alloc, trace, self.rounds, count, &mut self.asked)?;
+        self.rounds += count;
+        Ok(batches)
+    }
+}
 
 /// The place of a flow in a table of a number for each flow.
 pub(crate) fn place(endpoints: u16, flow: Flow) -> usize
@@ -22,14 +94,22 @@ pub(crate) fn place(endpoints: u16, flow: Flow) -> usize
     flow.src as usize * endpoints as usize + flow.dst as usize
 }
 
+fn limits(net: &Net) -> Limits
+    ensures { result ≡ limits_of net.now }
+{
+    Limits {
+        hosts: net.hosts(),
+        cores: net.cores(),
+    }
+}
+
 /// The batch of a round: an entry for each flow that is asked for, which opens where no slot was asked for before.
 fn batch_of(alloc: Global, trace: &Trace, round: u32, asked: &[u32]) -> Result<Batch, NoMemory>
-    requires sound { IsSound trace.now }
     requires round { round < trace.now.rounds }
     requires tallies { Tallies (endpoints_of trace.now.net) (take round trace.now.asked) asked.now }
-    ensures { IfOk result (λ batch. batch ≡ batch_after (take round trace.now.asked) (slice_index_or trace.now.asked round [])) }
+    ensures { IfOk result (λ batch. batch ≡ batch_after (limits_of trace.now.net) (take round trace.now.asked) (slice_index_or trace.now.asked round [])) }
 {
-    let mut batch = Batch::new(alloc);
+    let mut batch = Batch::with_limits(alloc, limits(trace.net()));
     for src in 0..trace.endpoints() {
         add_source(&mut batch, trace, round, src, asked)?;
     }
@@ -44,19 +124,20 @@ fn add_source(
     src: u16,
     asked: &[u32],
 ) -> Result<(), NoMemory>
-    requires sound { IsSound trace.now }
     requires round { round < trace.now.rounds }
     requires src { src < endpoints_of trace.now.net }
     requires tallies { Tallies (endpoints_of trace.now.net) (take round trace.now.asked) asked.now }
-    requires earlier { All (λ entry. entry.flow.src < src) batch.old }
-    ensures { OnOk result (batch.new ≡ batch.old ++ map (entry_for (take round trace.now.asked) src) (asked_at trace.now round src)) }
+    requires earlier { All (λ entry. entry.flow.src < src) batch.old.entries }
+    ensures entries { OnOk result (batch.new.entries ≡ batch.old.entries ++ map (entry_for (take round trace.now.asked) src) (asked_at trace.now round src)) }
+    ensures limits { batch.new.limits ≡ batch.old.limits }
 {
+    let endpoints = trace.endpoints();
     for at in 0..trace.ask_count(round, src) {
         let (dst, slots) = trace.ask(round, src, at);
         let flow = Flow { src, dst };
         batch.push(Entry {
             flow,
-            opens: asked[place(trace.endpoints(), flow)] == 0,
+            opens: asked[place(endpoints, flow)] == 0,
             clear: false,
             add: slots,
         })?;
@@ -67,9 +148,9 @@ fn add_source(
 /// Adds the slots of the batch's entries to the table.
 fn tally(asked: &mut [u32], endpoints: u16, batch: &Batch)
     requires long { length asked.old ≡ endpoints * endpoints }
-    requires among { AreAmong endpoints batch.now }
-    requires fits { (src dst : ℕ) → src < endpoints → dst < endpoints → slice_index asked.old (place_of endpoints src dst) + added_in src dst batch.now < 2 ^ 32 }
-    ensures { Adds endpoints batch.now asked.old asked.new }
+    requires among { AreAmong endpoints batch.now.entries }
+    requires fits { (src dst : ℕ) → src < endpoints → dst < endpoints → slice_index asked.old (place_of endpoints src dst) + added_in src dst batch.now.entries < 2 ^ 32 }
+    ensures { Adds endpoints batch.now.entries asked.old asked.new }
 {
     for at in 0..batch.len() {
         let entry = batch.entry(at);
@@ -78,23 +159,23 @@ fn tally(asked: &mut [u32], endpoints: u16, batch: &Batch)
 }
 
 /// The batches of so many rounds from this one on, whose slots come into the table.
-pub(crate) fn collect(
+fn collect(
     alloc: Global,
     trace: &Trace,
     first: u32,
     count: u32,
     asked: &mut [u32],
 ) -> Result<Vec<Batch>, NoMemory>
-    requires sound { IsSound trace.now }
     requires within { first + count ≤ trace.now.rounds }
     requires tallies { Tallies (endpoints_of trace.now.net) (take first trace.now.asked) asked.old }
     ensures batches { IfOk result (λ batches. batches.items ≡ take count (drop first (plan_batches trace.now))) }
     ensures tallies { OnOk result (Tallies (endpoints_of trace.now.net) (take (first + count) trace.now.asked) asked.new) }
 {
+    let endpoints = trace.endpoints();
     let mut batches = Vec::with_capacity(alloc, count as usize)?;
     for round in first..first + count {
         let batch = batch_of(alloc, trace, round, asked)?;
-        tally(asked, trace.endpoints(), &batch);
+        tally(asked, endpoints, &batch);
         batches.push(batch)?;
     }
     Ok(batches)

@@ -15,8 +15,10 @@ mod window;
 pub use counts::Counts;
 pub use engine::Engine;
 pub use laws::{
-    every_plan_balances, every_plan_has_cores, every_plan_has_its_slots, every_plan_takes_its_steps,
+    every_plan_balances, every_plan_has_its_slots, every_plan_is_recorded,
+    every_plan_takes_its_steps, every_record_has_cores,
 };
 pub use no_memory::NoMemory;
 pub use setting::Setting;
 pub use step::Step;
+pub use window::Span;

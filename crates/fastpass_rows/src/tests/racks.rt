@@ -14,6 +14,7 @@ const CORES: u16 = 4;
 #[test]
 fn a_path_is_flipped_for_the_fourth_packet(rt: HostRuntime) -> Result<(), Fail> {
     let came = run_on(
+        &rt,
         rt.alloc(),
         &["plan", "--batch", "1"],
         b"net,3,2,2\nask,0,0,2,1\nask,0,1,4,1\nask,0,2,0,1\nask,0,3,5,1\nend,1\n",
@@ -31,6 +32,7 @@ fn a_path_is_flipped_for_the_fourth_packet(rt: HostRuntime) -> Result<(), Fail> 
 #[test]
 fn packets_within_a_rack_take_no_core(rt: HostRuntime) -> Result<(), Fail> {
     let came = run_on(
+        &rt,
         rt.alloc(),
         &["plan", "--batch", "1"],
         b"net,2,2,2\nask,0,0,1,1\nask,0,1,2,1\nask,0,3,2,1\nend,2\n",
@@ -40,6 +42,41 @@ fn packets_within_a_rack_take_no_core(rt: HostRuntime) -> Result<(), Fail> {
         came.out.held()
             == b"batch,0,0,1,0,1\nbatch,0,1,2,0,1\nbatch,0,3,2,0,1\nslot,1,0,1,-\nslot,1,1,2,0\nslot,2,3,2,-\nflow,0,1,1,1,0\nflow,1,2,1,1,0\nflow,3,2,1,1,0\nend,2\n".as_slice()
     );
+    Ok(())
+}
+
+// Racks with more hosts than cores.
+#[test]
+fn a_rack_sends_and_receives_as_many_packets_as_there_are_cores(
+    rt: HostRuntime,
+) -> Result<(), Fail> {
+    let cases: [(&[u8], &[u8]); 4] = [
+        // Two cores carry two of four packets between two racks.
+        (
+            b"net,2,4,2\nask,0,0,4,1\nask,0,1,5,1\nask,0,2,6,1\nask,0,3,7,1\nend,1\n",
+            b"batch,0,0,4,0,1\nbatch,0,1,5,0,1\nbatch,0,2,6,0,1\nbatch,0,3,7,0,1\nslot,1,0,4,0\nslot,1,1,5,1\nslot,2,2,6,0\nslot,2,3,7,1\nflow,0,4,1,1,0\nflow,1,5,1,1,0\nflow,2,6,1,1,0\nflow,3,7,1,1,0\nend,1\n",
+        ),
+        // A packet within a rack needs none.
+        (
+            b"net,2,4,2\nask,0,0,1,1\nask,0,0,4,1\nask,0,1,5,1\nask,0,2,6,1\nask,0,3,7,1\nend,1\n",
+            b"batch,0,0,1,0,1\nbatch,0,0,4,0,1\nbatch,0,1,5,0,1\nbatch,0,2,6,0,1\nbatch,0,3,7,0,1\nslot,1,0,1,-\nslot,1,1,5,0\nslot,1,2,6,1\nslot,2,0,4,0\nslot,2,3,7,1\nflow,0,1,1,1,0\nflow,0,4,1,1,0\nflow,1,5,1,1,0\nflow,2,6,1,1,0\nflow,3,7,1,1,0\nend,1\n",
+        ),
+        // One rack sends to two others, and each of these would have a core left.
+        (
+            b"net,3,2,1\nask,0,0,2,1\nask,0,1,4,1\nask,0,3,5,1\nend,1\n",
+            b"batch,0,0,2,0,1\nbatch,0,1,4,0,1\nbatch,0,3,5,0,1\nslot,1,0,2,0\nslot,1,3,5,0\nslot,2,1,4,0\nflow,0,2,1,1,0\nflow,1,4,1,1,0\nflow,3,5,1,1,0\nend,1\n",
+        ),
+        // One rack receives from two others.
+        (
+            b"net,3,2,1\nask,0,0,4,1\nask,0,2,5,1\nask,0,3,0,1\nend,1\n",
+            b"batch,0,0,4,0,1\nbatch,0,2,5,0,1\nbatch,0,3,0,0,1\nslot,1,0,4,0\nslot,1,3,0,0\nslot,2,2,5,0\nflow,0,4,1,1,0\nflow,2,5,1,1,0\nflow,3,0,1,1,0\nend,1\n",
+        ),
+    ];
+    for (trace, text) in cases.iter() {
+        let came = run_on(&rt, rt.alloc(), &["plan", "--batch", "2"], trace)?;
+        assert_eq!(rt; came.status, 0);
+        assert!(rt; came.out.held() == *text);
+    }
     Ok(())
 }
 
@@ -54,7 +91,7 @@ fn equal_demands_keep_their_order(rt: HostRuntime) -> Result<(), Fail> {
         trace.extend_from_slice(line.as_bytes())?;
     }
     trace.extend_from_slice(b"end,20\n")?;
-    let came = run_on(alloc, &["plan"], &trace)?;
+    let came = run_on(&rt, rt.alloc(), &["plan"], &trace)?;
     assert_eq!(rt; came.status, 0);
     let mut source = 0u16;
     for bytes in came.out.held().split(|byte| *byte == b'\n') {
@@ -138,7 +175,7 @@ fn busy_trace(alloc: Global) -> Result<Vec<u8>, AllocError> {
 fn no_link_is_used_twice_in_a_busy_network(rt: HostRuntime) -> Result<(), Fail> {
     let alloc = rt.alloc();
     let trace = busy_trace(alloc)?;
-    let came = run_on(alloc, &["plan"], &trace)?;
+    let came = run_on(&rt, rt.alloc(), &["plan"], &trace)?;
     assert_eq!(rt; came.status, 0);
     let mut links = UNUSED;
     let mut last = 0u32;

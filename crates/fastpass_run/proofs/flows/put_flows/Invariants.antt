@@ -1,4 +1,5 @@
 use Rattle.clos_topology.specs.Network.{endpoints_of}
+use Rattle.window_engine.specs.Batches.{plan_batches}
 use Rattle.window_engine.specs.Counts.{counts_of}
 use Rattle.fastpass_run.specs.Text.{text_of, flow_lines_of, each_source}
 use Rattle.fastpass_run.specs.Output.{Passed}
@@ -7,4 +8,4 @@ use Rattle.fastpass_run.proofs.flows.put_flows.Given as goal
 abbrev pub invariant-loop-src : goal.invariant-loop-src
 invariant-loop-src g l =
     Passed (g.K.Sink.held l.initial.sink) (g.K.Sink.held l.sink) (g.K.Sink.faults l.initial.sink) (g.K.Sink.faults l.sink) l.initial.gathered.items l.gathered.items
-    (text_of (each_source (λ flow. flow_lines_of flow (counts_of l.engine.b l.trace flow)) (endpoints_of l.trace.net) 0 l.src))
+    (text_of (each_source (λ flow. flow_lines_of flow (counts_of l.engine.allocation.b (plan_batches l.trace) flow)) (endpoints_of l.trace.net) 0 l.src))

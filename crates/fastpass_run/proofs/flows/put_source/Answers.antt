@@ -3,6 +3,7 @@ use Rattle.greedy_rules.specs.declared.flows.Flow.{Flow}
 use Rattle.clos_topology.specs.Network.{endpoints_of}
 use Rattle.report_text.specs.declared.line.Line.{Line}
 use Rattle.window_engine.specs.declared.counts.Counts.{Counts}
+use Rattle.window_engine.specs.Batches.{plan_batches}
 use Rattle.window_engine.specs.Counts.{counts_of}
 use Rattle.fastpass_run.specs.Text.{text_of, flow_lines_of, each_destination}
 use Rattle.fastpass_run.proofs.OutputLemmas.{Passed-step, Passed-break}
@@ -12,24 +13,24 @@ use Rattle.fastpass_run.proofs.flows.put_source.Goals as goal
 pub loop-dst-preserved : goal.loop-dst-preserved
 loop-dst-preserved g c =
     let trace = c.args.trace.now in
-    let b : ℕ = c.args.engine.now.b in
-    let lines : Flow → List Line = λ flow. flow_lines_of flow (counts_of b trace flow) in
+    let b : ℕ = c.args.engine.now.allocation.b in
+    let lines : Flow → List Line = λ flow. flow_lines_of flow (counts_of b (plan_batches trace) flow) in
     let flow : Flow = flow_of c.args.src c.loop-dst.dst in
     let before : List ℕ = text_of (each_destination lines c.args.src 0 c.loop-dst.dst) in
-    let told : c.counts.result ≡ counts_of b trace flow = c.counts.ensures trace c.requires.stands in
+    let told : c.counts.result ≡ counts_of b (plan_batches trace) flow = c.counts.ensures trace c.requires.accepted c.requires.stands in
     Passed-step _ _ _ _ _ _ c.args.gathered.now.items c.loop-dst.gathered.items c.put_flow.new.gathered.items before (text_of (flow_lines_of flow c.counts.result)) _ c.loop-dst.invariant c.in_ok-put_flow.ensures
     (destination_more lines c.args.src c.loop-dst.dst ∙ ap (λ (o : Option Counts). before ++ text_of (flow_lines_of flow o)) (sym told))
 
 pub returns-in_err-put_flow : goal.returns-in_err-put_flow
 returns-in_err-put_flow g c =
     let trace = c.args.trace.now in
-    let b : ℕ = c.args.engine.now.b in
+    let b : ℕ = c.args.engine.now.allocation.b in
     let n : ℕ = endpoints_of trace.net in
-    let lines : Flow → List Line = λ flow. flow_lines_of flow (counts_of b trace flow) in
+    let lines : Flow → List Line = λ flow. flow_lines_of flow (counts_of b (plan_batches trace) flow) in
     let flow : Flow = flow_of c.args.src c.loop-dst.dst in
     let before : List ℕ = text_of (each_destination lines c.args.src 0 c.loop-dst.dst) in
     let later : List ℕ = text_of (each_destination lines c.args.src (0 + (c.loop-dst.dst + 1)) (n - (c.loop-dst.dst + 1))) in
-    let told : c.counts.result ≡ counts_of b trace flow = c.counts.ensures trace c.requires.stands in
+    let told : c.counts.result ≡ counts_of b (plan_batches trace) flow = c.counts.ensures trace c.requires.accepted c.requires.stands in
     Passed-break _ _ _ _ _ _ c.args.gathered.now.items c.loop-dst.gathered.items c.put_flow.new.gathered.items before (text_of (flow_lines_of flow c.counts.result)) later _ c.in_err-put_flow.field-0.0 c.from_residual.result
     c.loop-dst.invariant c.in_err-put_flow.ensures c.from_residual.ensures.1
-    (destinations_whole lines n c.args.src c.loop-dst.dst (omega (arith, c.endpoints-dst-end.ensures)) ∙ ap (λ (o : Option Counts). (before ++ text_of (flow_lines_of flow o)) ++ later) (sym told))
+    (destinations_whole lines n c.args.src c.loop-dst.dst (omega (arith, c.endpoints-dst-end.ensures.number)) ∙ ap (λ (o : Option Counts). (before ++ text_of (flow_lines_of flow o)) ++ later) (sym told))

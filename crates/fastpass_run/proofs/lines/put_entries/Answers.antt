@@ -8,7 +8,7 @@ use Rattle.fastpass_run.proofs.lines.put_entries.Goals as goal
 
 pub returns-in_err-put_line : goal.returns-in_err-put_line
 returns-in_err-put_line g c =
-    let batch = c.args.batch.now in
+    let batch = c.args.batch.now.entries in
     let at = c.loop-at.at in
     let line = entry_line c.args.round in
     let below : at < length batch = omega (arith, c.len-at-end.ensures.entries) in
@@ -18,7 +18,7 @@ returns-in_err-put_line g c =
 
 pub loop-at-preserved : goal.loop-at-preserved
 loop-at-preserved g c =
-    let batch = c.args.batch.now in
+    let batch = c.args.batch.now.entries in
     let at = c.loop-at.at in
     let line = entry_line c.args.round in
     let below : at < length batch = omega (arith, c.len-at-end.ensures.entries) in

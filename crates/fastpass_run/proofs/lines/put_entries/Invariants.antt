@@ -6,4 +6,4 @@ use Rattle.fastpass_run.proofs.lines.put_entries.Given as goal
 abbrev pub invariant-loop-at : goal.invariant-loop-at
 invariant-loop-at g l =
     Passed (g.K.Sink.held l.initial.sink) (g.K.Sink.held l.sink) (g.K.Sink.faults l.initial.sink) (g.K.Sink.faults l.sink) l.initial.gathered.items l.gathered.items
-    (text_of (map (entry_line l.round) (take l.at l.batch)))
+    (text_of (map (entry_line l.round) (take l.at l.batch.entries)))

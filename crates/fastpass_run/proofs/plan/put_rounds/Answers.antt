@@ -14,15 +14,15 @@ loop-engine-preserved g c =
     let n : ℕ = window_of old in
     let (there, scheduled, passed) = c.loop-engine.invariant.passed in
     let (here, clean, passes) = c.in_ok-put_step.ensures.passes in
-    let cores : Cores = spliced (old.round * b) (n * b) here there in
+    let cores : Cores = spliced (old.collection.rounds * b) (n * b) here there in
     record {
       stands = c.in_ok-put_step.ensures.stands;
       size = c.in_ok-put_step.ensures.b;
       passed = (
         cores,
-        scheduled_spliced b old.round n trace here there scheduled clean,
+        scheduled_spliced b old.collection.rounds n trace here there scheduled clean,
         Passed-step _ _ _ _ _ _ c.args.gathered.now.items c.loop-engine.gathered.items c.put_step.new.gathered.items _ _ _ passed passes
-            (rounds_step b trace old c.put_step.new.engine.round here there c.loop-engine.invariant.stands c.every_plan_has_its_slots.ensures c.in_ok-put_step.ensures.round),
+            (rounds_step b trace old c.put_step.new.engine.collection.rounds here there c.requires.accepted c.loop-engine.invariant.stands c.every_plan_has_its_slots.ensures c.in_ok-put_step.ensures.round),
       );
     }
 
@@ -34,9 +34,9 @@ returns-in_err-put_step-clause-passes g c =
     let n : ℕ = window_of old in
     let (there, scheduled, passed) = c.loop-engine.invariant.passed in
     let (here, clean, passes) = c.in_err-put_step.ensures.passes in
-    let cores : Cores = spliced (old.round * b) (n * b) here there in (
+    let cores : Cores = spliced (old.collection.rounds * b) (n * b) here there in (
       cores,
-      scheduled_spliced b old.round n trace here there scheduled clean,
+      scheduled_spliced b old.collection.rounds n trace here there scheduled clean,
       Passed-break _ _ _ _ _ _ c.args.gathered.now.items c.loop-engine.gathered.items c.put_step.new.gathered.items _ _ _ _ c.in_err-put_step.field-0.0 c.from_residual.result passed passes c.from_residual.ensures.1
-          (rounds_stop b trace old here there c.loop-engine.invariant.stands c.every_plan_has_its_slots.ensures),
+          (rounds_stop b trace old here there c.requires.accepted c.loop-engine.invariant.stands c.every_plan_has_its_slots.ensures),
     )

@@ -9,11 +9,11 @@ use Rattle.fastpass_run.proofs.plan.put_rounds.Given as goal
 abbrev pub invariant-loop-engine : goal.invariant-loop-engine
 invariant-loop-engine g l = record {
   stands : Stands l.trace l.engine;
-  size : l.engine.b ≡ l.b;
+  size : l.engine.allocation.b ≡ l.b;
   passed : WithCores l.b l.trace (λ cores.
       Passed (g.K.Sink.held l.initial.sink) (g.K.Sink.held l.sink) (g.K.Sink.faults l.initial.sink) (g.K.Sink.faults l.sink) l.initial.gathered.items l.gathered.items
-      (text_of (rounds_lines cores l.b l.engine.round l.trace)));
+      (text_of (rounds_lines cores l.b l.engine.collection.rounds l.trace)));
 }
 
 abbrev pub decreases-loop-engine : goal.decreases-loop-engine
-decreases-loop-engine g l = l.trace.rounds - l.engine.round
+decreases-loop-engine g l = l.trace.rounds - l.engine.collection.rounds

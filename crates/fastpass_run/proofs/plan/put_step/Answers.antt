@@ -11,13 +11,13 @@ returns-in_err-step-clause-passes g c =
     let trace = c.args.trace.now in
     let engine = c.args.engine.now in (
       c.requires.cores.0,
-      clean_in_window c.args.b engine.round (window_of engine) trace c.requires.cores.0 c.requires.cores.1,
+      clean_in_window c.args.b engine.collection.rounds (window_of engine) trace c.requires.cores.0 c.requires.cores.1,
       Passes-none (g.K.Sink.held c.args.sink.now) (g.K.Sink.faults c.args.sink.now) c.args.gathered.now.items c.args.gathered.now.items _ c.from_residual.result c.from_residual.ensures.1,
     )
 
 pub put_window-requires-clause-window : goal.put_window-requires-clause-window
 put_window-requires-clause-window g c =
-    is_window c.args.b c.args.trace.now c.args.engine.now c.in_ok-step.step c.requires.stands c.requires.b c.every_plan_has_its_slots.ensures c.in_ok-step.ensures.planned
+    is_window c.args.b c.args.trace.now c.args.engine.now c.in_ok-step.step c.requires.accepted c.requires.stands c.requires.b c.every_plan_has_its_slots.ensures c.in_ok-step.ensures.planned
 
 pub returns-clause-passes : goal.returns-clause-passes
 returns-clause-passes g c =

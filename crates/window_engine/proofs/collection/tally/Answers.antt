@@ -7,7 +7,7 @@ use Rattle.window_engine.proofs.collection.tally.Goals as goal
 
 pub overflow_add-asked : goal.overflow_add-asked
 overflow_add-asked c =
-    let batch = c.args.batch.now in
+    let batch = c.args.batch.now.entries in
     let entry = c.entry-entry.result in
     let below : c.loop-at.at < length batch = omega (arith, c.len-at-end.ensures.entries) in
     let P : Entry → Type 0 = λ e. (e.flow.src < c.args.endpoints) × (e.flow.dst < c.args.endpoints) in
@@ -19,7 +19,7 @@ overflow_add-asked c =
 
 pub loop-at-preserved : goal.loop-at-preserved
 loop-at-preserved c =
-    let batch = c.args.batch.now in
+    let batch = c.args.batch.now.entries in
     let entry = c.entry-entry.result in
     let below : c.loop-at.at < length batch = omega (arith, c.len-at-end.ensures.entries) in
     let P : Entry → Type 0 = λ e. (e.flow.src < c.args.endpoints) × (e.flow.dst < c.args.endpoints) in

@@ -1,6 +1,10 @@
-use Rattle.window_engine.proofs.SoundLemmas.{sound}
-use Rattle.window_engine.proofs.CountLemmas.{plan_balances}
+use Rattle.clos_topology.specs.Network.{endpoints_of}
+use Rattle.window_engine.specs.Batches.{limits_of, plan_batches}
+use Rattle.window_engine.proofs.PlanCounts.{plan_balances}
 use Rattle.window_engine.proofs.laws.every_plan_balances.Goals as goal
 
 pub returns : goal.returns
-returns c b trace accepted = plan_balances b trace (sound trace accepted) c.every_batch_balances.ensures c.every_batch_leaves_a_list.ensures.next
+returns c b trace sound =
+    let recorded = (c.every_plan_is_recorded.ensures trace sound).0 in
+    let applicable = c.recorded_batches_may_be_applied.ensures.all (endpoints_of trace.net) b (limits_of trace.net) (plan_batches trace) recorded in
+    plan_balances b trace c.every_schedule_balances.ensures.balance applicable.in_order

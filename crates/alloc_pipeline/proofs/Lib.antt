@@ -1,0 +1,4 @@
+pub mod CopiedSlots
+pub mod JoinedPieces
+pub mod FedLists
+pub mod RingLemmas

@@ -1,0 +1,2 @@
+pub mod Allocated
+pub mod Ring

@@ -1,0 +1,133 @@
+ghost use Rattle.std.specs.Prelude.{◌≡◌, ◌<◌, ◌≤◌, ◌+◌, ◌-◌, ◌*◌, ◌^◌, [], ◌++◌, length, replicate, IfOk};
+ghost use Rattle.greedy_rules.specs.Schedule.{first_slot, schedule_from, rest_from};
+ghost use Rattle.greedy_rules.specs.Recorded.{MayBeApplied};
+ghost use Rattle.slot_batches.specs.NextList.{IsListBefore};
+ghost use Rattle.slot_batches.specs.Stands.{endpoints_of, batch_size_of};
+ghost use Rattle.alloc_pipeline.specs.Ring.{IsRing};
+
+use crate::batches::allocate_batch;
+use fp_edge::Gate;
+use greedy_rules::{Batch, DemandList, SlotTable, schedules_go_on};
+use no_memory::NoMemory;
+use slot_batches::{Stage, every_batch_leaves_a_list};
+use std::alloc::Global;
+use std::marker::Model;
+
+/// Allocates the batches of a window, each by a stage of its own kind. So far one stage does them all, one after the other,
+/// on the caller's thread.
+#[derive(Drop)]
+pub struct Ring {
+    batches: u16,
+    b: u8,
+    endpoints: u16,
+    stage: Stage,
+}
+
+impl Model for Ring {
+    ghost use Rattle.std.specs.Prelude.{◌≡◌, ◌<◌, ◌≤◌};
+    ghost use Rattle.slot_batches.specs.Stands.{endpoints_of, batch_size_of};
+    ghost use Rattle.alloc_pipeline.specs.Ring.{RingWork};
+
+    ghost Value = { RingWork };
+
+    ghost view = { λ r. record { endpoints = r.endpoints; batches = r.batches; b = r.b } };
+
+    ghost invariant = { λ r. (endpoints_of r.stage ≡ r.endpoints) × (batch_size_of r.stage ≡ r.b) × ((0 < r.b) × (r.b ≤ 64)) × (r.batches ≤ 16) };
+}
+
+impl Ring {
+    /// For so many workers (1 to 16), endpoints, batches a window (1 to 16) and slots a batch (1 to 64). The workers' number
+    /// is not used yet.
+    pub fn open(
+        alloc: Global,
+        workers: u16,
+        endpoints: u16,
+        batches: u16,
+        b: u8,
+    ) -> Result<Ring, NoMemory>
+        requires sizes { IsRing workers endpoints batches b }
+        ensures { IfOk result (λ ring. ring ≡ record { endpoints = endpoints; batches = batches; b = b }) }
+    {
+        let _ = workers;
+        Ok(Ring {
+            batches,
+            b,
+            endpoints,
+            stage: Stage::open(alloc, endpoints, b)?,
+        })
+    }
+
+    /// Gives the batches their slots, the first of number `first_batch`, each applied to the list that the one before it
+    /// left: slot i of the batch at place s, both counted from 0, stands at place `s * b + i` of `out`, and no other place is
+    /// filled. Takes no memory. `rt` and the gate are for workers, and not used yet.
+    pub fn allocate<R: Sync, G: Gate + Sync>(
+        &mut self,
+        rt: &R,
+        gate: &G,
+        list: &mut DemandList,
+        first_batch: u32,
+        batches: &[Batch],
+        out: &mut SlotTable,
+    )
+        requires count { length batches.now ≤ self.old.batches }
+        requires may { MayBeApplied self.old.endpoints self.old.b first_batch list.old.items batches.now }
+        requires before { IsListBefore (first_slot self.old.b first_batch) list.old.items }
+        requires numbers { first_slot self.old.b (first_batch + length batches.now) ≤ 2 ^ 32 }
+        requires room { length (rest_from self.old.b first_batch list.old.items batches.now) ≤ length list.old.items + list.old.spare }
+        requires serves { out.old.endpoints ≡ self.old.endpoints }
+        requires places { length batches.now * self.old.b ≤ length out.old.slots }
+        ensures list { list.new.items ≡ rest_from self.old.b first_batch list.old.items batches.now }
+        ensures spare { length list.new.items + list.new.spare ≡ length list.old.items + list.old.spare }
+        ensures next { IsListBefore (first_slot self.old.b (first_batch + length batches.now)) list.new.items }
+        ensures slots { out.new.slots ≡ schedule_from self.old.b first_batch list.old.items batches.now ++ replicate (length out.old.slots - length batches.now * self.old.b) [] }
+        ensures endpoints { out.new.endpoints ≡ out.old.endpoints }
+        ensures same { self.new ≡ self.old }
+    {
+        let _ = rt;
+        let _ = gate;
+        allocate_batches(&mut self.stage, list, first_batch, batches, self.b, out);
+    }
+}
+
+/// The batches one after the other, each by the stage.
+fn allocate_batches(
+    stage: &mut Stage,
+    list: &mut DemandList,
+    first_batch: u32,
+    batches: &[Batch],
+    b: u8,
+    out: &mut SlotTable,
+)
+    requires b { (0 < b) × (b ≤ 64) }
+    requires count { length batches.now ≤ 16 }
+    requires size { batch_size_of stage.old ≡ b }
+    requires may { MayBeApplied (endpoints_of stage.old) b first_batch list.old.items batches.now }
+    requires before { IsListBefore (first_slot b first_batch) list.old.items }
+    requires numbers { first_slot b (first_batch + length batches.now) ≤ 2 ^ 32 }
+    requires room { length (rest_from b first_batch list.old.items batches.now) ≤ length list.old.items + list.old.spare }
+    requires serves { out.old.endpoints ≡ endpoints_of stage.old }
+    requires places { length batches.now * b ≤ length out.old.slots }
+    ensures stage_endpoints { endpoints_of stage.new ≡ endpoints_of stage.old }
+    ensures size { batch_size_of stage.new ≡ batch_size_of stage.old }
+    ensures list { list.new.items ≡ rest_from b first_batch list.old.items batches.now }
+    ensures spare { length list.new.items + list.new.spare ≡ length list.old.items + list.old.spare }
+    ensures next { IsListBefore (first_slot b (first_batch + length batches.now)) list.new.items }
+    ensures slots { out.new.slots ≡ schedule_from b first_batch list.old.items batches.now ++ replicate (length out.old.slots - length batches.now * b) [] }
+    ensures endpoints { out.new.endpoints ≡ out.old.endpoints }
+{
+    every_batch_leaves_a_list();
+    schedules_go_on();
+    out.clear();
+    for place in 0..batches.len() {
+        let number = first_batch + place as u32;
+        allocate_batch(
+            stage,
+            list,
+            &batches[place],
+            place as u32,
+            number * u32::from(b) + 1,
+            place as u16 * u16::from(b),
+            out,
+        );
+    }
+}
