@@ -1,0 +1,99 @@
+-- A batch that is entered destination by destination.
+use Rattle.std.proofs.Common.{◌≡◌, ◌+◌, ℕ, true, List, [], ◌∷◌, ◌++◌, IsTrue, Some, slice_get, get_or, set, sym, ap, subst, refl, arith, inl, inr, ◌∙◌}
+use Rattle.std.proofs.lemmas.Bool.{cases_eq}
+use Rattle.std.proofs.lemmas.List.{get_or-set_same, get_or-set_other, length-set, append_assoc}
+use Rattle.std.proofs.Math.Numerals.{add-one}
+use Rattle.std.proofs.lemmas.Option.{slice_get_within, get_or_from_slice_get}
+use Rattle.std.proofs.lemmas.Bool.Decides.{nat_tests}
+use Rattle.std.proofs.Common.{Bool, Option, None, option_to_list, zero, suc}
+use Rattle.std.specs.List.{filter_map, range_with_len, cons_option}
+use Rattle.std.specs.Option.{option_and_then}
+use Rattle.arbiter_lane.specs.Lines.{entry_on}
+use Rattle.arbiter_lane.specs.Parts.{entry_at}
+use Rattle.greedy_rules.specs.declared.flows.Flow.{Flow}
+use Rattle.greedy_rules.specs.declared.flows.Entry.{Entry}
+use Rattle.greedy_rules.specs.Flows.{flow_below}
+use Rattle.greedy_rules.specs.Batches.{IsAboveLast}
+use Rattle.greedy_rules.proofs.Facts.{flow_below-trans}
+use Rattle.arbiter_lane.specs.declared.line.Line.{Line}
+use Rattle.arbiter_lane.specs.Lines.{Become}
+use Rattle.arbiter_lane.proofs.Changes.{UpTo, line_between}
+
+-- ---- the batch stays below the next flow
+
+below_next : (src dst : ℕ) → flow_below (record { src = src; dst = dst }) (record { src = src; dst = dst + 1 }) ≡ true
+below_next src dst = grind (arith, nat_tests)
+
+pub above_later : (entries : List Entry) (src dst : ℕ) → IsAboveLast entries (record { src = src; dst = dst }) → IsAboveLast entries (record { src = src; dst = dst + 1 })
+above_later [] src dst above = tt
+above_later (entry ∷ []) src dst above = flow_below-trans entry.flow (record { src = src; dst = dst }) (record { src = src; dst = dst + 1 }) above (below_next src dst)
+above_later (_ ∷ (next ∷ entries)) src dst above = above_later (next ∷ entries) src dst above
+
+pub above_pushed : (entries : List Entry) (entry : Entry) (src dst : ℕ) → entry.flow ≡ record { src = src; dst = dst } → IsAboveLast (entries ++ entry ∷ []) (record { src = src; dst = dst + 1 })
+above_pushed [] entry src dst is = subst (λ (flow : Flow). IsTrue (flow_below flow (record { src = src; dst = dst + 1 }))) (sym is) (below_next src dst)
+above_pushed (first ∷ []) entry src dst is = above_pushed [] entry src dst is
+above_pushed (_ ∷ (next ∷ entries)) entry src dst is = above_pushed (next ∷ entries) entry src dst is
+
+-- ---- the lines
+
+-- the line of the next destination is still as it was
+pub still : (relation : ℕ → Line → Line → Type 0) (before lines : List Line) (at : ℕ) (line : Line) → Become (UpTo relation at) before lines → slice_get lines at ≡ Some line → slice_get before at ≡ Some line
+still relation before lines at line become here =
+    let there = line_between lines before (sym become.as_many) at line here in
+    let same : line ≡ get_or before at line = (become.each at (get_or before at line) line there here).1 (omega arith) in
+    there ∙ ap Some (sym same)
+
+-- and once it has changed the lines up to it have
+pub changed_next : (relation : ℕ → Line → Line → Type 0) (before lines : List Line) (at : ℕ) (old new : Line) → Become (UpTo relation at) before lines → slice_get lines at ≡ Some old → relation at old new →
+    Become (UpTo relation (at + 1)) before (set lines at new)
+changed_next relation before lines at old new become here changed = record {
+  as_many = length-set lines at new ∙ become.as_many;
+  each = λ dst x z was is. elim (cases_eq dst at) [
+    | inl same ↦
+        let at_it : slice_get before at ≡ Some x = subst (λ d. slice_get before d ≡ Some x) same was in
+        let x_is : x ≡ old = sym (get_or_from_slice_get before at x old at_it) ∙ get_or_from_slice_get before at old old (still relation before lines at old become here) in
+        let z_is : z ≡ new = sym (get_or_from_slice_get (set lines at new) dst z new is) ∙ (ap (λ i. get_or (set lines at new) i new) same ∙ get_or-set_same lines at new new (slice_get_within lines at old here)) in (
+          (λ below. subst (λ d. relation d x z) (sym same) (subst (λ x. relation at x z) (sym x_is) (subst (λ z. relation at old z) (sym z_is) changed))),
+          (λ above. absurd (omega (arith, same, above))),
+        )
+    | inr other ↦
+        let there = line_between before lines become.as_many dst x was in
+        let z_is : z ≡ get_or lines dst x = sym (get_or_from_slice_get (set lines at new) dst z x is) ∙ get_or-set_other lines at dst new x other in
+        let up_to = become.each dst x (get_or lines dst x) was there in
+        ((λ below. subst (λ z. relation dst x z) (sym z_is) (up_to.0 (omega (arith, below, other)))), (λ above. z_is ∙ up_to.1 (omega (arith, above))))
+  ];
+}
+
+-- ---- the entries
+
+-- one destination more
+cons_option-append : {X : Type 0} (o : Option X) (xs ys : List X) → cons_option o (xs ++ ys) ≡ cons_option o xs ++ ys
+cons_option-append None xs ys = refl
+cons_option-append (Some x) xs ys = refl
+
+cons_option-none : {X : Type 0} (o : Option X) → cons_option o [] ≡ option_to_list o
+cons_option-none None = refl
+cons_option-none (Some x) = refl
+
+filter_map-append : {X : Type 0} (h : ℕ → Option X) (xs ys : List ℕ) → filter_map h (xs ++ ys) ≡ filter_map h xs ++ filter_map h ys
+filter_map-append h [] ys = refl
+filter_map-append h (x ∷ xs) ys = ap (λ l. cons_option (h x) l) (filter_map-append h xs ys) ∙ cons_option-append (h x) (filter_map h xs) (filter_map h ys)
+
+range-last : (first n last : ℕ) → first + n ≡ last → range_with_len first (suc n) ≡ range_with_len first n ++ last ∷ []
+range-last first zero last is = let same : first ≡ last = omega (arith, is) in ap (λ k. k ∷ []) same
+range-last first (suc n) last is = ap (λ l. first ∷ l) (range-last (first + 1) n last (omega (arith, is)))
+
+filter_map-more : {X : Type 0} (h : ℕ → Option X) (n : ℕ) → filter_map h (range_with_len 0 n) ++ option_to_list (h n) ≡ filter_map h (range_with_len 0 (n + 1))
+filter_map-more h n =
+    let more : range_with_len 0 (n + 1) ≡ range_with_len 0 n ++ n ∷ [] = ap (range_with_len 0) (add-one n) ∙ range-last 0 n n (omega arith) in
+    sym (ap (filter_map h) more ∙ (filter_map-append h (range_with_len 0 n) (n ∷ []) ∙ ap (λ l. filter_map h (range_with_len 0 n) ++ l) (cons_option-none (h n))))
+
+-- the entries up to a line, and that of the line
+pub entries_next : (batch : List Entry) (lines : List Line) (endpoint : ℕ) (resets : Bool) (at : ℕ) (line : Line) → slice_get lines at ≡ Some line →
+    (batch ++ filter_map (entry_at lines endpoint resets) (range_with_len 0 at)) ++ option_to_list (entry_on line (record { src = endpoint; dst = at }) resets)
+    ≡ batch ++ filter_map (entry_at lines endpoint resets) (range_with_len 0 (at + 1))
+entries_next batch lines endpoint resets at line here =
+    let entry : Option Line → Option Entry = option_and_then (λ (l : Line). entry_on l (record { src = endpoint; dst = at }) resets) in
+    let same : entry_at lines endpoint resets at ≡ entry_on line (record { src = endpoint; dst = at }) resets = ap entry here in
+    append_assoc batch (filter_map (entry_at lines endpoint resets) (range_with_len 0 at)) (option_to_list (entry_on line (record { src = endpoint; dst = at }) resets))
+    ∙ ap (λ xs. batch ++ xs) (ap (λ o. filter_map (entry_at lines endpoint resets) (range_with_len 0 at) ++ option_to_list o) (sym same) ∙ filter_map-more (entry_at lines endpoint resets) at)

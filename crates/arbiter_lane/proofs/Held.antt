@@ -1,0 +1,88 @@
+-- What a lane's parts are of the calls for which it stands.
+use Rattle.std.proofs.Common.{◌≡◌, ℕ, ◌+◌, ◌<◌, ◌≤◌, List, [], ◌∷◌, ◌++◌, All, Some, slice_get, get_or, length, ap, ◌∙◌, sym, subst, refl, inl, inr, arith}
+use Rattle.std.specs.Prelude.{Vec, sum_by, is_none, unwrap_or}
+use Rattle.std.proofs.lemmas.List.Elements.{All-head, All-tail, All-filter, All-same}
+use Rattle.std.proofs.lemmas.List.{with_items_is}
+use Rattle.std.proofs.lemmas.Option.{get_or_from_slice_get, slice_get_cases}
+use Rattle.std.specs.Vec.{with_items}
+use Rattle.ack_window.specs.declared.send_window.Unresolved.{Unresolved}
+use Rattle.ack_window.specs.Sends.{Event, Sends, Reads, newest_of, newest_content, numbers_sent, decision_of, open_numbers}
+use Rattle.ack_window.specs.Versions.{reorder_of, span_of}
+use Rattle.ack_window.specs.Windows.{Sender, HasDone}
+use Rattle.endpoint_history.specs.Packets.{Telling, slots_to}
+use Rattle.endpoint_history.specs.Lane.{LaneHistory, version_of, numbers}
+use Rattle.endpoint_history.specs.Counts as counts
+use Rattle.arbiter_lane.specs.declared.line.Line.{Line}
+use Rattle.arbiter_lane.specs.Lines.{Become}
+use Rattle.arbiter_lane.specs.State.{open_to}
+use Rattle.arbiter_lane.proofs.Changes.{line_between}
+
+-- ---- what is told under numbers
+
+-- what is true of every number's content is true of those that are open
+pub open-told : (P : Telling → Type 0) (sent : Sender Telling) (events : List (Event Telling)) → HasDone sent events → All (λ (s : Unresolved Telling). P s.content) (numbers_sent events) →
+    All (λ (s : Unresolved Telling). P s.content) sent.outstanding.unresolved
+open-told P sent events done all =
+    let decision = decision_of (reorder_of sent.version) (span_of sent.version) events in
+    All-same (λ (s : Unresolved Telling). P s.content) sent.outstanding.unresolved (open_numbers (reorder_of sent.version) (span_of sent.version) events) done.unresolved
+    (All-filter (λ (s : Unresolved Telling). is_none (decision s.number)) (λ (s : Unresolved Telling). P s.content) (numbers_sent events) all)
+
+-- and of the newest
+pub newest-told : (P : Telling → Type 0) (events : List (Event Telling)) (content : Telling) → newest_content events ≡ Some content → All (λ (s : Unresolved Telling). P s.content) (numbers_sent events) → P content
+newest-told P [] content is all = absurd cc
+newest-told P (Sends telling ∷ events) content is all =
+    let new : Unresolved Telling = record { number = newest_of events + 1; content = telling } in
+    subst P (some_is is) (last (numbers_sent events) new all)
+  where
+    some_is : {x y : Telling} → Some x ≡ Some y → x ≡ y
+    some_is {x = x} e = ap (λ o. unwrap_or o x) e
+
+    last : (xs : List (Unresolved Telling)) (x : Unresolved Telling) → All (λ (s : Unresolved Telling). P s.content) (xs ++ x ∷ []) → P x.content
+    last [] x all = All-head (λ (s : Unresolved Telling). P s.content) x [] all
+    last (y ∷ xs) x all = last xs x (All-tail (λ (s : Unresolved Telling). P s.content) y (xs ++ x ∷ []) all)
+newest-told P (Reads ack ∷ events) content is all = newest-told P events content is all
+
+-- which is counted
+pub newest-counted : (events : List (Event Telling)) (content : Telling) → newest_content events ≡ Some content → 1 ≤ newest_of events
+newest-counted [] content is = absurd cc
+newest-counted (Sends telling ∷ events) content is = omega arith
+newest-counted (Reads ack ∷ events) content is = newest-counted events content is
+
+-- the open slots of a sender are those of the lane that it stands for
+pub open_to-is : (g : ℕ) (sent : Sender Telling) (history : LaneHistory) (dst : ℕ) → sent.version ≡ version_of history → HasDone sent (numbers g history) → open_to dst sent ≡ counts.open_to g history dst
+open_to-is g sent history dst version done =
+    ap (sum_by (λ (s : Unresolved Telling). slots_to dst s.content.told)) (done.unresolved ∙ ap (λ v. open_numbers (reorder_of v) (span_of v) (numbers g history)) version)
+
+-- ---- lines
+
+-- what holds of each line that was, and of what it becomes, holds of each line that is
+pub each_line : (relation : ℕ → Line → Line → Type 0) (P Q : ℕ → Line → Type 0) (before after : List Line) → Become relation before after →
+    ((dst : ℕ) (line : Line) → slice_get before dst ≡ Some line → P dst line) →
+    ((dst : ℕ) (old new : Line) → relation dst old new → P dst old → Q dst new) →
+    (dst : ℕ) (line : Line) → slice_get after dst ≡ Some line → Q dst line
+each_line relation P Q before after become held goes_on dst line here =
+    let there = line_between after before (sym become.as_many) dst line here in
+    let old = get_or before dst line in
+    goes_on dst old line (become.each dst old line there here) (held dst old there)
+
+-- lines that stay
+pub Become-stay : (relation : ℕ → Line → Line → Type 0) (lines : List Line) → ((dst : ℕ) (line : Line) → slice_get lines dst ≡ Some line → relation dst line line) → Become relation lines lines
+Become-stay relation lines same = record {
+  as_many = refl;
+  each = λ dst a b before after.
+      let is : b ≡ a = sym (get_or_from_slice_get lines dst b a after) ∙ get_or_from_slice_get lines dst a a before in
+      subst (λ y. relation dst a y) (sym is) (same dst a before);
+}
+
+-- each place below the length has a line
+pub line_here : (lines : List Line) (dst : ℕ) → dst < length lines → (line : Line) × (slice_get lines dst ≡ Some line)
+line_here lines dst within = elim (slice_get_cases lines dst).1 [
+  | inl line ↦ (line.0, line.2)
+  | inr past ↦ absurd (omega (arith, within, past.0))
+]
+
+-- what is written through the slice of all lines
+pub Become-written : {Z : Type 0} (relation : ℕ → Line → Line → Type 0) (lines : Vec Line Z) (old new : List Line) → old ≡ lines.items → Become relation old new → Become relation lines.items (with_items lines new).items
+Become-written relation lines old new is become =
+    let same : (with_items lines new).items ≡ new = with_items_is lines new (become.as_many ∙ (ap length is ∙ sym lines.ok.0)) in
+    subst (λ (xs : List Line). Become relation lines.items xs) (sym same) (subst (λ (xs : List Line). Become relation xs new) is become)

@@ -1,0 +1,12 @@
+mod Changes
+mod Entering
+mod Held
+mod Recording
+mod Beginning
+mod Allocating
+mod Refusing
+mod Reading
+mod Hearing
+mod Making
+mod Taking
+mod Sufficing

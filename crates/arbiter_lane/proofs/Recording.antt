@@ -1,0 +1,180 @@
+-- What a lane stands for once its round is recorded, and the entries of the round.
+use Rattle.std.proofs.Common.{◌≡◌, ℕ, ◌+◌, ◌<◌, ◌≤◌, zero, suc, Bool, true, false, ◌&&◌, ◌||◌, cond, List, [], ◌∷◌, length, Option, None, ap, ◌∙◌, sym, refl, arith}
+use Rattle.std.specs.Prelude.{nat_lt}
+use Rattle.std.specs.List.{filter_map, range_with_len, cons_option}
+use Rattle.std.specs.Option.{option_and_then}
+use Rattle.std.proofs.lemmas.Bool.{le-ltb}
+use Rattle.std.proofs.lemmas.List.Elements.{All-weaker}
+use Rattle.greedy_rules.specs.declared.flows.Entry.{Entry}
+use Rattle.greedy_rules.specs.declared.flows.Flow.{Flow}
+use Rattle.endpoint_history.specs.Lane.{LaneHistory, Records}
+use Rattle.endpoint_history.specs.Counts.{Allocation}
+use Rattle.endpoint_history.specs.Entries.{is_reset, added, entry_with, entry_of, had}
+use Rattle.arbiter_lane.specs.declared.line.Line.{Line}
+use Rattle.arbiter_lane.specs.State.{LaneState, IsFlow, IsSound}
+use Rattle.arbiter_lane.specs.Standing.{StandsForFlow, StandsFor}
+use Rattle.arbiter_lane.specs.Lines.{Become, IsEntered, add_on, entry_on}
+use Rattle.arbiter_lane.specs.Parts.{CanRise, HaveNotRisen, entry_at, entries_on}
+use Rattle.arbiter_lane.proofs.Held.{each_line, line_here, Become-stay}
+
+-- ---- entries
+
+filter_map-same : {Y : Type 0} (f e : ℕ → Option Y) (first n : ℕ) → ((k : ℕ) → first ≤ k → k < first + n → f k ≡ e k) → filter_map f (range_with_len first n) ≡ filter_map e (range_with_len first n)
+filter_map-same f e first zero same = refl
+filter_map-same f e first (suc n) same =
+    ap (λ o. cons_option o (filter_map f (range_with_len (first + 1) n))) (same first (omega arith) (omega arith))
+    ∙ ap (λ l. cons_option (e first) l) (filter_map-same f e (first + 1) n (λ k low high. same k (omega (arith, low)) (omega (arith, high))))
+
+filter_map-none : {Y : Type 0} (f : ℕ → Option Y) (first n : ℕ) → ((k : ℕ) → first ≤ k → k < first + n → f k ≡ None) → filter_map f (range_with_len first n) ≡ []
+filter_map-none f first zero none = refl
+filter_map-none f first (suc n) none =
+    ap (λ o. cons_option o (filter_map f (range_with_len (first + 1) n))) (none first (omega arith) (omega arith))
+    ∙ filter_map-none f (first + 1) n (λ k low high. none k (omega (arith, low)) (omega (arith, high)))
+
+add-is : (g : ℕ) (history : LaneHistory) (allocations : List Allocation) (dst : ℕ) (line : Line) → StandsForFlow g history allocations dst line → add_on line ≡ added g history dst
+add-is g history allocations dst line flow = omega (arith, flow.demanded, flow.lost, flow.entered)
+
+entry-is : (endpoint g : ℕ) (history : LaneHistory) (allocations : List Allocation) (dst : ℕ) (line : Line) (resets : Bool) → resets ≡ is_reset history → StandsForFlow g history allocations dst line →
+    entry_on line (record { src = endpoint; dst = dst }) resets ≡ entry_of endpoint g history dst
+entry-is endpoint g history allocations dst line resets reset flow =
+    ap (λ a. entry_with endpoint dst line.opened (resets && line.opened) a) (add-is g history allocations dst line flow)
+    ∙ (ap (λ o. entry_with endpoint dst o (resets && o) (added g history dst)) flow.opened
+    ∙ ap (λ r. entry_with endpoint dst (had g history dst) (r && had g history dst) (added g history dst)) reset)
+
+abbrev entry_for : ℕ → Bool → ℕ → Option Line → Option Entry
+entry_for endpoint resets dst = option_and_then (λ (line : Line). entry_on line (record { src = endpoint; dst = dst }) resets)
+
+-- the entries of all lines are those of the round
+pub entries-are : (lane : LaneState) (history : LaneHistory) (allocations : List Allocation) → length lane.lines ≡ lane.endpoints → StandsFor lane history allocations →
+    entries_on lane.lines lane.endpoint lane.is_reset ≡ filter_map (entry_of lane.endpoint lane.g history) (range_with_len 0 lane.endpoints)
+entries-are lane history allocations as_many stands =
+    ap (λ n. filter_map (entry_at lane.lines lane.endpoint lane.is_reset) (range_with_len 0 n)) as_many
+    ∙ filter_map-same (entry_at lane.lines lane.endpoint lane.is_reset) (entry_of lane.endpoint lane.g history) 0 lane.endpoints
+    (λ dst low high.
+    let here = line_here lane.lines dst (omega (arith, high, as_many)) in
+    ap (entry_for lane.endpoint lane.is_reset dst) here.1
+    ∙ entry-is lane.endpoint lane.g history allocations dst here.0 lane.is_reset stands.is_reset (stands.flows dst here.0 here.1))
+
+entry-none : (line : Line) (flow : Flow) → line.count.demanded + line.count.lost ≡ line.entered → entry_on line flow false ≡ None
+entry-none line flow same = rw (le-ltb 0 (add_on line) (omega (arith, same))) refl
+
+-- there is none where nothing has risen and no reset was taken
+pub entries-none : (lines : List Line) (endpoint : ℕ) → HaveNotRisen lines → entries_on lines endpoint false ≡ []
+entries-none lines endpoint unrisen =
+    filter_map-none (entry_at lines endpoint false) 0 (length lines)
+    (λ dst low high.
+    let here = line_here lines dst (omega (arith, high)) in
+    ap (entry_for endpoint false dst) here.1 ∙ entry-none here.0 (record { src = endpoint; dst = dst }) (unrisen dst here.0 here.1))
+
+-- a line that has not risen is entered as it is
+pub IsEntered-already : (line : Line) → line.count.demanded + line.count.lost ≡ line.entered → IsEntered line line
+IsEntered-already line same = record {
+  opened = rw (le-ltb 0 (add_on line) (omega (arith, same))) refl;
+  entered = sym same;
+  count = record { demanded = refl; allocated = refl; acknowledged = refl; lost = refl };
+}
+
+-- ---- the lane
+
+abbrev pub recorded_lane : LaneState → ℕ → List Line → LaneState
+recorded_lane was round lines = record {
+  endpoint = was.endpoint;
+  endpoints = was.endpoints;
+  b = was.b;
+  g = was.g;
+  epoch = was.epoch;
+  version = was.version;
+  last_reset = was.last_reset;
+  arrived = was.arrived;
+  sent = was.sent;
+  lines = lines;
+  round = round + 1;
+  is_made = false;
+  is_reset = false;
+  has_risen = false;
+}
+
+flow-recorded : (g round : ℕ) (history : LaneHistory) (allocations : List Allocation) (dst : ℕ) (old new : Line) → IsEntered old new → StandsForFlow g history allocations dst old →
+    StandsForFlow g (Records round ∷ history) allocations dst new
+flow-recorded g round history allocations dst old new entered flow = record {
+  demanded = entered.count.demanded ∙ flow.demanded;
+  allocated = entered.count.allocated ∙ flow.allocated;
+  acknowledged = entered.count.acknowledged ∙ flow.acknowledged;
+  lost = entered.count.lost ∙ flow.lost;
+  entered = omega (arith, entered.entered, flow.demanded, flow.lost);
+  opened = entered.opened ∙ (ap (λ a. nat_lt 0 a || old.opened) (add-is g history allocations dst old flow) ∙ ap (λ o. nat_lt 0 (added g history dst) || o) flow.opened);
+}
+
+pub stands-recorded : (was : LaneState) (round : ℕ) (lines : List Line) (history : LaneHistory) (allocations : List Allocation) → was.round ≡ round → StandsFor was history allocations → Become (λ dst. IsEntered) was.lines lines →
+    StandsFor (recorded_lane was round lines) (Records round ∷ history) allocations
+stands-recorded was round lines history allocations now stands become = record {
+  epoch = stands.epoch;
+  version = stands.version;
+  last_reset = stands.last_reset;
+  arrived = stands.arrived;
+  sent = stands.sent;
+  sent_version = stands.sent_version;
+  flows = each_line (λ dst. IsEntered) (StandsForFlow was.g history allocations) (StandsForFlow was.g (Records round ∷ history) allocations) was.lines lines become stands.flows
+      (λ dst old new. flow-recorded was.g round history allocations dst old new);
+  round = ap (λ n. n + 1) (sym now ∙ stands.round);
+  is_reset = refl;
+  recorded = All-weaker (λ (a : Allocation). a.batch < was.round) (λ (a : Allocation). a.batch < round + 1) (λ a h. omega (arith, h, now)) allocations stands.recorded;
+}
+
+sound-flow : (was : LaneState) (round : ℕ) (lines : List Line) (dst : ℕ) (old new : Line) → was.round ≡ round → IsEntered old new → IsFlow was dst old → IsFlow (recorded_lane was round lines) dst new
+sound-flow was round lines dst old new now entered flow =
+    let made : cond was.is_made 1 0 ≤ 1 = at_most was.is_made in
+    let demanded = entered.count.demanded in
+    let allocated = entered.count.allocated in
+    let acknowledged = entered.count.acknowledged in
+    let lost = entered.count.lost in
+    record {
+      demanded = omega (arith, demanded, flow.demanded);
+      told = omega (arith, acknowledged, lost, flow.told, made, now);
+      entered = omega (arith, entered.entered, demanded, lost);
+      open_slots = omega (arith, allocated, acknowledged, lost, flow.open_slots);
+      own = λ is.
+          let none = flow.own is in
+          let add : add_on old ≡ 0 = omega (arith, none.0) in
+          (omega (arith, demanded, lost, none.0), entered.opened ∙ (ap (λ a. nat_lt 0 a || old.opened) add ∙ none.1));
+      unrisen = λ h. omega (arith, entered.entered, demanded, lost);
+    }
+  where
+    at_most : (b : Bool) → cond {A = ℕ} b 1 0 ≤ 1
+    at_most true = omega arith
+    at_most false = omega arith
+
+pub sound-recorded : (was : LaneState) (round : ℕ) (lines : List Line) → was.round ≡ round → IsSound was → round < 100000 → Become (λ dst. IsEntered) was.lines lines → IsSound (recorded_lane was round lines)
+sound-recorded was round lines now sound rounds become = record {
+  endpoint = sound.endpoint;
+  endpoints = sound.endpoints;
+  b = sound.b;
+  as_many = become.as_many ∙ sound.as_many;
+  rounds = omega (arith, rounds);
+  within = omega (arith, rounds);
+  version = sound.version;
+  heard_version = sound.heard_version;
+  sent_version = sound.sent_version;
+  numbers = let made : cond was.is_made 1 0 ≤ 1 = at_most was.is_made in omega (arith, sound.numbers, made, now);
+  flows = each_line (λ dst. IsEntered) (IsFlow was) (IsFlow (recorded_lane was round lines)) was.lines lines become sound.flows (λ dst old new. sound-flow was round lines dst old new now);
+}
+  where
+    at_most : (b : Bool) → cond {A = ℕ} b 1 0 ≤ 1
+    at_most true = omega arith
+    at_most false = omega arith
+
+-- lines that have not risen are entered as they are
+pub entered-already : (lines : List Line) → HaveNotRisen lines → Become (λ dst. IsEntered) lines lines
+entered-already lines unrisen = Become-stay (λ dst. IsEntered) lines (λ dst line here. IsEntered-already line (unrisen dst line here))
+
+-- the lines of a lane can rise
+pub can_rise : (lane : LaneState) → IsSound lane → CanRise lane.lines
+can_rise lane sound = record {
+  fits = λ dst line here.
+      let flow = sound.flows dst line here in
+      let demanded = flow.demanded in
+      let told = flow.told in
+      let within = sound.within in
+      omega (arith, demanded, told, within);
+  entered = λ dst line here. (sound.flows dst line here).entered;
+}

@@ -1,0 +1,7 @@
+use Rattle.std.proofs.Common.{take}
+use Rattle.arbiter_lane.specs.Lines.{Become, AcknowledgesSlots}
+use Rattle.endpoint_history.specs.Packets.{slots_to}
+use Rattle.arbiter_lane.proofs.flows.acknowledge.Given as goal
+
+abbrev pub invariant-loop-slot : goal.invariant-loop-slot
+invariant-loop-slot l = Become (λ dst. AcknowledgesSlots (slots_to dst (take l.slot-index l.told))) l.fn.lines l.lines

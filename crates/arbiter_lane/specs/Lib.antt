@@ -1,0 +1,6 @@
+pub mod State
+pub mod Standing
+pub mod Refusals
+pub mod Lines
+pub mod Parts
+pub mod Laws

@@ -1,0 +1,189 @@
+//! The lines of a lane, one for each destination: what each call makes of all of them.
+ghost use Rattle.std.specs.Prelude.{◌≢◌, ◌≤◌, ◌^◌, ◌++◌, OnOk, OnErr, IfSome, Some, slice_get, slice_set, option_to_list, ◌≡◌, ◌<◌, ◌+◌, ℕ, [], ◌∷◌, length, All, false};
+ghost use Rattle.fcp_framing.specs.declared.packet.Told.{Told as ToldSlot};
+ghost use Rattle.fcp_framing.specs.declared.packet.Demand.{Demand as DemandItem};
+ghost use Rattle.ack_window.specs.declared.send_window.Decided.{Decided as DecidedNumber};
+ghost use Rattle.endpoint_history.specs.Packets.{Telling as TellingOf, slots_to};
+ghost use Rattle.arbiter_lane.specs.State.{AreInFlight};
+ghost use Rattle.arbiter_lane.specs.Lines.{entry_on, Become, LosesSlots, AcknowledgesSlots, RisesTo, DecidesSlots, IsEntered, slots_shown, slots_lost, HasStartedAgain};
+ghost use Rattle.std.specs.List.{filter_map};
+ghost use Rattle.greedy_rules.specs.Batches.{IsAboveLast};
+ghost use Rattle.arbiter_lane.specs.declared.line.Line.{Line as LineOf};
+ghost use Rattle.arbiter_lane.specs.Parts.{CanRise, HaveNotRisen, entries_on};
+ghost use Rattle.endpoint_history.specs.Confirmed.{total_named};
+
+use crate::NoMemory;
+use crate::line::Line;
+use crate::telling::Telling;
+use ack_window::Decided;
+use fcp_framing::{Demand, Told};
+use greedy_rules::{Batch, Entry, Flow};
+
+/// Counts each of the slots as lost.
+pub(crate) fn lose(lines: &mut [Line], told: &[Told])
+    requires destinations { All (λ (slot : ToldSlot). slot.dst < length lines.old) told.now }
+    requires in_flight { AreInFlight (λ dst. slots_to dst told.now) lines.old }
+    ensures { Become (λ dst. LosesSlots (slots_to dst told.now)) lines.old lines.new }
+{
+    for slot in told {
+        lose_one(lines, *slot);
+    }
+}
+
+fn lose_one(lines: &mut [Line], slot: Told)
+    requires destination { slot.dst < length lines.old }
+    requires in_flight { AreInFlight (λ dst. slots_to dst (slot ∷ [])) lines.old }
+    ensures { Become (λ dst. LosesSlots (slots_to dst (slot ∷ []))) lines.old lines.new }
+{
+    lines[slot.dst as usize].count.lose(1);
+}
+
+/// Counts each of the slots as acknowledged.
+pub(crate) fn acknowledge(lines: &mut [Line], told: &[Told])
+    requires destinations { All (λ (slot : ToldSlot). slot.dst < length lines.old) told.now }
+    requires in_flight { AreInFlight (λ dst. slots_to dst told.now) lines.old }
+    ensures { Become (λ dst. AcknowledgesSlots (slots_to dst told.now)) lines.old lines.new }
+{
+    for slot in told {
+        acknowledge_one(lines, *slot);
+    }
+}
+
+fn acknowledge_one(lines: &mut [Line], slot: Told)
+    requires destination { slot.dst < length lines.old }
+    requires in_flight { AreInFlight (λ dst. slots_to dst (slot ∷ [])) lines.old }
+    ensures { Become (λ dst. AcknowledgesSlots (slots_to dst (slot ∷ []))) lines.old lines.new }
+{
+    lines[slot.dst as usize].count.acknowledge(1);
+}
+
+/// Raises the demand of each flow that is named to the total that is named for it. Answers whether one has risen.
+pub(crate) fn raise(lines: &mut [Line], demands: &[Demand]) -> bool
+    requires destinations { All (λ (demand : DemandItem). demand.dst < length lines.old) demands.now }
+    ensures raised { Become (λ dst. RisesTo (total_named dst demands.now)) lines.old lines.new }
+    ensures unrisen { result ≡ false → Become (λ dst. RisesTo 0) lines.old lines.new }
+{
+    let mut risen = false;
+    for demand in demands {
+        let rises = raise_one(lines, *demand);
+        risen |= rises;
+    }
+    risen
+}
+
+fn raise_one(lines: &mut [Line], demand: Demand) -> bool
+    requires { demand.dst < length lines.old }
+    ensures raised { Become (λ dst. RisesTo (total_named dst (demand ∷ []))) lines.old lines.new }
+    ensures unrisen { result ≡ false → Become (λ dst. RisesTo 0) lines.old lines.new }
+{
+    lines[demand.dst as usize].count.raise(demand.total) > 0
+}
+
+/// Starts the counts of every flow again.
+pub(crate) fn restart(lines: &mut [Line])
+    ensures { Become (λ dst. HasStartedAgain) lines.old lines.new }
+{
+    for at in 0..lines.len() {
+        lines[at].restart();
+    }
+}
+
+/// Counts the slots in the numbers that are decided, as lost or as acknowledged. Answers whether one is lost.
+pub(crate) fn decide(lines: &mut [Line], found: &[Decided<Telling>]) -> bool
+    requires destinations { All (λ (number : DecidedNumber TellingOf). All (λ (slot : ToldSlot). slot.dst < length lines.old) number.content.told) found.now }
+    requires in_flight { AreInFlight (λ dst. slots_shown found.now dst + slots_lost found.now dst) lines.old }
+    ensures decided { Become (λ dst. DecidesSlots (slots_shown found.now dst) (slots_lost found.now dst)) lines.old lines.new }
+    ensures none_lost { result ≡ false → (dst : ℕ) → slots_lost found.now dst ≡ 0 }
+{
+    let mut lost = false;
+    for number in found {
+        let loses = decide_one(lines, number);
+        lost |= loses;
+    }
+    lost
+}
+
+fn decide_one(lines: &mut [Line], number: &Decided<Telling>) -> bool
+    requires destinations { All (λ (slot : ToldSlot). slot.dst < length lines.old) number.now.content.told }
+    requires in_flight { AreInFlight (λ dst. slots_to dst number.now.content.told) lines.old }
+    ensures decided { Become (λ dst. DecidesSlots (slots_shown (number.now ∷ []) dst) (slots_lost (number.now ∷ []) dst)) lines.old lines.new }
+    ensures none_lost { result ≡ false → (dst : ℕ) → slots_lost (number.now ∷ []) dst ≡ 0 }
+{
+    let told = number.content.told.as_slice();
+    if number.lost {
+        lose(lines, told);
+        !told.is_empty()
+    } else {
+        acknowledge(lines, told);
+        false
+    }
+}
+
+/// Records a round of an endpoint's flows: enters those that have risen, or whose demand starts again. After `NoMemory` the lines
+/// are as they were.
+pub(crate) fn record(
+    lines: &mut [Line],
+    endpoint: u16,
+    rises: bool,
+    resets: bool,
+    batch: &mut Batch,
+) -> Result<(), NoMemory>
+    requires few { length lines.old ≤ 256 }
+    requires above { IsAboveLast batch.old.entries (record { src = endpoint; dst = 0 }) }
+    requires can_rise { CanRise lines.old }
+    requires unrisen { rises ≡ false → HaveNotRisen lines.old }
+    ensures entries { OnOk result (batch.new.entries ≡ batch.old.entries ++ entries_on lines.old endpoint resets) }
+    ensures limits { batch.new.limits ≡ batch.old.limits }
+    ensures entered { OnOk result (Become (λ dst. IsEntered) lines.old lines.new) }
+    ensures unchanged { OnErr result (lines.new ≡ lines.old) }
+{
+    if rises | resets {
+        enter(lines, endpoint, resets, batch)?;
+        settle(lines);
+    }
+    Ok(())
+}
+
+/// Enters the flows of an endpoint one by one, rising by destination. There is none from the endpoint to itself, whose line
+/// never rises.
+fn enter(lines: &[Line], endpoint: u16, resets: bool, batch: &mut Batch) -> Result<(), NoMemory>
+    requires few { length lines.now ≤ 256 }
+    requires above { IsAboveLast batch.old.entries (record { src = endpoint; dst = 0 }) }
+    requires can_rise { CanRise lines.now }
+    ensures entries { OnOk result (batch.new.entries ≡ batch.old.entries ++ entries_on lines.now endpoint resets) }
+    ensures limits { batch.new.limits ≡ batch.old.limits }
+{
+    for dst in 0..lines.len() {
+        let flow = Flow {
+            src: endpoint,
+            dst: dst as u16,
+        };
+        enter_one(&lines[dst], flow, resets, batch)?;
+    }
+    Ok(())
+}
+
+/// Enters one flow.
+fn enter_one(line: &Line, flow: Flow, resets: bool, batch: &mut Batch) -> Result<(), NoMemory>
+    requires above { IsAboveLast batch.old.entries flow }
+    requires fits { line.now.count.demanded + line.now.count.lost < 2 ^ 32 }
+    requires risen { line.now.entered ≤ line.now.count.demanded + line.now.count.lost }
+    ensures entries { OnOk result (batch.new.entries ≡ batch.old.entries ++ option_to_list (entry_on line.now flow resets)) }
+    ensures above { OnOk result (IsAboveLast batch.new.entries (record { src = flow.src; dst = flow.dst + 1 })) }
+    ensures limits { batch.new.limits ≡ batch.old.limits }
+{
+    match line.entry(flow, resets) {
+        Some(entry) => batch.push(entry),
+        None => Ok(()),
+    }
+}
+
+/// Takes all that the flows have risen by for entered.
+fn settle(lines: &mut [Line])
+    requires { CanRise lines.old }
+    ensures { Become (λ dst. IsEntered) lines.old lines.new }
+{
+    for at in 0..lines.len() {
+        lines[at].settle();
+    }
+}

@@ -1,0 +1,420 @@
+//! The lane of one endpoint.
+ghost use Rattle.std.specs.Prelude.{◌≡◌, ◌≢◌, ◌<◌, ◌≤◌, ◌↔◌, ℕ, ◌+◌, ◌*◌, ◌-◌, ◌++◌, ◌^◌, true, false, List, [], ◌∷◌, length, take, drop, IfOk, OnOk, OnErr, IfSome, IsSome, IsNone, unwrap_or, Some, None, All, slice_get};
+ghost use Rattle.std.specs.List.{filter_map, range_with_len};
+ghost use Rattle.std.specs.Option.{option_map};
+ghost use Rattle.std.specs.Result.{result_err};
+ghost use Rattle.greedy_rules.specs.Batches.{IsAboveLast};
+ghost use Rattle.flow_ledger.specs.FlowCount.{pending};
+ghost use Rattle.fcp_framing.specs.declared.packet.Told.{Told as ToldSlot};
+ghost use Rattle.ack_window.specs.declared.send_window.Unresolved.{Unresolved as UnresolvedNumber};
+ghost use Rattle.fcp_framing.specs.Spelling.{down_bytes, IsMask, SpellsDown};
+ghost use Rattle.fcp_framing.specs.Fields.{up_of};
+ghost use Rattle.fcp_framing.specs.Versions.{IsVersion, mask_bits};
+ghost use Rattle.ack_window.specs.Sends.{Event, Sends, Reads, newest_content, decided_by};
+ghost use Rattle.ack_window.specs.Versions.{reorder_of, span_of};
+ghost use Rattle.ack_window.specs.Windows.{HasHeard, HasDone, MaySend, Sender};
+ghost use Rattle.endpoint_history.specs.Packets.{Telling as TellingOf, Resets, slots_to, up_packet, framed_down};
+ghost use Rattle.endpoint_history.specs.Lane.{LaneHistory, MakesDown, TakesUp, Records, packet_down};
+ghost use Rattle.endpoint_history.specs.Counts.{Allocation, recorded, acknowledged, lost, allocated};
+ghost use Rattle.endpoint_history.specs.Entries.{had, entry_of};
+ghost use Rattle.arbiter_lane.specs.State.{AreSlots, AreAllocated, AreInFlight, open_to};
+ghost use Rattle.arbiter_lane.specs.Standing.{StandsFor};
+ghost use Rattle.arbiter_lane.specs.Refusals.{refusal_of, IsOwn};
+ghost use Rattle.arbiter_lane.specs.declared.line.Line.{Line as LineOf};
+ghost use Rattle.arbiter_lane.specs.Lines.{Become, LosesSlots, DecidesSlots, HasStartedAgain, slots_shown, slots_lost};
+ghost use Rattle.arbiter_lane.specs.Parts.{packet_with, slots_told, acknowledgement_in};
+
+use crate::line::Line;
+use crate::refusal::UpRefused;
+use crate::telling::{Telling, tell};
+use crate::{NoMemory, flows};
+use ack_window::{Decided, SendWindow, TakeWindow, Taken, readings_move_what_they_decide};
+use arrayvec::ArrayVec;
+use endpoint_history::lanes_count_slots;
+use fcp_framing::{Down, Told, Up, decode_up, encode_alloc};
+use flow_ledger::FlowCount;
+use greedy_rules::Batch;
+use std::alloc::Global;
+use std::marker::Model;
+
+/// The version of a connection before its first reset.
+const FIRST_VERSION: u8 = 1;
+
+/// The arbiter's side for one endpoint. Clauses see its connection, a line for each destination, and the rounds that it counts;
+/// what they say of it holds for every list of calls for which it stands, and there is one.
+#[derive(Drop)]
+pub struct Lane {
+    endpoint: u16,
+    endpoints: u16,
+    b: u8,
+    g: u8,
+    epoch: u32,
+    version: u8,
+    last_reset: u32,
+    arrived: TakeWindow,
+    sent: SendWindow<Telling>,
+    lines: Vec<Line>,
+    round: u32,
+    is_made: bool,
+    is_reset: bool,
+    has_risen: bool,
+    /// The packet that arrived last.
+    up: Up,
+    /// What its acknowledgement decides. Empty between two calls.
+    found: ArrayVec<Decided<Telling>, 129>,
+}
+
+impl Model for Lane {
+    ghost use Rattle.std.specs.Prelude.{◌≡◌, []};
+    ghost use Rattle.arbiter_lane.specs.State.{LaneState, IsSound};
+    ghost use Rattle.arbiter_lane.specs.Standing.{HasHistory};
+
+    ghost Value = { LaneState };
+
+    ghost view = { λ lane. record {
+      endpoint = lane.endpoint;
+      endpoints = lane.endpoints;
+      b = lane.b;
+      g = lane.g;
+      epoch = lane.epoch;
+      version = lane.version;
+      last_reset = lane.last_reset;
+      arrived = lane.arrived;
+      sent = lane.sent;
+      lines = lane.lines.items;
+      round = lane.round;
+      is_made = lane.is_made;
+      is_reset = lane.is_reset;
+      has_risen = lane.has_risen;
+    } };
+
+    ghost invariant = { λ lane.
+        let state : LaneState = record {
+          endpoint = lane.endpoint;
+          endpoints = lane.endpoints;
+          b = lane.b;
+          g = lane.g;
+          epoch = lane.epoch;
+          version = lane.version;
+          last_reset = lane.last_reset;
+          arrived = lane.arrived;
+          sent = lane.sent;
+          lines = lane.lines.items;
+          round = lane.round;
+          is_made = lane.is_made;
+          is_reset = lane.is_reset;
+          has_risen = lane.has_risen;
+        } in
+        IsSound state × HasHistory state × (lane.found.items ≡ []) };
+}
+
+impl Lane {
+    /// A lane for one endpoint of so many, with batches of `b` slots and windows of `g` rounds. After it only
+    /// [`record`](Lane::record) takes memory.
+    pub fn open(
+        alloc: Global,
+        endpoint: u16,
+        endpoints: u16,
+        b: u8,
+        g: u8,
+    ) -> Result<Lane, NoMemory>
+        requires endpoint { endpoint < endpoints }
+        requires endpoints { endpoints ≤ 256 }
+        requires some_slot { 1 ≤ b }
+        requires most_slots { b ≤ 64 }
+        requires some_round { 1 ≤ g }
+        requires most_rounds { g ≤ 16 }
+        ensures endpoint { IfOk result (λ lane. lane.endpoint ≡ endpoint) }
+        ensures endpoints { IfOk result (λ lane. lane.endpoints ≡ endpoints) }
+        ensures b { IfOk result (λ lane. lane.b ≡ b) }
+        ensures g { IfOk result (λ lane. lane.g ≡ g) }
+        ensures is_made { IfOk result (λ lane. lane.is_made ≡ false) }
+        ensures stands { IfOk result (λ lane. StandsFor lane [] []) }
+    {
+        Ok(Lane {
+            endpoint,
+            endpoints,
+            b,
+            g,
+            epoch: 0,
+            version: FIRST_VERSION,
+            last_reset: 0,
+            arrived: TakeWindow::new(FIRST_VERSION),
+            sent: SendWindow::open(alloc, FIRST_VERSION)?,
+            lines: vec![in alloc; Line::new(); endpoints as usize]?,
+            round: 0,
+            is_made: false,
+            is_reset: false,
+            has_risen: false,
+            up: Up::default(),
+            found: ArrayVec::new(),
+        })
+    }
+
+    /// Makes the allocation of this round at the front of `buf`, and answers its length, None where no reset has arrived. `told`
+    /// are the endpoint's slots of the batch of two windows before.
+    pub fn make_down(
+        &mut self,
+        round: u32,
+        told: &ArrayVec<Told, 64>,
+        buf: &mut [u8; 2048],
+    ) -> Option<usize>
+        // Each round's packet is made once and then the round is recorded, from round 0 on: so it is the round that is next.
+        requires round { round ≡ self.old.round }
+        requires rounds { round < 100000 }
+        requires once { self.old.is_made ≡ false }
+        // An endpoint's slots of one batch are such; in the first two windows there are none.
+        requires slots { AreSlots self.old.endpoints self.old.b self.old.endpoint told.now.items }
+        // Slots are counted by `allocated` before they are told; `conditions_suffice` shows that this follows.
+        requires allocated { AreAllocated self.old round told.now.items }
+        ensures none { IsNone result ↔ (self.old.epoch ≡ 0) }
+        ensures packet { (history : LaneHistory) (allocations : List Allocation) →
+            StandsFor self.old history allocations →
+            option_map (λ length. take length buf.new) result ≡ option_map (λ packet. down_bytes (framed_down self.old.endpoint packet)) (packet_down self.old.g history round told.now.items) }
+        ensures spelled { (history : LaneHistory) (allocations : List Allocation) →
+            StandsFor self.old history allocations →
+            IfSome (packet_down self.old.g history round told.now.items) (λ packet. SpellsDown self.old.endpoints self.old.b (take (unwrap_or result 0) buf.new) (framed_down self.old.endpoint packet)) }
+        ensures room { unwrap_or result 0 ≤ 2048 }
+        ensures rest { drop (unwrap_or result 0) buf.new ≡ drop (unwrap_or result 0) buf.old }
+        ensures frame { self.new ≡ record self.old { sent = self.new.sent; lines = self.new.lines; has_risen = self.new.has_risen; is_made = true } }
+        ensures stands { (history : LaneHistory) (allocations : List Allocation) →
+            StandsFor self.old history allocations →
+            StandsFor self.new (MakesDown round told.now.items ∷ history) allocations }
+    {
+        lanes_count_slots();
+        let told = self.slots_told(round, told);
+        let mut down = self.header();
+        self.is_made = true;
+        if self.epoch == 0 {
+            return None;
+        }
+        let batch = round.saturating_sub(2 * u32::from(self.g));
+        let loses = tell(&mut self.sent, &mut self.lines, batch, told, &mut down);
+        self.has_risen |= loses;
+        Some(encode_alloc(&down, buf))
+    }
+
+    /// Takes what arrives in this round. After `OldSeq` and `Repeat` the acknowledgement was read; any other refusal leaves
+    /// the lane as it was.
+    pub fn take_up(&mut self, round: u32, bytes: &[u8]) -> Result<(), UpRefused>
+        // It is called between the `make_down` and the `record` of its round; of the bytes nothing is asked.
+        requires round { round ≡ self.old.round }
+        ensures answer { (history : LaneHistory) (allocations : List Allocation) →
+            StandsFor self.old history allocations →
+            result_err result ≡ refusal_of self.old.endpoint self.old.endpoints history bytes.now }
+        ensures unchanged { IfSome (result_err result) (λ refusal.
+            refusal ≢ UpRefused.OldSeq → refusal ≢ UpRefused.Repeat → self.new ≡ self.old) }
+        ensures kept { IfSome (result_err result) (λ refusal.
+            self.new ≡ record self.old { sent = self.new.sent; lines = self.new.lines; has_risen = self.new.has_risen }) }
+        ensures endpoint { self.new.endpoint ≡ self.old.endpoint }
+        ensures endpoints { self.new.endpoints ≡ self.old.endpoints }
+        ensures b { self.new.b ≡ self.old.b }
+        ensures g { self.new.g ≡ self.old.g }
+        ensures round { self.new.round ≡ self.old.round }
+        ensures is_made { self.new.is_made ≡ self.old.is_made }
+        ensures stands { IsOwn self.old.endpoint self.old.endpoints bytes.now →
+            (history : LaneHistory) (allocations : List Allocation) →
+            StandsFor self.old history allocations →
+            StandsFor self.new (TakesUp round (up_packet (up_of bytes.now)) ∷ history) allocations }
+    {
+        lanes_count_slots();
+        if let Err(refusal) = decode_up(bytes, self.endpoints, &mut self.up) {
+            return Err(UpRefused::Frame(refusal));
+        }
+        if self.up.src != self.endpoint {
+            return Err(UpRefused::NotMine);
+        }
+        if self.up.epoch < self.epoch {
+            return Err(UpRefused::OldEpoch);
+        }
+        if self.up.epoch > self.epoch {
+            if !self.up.reset {
+                return Err(UpRefused::Unsynced);
+            }
+            let epoch = self.up.epoch;
+            let version = self.up.version;
+            self.begin(epoch, version);
+            return Ok(());
+        }
+        if self.up.version != self.version {
+            return Err(UpRefused::OtherVersion);
+        }
+        if self.up.reset {
+            return Ok(());
+        }
+        let loses = read_ack(&self.up, &mut self.sent, &mut self.found, &mut self.lines);
+        self.has_risen |= loses;
+        match self.arrived.take(self.up.seq) {
+            Taken::Fresh => {
+                let rises = flows::raise(&mut self.lines, self.up.demands.as_slice());
+                self.has_risen |= rises;
+                Ok(())
+            }
+            Taken::Repeat => Err(UpRefused::Repeat),
+            Taken::Old => Err(UpRefused::OldSeq),
+        }
+    }
+
+    /// Records this round: appends the entries of the flows that have risen, or whose demand starts again. The last flow of
+    /// `batch` has a lower source. After `NoMemory` lane and batch are only to be dropped.
+    pub fn record(&mut self, round: u32, batch: &mut Batch) -> Result<(), NoMemory>
+        // As in `make_down`.
+        requires round { round ≡ self.old.round }
+        requires rounds { round < 100000 }
+        requires above { IsAboveLast batch.old.entries (record { src = self.old.endpoint; dst = 0 }) }
+        ensures entries { OnOk result ((history : LaneHistory) (allocations : List Allocation) →
+            StandsFor self.old history allocations →
+            batch.new.entries ≡ batch.old.entries ++ filter_map (entry_of self.old.endpoint self.old.g history) (range_with_len 0 self.old.endpoints)) }
+        ensures limits { batch.new.limits ≡ batch.old.limits }
+        ensures frame { OnOk result (self.new ≡ record self.old { lines = self.new.lines; has_risen = false; is_reset = false; is_made = false; round = round + 1 }) }
+        ensures stands { OnOk result ((history : LaneHistory) (allocations : List Allocation) →
+            StandsFor self.old history allocations →
+            StandsFor self.new (Records round ∷ history) allocations) }
+    {
+        flows::record(
+            &mut self.lines,
+            self.endpoint,
+            self.has_risen,
+            self.is_reset,
+            batch,
+        )?;
+        self.has_risen = false;
+        self.is_reset = false;
+        self.is_made = false;
+        self.round = round + 1;
+        Ok(())
+    }
+
+    /// Counts `n` slots of the flow to `dst` in a batch that is published. A batch below the last reset is passed over.
+    pub fn allocated(&mut self, dst: u16, batch: u32, n: u32)
+        requires destination { dst < self.old.endpoints }
+        // The batch was recorded: so many were.
+        requires recorded { batch < self.old.round }
+        // Of a batch that is not passed over no more slots are allocated than are pending.
+        requires pending { self.old.last_reset ≤ batch → (line : LineOf) → slice_get self.old.lines dst ≡ Some line → n ≤ pending line.count }
+        ensures frame { self.new ≡ record self.old { lines = self.new.lines } }
+        ensures stands { (history : LaneHistory) (allocations : List Allocation) →
+            StandsFor self.old history allocations →
+            StandsFor self.new history (record { dst = dst; batch = batch; slots = n } ∷ allocations) }
+    {
+        if batch >= self.last_reset {
+            self.lines[dst as usize].count.allocate(n);
+        }
+    }
+
+    /// The counts of the flow to `dst` since the last reset, None where no batch has it.
+    pub fn count(&self, dst: u16) -> Option<FlowCount>
+        requires { dst < self.now.endpoints }
+        ensures opened { (history : LaneHistory) (allocations : List Allocation) →
+            StandsFor self.now history allocations →
+            (IsSome result ↔ (had self.now.g history dst ≡ true)) }
+        ensures line { (line : LineOf) → slice_get self.now.lines dst ≡ Some line → IfSome result (λ count. count ≡ line.count) }
+        ensures counts { IfSome result (λ count. (history : LaneHistory) (allocations : List Allocation) →
+            StandsFor self.now history allocations →
+            (count.demanded ≡ recorded history dst) × (count.allocated ≡ allocated history allocations dst)
+            × (count.acknowledged ≡ acknowledged self.now.g history dst) × (count.lost ≡ lost self.now.g history dst)) }
+    {
+        let line = &self.lines[dst as usize];
+        if line.opened { Some(line.count) } else { None }
+    }
+
+    /// The epoch of the last reset, 0 where none has arrived.
+    pub fn epoch(&self) -> u32
+        ensures { result ≡ self.now.epoch }
+    {
+        self.epoch
+    }
+
+    /// The slots that are told: none of a batch that was recorded before the last reset.
+    fn slots_told<'a>(&self, round: u32, told: &'a ArrayVec<Told, 64>) -> &'a [Told]
+        ensures slots { result.now ≡ slots_told self.now round told.now.items }
+        ensures few { length result.now ≤ 64 }
+    {
+        let windows = 2 * u32::from(self.g);
+        if round >= windows && round - windows >= self.last_reset {
+            told.as_slice()
+        } else {
+            &[]
+        }
+    }
+
+    /// An allocation of the connection as it is, which tells nothing under no number.
+    fn header(&self) -> Down
+        ensures header { result ≡ packet_with self.now 0 0 [] }
+        ensures mask { IsMask result.high result.mask }
+        ensures width { result.mask < 2 ^ mask_bits result.version }
+    {
+        let (high, mask) = self.arrived.ack();
+        Down {
+            version: self.version,
+            dst: self.endpoint,
+            epoch: self.epoch,
+            high,
+            mask,
+            ..Down::default()
+        }
+    }
+
+    /// Begins the connection of a reset of a greater epoch.
+    fn begin(&mut self, epoch: u32, version: u8)
+        requires epoch { self.old.epoch < epoch }
+        requires version { IsVersion version }
+        ensures frame { self.new ≡ record self.old {
+          epoch = epoch;
+          version = version;
+          last_reset = self.old.round;
+          arrived = self.new.arrived;
+          sent = self.new.sent;
+          lines = self.new.lines;
+          is_reset = true;
+          has_risen = false;
+        } }
+        ensures stands { (history : LaneHistory) (allocations : List Allocation) →
+            StandsFor self.old history allocations →
+            StandsFor self.new (TakesUp self.old.round (Resets epoch version) ∷ history) allocations }
+    {
+        lanes_count_slots();
+        self.epoch = epoch;
+        self.version = version;
+        self.last_reset = self.round;
+        self.is_reset = true;
+        self.has_risen = false;
+        self.arrived = TakeWindow::new(version);
+        self.sent.restart(version);
+        flows::restart(&mut self.lines);
+    }
+}
+
+/// Reads the acknowledgement that a request carries, and counts the slots in the numbers that it decides. Answers whether some
+/// are lost. `found` is empty again.
+fn read_ack(
+    up: &Up,
+    sent: &mut SendWindow<Telling>,
+    found: &mut ArrayVec<Decided<Telling>, 129>,
+    lines: &mut [Line],
+) -> bool
+    requires empty { found.old.items ≡ [] }
+    requires stands { (events : List (Event TellingOf)) × HasDone sent.old events }
+    requires destinations { All (λ (number : UnresolvedNumber TellingOf). All (λ (slot : ToldSlot). slot.dst < length lines.old) number.content.told) sent.old.outstanding.unresolved }
+    requires in_flight { AreInFlight (λ dst. open_to dst sent.old) lines.old }
+    ensures empty { found.new.items ≡ [] }
+    ensures lines { (events : List (Event TellingOf)) →
+        HasDone sent.old events →
+        Become (λ dst. DecidesSlots
+        (slots_shown (decided_by (reorder_of sent.old.version) (span_of sent.old.version) events (acknowledgement_in up.now)) dst)
+        (slots_lost (decided_by (reorder_of sent.old.version) (span_of sent.old.version) events (acknowledgement_in up.now)) dst)) lines.old lines.new }
+    ensures none_lost { result ≡ false → (events : List (Event TellingOf)) →
+        HasDone sent.old events →
+        (dst : ℕ) → slots_lost (decided_by (reorder_of sent.old.version) (span_of sent.old.version) events (acknowledgement_in up.now)) dst ≡ 0 }
+    ensures sent { (events : List (Event TellingOf)) →
+        HasDone sent.old events →
+        HasDone sent.new (Reads (acknowledgement_in up.now) ∷ events) }
+    ensures newest { sent.new.outstanding.newest ≡ sent.old.outstanding.newest }
+    ensures version { sent.new.version ≡ sent.old.version }
+{
+    readings_move_what_they_decide::<Telling>();
+    sent.read_ack(up.high, up.mask, found);
+    let lost = flows::decide(lines, found.as_slice());
+    found.clear();
+    lost
+}

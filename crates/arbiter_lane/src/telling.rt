@@ -1,0 +1,85 @@
+//! What is told under a number.
+ghost use Rattle.std.specs.Prelude.{◌≡◌, ◌<◌, ◌≤◌, ◌+◌, ◌^◌, ℕ, List, [], length, All, Some, false, if◌then◌else◌};
+ghost use Rattle.fcp_framing.specs.declared.packet.Told.{Told as ToldSlot};
+ghost use Rattle.ack_window.specs.Sends.{Event, newest_content};
+ghost use Rattle.ack_window.specs.Windows.{HasDone};
+ghost use Rattle.endpoint_history.specs.Packets.{Telling as TellingOf, slots_to};
+ghost use Rattle.arbiter_lane.specs.State.{AreInFlight};
+ghost use Rattle.arbiter_lane.specs.Lines.{Become, LosesSlots};
+ghost use Rattle.arbiter_lane.specs.Parts.{may_tell, events_after, lost_by};
+
+use crate::flows;
+use crate::line::Line;
+use ack_window::SendWindow;
+use arrayvec::ArrayVec;
+use fcp_framing::{Down, Told};
+use std::marker::Model;
+
+/// An endpoint's slots of a batch, as they were told under a number. Clauses see the batch and the list of slots.
+#[derive(Debug, Default, Drop)]
+pub struct Telling {
+    pub(crate) batch: u32,
+    pub(crate) told: ArrayVec<Told, 64>,
+}
+
+impl Model for Telling {
+    ghost use Rattle.endpoint_history.specs.Packets.{Telling as TellingOf};
+
+    ghost Value = { TellingOf };
+
+    ghost view = { λ telling. record { batch = telling.batch; told = telling.told.items } };
+}
+
+/// Tells the slots of a batch under a new number, or takes them for lost where none may be sent. Writes the newest number, with
+/// what goes with it, into `down`, and answers whether slots are lost.
+pub(crate) fn tell(
+    sent: &mut SendWindow<Telling>,
+    lines: &mut [Line],
+    batch: u32,
+    told: &[Told],
+    down: &mut Down,
+) -> bool
+    requires few { length told.now ≤ 64 }
+    requires numbers_left { sent.old.outstanding.newest + 1 < 2 ^ 32 }
+    requires destinations { All (λ (slot : ToldSlot). slot.dst < length lines.old) told.now }
+    requires in_flight { AreInFlight (λ dst. slots_to dst told.now) lines.old }
+    ensures sent { (events : List (Event TellingOf)) →
+        HasDone sent.old events →
+        HasDone sent.new (events_after sent.old (record { batch = batch; told = told.now }) events) }
+    ensures newest { sent.new.outstanding.newest ≡ sent.old.outstanding.newest + (if may_tell sent.old then 1 else 0) }
+    ensures version { sent.new.version ≡ sent.old.version }
+    ensures lines { Become (λ dst. LosesSlots (lost_by sent.old told.now dst)) lines.old lines.new }
+    ensures none_lost { result ≡ false → (dst : ℕ) → lost_by sent.old told.now dst ≡ 0 }
+    ensures content { (events : List (Event TellingOf)) →
+        HasDone sent.old events →
+        newest_content (events_after sent.old (record { batch = batch; told = told.now }) events) ≡ Some (record { batch = down.new.batch; told = down.new.told.items }) }
+    ensures few { length down.new.told.items ≤ 64 }
+    ensures down { down.new ≡ record down.old { seq = sent.new.outstanding.newest; batch = down.new.batch; told = down.new.told } }
+{
+    if sent.may_send() {
+        down.batch = batch;
+        down.told = list_of(told);
+        down.seq = sent.push(Telling {
+            batch,
+            told: list_of(told),
+        });
+        return false;
+    }
+    flows::lose(lines, told);
+    let (number, telling) = sent.newest();
+    down.seq = number;
+    down.batch = telling.batch;
+    down.told = list_of(telling.told.as_slice());
+    !told.is_empty()
+}
+
+fn list_of(told: &[Told]) -> ArrayVec<Told, 64>
+    requires { length told.now ≤ 64 }
+    ensures { result.items ≡ told.now }
+{
+    let mut list = ArrayVec::new();
+    for slot in told {
+        list.push(*slot);
+    }
+    list
+}

@@ -1,0 +1,14 @@
+mod Bare
+mod Calls
+mod Confirmed
+mod Due
+mod Ends
+mod Making
+mod Members
+mod Naming
+mod Packets
+mod Sound
+mod Taking
+mod Timely
+mod Totals
+mod Walking

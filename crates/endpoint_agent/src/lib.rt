@@ -1,0 +1,16 @@
+//! The agent of one endpoint: it asks the arbiter for slots, and sends in those that it is told in time.
+#![tactic(auto)]
+
+mod agent;
+mod laws;
+mod lines;
+mod refusal;
+
+pub use agent::Agent;
+pub use laws::timely_allocations_may_be_taken;
+pub use lines::{FlowLine, Sent};
+pub use no_memory::NoMemory;
+pub use refusal::DownRefused;
+
+#[cfg(test)]
+mod tests;

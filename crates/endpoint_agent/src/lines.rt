@@ -1,0 +1,114 @@
+//! What an agent keeps of each flow.
+ghost use Rattle.std.specs.Prelude.{◌≡◌, ◌<◌, ◌≤◌, ◌+◌, ◌^◌, ◌==◌, ◌++◌, List, [], ◌∷◌, ℕ, All, length, count_by, nat_lt, if◌then◌else◌};
+ghost use Rattle.endpoint_history.specs.Packets.{slots_to};
+ghost use Rattle.endpoint_history.specs.Sending.{Slot, sent_of};
+ghost use Rattle.endpoint_agent.specs.State.{line_at};
+ghost use Rattle.endpoint_agent.specs.Lines.{slots_sent, with_missed, with_sent, unconfirmed_in, slots_after, left_in};
+
+use arrayvec::ArrayVec;
+use fcp_framing::{Demand, Told};
+
+/// A slot in which the endpoint sends, and where to.
+#[derive(Clone, Copy, Debug, Default, PartialEq, Eq)]
+pub struct Sent {
+    pub slot: u32,
+    pub dst: u16,
+}
+
+/// The slots of one flow: asked for, sent in and missed; and the first request that may carry their total, 0 where it is 0.
+/// Clauses see these of an [`Agent`](crate::Agent).
+#[derive(Clone, Copy, Debug, Default)]
+pub struct FlowLine {
+    pub asked: u32,
+    pub sent: u32,
+    pub missed: u32,
+    pub carried_from: u32,
+}
+
+/// Appends every flow whose total no request up to `acknowledged` carries; where all may be carried by then, no line is read.
+pub(crate) fn name_unconfirmed(
+    lines: &[FlowLine],
+    acknowledged: u32,
+    carried_from: u32,
+    demands: &mut ArrayVec<Demand, 255>,
+)
+    requires empty { demands.old.items ≡ [] }
+    requires most { length lines.now ≤ 256 }
+    requires totals { All (λ line. line.asked + line.missed ≤ 200000000) lines.now }
+    requires own { (me : ℕ) × (me < length lines.now) × ((line_at lines.now me).carried_from ≡ 0) }
+    requires reach { (dst : ℕ) → (line_at lines.now dst).carried_from ≤ carried_from }
+    ensures { demands.new.items ≡ unconfirmed_in acknowledged (length lines.now) lines.now }
+{
+    if carried_from <= acknowledged {
+        return;
+    }
+    for (dst, line) in lines.iter().enumerate() {
+        name_flow(dst as u16, line, acknowledged, demands);
+    }
+}
+
+/// Appends the flow where its total is not confirmed.
+fn name_flow(dst: u16, line: &FlowLine, acknowledged: u32, demands: &mut ArrayVec<Demand, 255>)
+    requires total { line.now.asked + line.now.missed ≤ 200000000 }
+    requires room { acknowledged < line.now.carried_from → length demands.old.items < 255 }
+    ensures { demands.new.items ≡ demands.old.items ++ (if nat_lt acknowledged line.now.carried_from
+        then record { dst = dst; total = line.now.asked + line.now.missed } ∷ [] else []) }
+{
+    if acknowledged < line.carried_from {
+        demands.push(Demand {
+            dst,
+            total: line.asked + line.missed,
+        });
+    }
+}
+
+/// Counts each slot as missed. The next request is the first that may carry the totals.
+pub(crate) fn miss_all(lines: &mut [FlowLine], told: &[Told], next: u32)
+    requires destinations { All (λ t. t.dst < length lines.old) told.now }
+    requires room { All (λ line. line.missed + length told.now < 2 ^ 32) lines.old }
+    ensures length { length lines.new ≡ length lines.old }
+    ensures missed { (dst : ℕ) → line_at lines.new dst ≡ with_missed next (slots_to dst told.now) (line_at lines.old dst) }
+{
+    for slot in told {
+        let line = &mut lines[slot.dst as usize];
+        line.missed += 1;
+        line.carried_from = next;
+    }
+}
+
+/// Sends in each slot whose flow has more slots asked for than were sent in.
+pub(crate) fn send_all(
+    lines: &mut [FlowLine],
+    told: &[Told],
+    first_slot: u32,
+    into: &mut ArrayVec<Sent, 64>,
+)
+    requires destinations { All (λ t. t.dst < length lines.old) told.now }
+    requires slots { first_slot + 256 ≤ 2 ^ 32 }
+    requires room { length into.old.items + length told.now ≤ 64 }
+    ensures length { length lines.new ≡ length lines.old }
+    ensures sent { slots_sent into.new.items ≡ slots_sent into.old.items ++ sent_of (left_in lines.old) (slots_after first_slot told.now) }
+    ensures counted { (dst : ℕ) → line_at lines.new dst
+        ≡ with_sent (count_by (λ (s : Slot). s.dst == dst) (sent_of (left_in lines.old) (slots_after first_slot told.now))) (line_at lines.old dst) }
+{
+    for slot in told {
+        send_one(
+            &mut lines[slot.dst as usize],
+            first_slot + u32::from(slot.offset),
+            slot.dst,
+            into,
+        );
+    }
+}
+
+/// Sends in the slot where more slots are asked for than were sent in.
+fn send_one(line: &mut FlowLine, slot: u32, dst: u16, into: &mut ArrayVec<Sent, 64>)
+    requires room { length into.old.items < 64 }
+    ensures sent { into.new.items ≡ into.old.items ++ (if nat_lt line.old.sent line.old.asked then record { slot = slot; dst = dst } ∷ [] else []) }
+    ensures line { line.new ≡ with_sent (if nat_lt line.old.sent line.old.asked then 1 else 0) line.old }
+{
+    if line.sent < line.asked {
+        line.sent += 1;
+        into.push(Sent { slot, dst });
+    }
+}
