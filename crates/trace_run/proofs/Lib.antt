@@ -1,0 +1,17 @@
+pub mod Allocations
+pub mod Apart
+pub mod Applicable
+pub mod Asked
+pub mod Counts
+pub mod Examples
+pub mod Fronts
+pub mod Named
+pub mod Recorded
+pub mod Rest
+pub mod Rows
+pub mod Sends
+pub mod Shown
+pub mod Through
+pub mod ToldOf
+pub mod ToldRules
+pub mod Windows

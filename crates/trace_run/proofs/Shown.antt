@@ -1,0 +1,63 @@
+-- All of it.
+use Rattle.std.proofs.Common.{◌≡◌, ◌<◌, ◌≤◌, ◌+◌, ◌-◌, ◌*◌, ℕ, suc, List, [], ◌∷◌, length, replicate, All, ◌∙◌, ap, subst, arith}
+use Rattle.std.proofs.lemmas.List.{length-append, length-replicate}
+use Rattle.std.proofs.lemmas.List.Elements.{All-head, All-tail, All-append, All-replicate}
+use Rattle.greedy_rules.specs.declared.limits.Limits.{Limits}
+use Rattle.greedy_rules.specs.Batches.{DemandBatch}
+use Rattle.greedy_rules.specs.Limits.{is_barred}
+use Rattle.greedy_rules.specs.Matching.{IsMaximal, EverySlotIsAMaximalMatching, EverySlotKeepsTheLimits}
+use Rattle.greedy_rules.specs.Schedule.{schedule, slot_limits, limits_at, slot_at, need_before}
+use Rattle.trace_run.specs.Run.{replayed}
+use Rattle.trace_run.specs.Applicable.{EveryRunIsApplicable, EverySlotIsOfTheRun}
+use Rattle.trace_run.specs.Counts.{EveryFlowIsCounted, AddsAreDemandedAndLost}
+use Rattle.trace_run.specs.Sends.{EverySendIsScheduled, NoSlotIsSentTwice}
+use Rattle.trace_run.specs.Shown.{EveryReplayShows}
+use Rattle.trace_run.specs.Premises.{Schedules}
+use Rattle.trace_run.proofs.Fronts.{length-schedule, run_length}
+
+-- ---- the limits of a slot are those of all batches
+
+limits_are : (b : ℕ) (limits : Limits) (batches : List DemandBatch) → All (λ (x : DemandBatch). x.limits ≡ limits) batches → All (λ (l : Limits). l ≡ limits) (slot_limits b batches)
+limits_are b limits [] same = λ i d below. absurd (omega arith)
+limits_are b limits (batch ∷ batches) same =
+    let P : DemandBatch → Type 0 = λ x. x.limits ≡ limits in
+    All-append (λ (l : Limits). l ≡ limits) (replicate b batch.limits) (slot_limits b batches) (All-replicate (λ (l : Limits). l ≡ limits) b batch.limits (All-head P batch batches same))
+    (limits_are b limits batches (All-tail P batch batches same))
+
+times_more : (n b : ℕ) → suc n * b ≡ b + n * b
+times_more n b = grind arith
+
+limits-length : (b : ℕ) (batches : List DemandBatch) → length (slot_limits b batches) ≡ length batches * b
+limits-length b [] = let none : 0 ≡ 0 * b = omega arith in none
+limits-length b (batch ∷ batches) =
+    omega (arith, length-append (replicate b batch.limits) (slot_limits b batches), length-replicate b batch.limits, limits-length b batches, times_more (length batches) b)
+
+limits_here : (b : ℕ) (limits : Limits) (batches : List DemandBatch) → All (λ (x : DemandBatch). x.limits ≡ limits) batches →
+    (number : ℕ) → 0 < number → number ≤ length batches * b → limits_at b batches number ≡ limits
+limits_here b limits batches same number above within =
+    let long = limits-length b batches in
+    limits_are b limits batches same (number - 1) (record { hosts = 0; cores = 0 }) (omega arith)
+
+pub every_replay_shows : Schedules → EverySlotIsAMaximalMatching → EverySlotKeepsTheLimits → EveryRunIsApplicable → EverySlotIsOfTheRun
+    → EverySendIsScheduled → NoSlotIsSentTwice → EveryFlowIsCounted → AddsAreDemandedAndLost → EveryReplayShows
+every_replay_shows s maximal keeps applicable in_run scheduled once counted adds setting some rounds =
+    let batches = (replayed setting rounds).batches in
+    let count = run_length setting rounds in
+    let size : length batches * setting.b ≡ rounds * setting.b = ap (λ (n : ℕ). n * setting.b) count in
+    let long = length-schedule s setting.b batches in
+    let same = (applicable setting rounds).same_limits in
+    record {
+      batches = count;
+      slots = long ∙ size;
+      in_range = in_run setting rounds;
+      matching = λ number above within. (maximal setting.b batches number above (omega arith)).matching;
+      maximal = λ number above within.
+          subst (λ (l : Limits). IsMaximal (is_barred l) (need_before setting.b batches number) (slot_at (schedule setting.b batches) number))
+          (limits_here setting.b setting.limits batches same number above (omega arith))
+          (maximal setting.b batches number above (omega arith)).maximal;
+      keeps = keeps setting.b setting.limits batches same;
+      scheduled = λ endpoint sent among. scheduled setting some rounds rounds endpoint (omega arith) sent among;
+      once = λ endpoint slot. once setting some rounds endpoint slot;
+      counted = λ src dst low high. counted setting some rounds src dst low high;
+      added = λ src dst low high. adds setting rounds src dst low high;
+    }

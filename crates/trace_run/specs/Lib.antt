@@ -1,0 +1,14 @@
+pub mod Allocations
+pub mod Applicable
+pub mod Counts
+pub mod Examples
+pub mod Fronts
+pub mod Histories
+pub mod Premises
+pub mod Recorded
+pub mod Rest
+pub mod Run
+pub mod Sends
+pub mod Shown
+pub mod Told
+pub mod Windows
