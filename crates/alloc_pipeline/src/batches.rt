@@ -13,7 +13,8 @@ ghost use Rattle.alloc_pipeline.specs.Allocated.{sources_below};
 
 use greedy_rules::{Batch, DemandList, Item, SlotTable};
 use slot_batches::{
-    Stage, early_pieces_are_of_the_list, every_batch_leaves_a_list, lists_may_be_fed,
+    Stage, early_pieces_are_of_the_list, every_batch_leaves_a_list, idle_lists_stay,
+    lists_may_be_fed,
 };
 
 /// Feeds the stage, which has begun the batch, the whole list.
@@ -102,9 +103,20 @@ fn take_list(stage: &mut Stage, list: &mut DemandList)
     }
 }
 
-/// Greedy allocation of one batch by the stage, whose pieces bear `number`: the list is then the one that the batch leaves, and
-/// the batch's slots stand in `out` from place `from` on. Takes no memory.
-pub(crate) fn allocate_batch(
+/// Whether no item needs a slot.
+fn needs_none(list: &DemandList) -> bool
+    ensures { result ≡ true → All (λ item. item.need ≡ 0) list.now.items }
+{
+    for at in 0..list.len() {
+        if list.item(at).need > 0 {
+            return false;
+        }
+    }
+    true
+}
+
+/// Allocates a batch in which something may happen.
+fn serve_batch(
     stage: &mut Stage,
     list: &mut DemandList,
     batch: &Batch,
@@ -136,4 +148,39 @@ pub(crate) fn allocate_batch(
     stage.finish(batch);
     copy_slots(stage.slots(), out, from);
     take_list(stage, list);
+}
+
+/// Greedy allocation of one batch by the stage, whose pieces bear `number`: the list is then the one that the batch leaves, and
+/// the batch's slots stand in `out` from place `from` on. Takes no memory.
+pub(crate) fn allocate_batch(
+    stage: &mut Stage,
+    list: &mut DemandList,
+    batch: &Batch,
+    number: u32,
+    first_slot: u32,
+    from: u16,
+    out: &mut SlotTable,
+)
+    requires endpoints { endpoints_of stage.old ≡ out.old.endpoints }
+    requires first { 1 ≤ first_slot }
+    requires numbers { first_slot + batch_size_of stage.old ≤ 2 ^ 32 }
+    requires before { IsListBefore first_slot list.old.items }
+    requires opens { OpensNewFlows batch.now.entries list.old.items }
+    requires in_range { AreBelow (endpoints_of stage.old) (list.old.items ++ opened batch.now.entries) }
+    requires needs { All (λ item. need_with (entry_of batch.now.entries item.flow) item.need < 2 ^ 32) list.old.items }
+    requires room { length (opened batch.now.entries) ≤ list.old.spare }
+    requires places { from + batch_size_of stage.old ≤ length out.old.slots }
+    requires empty { drop from out.old.slots ≡ replicate (length out.old.slots - from) [] }
+    ensures stage_endpoints { endpoints_of stage.new ≡ endpoints_of stage.old }
+    ensures size { batch_size_of stage.new ≡ batch_size_of stage.old }
+    ensures list { list.new.items ≡ list_after_slots (is_barred batch.now.limits) first_slot (batch_size_of stage.old) (after_batch batch.now.entries list.old.items) }
+    ensures spare { length list.new.items + list.new.spare ≡ length list.old.items + list.old.spare }
+    ensures slots { out.new.slots ≡ (take from out.old.slots ++ batch_slots (is_barred batch.now.limits) first_slot (batch_size_of stage.old) (after_batch batch.now.entries list.old.items)) ++ replicate (length out.old.slots - (from + batch_size_of stage.old)) [] }
+    ensures endpoints { out.new.endpoints ≡ out.old.endpoints }
+{
+    if batch.is_empty() && needs_none(list) {
+        idle_lists_stay();
+        return;
+    }
+    serve_batch(stage, list, batch, number, first_slot, from, out);
 }
