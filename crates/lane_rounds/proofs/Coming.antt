@@ -1,0 +1,173 @@
+-- What an agent asks of the allocations that it hears follows from how a lane makes them, whatever packets are forged upward.
+use Rattle.std.proofs.Common.{◌≡◌, ◌≢◌, ◌⊎◌, ℕ, ◌+◌, ◌*◌, ◌<◌, ◌≤◌, Bool, true, false, cond, ◌&&◌, ◌==◌, List, [], ◌∷◌, ◌++◌, filter, sym, ◌∙◌, ap, subst, refl, inl, inr, arith, mul-le-mul_right, mul-le-mul_left}
+use Rattle.std.specs.List.{flat_map}
+use Rattle.std.proofs.lemmas.Bool.{cases_Bool, and_parts, eqb-true, lt-leb}
+use Rattle.list_facts.specs.Order.{sort_by}
+use Rattle.ack_window.specs.Arrivals.{receive_verdict, is_fresh, is_taken}
+use Rattle.ack_window.specs.Laws.{EachIsTakenOnce, TakingIsForGood}
+use Rattle.ack_window.specs.Versions.{reorder_of}
+use Rattle.ack_window.specs.declared.take_window.Taken.{Taken}
+use Rattle.ack_window.specs.declared.take_window.Taken.TheVariants.{Fresh, Repeat, Old}
+use Rattle.fcp_framing.specs.declared.packet.Told.{Told}
+use Rattle.endpoint_history.specs.Packets.{DownPacket, UpPacket, slots_to}
+use Rattle.endpoint_history.specs.Agent.{AgentHistory, Boots, Asks, TakesDown, MakesUp, SendsDue, TakenDown, taken, takes, is_current, arrived, version_of, is_in_time, missed}
+use Rattle.endpoint_history.specs.AgentLaws.{TakingBringsSlots}
+use Rattle.endpoint_history.specs.Bounds.{TakenIsFew}
+use Rattle.endpoint_history.specs.ForgedLaws.{ComesAfterTwoWindows, OneNumberForABatch}
+use Rattle.endpoint_history.specs.Lane.{LaneEvent, LaneHistory, MakesDown, TakesUp, Records}
+use Rattle.endpoint_history.specs.Rounds.{then_each}
+use Rattle.endpoint_history.specs.Sending.{Slot, slots_of, due}
+use Rattle.endpoint_history.specs.Steps.{Step, OfAgent, OfLane, agent_of, lane_of, WasMadeDown, rounds_begun, RoundsRise, ArrivesFromLane}
+use Rattle.endpoint_history.specs.Tellings.{Among, ToldWithin, ToldRises}
+use Rattle.lane_rounds.specs.Parts.{MayHear}
+
+-- ---- what was taken was made, and its number was taken
+
+made-later : (g : ℕ) (event : LaneEvent) (history : LaneHistory) (packet : DownPacket) → WasMadeDown g history packet → WasMadeDown g (event ∷ history) packet
+made-later g (MakesDown round told) history packet made = inr made
+made-later g (TakesUp round up) history packet made = made
+made-later g (Records round) history packet made = made
+
+taken-made : (g : ℕ) (steps : List Step) → ArrivesFromLane g steps → (t : TakenDown) → Among t (taken (agent_of steps)) → WasMadeDown g (lane_of steps) t.packet
+taken-made g [] arrives t among = absurd among
+taken-made g (OfLane event ∷ steps) arrives t among = made-later g event (lane_of steps) t.packet (taken-made g steps arrives t among)
+taken-made g (OfAgent (Boots version) ∷ steps) arrives t among = absurd among
+taken-made g (OfAgent (Asks to slots) ∷ steps) arrives t among = taken-made g steps arrives t among
+taken-made g (OfAgent MakesUp ∷ steps) arrives t among = taken-made g steps arrives t among
+taken-made g (OfAgent (SendsDue round) ∷ steps) arrives t among = taken-made g steps arrives t among
+taken-made g (OfAgent (TakesDown round packet) ∷ steps) arrives t among =
+    let one : TakenDown = record { round = round; packet = packet } in
+    elim (cases_Bool (takes (agent_of steps) packet)) [
+      | inl on ↦
+          elim (subst (λ (b : Bool). Among t (cond b (one ∷ taken (agent_of steps)) (taken (agent_of steps)))) on among) [
+            | inl same ↦ subst (λ (x : TakenDown). WasMadeDown g (lane_of steps) x.packet) same arrives.0
+            | inr earlier ↦ taken-made g steps arrives.2 t earlier
+          ]
+      | inr off ↦ taken-made g steps arrives.2 t (subst (λ (b : Bool). Among t (cond b (one ∷ taken (agent_of steps)) (taken (agent_of steps)))) off among)
+    ]
+
+fresh_is : (t : Taken) → is_fresh t ≡ true → t ≡ Fresh
+fresh_is Fresh is = refl
+fresh_is Repeat is = absurd (cc)
+fresh_is Old is = absurd (cc)
+
+takes-parts : (history : AgentHistory) (packet : DownPacket) → takes history packet ≡ true →
+    (is_current history packet ≡ true) × (receive_verdict (reorder_of (version_of history)) (arrived history) packet.seq ≡ Fresh)
+unfolding takes
+takes-parts history packet it =
+    let verdict = receive_verdict (reorder_of (version_of history)) (arrived history) packet.seq in
+    let both = and_parts (is_current history packet) (is_fresh verdict) it in
+    (both.0, fresh_is verdict both.1)
+
+taken-is : (once : EachIsTakenOnce) (good : TakingIsForGood) (history : AgentHistory) (t : TakenDown) → Among t (taken history) →
+    is_taken (reorder_of (version_of history)) (arrived history) t.packet.seq ≡ true
+taken-is once good [] t among = absurd among
+taken-is once good (Boots version ∷ history) t among = absurd among
+taken-is once good (Asks to slots ∷ history) t among = taken-is once good history t among
+taken-is once good (MakesUp ∷ history) t among = taken-is once good history t among
+taken-is once good (SendsDue round ∷ history) t among = taken-is once good history t among
+taken-is once good (TakesDown round packet ∷ history) t among =
+    let one : TakenDown = record { round = round; packet = packet } in
+    let reorder = reorder_of (version_of history) in
+    let before : Among t (taken history) → is_taken reorder (packet.seq ∷ arrived history) t.packet.seq ≡ true = λ a. good.taken reorder (packet.seq ∷ []) (arrived history) t.packet.seq (taken-is once good history t a) in
+    elim (cases_Bool (takes history packet)) [
+      | inl on ↦
+          let parts = takes-parts history packet on in
+          subst (λ (b : Bool). is_taken reorder (cond b (packet.seq ∷ arrived history) (arrived history)) t.packet.seq ≡ true) (sym parts.0)
+          (elim (subst (λ (b : Bool). Among t (cond b (one ∷ taken history) (taken history))) on among) [
+            | inl same ↦ subst (λ (x : TakenDown). is_taken reorder (packet.seq ∷ arrived history) x.packet.seq ≡ true) same (once.fresh reorder (arrived history) packet.seq parts.1)
+            | inr earlier ↦ before earlier
+          ])
+      | inr off ↦
+          let earlier = subst (λ (b : Bool). Among t (cond b (one ∷ taken history) (taken history))) off among in
+          elim (is_current history packet) as (λ b. is_taken reorder (cond b (packet.seq ∷ arrived history) (arrived history)) t.packet.seq ≡ true) [
+            | true ↦ before earlier
+            | false ↦ taken-is once good history t earlier
+          ]
+    ]
+
+-- ---- nothing is due of a batch whose slots come now
+
+none-due : (b : ℕ) (test : TakenDown → Bool) (ts : List TakenDown) → ((t : TakenDown) → Among t ts → test t ≡ true → t.packet.content.told ≡ []) →
+    flat_map (λ (t : TakenDown). slots_of b t.packet.content) (filter test ts) ≡ []
+none-due b test [] none = refl
+none-due b test (t ∷ ts) none =
+    let rest = none-due b test ts (λ u among. none u (inr among)) in
+    elim (cases_Bool (test t)) [
+      | inl on ↦
+          ap (λ (c : Bool). flat_map (λ (u : TakenDown). slots_of b u.packet.content) (cond c (t ∷ filter test ts) (filter test ts))) on
+          ∙ ap (λ (told : List Told). slots_of b (record { batch = t.packet.content.batch; told = told }) ++ flat_map (λ (u : TakenDown). slots_of b u.packet.content) (filter test ts)) (none t (inl refl) on)
+          ∙ rest
+      | inr off ↦ ap (λ (c : Bool). flat_map (λ (u : TakenDown). slots_of b u.packet.content) (cond c (t ∷ filter test ts) (filter test ts))) off ∙ rest
+    ]
+
+nil_or : (told : List Told) → (told ≡ []) ⊎ (told ≢ [])
+nil_or [] = inl refl
+nil_or (t ∷ told) = inr (λ e. absurd cc)
+
+-- the laws of the crates below that this needs
+pub record Laws : Type 0 where
+  pub late : ComesAfterTwoWindows
+  pub one : OneNumberForABatch
+  pub few : TakenIsFew
+  pub taking : TakingBringsSlots
+  pub once : EachIsTakenOnce
+  pub good : TakingIsForGood
+
+apart : (laws : Laws) (b g : ℕ) (steps : List Step) (packet : DownPacket) → ArrivesFromLane g steps → RoundsRise (lane_of steps) → WasMadeDown g (lane_of steps) packet →
+    takes (agent_of steps) packet ≡ true → packet.content.told ≢ [] → due b g (agent_of steps) (packet.content.batch + 2 * g + 2) ≡ []
+apart laws b g steps packet arrives rise made it some =
+    let history = agent_of steps in
+    let round = packet.content.batch + 2 * g + 2 in
+    let test : TakenDown → Bool = λ t. is_in_time g t && round == t.packet.content.batch + 2 * g + 2 in
+    let verdict = takes-parts history packet it in
+    let first = laws.once.first (reorder_of (version_of history)) (arrived history) packet.seq verdict.1 in
+    let none : (t : TakenDown) → Among t (taken history) → test t ≡ true → t.packet.content.told ≡ [] = λ t among on. elim (nil_or t.packet.content.told) [
+      | inl empty ↦ empty
+      | inr told ↦
+          let same_round = eqb-true round (t.packet.content.batch + 2 * g + 2) (and_parts (is_in_time g t) (round == t.packet.content.batch + 2 * g + 2) on).1 in
+          let same : t.packet.content.batch ≡ packet.content.batch = omega (arith, same_round) in
+          let number = laws.one g (lane_of steps) t.packet packet rise (taken-made g steps arrives t among) made told some same in
+          let came = taken-is laws.once laws.good history t among in
+          let both : true ≡ false = sym came ∙ ap (λ (n : ℕ). is_taken (reorder_of (version_of history)) (arrived history) n) number.1 ∙ first in
+          absurd (cc)
+    ] in
+    ap (sort_by (λ (s : Slot). s.slot)) (none-due b test (taken history) none)
+
+fits : (laws : Laws) (b g round : ℕ) (steps : List Step) (packet : DownPacket) → ArrivesFromLane g (OfAgent (TakesDown round packet) ∷ steps) → RoundsRise (lane_of steps) →
+    rounds_begun (lane_of steps) ≡ round + 1 → round < 100000 → b ≤ 64 → ToldWithin b (lane_of steps) → ToldRises (lane_of steps) → takes (agent_of steps) packet ≡ true →
+    packet.content.batch + 2 * g + 2 < round → (dst : ℕ) → missed g (agent_of steps) dst + slots_to dst packet.content.told ≤ 100000000
+fits laws b g round steps packet arrives rise begun rounds slots within rises it late dst =
+    let history = agent_of steps in
+    let few = laws.few b g (OfAgent (TakesDown round packet) ∷ steps) arrives rise within rises dst in
+    let all = laws.taking.both g (TakesDown round packet ∷ history) dst in
+    let more = laws.taking.late g round packet history dst it in
+    let off : is_in_time g (record { round = round; packet = packet }) ≡ false = lt-leb round (packet.content.batch + 2 * g + 2) late in
+    let now : missed g (TakesDown round packet ∷ history) dst ≡ missed g history dst + slots_to dst packet.content.told = more ∙ ap (λ (c : Bool). missed g history dst + cond c 0 (slots_to dst packet.content.told)) off in
+    let wide : rounds_begun (lane_of steps) * b ≤ 100000 * b = mul-le-mul_right b (omega (arith, begun, rounds)) in
+    let most : 100000 * b ≤ 100000 * 64 = mul-le-mul_left 100000 slots in
+    omega (arith, few, all, now, wide, most)
+
+-- ---- packet by packet
+
+pub from-lane-heard : (g round : ℕ) (packets : List DownPacket) (steps : List Step) → ArrivesFromLane g (then_each (λ packet. OfAgent (TakesDown round packet)) packets steps) → ArrivesFromLane g steps
+from-lane-heard g round [] steps arrives = arrives
+from-lane-heard g round (p ∷ packets) steps arrives = (from-lane-heard g round packets (OfAgent (TakesDown round p) ∷ steps) arrives).2
+
+pub from-lane-read : (g round : ℕ) (packets : List UpPacket) (steps : List Step) → ArrivesFromLane g (then_each (λ packet. OfLane (TakesUp round packet)) packets steps) → ArrivesFromLane g steps
+from-lane-read g round [] steps arrives = arrives
+from-lane-read g round (p ∷ packets) steps arrives = from-lane-read g round packets (OfLane (TakesUp round p) ∷ steps) arrives
+
+pub may-hear : (laws : Laws) (endpoints b g round : ℕ) (packets : List DownPacket) (steps : List Step) → ArrivesFromLane g (then_each (λ packet. OfAgent (TakesDown round packet)) packets steps) →
+    RoundsRise (lane_of steps) → rounds_begun (lane_of steps) ≡ round + 1 → round < 100000 → b ≤ 64 → ToldWithin b (lane_of steps) → ToldRises (lane_of steps) →
+    MayHear endpoints b g round (agent_of steps) packets
+may-hear laws endpoints b g round [] steps arrives rise begun rounds slots within rises = tt
+may-hear laws endpoints b g round (p ∷ packets) steps arrives rise begun rounds slots within rises =
+    let here = from-lane-heard g round packets (OfAgent (TakesDown round p) ∷ steps) arrives in (
+      λ it. record {
+        late = λ some. laws.late g steps round p rise here.0 here.1 some;
+        apart = λ some. apart laws b g steps p here.2 rise here.0 it some;
+        fits = λ some late dst. fits laws b g round steps p here rise begun rounds slots within rises it late dst;
+      },
+      may-hear laws endpoints b g round packets (OfAgent (TakesDown round p) ∷ steps) arrives rise begun rounds slots within rises,
+    )

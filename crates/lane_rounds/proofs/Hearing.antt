@@ -1,0 +1,100 @@
+-- What is read of a world, packet by packet, by the agent and by the lane.
+use Rattle.std.proofs.Common.{◌≡◌, ℕ, ◌+◌, ◌≤◌, Bool, cond, List, [], ◌∷◌, sym, ◌∙◌, ap, subst, refl, arith}
+use Rattle.std.proofs.lemmas.Bool.{le-leb}
+use Rattle.loss_world.specs.Arrivals.{Departure}
+use Rattle.loss_world.specs.History.{WorldCall, Departs, AsksFor, asked_of, WorldStandsFor}
+use Rattle.loss_world.specs.InTransit.{Held}
+use Rattle.fcp_framing.specs.declared.packet.Told.{Told}
+use Rattle.fcp_framing.specs.Fields.{up_of, down_of}
+use Rattle.endpoint_history.specs.Reading.{AsksBelow}
+use Rattle.endpoint_history.specs.Packets.{DownPacket, UpPacket, down_packet, up_packet, slots_to}
+use Rattle.endpoint_history.specs.Agent.{AgentHistory, TakesDown}
+use Rattle.endpoint_history.specs.Sending.{slots_of}
+use Rattle.endpoint_history.specs.Lane.{LaneHistory, TakesUp}
+use Rattle.endpoint_history.specs.Counts.{Allocation}
+use Rattle.endpoint_agent.specs.declared.lines.FlowLine.{FlowLine}
+use Rattle.endpoint_agent.specs.State.{AgentState, MayTake, place_of, first_waiting, waits_of}
+use Rattle.endpoint_agent.specs.Standing as agents
+use Rattle.endpoint_agent.specs.Refusals as agent_refusals
+use Rattle.arbiter_lane.specs.State.{LaneState}
+use Rattle.arbiter_lane.specs.Standing as lanes
+use Rattle.arbiter_lane.specs.Refusals as lane_refusals
+use Rattle.lane_rounds.specs.Standing.{HasCarried, spell_down, spell_up}
+use Rattle.lane_rounds.specs.Parts.{IsSameAgent, IsSameLane, IsReadDown, IsReadUp, MayCome}
+
+-- ---- the world
+
+asked_below : (round : ℕ) (history : List WorldCall) → AsksBelow (round + 1) history → asked_of history ≤ round
+asked_below round [] below = omega arith
+asked_below round (Departs packet ∷ history) below = asked_below round history below
+asked_below round (AsksFor asked ∷ history) below = let low = below.0 in let rest = asked_below round history below.1 in omega arith
+
+below_next : (round : ℕ) (history : List WorldCall) → AsksBelow round history → AsksBelow (round + 1) history
+below_next round [] below = tt
+below_next round (Departs packet ∷ history) below = below_next round history below
+below_next round (AsksFor asked ∷ history) below = let low = below.0 in (omega arith, below_next round history below.1)
+
+pub carried-begins : (world : Held) (round : ℕ) (sent : List Departure) → HasCarried world round sent → HasCarried world (round + 1) sent
+carried-begins world round sent it = record { calls = it.calls; stands = it.stands; handed = it.handed; asked = below_next round it.calls it.asked }
+
+pub carried-asked : (world next : Held) (round : ℕ) (sent : List Departure) →
+    ((history : List WorldCall) → WorldStandsFor world history → asked_of history ≤ round → WorldStandsFor next (AsksFor round ∷ history)) →
+    HasCarried world (round + 1) sent → HasCarried next (round + 1) sent
+carried-asked world next round sent arrives it = record {
+  calls = AsksFor round ∷ it.calls;
+  stands = arrives it.calls it.stands (asked_below round it.calls it.asked);
+  handed = it.handed;
+  asked = (omega arith, it.asked);
+}
+
+-- ---- the agent
+
+none-of : (b batch : ℕ) (told : List Told) → slots_of b (record { batch = batch; told = told }) ≡ [] → told ≡ []
+none-of b batch [] none = refl
+none-of b batch (t ∷ told) none = absurd (cc)
+
+-- what an agent asks of its calls gives what it asks of its value
+pub may_take : (endpoints b g : ℕ) (agent : AgentState) (calls : AgentHistory) (round : ℕ) (packet : DownPacket) → agent.b ≡ b → agent.g ≡ g →
+    agents.StandsFor agent calls → agent.round ≡ round → MayCome endpoints b g round calls packet → MayTake agent round packet
+may_take endpoints b g agent calls round packet same_b same_g stands now came =
+    let may : MayCome endpoints agent.b agent.g round calls packet = subst (λ n. MayCome endpoints n agent.g round calls packet) (sym same_b) (subst (λ n. MayCome endpoints b n round calls packet) (sym same_g) came) in
+    let batch = packet.content.batch in
+    let first = first_waiting agent.g agent.round in
+    record {
+      late = may.late;
+      apart = λ some in_time.
+          let after = may.late some in
+          let low : first ≤ batch = omega (arith, in_time, now) in
+          let high : batch ≤ first + 2 = omega (arith, after, now) in
+          let is : waits_of agent.g agent.round agent.waiting batch ≡ place_of agent.waiting batch = ap (λ (c : Bool). cond c (place_of agent.waiting batch) []) (le-leb batch (first + 2) high) in
+          sym is ∙ none-of agent.b batch (waits_of agent.g agent.round agent.waiting batch) (stands.waiting batch low ∙ may.apart some);
+      fits = λ some late dst below.
+          subst (λ (line : FlowLine). line.missed + slots_to dst packet.content.told ≤ 100000000) (sym (stands.lines dst below)) (may.fits some late dst);
+    }
+
+-- a packet that arrives is one more call
+pub own-down : (was agent : AgentState) (bytes : List ℕ) (p : DownPacket) → IsSameAgent was agent → bytes ≡ spell_down was.me p → IsReadDown was.me was.endpoints was.b p →
+    agent_refusals.IsOwn agent.me agent.endpoints agent.b bytes
+own-down was agent bytes p same is it =
+    subst (λ n. agent_refusals.IsOwn n agent.endpoints agent.b bytes) (sym same.me)
+    (subst (λ n. agent_refusals.IsOwn was.me n agent.b bytes) (sym same.endpoints)
+    (subst (λ n. agent_refusals.IsOwn was.me was.endpoints n bytes) (sym same.b)
+    (subst (λ bs. agent_refusals.IsOwn was.me was.endpoints was.b bs) (sym is) it.own)))
+
+pub heard-one : (was agent new : AgentState) (round : ℕ) (bytes : List ℕ) (p : DownPacket) (calls : AgentHistory) → IsSameAgent was agent →
+    (agent_refusals.IsOwn agent.me agent.endpoints agent.b bytes → (calls : AgentHistory) → agents.StandsFor agent calls → agents.StandsFor new (TakesDown round (down_packet (down_of bytes)) ∷ calls)) →
+    bytes ≡ spell_down was.me p → IsReadDown was.me was.endpoints was.b p → agents.StandsFor agent calls → agents.StandsFor new (TakesDown round p ∷ calls)
+heard-one was agent new round bytes p calls same taken is it stands =
+    subst (λ q. agents.StandsFor new (TakesDown round q ∷ calls)) (ap (λ bs. down_packet (down_of bs)) is ∙ it.back) (taken (own-down was agent bytes p same is it) calls stands)
+
+-- ---- the lane
+
+pub read-one : (was lane new : LaneState) (round : ℕ) (bytes : List ℕ) (p : UpPacket) (history : LaneHistory) (allocations : List Allocation) → IsSameLane was lane →
+    (lane_refusals.IsOwn lane.endpoint lane.endpoints bytes → (history : LaneHistory) (allocations : List Allocation) → lanes.StandsFor lane history allocations → lanes.StandsFor new (TakesUp round (up_packet (up_of bytes)) ∷ history) allocations) →
+    bytes ≡ spell_up was.endpoint p → IsReadUp was.endpoint was.endpoints p → lanes.StandsFor lane history allocations → lanes.StandsFor new (TakesUp round p ∷ history) allocations
+read-one was lane new round bytes p history allocations same taken is it stands =
+    let own =
+    subst (λ n. lane_refusals.IsOwn n lane.endpoints bytes) (sym same.endpoint)
+    (subst (λ n. lane_refusals.IsOwn was.endpoint n bytes) (sym same.endpoints)
+    (subst (λ bs. lane_refusals.IsOwn was.endpoint was.endpoints bs) (sym is) it.own)) in
+    subst (λ q. lanes.StandsFor new (TakesUp round q ∷ history) allocations) (ap (λ bs. up_packet (up_of bs)) is ∙ it.back) (taken own history allocations stands)

@@ -1,0 +1,67 @@
+-- What the parts of a round make of each end and of each direction. From this project's own profile.
+use Rattle.std.specs.Prelude.{◌≡◌, ◌≢◌, ℕ, ◌+◌, ◌*◌, ◌<◌, ◌≤◌, true, List, [], ◌∷◌, Option, option_map, option_to_list}
+use Rattle.loss_world.specs.declared.fate.Fate.{Fate}
+use Rattle.loss_world.specs.Arrivals.{Departure}
+use Rattle.fcp_framing.specs.Fields.{up_of, down_of}
+use Rattle.endpoint_history.specs.Packets.{DownPacket, UpPacket, up_packet, down_packet, slots_to}
+use Rattle.endpoint_history.specs.Agent.{AgentHistory, TakesDown, takes, missed}
+use Rattle.endpoint_history.specs.Sending.{due}
+use Rattle.endpoint_history.specs.Lane.{LaneHistory, TakesUp}
+use Rattle.endpoint_agent.specs.State.{AgentState}
+use Rattle.endpoint_agent.specs.Refusals as agents
+use Rattle.arbiter_lane.specs.State.{LaneState}
+use Rattle.arbiter_lane.specs.Refusals as lanes
+use Rattle.lane_rounds.specs.State.{with_each}
+use Rattle.lane_rounds.specs.Standing.{spell_down, spell_up}
+
+-- what a part of a round leaves of an agent, and of a lane
+pub record IsSameAgent (old new : AgentState) : Type 0 where
+  pub me : new.me ≡ old.me
+  pub endpoints : new.endpoints ≡ old.endpoints
+  pub b : new.b ≡ old.b
+  pub g : new.g ≡ old.g
+  pub round : new.round ≡ old.round
+  pub is_made : new.is_made ≡ old.is_made
+
+pub record IsSameLane (old new : LaneState) : Type 0 where
+  pub endpoint : new.endpoint ≡ old.endpoint
+  pub endpoints : new.endpoints ≡ old.endpoints
+  pub b : new.b ≡ old.b
+  pub g : new.g ≡ old.g
+  pub round : new.round ≡ old.round
+  pub is_made : new.is_made ≡ old.is_made
+
+abbrev pub hearing : ℕ → List DownPacket → AgentHistory → AgentHistory
+hearing round packets calls = with_each (TakesDown round) packets calls
+
+abbrev pub reading : ℕ → List UpPacket → LaneHistory → LaneHistory
+reading round packets calls = with_each (TakesUp round) packets calls
+
+-- the bytes of a packet are read back as the packet, by the end that it is for
+pub record IsReadDown (me endpoints b : ℕ) (packet : DownPacket) : Type 0 where
+  pub own : agents.IsOwn me endpoints b (spell_down me packet)
+  pub back : down_packet (down_of (spell_down me packet)) ≡ packet
+
+pub record IsReadUp (endpoint endpoints : ℕ) (packet : UpPacket) : Type 0 where
+  pub own : lanes.IsOwn endpoint endpoints (spell_up endpoint packet)
+  pub back : up_packet (up_of (spell_up endpoint packet)) ≡ packet
+
+abbrev pub Each : {X : Type 0} → (X → Type 0) → List X → Type 0
+Each P [] = Unit {0}
+Each P (x ∷ xs) = P x × Each P xs
+
+-- what an agent asks of an allocation that it takes, over its calls
+pub record MayCome (endpoints b g round : ℕ) (calls : AgentHistory) (packet : DownPacket) : Type 0 where
+  pub late : packet.content.told ≢ [] → packet.content.batch + 2 * g ≤ round
+  pub apart : packet.content.told ≢ [] → due b g calls (packet.content.batch + 2 * g + 2) ≡ []
+  pub fits : packet.content.told ≢ [] → packet.content.batch + 2 * g + 2 < round → (dst : ℕ) → missed g calls dst + slots_to dst packet.content.told ≤ 100000000
+
+-- these may be heard one after the other
+abbrev pub MayHear : ℕ → ℕ → ℕ → ℕ → AgentHistory → List DownPacket → Type 0
+MayHear endpoints b g round calls [] = Unit {0}
+MayHear endpoints b g round calls (p ∷ packets) =
+    (takes calls p ≡ true → MayCome endpoints b g round calls p) × MayHear endpoints b g round (TakesDown round p ∷ calls) packets
+
+-- what is handed to a direction for a packet, if there is one
+abbrev pub handed : {T : Type 0} → (T → List ℕ) → ℕ → Option Fate → Option T → List Departure
+handed spell round fate packet = option_to_list (option_map (λ p. record { round = round; fate = fate; bytes = spell p }) packet)

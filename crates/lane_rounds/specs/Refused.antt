@@ -1,0 +1,51 @@
+-- Which raw packets of a round are refused, each by the lane as it then stands, and under which numbers. From this project's own profile.
+use Rattle.std.specs.Prelude.{ℕ, List, [], ◌∷◌, ◌++◌, length, Option, Some, None, if◌then◌else◌}
+use Rattle.fcp_framing.specs.Fields.{up_of}
+use Rattle.fcp_framing.specs.Refusals as framing
+use Rattle.endpoint_history.specs.Packets.{up_packet}
+use Rattle.endpoint_history.specs.Lane.{LaneHistory, TakesUp}
+use Rattle.fcp_framing.specs.declared.packet.Told.{Told}
+use Rattle.endpoint_history.specs.Rounds.{Round, read, played}
+use Rattle.endpoint_history.specs.Steps.{lane_of}
+use Rattle.arbiter_lane.specs.declared.refusal.UpRefused.{UpRefused}
+use Rattle.arbiter_lane.specs.declared.refusal.UpRefused.TheVariants.{Frame, NotMine, Unsynced, OldEpoch, OtherVersion, OldSeq, Repeat}
+use Rattle.arbiter_lane.specs.Refusals.{refusal_of}
+use Rattle.lane_rounds.specs.Outside.{names, round_of}
+use Rattle.lane_rounds.specs.Raw.{Raw}
+use Rattle.lane_rounds.specs.declared.events.Events.{Events}
+
+abbrev pub number_of : UpRefused → ℕ
+number_of (Frame refusal) = framing.number_of refusal
+number_of Unsynced = 21
+number_of OldEpoch = 22
+number_of OldSeq = 23
+number_of Repeat = 24
+number_of NotMine = 25
+number_of OtherVersion = 26
+
+-- a lane's calls with bytes that arrive after them: a packet of its endpoint is one more, whatever it is answered
+abbrev pub with_bytes : ℕ → ℕ → ℕ → List ℕ → LaneHistory → LaneHistory
+with_bytes endpoint endpoints round bytes history =
+    if names endpoint endpoints bytes then TakesUp round (up_packet (up_of bytes)) ∷ history else history
+
+-- the place of a packet with the number of its refusal, nothing where it is accepted
+abbrev pub numbered : ℕ → Option UpRefused → List (ℕ × ℕ)
+numbered place None = []
+numbered place (Some refusal) = (place, number_of refusal) ∷ []
+
+-- raw packets that arrive one after the other
+module _ (endpoint endpoints round : ℕ) where
+  abbrev pub with_raw : List Raw → LaneHistory → LaneHistory
+  with_raw [] history = history
+  with_raw (r ∷ raw) history = with_raw raw (with_bytes endpoint endpoints round r.bytes history)
+
+  abbrev pub refused_in : List Raw → LaneHistory → List (ℕ × ℕ)
+  refused_in [] history = []
+  refused_in (r ∷ raw) history =
+      numbered r.place (refusal_of endpoint endpoints history r.bytes) ++ refused_in raw (with_bytes endpoint endpoints round r.bytes history)
+
+-- the raw packets that are refused in a round, after all that arrives of the world's
+abbrev pub refused_by : ℕ → ℕ → ℕ → Events → List Told → List Round → List (ℕ × ℕ)
+refused_by endpoint endpoints g events told rounds =
+    refused_in endpoint endpoints (length rounds) events.raw
+    (lane_of (read endpoints g (length rounds) (record (round_of endpoint endpoints events told) { raw = [] }) (played endpoints g rounds)))

@@ -1,0 +1,392 @@
+//! One endpoint's rounds.
+ghost use Rattle.std.specs.Prelude.{◌≡◌, ◌<◌, ◌≤◌, ◌+◌, ◌^◌, ◌++◌, ◌↔◌, true, false, ℕ, List, [], ◌∷◌, map, replicate, slice_get, IfOk, OnOk, IfSome, IsSome, Some};
+ghost use Rattle.greedy_rules.specs.Batches.{IsAboveLast};
+ghost use Rattle.flow_ledger.specs.FlowCount.{pending};
+ghost use Rattle.loss_world.specs.Arrivals.{Departure};
+ghost use Rattle.loss_world.specs.InTransit.{due_in};
+ghost use Rattle.fcp_framing.specs.Versions.{IsVersion};
+ghost use Rattle.endpoint_history.specs.Packets.{DownPacket, UpPacket};
+ghost use Rattle.endpoint_history.specs.Agent.{AgentHistory, Asks, Boots, MakesUp, packet_up, missed};
+ghost use Rattle.endpoint_history.specs.Sending.{sends};
+ghost use Rattle.endpoint_history.specs.Lane.{LaneHistory, MakesDown, packet_down};
+ghost use Rattle.endpoint_history.specs.Counts.{Allocation, recorded, acknowledged, lost, allocated};
+ghost use Rattle.endpoint_history.specs.Entries.{had};
+ghost use Rattle.endpoint_history.specs.Rounds.{Round, entries_by, sent_by};
+ghost use Rattle.endpoint_history.specs.Steps.{agent_of, lane_of};
+ghost use Rattle.endpoint_agent.specs.Lines.{slots_sent};
+ghost use Rattle.endpoint_agent.specs.Standing as agents;
+ghost use Rattle.arbiter_lane.specs.declared.line.Line.{Line as LineOf};
+ghost use Rattle.arbiter_lane.specs.State.{AreSlots, AreAllocated};
+ghost use Rattle.arbiter_lane.specs.Standing as lanes;
+ghost use Rattle.arbiter_lane.specs.Refusals.{refusal_of};
+ghost use Rattle.lane_rounds.specs.Outside.{round_of, packets_in};
+ghost use Rattle.lane_rounds.specs.Refused.{refused_by, refused_in, with_raw, with_bytes, numbered};
+ghost use Rattle.lane_rounds.specs.State.{MayAsk, with_each};
+ghost use Rattle.lane_rounds.specs.Standing.{StandsFor, HasCarried, IsDownOf, IsUpOf, spell_down, spell_up, played_by};
+ghost use Rattle.lane_rounds.specs.Parts.{IsSameAgent, IsSameLane, IsReadDown, IsReadUp, Each, MayHear, hearing, reading, handed};
+
+use crate::NoMemory;
+use crate::events::{Events, RawPacket, RefusedList};
+use crate::refusal::number_of;
+use ack_window::each_number_is_taken_once;
+use arbiter_lane::Lane;
+use arrayvec::ArrayVec;
+use endpoint_agent::{Agent, Sent};
+use endpoint_history::{
+    agents_count_slots, allocations_are_in_order, counts_are_bounded, packets_are_framed_alike,
+    rounds_are_calls, rounds_are_read_in_order,
+};
+use fcp_framing::{Told, what_is_encoded_is_read_back};
+use flow_ledger::FlowCount;
+use greedy_rules::Batch;
+use loss_world::{Fate, World, arrivals_are_given_in_order};
+use std::alloc::Global;
+use std::marker::Model;
+
+/// One endpoint's agent, its lane, and both directions of the world between them. What clauses say of it holds for every list of
+/// rounds for which it stands, and there is one, until a call wants for memory.
+#[derive(Drop)]
+pub struct LaneRounds {
+    agent: Agent,
+    lane: Lane,
+    down: World,
+    up: World,
+    is_whole: bool,
+}
+
+impl Model for LaneRounds {
+    ghost use Rattle.std.specs.Prelude.{◌≡◌, true};
+    ghost use Rattle.lane_rounds.specs.State.{RoundsState, AreOfOne};
+    ghost use Rattle.lane_rounds.specs.Standing.{HasRounds};
+
+    ghost Value = { RoundsState };
+
+    ghost view = { λ r. record { agent = r.agent; lane = r.lane; down = r.down; up = r.up; is_whole = r.is_whole } };
+
+    ghost invariant = { λ r. r.is_whole ≡ true → AreOfOne r.agent r.lane × HasRounds (record { agent = r.agent; lane = r.lane; down = r.down; up = r.up; is_whole = r.is_whole }) };
+}
+
+impl LaneRounds {
+    /// The rounds of one endpoint of so many, with batches of `b` slots and windows of `g` rounds, before the first.
+    pub fn open(
+        alloc: Global,
+        endpoint: u16,
+        endpoints: u16,
+        b: u8,
+        g: u8,
+    ) -> Result<LaneRounds, NoMemory>
+        requires endpoint { endpoint < endpoints }
+        requires endpoints { endpoints ≤ 256 }
+        requires some_slot { 1 ≤ b }
+        requires most_slots { b ≤ 64 }
+        requires some_round { 1 ≤ g }
+        requires most_rounds { g ≤ 16 }
+        ensures endpoint { IfOk result (λ rounds. rounds.lane.endpoint ≡ endpoint) }
+        ensures endpoints { IfOk result (λ rounds. rounds.lane.endpoints ≡ endpoints) }
+        ensures b { IfOk result (λ rounds. rounds.lane.b ≡ b) }
+        ensures g { IfOk result (λ rounds. rounds.lane.g ≡ g) }
+        ensures whole { IfOk result (λ rounds. rounds.is_whole ≡ true) }
+        ensures stands { IfOk result (λ rounds. StandsFor rounds [] []) }
+    {
+        Ok(LaneRounds {
+            agent: Agent::open(alloc, endpoint, endpoints, b, g)?,
+            lane: Lane::open(alloc, endpoint, endpoints, b, g)?,
+            down: World::open(alloc)?,
+            up: World::open(alloc)?,
+            is_whole: true,
+        })
+    }
+
+    /// Does one round: boots and asks; the lane's packet, and what arrives of these; the agent's packet, what arrives of these,
+    /// and the raw packets; the batch; the slots that are due. `told` are the endpoint's slots of the batch of two windows before.
+    /// After `NoMemory` it is only to be dropped, like the lists that it writes.
+    pub fn round(
+        &mut self,
+        round: u32,
+        events: &Events,
+        told: &ArrayVec<Told, 64>,
+        batch: &mut Batch,
+        sent: &mut ArrayVec<Sent, 64>,
+        refused: &mut RefusedList,
+    ) -> Result<(), NoMemory>
+        // After a round that wanted for memory there is none.
+        requires whole { self.old.is_whole ≡ true }
+        // Rounds are numbered from 0 on.
+        requires round { round ≡ self.old.lane.round }
+        requires rounds { round < 100000 }
+        // The agent boots and asks as its own calls allow: after the boots the asks of a flow stay within the limit.
+        requires version { 0 < events.now.boots → IsVersion events.now.version }
+        requires epochs { self.old.agent.epoch + events.now.boots < 2 ^ 32 }
+        requires asks { (calls : AgentHistory) × agents.StandsFor self.old.agent calls
+            × MayAsk self.old.lane.endpoint self.old.lane.endpoints (with_each Boots (replicate events.now.boots events.now.version) calls) events.now.asks }
+        // As for `Lane::make_down` and `Lane::record`: slots are counted by `allocated` before they are told.
+        requires slots { AreSlots self.old.lane.endpoints self.old.lane.b self.old.lane.endpoint told.now.items }
+        requires allocated { AreAllocated self.old.lane round told.now.items }
+        requires above { IsAboveLast batch.old.entries (record { src = self.old.lane.endpoint; dst = 0 }) }
+        requires empty { sent.old.items ≡ [] }
+        ensures endpoint { OnOk result (self.new.lane.endpoint ≡ self.old.lane.endpoint) }
+        ensures endpoints { OnOk result (self.new.lane.endpoints ≡ self.old.lane.endpoints) }
+        ensures b { OnOk result (self.new.lane.b ≡ self.old.lane.b) }
+        ensures g { OnOk result (self.new.lane.g ≡ self.old.lane.g) }
+        ensures limits { batch.new.limits ≡ batch.old.limits }
+        ensures whole { OnOk result (self.new.is_whole ≡ true) }
+        ensures round { OnOk result (self.new.lane.round ≡ round + 1) }
+        ensures entries { OnOk result ((rounds : List Round) (allocations : List Allocation) →
+            StandsFor self.old rounds allocations →
+            batch.new.entries ≡ batch.old.entries ++ entries_by self.old.lane.endpoint self.old.lane.endpoints self.old.lane.g (round_of self.old.lane.endpoint self.old.lane.endpoints events.now told.now.items ∷ rounds)) }
+        ensures sends { OnOk result ((rounds : List Round) (allocations : List Allocation) →
+            StandsFor self.old rounds allocations →
+            slots_sent sent.new.items ≡ sent_by self.old.lane.endpoints self.old.lane.b self.old.lane.g (round_of self.old.lane.endpoint self.old.lane.endpoints events.now told.now.items ∷ rounds)) }
+        ensures refused { OnOk result ((rounds : List Round) (allocations : List Allocation) →
+            StandsFor self.old rounds allocations →
+            refused.new ≡ refused.old ++ refused_by self.old.lane.endpoint self.old.lane.endpoints self.old.lane.g events.now told.now.items rounds) }
+        ensures stands { OnOk result ((rounds : List Round) (allocations : List Allocation) →
+            StandsFor self.old rounds allocations →
+            StandsFor self.new (round_of self.old.lane.endpoint self.old.lane.endpoints events.now told.now.items ∷ rounds) allocations) }
+    {
+        rounds_are_calls();
+        rounds_are_read_in_order();
+        packets_are_framed_alike();
+        what_is_encoded_is_read_back();
+        allocations_are_in_order();
+        agents_count_slots();
+        counts_are_bounded();
+        each_number_is_taken_once();
+        arrivals_are_given_in_order();
+        self.is_whole = false;
+        let mut buf = [0; 2048];
+        boot_all(&mut self.agent, events.boots, events.version);
+        ask_all(&mut self.agent, events.asks.as_slice());
+        post_down(
+            &mut self.lane,
+            &mut self.down,
+            round,
+            events.down,
+            told,
+            &mut buf,
+        )?;
+        hear(&mut self.agent, &mut self.down, round, &mut buf);
+        post_up(&mut self.agent, &mut self.up, round, events.up, &mut buf)?;
+        read(&mut self.lane, &mut self.up, round, &mut buf);
+        read_raw(&mut self.lane, round, events.raw.as_slice(), refused)?;
+        self.lane.record(round, batch)?;
+        self.agent.send_due(round, sent);
+        self.is_whole = true;
+        Ok(())
+    }
+
+    /// Counts `n` slots of the flow to `dst` in a batch that is published. A batch below the last reset is passed over.
+    pub fn allocated(&mut self, dst: u16, batch: u32, n: u32)
+        requires whole { self.old.is_whole ≡ true }
+        requires destination { dst < self.old.lane.endpoints }
+        requires recorded { batch < self.old.lane.round }
+        requires pending { self.old.lane.last_reset ≤ batch → (line : LineOf) → slice_get self.old.lane.lines dst ≡ Some line → n ≤ pending line.count }
+        ensures frame { self.new ≡ record self.old { lane = record self.old.lane { lines = self.new.lane.lines } } }
+        ensures stands { (rounds : List Round) (allocations : List Allocation) →
+            StandsFor self.old rounds allocations →
+            StandsFor self.new rounds (record { dst = dst; batch = batch; slots = n } ∷ allocations) }
+    {
+        self.lane.allocated(dst, batch, n);
+    }
+
+    /// The counts of the flow to `dst` since the last reset, None where no batch has it.
+    pub fn count(&self, dst: u16) -> Option<FlowCount>
+        requires { dst < self.now.lane.endpoints }
+        ensures opened { (rounds : List Round) (allocations : List Allocation) →
+            StandsFor self.now rounds allocations →
+            (IsSome result ↔ (had self.now.lane.g (lane_of (played_by self.now rounds).steps) dst ≡ true)) }
+        ensures counts { IfSome result (λ count. (rounds : List Round) (allocations : List Allocation) →
+            StandsFor self.now rounds allocations →
+            (count.demanded ≡ recorded (lane_of (played_by self.now rounds).steps) dst)
+            × (count.allocated ≡ allocated (lane_of (played_by self.now rounds).steps) allocations dst)
+            × (count.acknowledged ≡ acknowledged self.now.lane.g (lane_of (played_by self.now rounds).steps) dst)
+            × (count.lost ≡ lost self.now.lane.g (lane_of (played_by self.now rounds).steps) dst)) }
+    {
+        self.lane.count(dst)
+    }
+
+    /// How many slots towards `dst` were sent in, and how many were missed, in the present boot.
+    pub fn totals(&self, dst: u16) -> (u32, u32)
+        requires whole { self.now.is_whole ≡ true }
+        requires destination { dst < self.now.lane.endpoints }
+        ensures sent { (rounds : List Round) (allocations : List Allocation) →
+            StandsFor self.now rounds allocations →
+            result.0 ≡ sends self.now.lane.b self.now.lane.g (agent_of (played_by self.now rounds).steps) dst }
+        ensures missed { (rounds : List Round) (allocations : List Allocation) →
+            StandsFor self.now rounds allocations →
+            result.1 ≡ missed self.now.lane.g (agent_of (played_by self.now rounds).steps) dst }
+    {
+        self.agent.totals(dst)
+    }
+}
+
+/// Boots so often in this version.
+fn boot_all(agent: &mut Agent, boots: u32, version: u8)
+    requires version { 0 < boots → IsVersion version }
+    requires epochs { agent.old.epoch + boots < 2 ^ 32 }
+    ensures same { IsSameAgent agent.old agent.new }
+    ensures stands { (calls : AgentHistory) →
+        agents.StandsFor agent.old calls →
+        agents.StandsFor agent.new (with_each Boots (replicate boots version) calls) }
+{
+    for _ in 0..boots {
+        agent.boot(version);
+    }
+}
+
+/// Asks for slots, one ask after the other.
+fn ask_all(agent: &mut Agent, asks: &[(u16, u32)])
+    requires may_ask { (calls : AgentHistory) × agents.StandsFor agent.old calls × MayAsk agent.old.me agent.old.endpoints calls asks.now }
+    ensures same { IsSameAgent agent.old agent.new }
+    ensures stands { (calls : AgentHistory) →
+        agents.StandsFor agent.old calls →
+        agents.StandsFor agent.new (with_each (λ (a : ℕ × ℕ). Asks a.0 a.1) asks.now calls) }
+{
+    for (dst, n) in asks {
+        agent.ask(*dst, *n);
+    }
+}
+
+/// Makes the downward packet of the round, if there is one, and hands it to the world.
+fn post_down(
+    lane: &mut Lane,
+    world: &mut World,
+    round: u32,
+    fate: Option<Fate>,
+    told: &ArrayVec<Told, 64>,
+    buf: &mut [u8; 2048],
+) -> Result<(), NoMemory>
+    requires round { round ≡ lane.old.round }
+    requires rounds { round < 100000 }
+    requires once { lane.old.is_made ≡ false }
+    requires slots { AreSlots lane.old.endpoints lane.old.b lane.old.endpoint told.now.items }
+    requires allocated { AreAllocated lane.old round told.now.items }
+    ensures frame { lane.new ≡ record lane.old { sent = lane.new.sent; lines = lane.new.lines; has_risen = lane.new.has_risen; is_made = true } }
+    ensures stands { OnOk result ((history : LaneHistory) (allocations : List Allocation) →
+        lanes.StandsFor lane.old history allocations →
+        lanes.StandsFor lane.new (MakesDown round told.now.items ∷ history) allocations) }
+    ensures spelled { (history : LaneHistory) (allocations : List Allocation) →
+        lanes.StandsFor lane.old history allocations →
+        IfSome (packet_down lane.old.g history round told.now.items) (IsDownOf lane.old.endpoint lane.old.endpoints lane.old.b) }
+    ensures carried { OnOk result ((history : LaneHistory) (allocations : List Allocation) (departures : List Departure) →
+        lanes.StandsFor lane.old history allocations →
+        HasCarried world.old round departures →
+        HasCarried world.new round (departures ++ handed (spell_down lane.old.endpoint) round fate (packet_down lane.old.g history round told.now.items))) }
+{
+    rounds_are_read_in_order();
+    match lane.make_down(round, told, buf) {
+        Some(length) => world.send(round, fate, &buf[..length]),
+        None => Ok(()),
+    }
+}
+
+/// Takes what arrives at the agent in this round.
+fn hear(agent: &mut Agent, world: &mut World, round: u32, buf: &mut [u8; 2048])
+    requires round { round ≡ agent.old.round }
+    requires rounds { round < 100000 }
+    requires may_hear { (calls : AgentHistory) × (packets : List DownPacket) × agents.StandsFor agent.old calls
+        × (due_in world.old.flights round ≡ map (spell_down agent.old.me) packets)
+        × Each (IsReadDown agent.old.me agent.old.endpoints agent.old.b) packets
+        × MayHear agent.old.endpoints agent.old.b agent.old.g round calls packets }
+    ensures same { IsSameAgent agent.old agent.new }
+    ensures stands { (calls : AgentHistory) (packets : List DownPacket) →
+        agents.StandsFor agent.old calls →
+        due_in world.old.flights round ≡ map (spell_down agent.old.me) packets →
+        Each (IsReadDown agent.old.me agent.old.endpoints agent.old.b) packets →
+        agents.StandsFor agent.new (hearing round packets calls) }
+    ensures carried { (departures : List Departure) →
+        HasCarried world.old round departures →
+        HasCarried world.new (round + 1) departures }
+{
+    while let Some(length) = world.arrive(round, buf) {
+        let _ = agent.take_down(round, &buf[..length]);
+    }
+}
+
+/// Makes the upward packet of the round, and hands it to the world.
+fn post_up(
+    agent: &mut Agent,
+    world: &mut World,
+    round: u32,
+    fate: Option<Fate>,
+    buf: &mut [u8; 2048],
+) -> Result<(), NoMemory>
+    requires once { agent.old.is_made ≡ false }
+    ensures frame { agent.new ≡ record agent.old { sent = agent.new.sent; named = agent.new.named; is_made = true } }
+    ensures stands { (calls : AgentHistory) →
+        agents.StandsFor agent.old calls →
+        agents.StandsFor agent.new (MakesUp ∷ calls) }
+    ensures spelled { (calls : AgentHistory) →
+        agents.StandsFor agent.old calls →
+        IsUpOf agent.old.me agent.old.endpoints (packet_up agent.old.endpoints agent.old.g calls) }
+    ensures carried { OnOk result ((calls : AgentHistory) (departures : List Departure) →
+        agents.StandsFor agent.old calls →
+        HasCarried world.old round departures →
+        HasCarried world.new round (departures ++ handed (spell_up agent.old.me) round fate (Some (packet_up agent.old.endpoints agent.old.g calls)))) }
+{
+    rounds_are_read_in_order();
+    let length = agent.make_up(buf);
+    world.send(round, fate, &buf[..length])
+}
+
+/// Takes what arrives at the lane in this round.
+fn read(lane: &mut Lane, world: &mut World, round: u32, buf: &mut [u8; 2048])
+    requires round { round ≡ lane.old.round }
+    ensures same { IsSameLane lane.old lane.new }
+    ensures stands { (history : LaneHistory) (allocations : List Allocation) (packets : List UpPacket) →
+        lanes.StandsFor lane.old history allocations →
+        due_in world.old.flights round ≡ map (spell_up lane.old.endpoint) packets →
+        Each (IsReadUp lane.old.endpoint lane.old.endpoints) packets →
+        lanes.StandsFor lane.new (reading round packets history) allocations }
+    ensures carried { (departures : List Departure) →
+        HasCarried world.old round departures →
+        HasCarried world.new (round + 1) departures }
+{
+    while let Some(length) = world.arrive(round, buf) {
+        let _ = lane.take_up(round, &buf[..length]);
+    }
+}
+
+/// Takes raw packets, one after the other, and tells those that are refused.
+fn read_raw(
+    lane: &mut Lane,
+    round: u32,
+    raw: &[RawPacket],
+    refused: &mut RefusedList,
+) -> Result<(), NoMemory>
+    requires round { round ≡ lane.old.round }
+    ensures same { IsSameLane lane.old lane.new }
+    ensures stands { OnOk result ((history : LaneHistory) (allocations : List Allocation) →
+        lanes.StandsFor lane.old history allocations →
+        lanes.StandsFor lane.new (with_raw lane.old.endpoint lane.old.endpoints round raw.now history) allocations) }
+    ensures refused { OnOk result ((history : LaneHistory) (allocations : List Allocation) →
+        lanes.StandsFor lane.old history allocations →
+        refused.new ≡ refused.old ++ refused_in lane.old.endpoint lane.old.endpoints round raw.now history) }
+{
+    for packet in raw {
+        read_one(lane, round, packet, refused)?;
+    }
+    Ok(())
+}
+
+/// Takes a raw packet, and tells it where it is refused.
+fn read_one(
+    lane: &mut Lane,
+    round: u32,
+    packet: &RawPacket,
+    refused: &mut RefusedList,
+) -> Result<(), NoMemory>
+    requires round { round ≡ lane.old.round }
+    ensures same { IsSameLane lane.old lane.new }
+    ensures stands { (history : LaneHistory) (allocations : List Allocation) →
+        lanes.StandsFor lane.old history allocations →
+        lanes.StandsFor lane.new (with_bytes lane.old.endpoint lane.old.endpoints round packet.now.bytes history) allocations }
+    ensures refused { OnOk result ((history : LaneHistory) (allocations : List Allocation) →
+        lanes.StandsFor lane.old history allocations →
+        refused.new ≡ refused.old ++ numbered packet.now.place (refusal_of lane.old.endpoint lane.old.endpoints history packet.now.bytes)) }
+{
+    match lane.take_up(round, packet.bytes()) {
+        Ok(()) => Ok(()),
+        Err(refusal) => refused.push(packet.place(), number_of(refusal)),
+    }
+}
