@@ -87,7 +87,7 @@ lost_allocation = then 3 quiet (telling ∷ then 6 quiet (one_slot (record telli
 abbrev late_allocation : ℕ → List Round
 late_allocation rounds = one_slot (record telling { down = Some (Hold rounds) })
 
--- request 1 and the allocation both come twice
+-- the first request and the allocation both come twice
 abbrev repeated_packets : List Round
 repeated_packets = then 3 quiet (record telling { down = Some Twice } ∷ quiet ∷ record quiet { up = Some Twice } ∷ asking 1 ∷ [])
 
