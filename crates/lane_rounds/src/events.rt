@@ -93,7 +93,7 @@ impl RawPacket {
     }
 }
 
-/// Raw packets of one round, in the order of their places.
+/// Raw packets of one round, in the order in which they are pushed.
 #[derive(Drop)]
 pub struct RawList {
     packets: Vec<RawPacket>,
@@ -117,7 +117,7 @@ impl RawList {
         }
     }
 
-    /// Appends a copy of the bytes, whose place is above the last one.
+    /// Appends a copy of the bytes, with their place among those of the round. Where places rise, refusals are told rising.
     pub fn push(&mut self, place: u32, bytes: &[u8]) -> Result<(), NoMemory>
         ensures ok { OnOk result (self.new ≡ self.old ++ record { place = place; bytes = bytes.now } ∷ []) }
         ensures err { OnErr result (self.new ≡ self.old) }
@@ -142,7 +142,7 @@ impl RawList {
     }
 }
 
-/// The raw packets that were refused: their places, rising, each with the number of its refusal.
+/// The raw packets that were refused, in the order in which they came: their places, each with the number of its refusal.
 #[derive(Drop)]
 pub struct RefusedList {
     refused: Vec<(u32, u8)>,
