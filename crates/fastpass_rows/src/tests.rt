@@ -1,11 +1,14 @@
 use fastpass_run::run;
 use fp_edge::{MemSink, MemSource, OpenGate};
 use std::alloc::{AllocError, Global};
+use std::process::Abort;
 use std::sync::Wait;
 use std::test::Fail;
 use std::thread::Threads;
 
+mod meeting;
 mod racks;
+mod replays;
 
 const PIECE: usize = 65_536;
 
@@ -64,13 +67,36 @@ fn run_on<R: Threads + Wait + Sync>(
     ))
 }
 
+// What the plan writes where the words name no number of path workers; with 1, 2 and 16 it is the same.
+fn plan_on<R: Abort + Threads + Wait + Sync>(
+    rt: &R,
+    alloc: Global,
+    words: &[&'static str],
+    trace: &[u8],
+) -> Result<Came, Fail> {
+    let came = run_on(rt, alloc, words, trace)?;
+    for paths in ["1", "2", "16"] {
+        let mut told = Vec::new(alloc);
+        told.extend_from_slice(words)?;
+        told.extend_from_slice(&["--paths", paths])?;
+        let same = run_on(rt, alloc, &told, trace)?;
+        assert_eq!(rt; same.status, came.status);
+        assert!(rt;
+            same.out.held() == came.out.held(),
+            "with {paths} path workers"
+        );
+        assert!(rt; same.notes.held() == came.notes.held());
+    }
+    Ok(came)
+}
+
 #[test]
 fn plans_are_written_whole(rt: HostRuntime) -> Result<(), Fail> {
     let cases: [(&[&str], &[u8], &[u8]); 6] = [
         (&["plan", "--batch", "2"], THREE_FLOWS, THREE_FLOWS_PLANNED),
-        // The path workers are no matter.
+        // The windows are no matter.
         (
-            &["plan", "--paths", "16", "--batch", "2"],
+            &["plan", "--window", "1", "--batch", "2"],
             THREE_FLOWS,
             THREE_FLOWS_PLANNED,
         ),
@@ -95,7 +121,7 @@ fn plans_are_written_whole(rt: HostRuntime) -> Result<(), Fail> {
         ),
     ];
     for (words, trace, text) in cases.iter() {
-        let came = run_on(&rt, rt.alloc(), words, trace)?;
+        let came = plan_on(&rt, rt.alloc(), words, trace)?;
         assert_eq!(rt; came.status, 0);
         assert!(rt; came.out.held() == *text);
         assert!(rt; came.notes.held().is_empty());
@@ -124,7 +150,7 @@ fn a_batch_of_64_slots_leaves_the_rest(rt: HostRuntime) -> Result<(), Fail> {
         ),
     ];
     for (trace, slots, end) in cases.iter() {
-        let came = run_on(&rt, rt.alloc(), &["plan", "--batch", "64"], trace)?;
+        let came = plan_on(&rt, rt.alloc(), &["plan", "--batch", "64"], trace)?;
         assert_eq!(rt; came.status, 0);
         let mut lines = came.out.held().split(|byte| *byte == b'\n').skip(1);
         for slot in 1..=*slots {
@@ -138,7 +164,7 @@ fn a_batch_of_64_slots_leaves_the_rest(rt: HostRuntime) -> Result<(), Fail> {
 
 #[test]
 fn other_words_are_refused(rt: HostRuntime) -> Result<(), Fail> {
-    let cases: [&[&str]; 12] = [
+    let cases: [&[&str]; 16] = [
         &[],
         &["plan", "--batch", "0"],
         &["plan", "--batch", "65"],
@@ -147,7 +173,11 @@ fn other_words_are_refused(rt: HostRuntime) -> Result<(), Fail> {
         &["plan", "--batch=2"],
         &["plan", "--batch", "02"],
         &["plans"],
-        &["plan", "--window", "2"],
+        &["replays"],
+        &["--batch", "2", "replay"],
+        &["plan", "--window", "0"],
+        &["replay", "--window", "17"],
+        &["replay", "--window", "2", "--batch", "2", "--window", "2"],
         &["plan", "--paths", "0"],
         &["plan", "--paths", "17"],
         &["plan", "--paths", "2", "--batch", "2", "--paths", "2"],

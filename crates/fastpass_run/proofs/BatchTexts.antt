@@ -2,7 +2,6 @@
 use Rattle.std.proofs.Common.{◌≡◌, ◌<◌, ◌≤◌, ◌+◌, ◌-◌, ◌*◌, ℕ, suc, List, [], ◌∷◌, ◌++◌, length, get_or, map, take, drop, sym, ap, ◌∙◌, arith}
 use Rattle.std.proofs.lemmas.List.{append-nil, append_assoc, take-append-drop, take-take, take_all, length-take, drop-drop, drop-take, drop_more}
 use Rattle.greedy_rules.specs.declared.flows.Flow.{Flow}
-use Rattle.greedy_rules.specs.declared.flows.Entry.{Entry}
 use Rattle.greedy_rules.specs.Batches.{DemandBatch}
 use Rattle.greedy_rules.specs.SlotTable.{Slots}
 use Rattle.greedy_rules.specs.Schedule.{first_slot, schedule}
@@ -10,7 +9,8 @@ use Rattle.path_workers.specs.CoreTable.{CoreSlots}
 use Rattle.report_text.specs.declared.line.Line.{Line}
 use Rattle.trace_text.specs.Trace.{TraceContent}
 use Rattle.window_engine.specs.Batches.{plan_batches}
-use Rattle.window_engine.specs.Scheduled.{Cores, cores_from}
+use Rattle.replay_rounds.specs.Setting.{Cores}
+use Rattle.window_engine.specs.Scheduled.{cores_from}
 use Rattle.window_engine.specs.Step.{StepContent}
 use Rattle.fastpass_run.specs.Text.{text_of, no_batch, entry_line, slots_lines, batch_lines, batches_lines}
 use Rattle.fastpass_run.specs.Progress.{window_lines, rounds_lines, cores_of_step}

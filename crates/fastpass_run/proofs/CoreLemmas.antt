@@ -1,17 +1,19 @@
 -- Cores for the slots of a plan: those of one window can be put in place of others.
-use Rattle.std.proofs.Common.{◌≡◌, ◌<◌, ◌≤◌, ◌+◌, ◌-◌, ◌*◌, ℕ, suc, List, [], ◌∷◌, ◌++◌, length, get_or, map, take, drop, false, ◌&&◌, nat_lt, nat_le, cond, refl, sym, ap, ◌∙◌, subst, arith, inl, inr}
+use Rattle.std.proofs.Common.{◌≡◌, ◌<◌, ◌≤◌, ◌+◌, ◌-◌, ◌*◌, ℕ, suc, List, [], ◌∷◌, ◌++◌, length, get_or, map, take, drop, Option, false, ◌&&◌, nat_lt, nat_le, cond, refl, sym, ap, ◌∙◌, subst, arith, inl, inr}
 use Rattle.std.proofs.lemmas.Bool.{cond-true, cond-false, cases_Bool, and_parts, and_from, ltb-true, leb-true, lt-ltb, le-leb}
 use Rattle.std.proofs.lemmas.Bool.Decides.{nat_tests}
 use Rattle.std.proofs.lemmas.List.{get_or-take, get_or-drop, length-take, length-drop}
 use Rattle.greedy_rules.specs.declared.flows.Flow.{Flow}
-use Rattle.greedy_rules.specs.declared.flows.Entry.{Entry}
 use Rattle.greedy_rules.specs.Batches.{DemandBatch}
 use Rattle.greedy_rules.specs.Schedule.{first_slot, schedule, slot_in, slot_at}
+use Rattle.clos_topology.specs.Network.{Network}
 use Rattle.clos_topology.specs.Links.{CoreOf, IsClean}
 use Rattle.report_text.specs.declared.line.Line.{Line}
+use Rattle.report_text.specs.declared.line.Line.TheVariants as line
 use Rattle.trace_text.specs.Trace.{TraceContent}
 use Rattle.window_engine.specs.Batches.{plan_batches}
-use Rattle.window_engine.specs.Scheduled.{Cores, EverySlotIsScheduled, AreClean}
+use Rattle.replay_rounds.specs.Setting.{Cores}
+use Rattle.window_engine.specs.Scheduled.{EverySlotIsScheduled, AreClean}
 use Rattle.window_engine.specs.Step.{window_slots}
 use Rattle.fastpass_run.specs.Progress.{window_lines, rounds_lines}
 use Rattle.fastpass_run.specs.Text.{entry_line, slot_line, slots_lines, batch_lines, batches_lines}
@@ -41,51 +43,60 @@ clean_in_window b first count trace cores scheduled at below =
 abbrev pub spliced : ℕ → ℕ → Cores → Cores → Cores
 spliced low count here there number = cond (nat_lt low number && nat_le number (low + count)) (here number) (there number)
 
-spliced-here : (low count : ℕ) (here there : Cores) (number : ℕ) → low < number → number ≤ low + count → spliced low count here there number ≡ here number
+pub spliced-here : (low count : ℕ) (here there : Cores) (number : ℕ) → low < number → number ≤ low + count → spliced low count here there number ≡ here number
 spliced-here low count here there number above below =
     cond-true (nat_lt low number && nat_le number (low + count)) (here number) (there number) (and_from _ _ (lt-ltb _ _ above) (le-leb _ _ below))
 
-spliced-there : (low count : ℕ) (here there : Cores) (number : ℕ) → number ≤ low → spliced low count here there number ≡ there number
+pub spliced-there : (low count : ℕ) (here there : Cores) (number : ℕ) → number ≤ low → spliced low count here there number ≡ there number
 spliced-there low count here there number below =
     let before : (nat_lt low number && nat_le number (low + count)) ≡ false = grind (arith, nat_tests) in
     cond-false (nat_lt low number && nat_le number (low + count)) (here number) (there number) before
 
-pub scheduled_spliced : (b first count : ℕ) (trace : TraceContent) (here there : Cores) → EverySlotIsScheduled b trace.net (plan_batches trace) there → AreClean trace.net here (first_slot b first) (window_slots b (plan_batches trace) first count)
-    → EverySlotIsScheduled b trace.net (plan_batches trace) (spliced (first * b) (count * b) here there)
-scheduled_spliced b first count trace here there scheduled clean number positive within =
-    let all : List (List Flow) = all_slots b trace in
-    let low : ℕ = first * b in
-    let size : ℕ = count * b in
+-- cores that are clean for some slots, in place of those of a schedule
+pub scheduled_between : (b : ℕ) (net : Network) (batches : List DemandBatch) (low size : ℕ) (here there : Cores) → EverySlotIsScheduled b net batches there
+    → ((number : ℕ) → low < number → number ≤ low + size → number ≤ length (schedule b batches) → IsClean net.hosts net.cores (slot_at (schedule b batches) number) (here number))
+    → EverySlotIsScheduled b net batches (spliced low size here there)
+scheduled_between b net batches low size here there scheduled clean number positive within =
     let test = nat_lt low number && nat_le number (low + size) in
     let old = scheduled number positive within in
-    let Clean : CoreOf → Type 0 = λ core_of. IsClean trace.net.hosts trace.net.cores (slot_at all number) core_of in
+    let Clean : CoreOf → Type 0 = λ core_of. IsClean net.hosts net.cores (slot_at (schedule b batches) number) core_of in
     let new : Clean (spliced low size here there number) =
     elim (cases_Bool test) [
       | inl is ↦
           let parts = and_parts (nat_lt low number) (nat_le number (low + size)) is in
-          let above : low < number = ltb-true _ _ parts.0 in
-          let below : number ≤ low + size = leb-true _ _ parts.1 in
-          let at : ℕ = number - (low + 1) in
-          let is_number : low + 1 + at ≡ number = omega arith in
-          let inside : at < length (take size (drop low all)) = omega (arith, length-take size (drop low all), length-drop low all) in
-          let At : ℕ → Type 0 = λ m. IsClean trace.net.hosts trace.net.cores (slot_at all m) (here m) in
-          subst Clean (sym (cond-true test (here number) (there number) is))
-          (subst At is_number (subst (λ (slot : List Flow). IsClean trace.net.hosts trace.net.cores slot (here (low + 1 + at))) (in_window low size at all inside) (clean at inside)))
+          subst Clean (sym (cond-true test (here number) (there number) is)) (clean number (ltb-true _ _ parts.0) (leb-true _ _ parts.1) within)
       | inr other ↦ subst Clean (sym (cond-false test (here number) (there number) other)) old.clean
     ] in
     record { matching = old.matching; maximal = old.maximal; within_cores = old.within_cores; clean = new }
 
--- equal cores give equal lines
-slots_lines-same : (f g : Cores) (number : ℕ) (slots : List (List Flow)) → ((i : ℕ) → i < length slots → f (number + i) ≡ g (number + i)) → slots_lines f number slots ≡ slots_lines g number slots
-slots_lines-same f g number [] same = refl
-slots_lines-same f g number (slot ∷ slots) same =
+pub scheduled_spliced : (b first count : ℕ) (trace : TraceContent) (here there : Cores) → EverySlotIsScheduled b trace.net (plan_batches trace) there → AreClean trace.net here (first_slot b first) (window_slots b (plan_batches trace) first count)
+    → EverySlotIsScheduled b trace.net (plan_batches trace) (spliced (first * b) (count * b) here there)
+scheduled_spliced b first count trace here there scheduled clean =
+    let all : List (List Flow) = all_slots b trace in
+    let low : ℕ = first * b in
+    let size : ℕ = count * b in
+    scheduled_between b trace.net (plan_batches trace) low size here there scheduled (λ number above below within.
+    let at : ℕ = number - (low + 1) in
+    let is_number : low + 1 + at ≡ number = omega arith in
+    let inside : at < length (take size (drop low all)) = omega (arith, length-take size (drop low all), length-drop low all) in
+    let At : ℕ → Type 0 = λ m. IsClean trace.net.hosts trace.net.cores (slot_at all m) (here m) in
+    subst At is_number (subst (λ (slot : List Flow). IsClean trace.net.hosts trace.net.cores slot (here (low + 1 + at))) (in_window low size at all inside) (clean at inside)))
+
+-- cores that name the same give the same lines
+slot_lines-same : (f h : CoreOf) (number : ℕ) (slot : List Flow) → ((source : ℕ) → f source ≡ h source) → map (slot_line number f) slot ≡ map (slot_line number h) slot
+slot_lines-same f h number [] same = refl
+slot_lines-same f h number (flow ∷ slot) same =
+    ap (λ (core : Option ℕ). line.Slot number flow.src flow.dst core ∷ map (slot_line number f) slot) (same flow.src) ∙ ap (λ (ls : List Line). slot_line number h flow ∷ ls) (slot_lines-same f h number slot same)
+
+pub slots_lines-same : (f h : Cores) (number : ℕ) (slots : List (List Flow)) → ((i source : ℕ) → i < length slots → f (number + i) source ≡ h (number + i) source) → slots_lines f number slots ≡ slots_lines h number slots
+slots_lines-same f h number [] same = refl
+slots_lines-same f h number (slot ∷ slots) same =
     let start : number + 0 ≡ number = omega arith in
-    let here : f number ≡ g number = subst (λ (n : ℕ). f n ≡ g n) start (same 0 (omega arith)) in
-    let later = slots_lines-same f g (number + 1) slots (λ i below.
+    let here = slot_lines-same (f number) (h number) number slot (λ source. subst (λ (n : ℕ). f n source ≡ h n source) start (same 0 source (omega arith))) in
+    let later = slots_lines-same f h (number + 1) slots (λ i source below.
     let on : number + suc i ≡ number + 1 + i = omega arith in
-    subst (λ (n : ℕ). f n ≡ g n) on (same (suc i) (omega arith))) in
-    ap (λ (core_of : CoreOf). map (slot_line number core_of) slot ++ slots_lines f (number + 1) slots) here
-    ∙ ap (λ (lines : List Line). map (slot_line number (g number)) slot ++ lines) later
+    subst (λ (n : ℕ). f n source ≡ h n source) on (same (suc i) source (omega arith))) in
+    ap (λ (ls : List Line). ls ++ slots_lines f (number + 1) slots) here ∙ ap (λ (ls : List Line). map (slot_line number (h number)) slot ++ ls) later
 
 next_first : (b k : ℕ) → first_slot b (k + 1) ≡ first_slot b k + b
 next_first b k = grind arith
@@ -95,7 +106,7 @@ batches_lines-same : (f g : Cores) (b k : ℕ) (batches : List DemandBatch) (slo
 batches_lines-same f g b k [] slots same = refl
 batches_lines-same f g b k (batch ∷ batches) slots same =
     let n : ℕ = first_slot b k in
-    let own = slots_lines-same f g n (take b slots) (λ i below. same (n + i) (omega arith) (omega (arith, length-take b slots))) in
+    let own = slots_lines-same f g n (take b slots) (λ i source below. ap (λ (core_of : CoreOf). core_of source) (same (n + i) (omega arith) (omega (arith, length-take b slots)))) in
     let later = batches_lines-same f g b (k + 1) batches (drop b slots) (λ number above below. same number (omega (arith, next_first b k)) (omega (arith, next_first b k, length-drop b slots))) in
     ap (λ (lines : List Line). (map (entry_line k) batch.entries ++ lines) ++ batches_lines f b (k + 1) batches (drop b slots)) own
     ∙ ap (λ (lines : List Line). batch_lines g b k batch (take b slots) ++ lines) later

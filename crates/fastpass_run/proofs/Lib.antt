@@ -6,3 +6,10 @@ pub mod CoreLemmas
 pub mod FlowLemmas
 pub mod PlanLemmas
 pub mod StepLemmas
+pub mod NumberedTexts
+pub mod ReplayCores
+pub mod ReplaySteps
+pub mod RoundTexts
+pub mod CountLemmas
+pub mod ReplayLoop
+pub mod RunLemmas

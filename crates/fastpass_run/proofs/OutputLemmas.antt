@@ -125,3 +125,7 @@ never_ok P e (Err d) is = tt
 pub OnOk-always : {T : Type 0} (P : Type 0) (r : Result T Stop) → P → OnOk r P
 OnOk-always P (Ok t) p = p
 OnOk-always P (Err e) p = tt
+
+-- before anything was to come
+pub Passed-none : (a : Option (List ℕ)) (f : ℕ) (g : List ℕ) → Passed a a f f g g []
+Passed-none a f g = Passes-gathered {T = Unit {0}} a f g g [] (Ok (tt {0})) (sym (append-nil g)) tt

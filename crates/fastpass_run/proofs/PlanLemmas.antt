@@ -1,8 +1,7 @@
--- The text of a plan in its three parts: the rounds, the flows, the end.
+-- The text of a plan in its three parts: the rounds, the flows, the end; and of any text that ends so.
 use Rattle.std.proofs.Common.{◌≡◌, ℕ, List, ◌∷◌, ◌++◌, [], take, ◌*◌, sym, ap, ◌∙◌, arith}
-use Rattle.std.proofs.lemmas.List.{append_assoc, take_all}
+use Rattle.std.proofs.lemmas.List.{take_all}
 use Rattle.greedy_rules.specs.declared.flows.Flow.{Flow}
-use Rattle.greedy_rules.specs.declared.flows.Entry.{Entry}
 use Rattle.greedy_rules.specs.Batches.{DemandBatch}
 use Rattle.greedy_rules.specs.Schedule.{schedule}
 use Rattle.report_text.specs.declared.line.Line.{Line}
@@ -11,14 +10,18 @@ use Rattle.report_text.specs.Lines.{line_bytes}
 use Rattle.trace_text.specs.Trace.{TraceContent}
 use Rattle.trace_text.specs.Valid.{IsTrace}
 use Rattle.window_engine.specs.Batches.{plan_batches}
-use Rattle.window_engine.specs.Scheduled.{Cores}
+use Rattle.replay_rounds.specs.Setting.{Cores}
 use Rattle.window_engine.specs.Step.{EveryPlanHasItsSlots}
 use Rattle.fastpass_run.specs.Progress.{rounds_lines}
 use Rattle.fastpass_run.specs.Text.{batches_lines, flows_lines, plan_text, text_of}
-use Rattle.fastpass_run.proofs.TextLemmas.{text_of-append, text_of-one}
+use Rattle.fastpass_run.proofs.TextLemmas.{text_of-one, three_parts}
 
 abbrev pub end_text : TraceContent → List ℕ
 end_text trace = line_bytes (line.End trace.rounds) ++ 10 ∷ []
+
+-- lines, and then the end
+pub parts_with_end : (xs ys : List Line) (trace : TraceContent) → text_of xs ++ (text_of ys ++ end_text trace) ≡ text_of ((xs ++ ys) ++ line.End trace.rounds ∷ [])
+parts_with_end xs ys trace = ap (λ (t : List ℕ). text_of xs ++ (text_of ys ++ t)) (sym (text_of-one (line.End trace.rounds))) ∙ three_parts xs ys (line.End trace.rounds ∷ [])
 
 pub plan_parts : (cores : Cores) (trace : TraceContent) (b : ℕ) → IsTrace trace → EveryPlanHasItsSlots
     → text_of (rounds_lines cores b trace.rounds trace) ++ (text_of (flows_lines b trace) ++ end_text trace) ≡ plan_text cores b trace
@@ -27,13 +30,8 @@ plan_parts cores trace b accepted slots =
     let all : List (List Flow) = schedule b batches in
     let counts = slots b trace accepted in
     let size : ℕ = trace.rounds * b in
-    let rounds : List Line = batches_lines cores b 0 batches all in
     let all_batches : take trace.rounds batches ≡ batches = take_all trace.rounds batches (omega (arith, counts.0)) in
     let all_slots : take size all ≡ all = take_all size all (omega (arith, counts.1)) in
     let rest : List ℕ = text_of (flows_lines b trace) ++ end_text trace in
     ap (λ (bs : List DemandBatch). text_of (batches_lines cores b 0 bs (take size all)) ++ rest) all_batches
-    ∙ (ap (λ (xs : List (List Flow)). text_of (batches_lines cores b 0 batches xs) ++ rest) all_slots
-    ∙ (sym (append_assoc (text_of rounds) (text_of (flows_lines b trace)) (end_text trace))
-    ∙ (ap (λ (t : List ℕ). (text_of rounds ++ text_of (flows_lines b trace)) ++ t) (sym (text_of-one (line.End trace.rounds)))
-    ∙ (ap (λ (t : List ℕ). t ++ text_of (line.End trace.rounds ∷ [])) (sym (text_of-append rounds (flows_lines b trace)))
-    ∙ sym (text_of-append (rounds ++ flows_lines b trace) (line.End trace.rounds ∷ []))))))
+    ∙ (ap (λ (xs : List (List Flow)). text_of (batches_lines cores b 0 batches xs) ++ rest) all_slots ∙ parts_with_end (batches_lines cores b 0 batches all) (flows_lines b trace) trace)

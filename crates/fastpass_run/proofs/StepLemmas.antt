@@ -3,14 +3,14 @@ use Rattle.std.proofs.Common.{◌≡◌, ◌≤◌, ◌+◌, ◌-◌, ◌*◌, �
 use Rattle.std.proofs.lemmas.Nat.{mul-le}
 use Rattle.std.proofs.lemmas.List.{length-take, length-drop}
 use Rattle.greedy_rules.specs.declared.flows.Flow.{Flow}
-use Rattle.greedy_rules.specs.declared.flows.Entry.{Entry}
 use Rattle.greedy_rules.specs.Batches.{DemandBatch}
 use Rattle.greedy_rules.specs.Schedule.{first_slot, schedule}
 use Rattle.report_text.specs.declared.line.Line.{Line}
 use Rattle.trace_text.specs.Trace.{TraceContent}
 use Rattle.trace_text.specs.Valid.{IsTrace}
 use Rattle.window_engine.specs.Batches.{plan_batches}
-use Rattle.window_engine.specs.Scheduled.{Cores, AreClean, cores_from}
+use Rattle.replay_rounds.specs.Setting.{Cores}
+use Rattle.window_engine.specs.Scheduled.{AreClean}
 use Rattle.window_engine.specs.Standing.{EngineState, Stands, window_of}
 use Rattle.window_engine.specs.Step.{StepContent, IsPlanned, EveryPlanHasItsSlots, window_slots}
 use Rattle.fastpass_run.specs.Progress.{IsWindow, cores_of_step, window_lines, rounds_lines}

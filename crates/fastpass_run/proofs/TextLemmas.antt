@@ -11,7 +11,7 @@ use Rattle.greedy_rules.specs.SlotTable.{IsSlotOf, destination_of}
 use Rattle.clos_topology.specs.Links.{CoreOf}
 use Rattle.report_text.specs.declared.line.Line.{Line}
 use Rattle.report_text.specs.Lines.{line_bytes}
-use Rattle.window_engine.specs.Scheduled.{Cores}
+use Rattle.replay_rounds.specs.Setting.{Cores}
 use Rattle.fastpass_run.specs.Text.{slot_line, slots_lines, text_of}
 use Rattle.fastpass_run.specs.Flows.{flow_list, flows_at, flows_below}
 
@@ -22,6 +22,10 @@ text_of-append (x ∷ xs) ys =
 
 pub text_of-one : (l : Line) → text_of (l ∷ []) ≡ line_bytes l ++ 10 ∷ []
 text_of-one l = append-nil (line_bytes l ++ 10 ∷ [])
+
+-- lines in three parts
+pub three_parts : (xs ys zs : List Line) → text_of xs ++ (text_of ys ++ text_of zs) ≡ text_of ((xs ++ ys) ++ zs)
+three_parts xs ys zs = sym (append_assoc (text_of xs) (text_of ys) (text_of zs)) ∙ (ap (λ (t : List ℕ). t ++ text_of zs) (sym (text_of-append xs ys)) ∙ sym (text_of-append (xs ++ ys) zs))
 
 -- a line for each element, one more
 pub text_more : {X : Type 0} (f : X → Line) (xs : List X) (i : ℕ) (x : X) → i < length xs → slice_get xs i ≡ Some x

@@ -1,9 +1,12 @@
 pub mod Transfer
 pub mod Words
 pub mod Text
+pub mod ReplayText
 pub mod Scheduled
+pub mod ReplayScheduled
 pub mod Output
 pub mod Flows
 pub mod Progress
+pub mod ReplayProgress
 pub mod Run
 pub mod Failures

@@ -4,7 +4,8 @@ use Rattle.greedy_rules.specs.Schedule.{first_slot, schedule}
 use Rattle.report_text.specs.declared.line.Line.{Line}
 use Rattle.trace_text.specs.Trace.{TraceContent}
 use Rattle.window_engine.specs.Batches.{plan_batches}
-use Rattle.window_engine.specs.Scheduled.{Cores, cores_from}
+use Rattle.replay_rounds.specs.Setting.{Cores}
+use Rattle.window_engine.specs.Scheduled.{cores_from}
 use Rattle.window_engine.specs.Step.{StepContent, window_slots}
 use Rattle.fastpass_run.specs.Text.{batches_lines}
 

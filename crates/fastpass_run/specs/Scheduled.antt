@@ -4,7 +4,8 @@ use Rattle.std.specs.Prelude.{ℕ}
 use Rattle.greedy_rules.specs.Schedule.{first_slot}
 use Rattle.trace_text.specs.Trace.{TraceContent}
 use Rattle.window_engine.specs.Batches.{plan_batches}
-use Rattle.window_engine.specs.Scheduled.{Cores, EverySlotIsScheduled, AreClean}
+use Rattle.replay_rounds.specs.Setting.{Cores}
+use Rattle.window_engine.specs.Scheduled.{EverySlotIsScheduled, AreClean}
 use Rattle.window_engine.specs.Step.{window_slots}
 
 -- with some cores every slot of the trace's schedule is so, and what is told of them holds

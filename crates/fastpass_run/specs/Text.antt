@@ -14,7 +14,7 @@ use Rattle.trace_text.specs.Trace.{TraceContent}
 use Rattle.window_engine.specs.declared.counts.Counts.{Counts}
 use Rattle.window_engine.specs.Batches.{plan_batches}
 use Rattle.window_engine.specs.Counts.{counts_of}
-use Rattle.window_engine.specs.Scheduled.{Cores}
+use Rattle.replay_rounds.specs.Setting.{Cores}
 
 abbrev pub entry_line : ℕ → Entry → Line
 entry_line k entry = line.Batch k entry.flow.src entry.flow.dst entry.clear entry.add

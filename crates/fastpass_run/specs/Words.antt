@@ -2,7 +2,10 @@
 use Rattle.std.specs.Prelude.{◌<◌, ◌≤◌, ℕ, Bool, ◌&&◌, nat_le, List, [], ◌∷◌, Option, Some, None, IfSome, is_none, option_map, unwrap_or, if◌then◌else◌, slice_index, codes}
 use Rattle.std.specs.Str.{bytes_eq, all_ascii_digits}
 use Rattle.std.specs.Str.Parse.{digits_value}
+use Rattle.trace_text.specs.declared.command.Command.{Command}
+use Rattle.trace_text.specs.declared.command.Command.TheVariants.{Plan, Replay}
 use Rattle.fastpass_run.specs.declared.words.Options.{Options}
+use Rattle.fastpass_run.specs.declared.words.Task.{Task}
 
 -- a number from 1 to most, in plain decimal without a leading zero
 abbrev pub plain_up_to : ℕ → List ℕ → Option ℕ
@@ -17,28 +20,54 @@ is_word name word = bytes_eq word name
 abbrev pub with_option : List ℕ → List ℕ → Options → Option Options
 with_option name value options =
     if is_word (codes "--batch") name && is_none options.batch then option_map (λ n. record options { batch = Some n }) (plain_up_to 64 value)
+    else (if is_word (codes "--window") name && is_none options.window then option_map (λ n. record options { window = Some n }) (plain_up_to 16 value)
     else (if is_word (codes "--paths") name && is_none options.paths then option_map (λ n. record options { paths = Some n }) (plain_up_to 16 value)
-    else None)
+    else None))
 
 abbrev pub options_then : (Options → Option Options) → Option Options → Option Options
 options_then more None = None
 options_then more (Some options) = more options
 
--- the pairs of a name and its value after `plan`, in any order
+-- the pairs of a name and its value after the command, in any order
 abbrev pub options_of : List (List ℕ) → Options → Option Options
 options_of [] options = Some options
 options_of (name ∷ []) options = None
 options_of (name ∷ (value ∷ words)) options = options_then (options_of words) (with_option name value options)
 
 abbrev pub no_options : Options
-no_options = record { batch = None; paths = None }
+no_options = record { batch = None; window = None; paths = None }
 
--- the slots of a batch that the words ask for, where they are accepted
-abbrev pub batch_size_of : List (List ℕ) → Option ℕ
-batch_size_of [] = None
-batch_size_of (command ∷ words) = if is_word (codes "plan") command then option_map (λ options. unwrap_or options.batch 8) (options_of words no_options) else None
+abbrev pub command_of : List ℕ → Option Command
+command_of word = if is_word (codes "plan") word then Some Plan else (if is_word (codes "replay") word then Some Replay else None)
+
+-- what the words ask for: the command, the slots of a batch and the rounds of a window
+pub record Asked : Type 0 where
+  pub command : Command
+  pub b : ℕ
+  pub g : ℕ
+
+abbrev pub asked_with : Option Command → Option Options → Option Asked
+asked_with None options = None
+asked_with (Some command) None = None
+asked_with (Some command) (Some options) = Some (record { command = command; b = unwrap_or options.batch 8; g = unwrap_or options.window 8 })
+
+-- what words ask for, where they are accepted
+abbrev pub asked_of : List (List ℕ) → Option Asked
+asked_of [] = None
+asked_of (command ∷ words) = asked_with (command_of command) (options_of words no_options)
+
+-- of a task, all but how many path workers there are
+abbrev pub asked_in : Task → Asked
+asked_in task = record { command = task.command; b = task.b; g = task.g }
+
+-- a task within the limits of its numbers
+pub record IsTask (task : Task) : Type 0 where
+  pub b : (0 < task.b) × (task.b ≤ 64)
+  pub g : (0 < task.g) × (task.g ≤ 16)
+  pub paths : (0 < task.paths) × (task.paths ≤ 16)
 
 -- the options that are named are within their limits
 pub record AreWithin (options : Options) : Type 0 where
   pub some_slots : IfSome options.batch (λ n. (0 < n) × (n ≤ 64))
+  pub some_rounds : IfSome options.window (λ n. (0 < n) × (n ≤ 16))
   pub some_paths : IfSome options.paths (λ n. (0 < n) × (n ≤ 16))

@@ -1,18 +1,21 @@
-//! The whole program: words, trace, plan and text, over any source, sinks and gate.
+//! The whole program: words, trace, plan or replay, and text, over any source, sinks and gate.
 #![tactic(auto)]
 
 ghost use Rattle.std.specs.Prelude.{◌≡◌, ◌≢◌, ◌⊎◌, ◌↔◌, ◌+◌, ◌≤◌, map, None};
 ghost use Rattle.fp_edge.specs.Faults.{Rose};
-ghost use Rattle.fastpass_run.specs.Words.{batch_size_of};
+ghost use Rattle.fastpass_run.specs.Words.{asked_of};
 ghost use Rattle.fastpass_run.specs.Transfer.{Takes};
-ghost use Rattle.fastpass_run.specs.Run.{ComesTo, Plans, BeginsPlan, FaultyAtSome, IsUnwritten, Notes, TellsFaults, TellsExcess, Completes};
+ghost use Rattle.fastpass_run.specs.Run.{ComesTo, Performs, Begins, FaultyAtSome, IsUnwritten, Notes, TellsFaults, TellsExcess, Completes};
 ghost use Rattle.fastpass_run.specs.declared.transfer.TheConstants.{LIMIT};
 
+mod counts;
 mod flows;
 mod lines;
 mod outcome;
 mod output;
 mod plan;
+mod replay;
+mod rounds;
 mod transfer;
 mod words;
 
@@ -36,17 +39,17 @@ pub fn run<R: Threads + Wait + Sync, S: Source, O: Sink, N: Sink, G: Gate + Sync
     gate: &G,
 ) -> u8
     // What is written.
-    ensures planned { result ≡ 0 → Plans (map (λ word. word.now) words.now) (S.left src.old) (S.left src.new) (O.held out.old) (O.held out.new) }
+    ensures written { result ≡ 0 → Performs (map (λ word. word.now) words.now) (S.left src.old) (S.left src.new) (O.held out.old) (O.held out.new) }
     ensures unwritten { result ≢ 0 → result ≢ 4 → result ≢ 5 → IsUnwritten (O.held out.old) (O.held out.new) (O.faults out.old) (O.faults out.new) }
 
     // When each status comes.
     ensures statuses { result ≤ 6 }
-    ensures words { (result ≡ 1) ↔ (batch_size_of (map (λ word. word.now) words.now) ≡ None) }
+    ensures words { (result ≡ 1) ↔ (asked_of (map (λ word. word.now) words.now) ≡ None) }
     ensures unread { result ≡ 1 → (S.left src.new ≡ S.left src.old) × (S.faults src.new ≡ S.faults src.old) }
-    ensures row { result ≡ 2 → FaultyAtSome (S.left src.old) (S.left src.new) }
+    ensures row { result ≡ 2 → FaultyAtSome (map (λ word. word.now) words.now) (S.left src.old) (S.left src.new) }
     ensures read { result ≡ 3 → Rose (S.faults src.old) (S.faults src.new) }
-    ensures write { result ≡ 4 → BeginsPlan (map (λ word. word.now) words.now) (S.left src.old) (S.left src.new) (O.held out.old) (O.held out.new) × Rose (O.faults out.old) (O.faults out.new) }
-    ensures memory { result ≡ 5 → IsUnwritten (O.held out.old) (O.held out.new) (O.faults out.old) (O.faults out.new) ⊎ BeginsPlan (map (λ word. word.now) words.now) (S.left src.old) (S.left src.new) (O.held out.old) (O.held out.new) }
+    ensures write { result ≡ 4 → Begins (map (λ word. word.now) words.now) (S.left src.old) (S.left src.new) (O.held out.old) (O.held out.new) × Rose (O.faults out.old) (O.faults out.new) }
+    ensures memory { result ≡ 5 → IsUnwritten (O.held out.old) (O.held out.new) (O.faults out.old) (O.faults out.new) ⊎ Begins (map (λ word. word.now) words.now) (S.left src.old) (S.left src.new) (O.held out.old) (O.held out.new) }
     ensures big { result ≡ 6 → Takes (S.left src.old) (S.left src.new) (λ n. n ≡ LIMIT + 1) }
     ensures not_big { result ≢ 6 → Takes (S.left src.old) (S.left src.new) (λ n. n ≤ LIMIT) }
     ensures faulty { TellsFaults (map (λ word. word.now) words.now) (S.left src.old) (S.faults src.old) (S.faults src.new) result }
@@ -54,7 +57,7 @@ pub fn run<R: Threads + Wait + Sync, S: Source, O: Sink, N: Sink, G: Gate + Sync
     ensures complete { Completes (map (λ word. word.now) words.now) (S.left src.old) (S.faults src.old) (S.faults src.new) (O.faults out.old) (O.faults out.new) result }
 
     // The note.
-    ensures noted { ¬ Rose (N.faults notes.old) (N.faults notes.new) → Notes result (S.left src.old) (S.left src.new) (N.held notes.old) (N.held notes.new) }
+    ensures noted { ¬ Rose (N.faults notes.old) (N.faults notes.new) → Notes (map (λ word. word.now) words.now) result (S.left src.old) (S.left src.new) (N.held notes.old) (N.held notes.new) }
 {
     let outcome = perform(rt, gate, alloc, words, src, out);
     let _ = outcome::note(notes, outcome);
@@ -71,11 +74,13 @@ fn perform<R: Threads + Wait + Sync, S: Source, O: Sink, G: Gate + Sync>(
 ) -> Result<(), Failure>
     ensures { ComesTo (map (λ word. word.now) words.now) (S.left src.old) (S.left src.new) (S.faults src.old) (S.faults src.new) (O.held out.old) (O.held out.new) (O.faults out.old) (O.faults out.new) result }
 {
-    let Some(setting) = words::setting(words) else {
+    let Some(task) = words::read_task(words) else {
         return Err(Failure::Words);
     };
     let text = transfer::read_all(alloc, src)?;
-    let trace = read_trace(alloc, &text, Command::Plan)?;
-    plan::plan(rt, gate, alloc, &trace, setting, out)?;
-    Ok(())
+    let trace = read_trace(alloc, &text, task.command)?;
+    match task.command {
+        Command::Plan => Ok(plan::plan(rt, gate, alloc, &trace, task, out)?),
+        Command::Replay => Ok(replay::replay(rt, gate, alloc, &trace, task, out)?),
+    }
 }

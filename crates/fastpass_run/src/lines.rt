@@ -28,7 +28,7 @@ fn line_of(round: u32, entry: Entry) -> Line
 }
 
 /// A line for each entry of a round's batch.
-fn put_entries<K: Sink>(
+pub(crate) fn put_entries<K: Sink>(
     sink: &mut K,
     gathered: &mut Vec<u8>,
     round: u32,
@@ -95,13 +95,13 @@ fn put_slot<K: Sink>(
 }
 
 /// The packets of so many slots of the tables from this place on; the slot at place 0 has the number `base`.
-fn put_slots<K: Sink>(
+pub(crate) fn put_slots<K: Sink>(
     sink: &mut K,
     gathered: &mut Vec<u8>,
     table: &SlotTable,
     cores: &CoreTable,
     from: u16,
-    count: u8,
+    count: u16,
     base: u32,
 ) -> Result<(), Stop>
     requires count { from + count ≤ length table.now.slots }
@@ -111,7 +111,7 @@ fn put_slots<K: Sink>(
     requires core_endpoints { table.now.endpoints ≤ cores.now.endpoints }
     ensures { Passes (K.held sink.old) (K.held sink.new) (K.faults sink.old) (K.faults sink.new) gathered.old.items gathered.new.items (text_of (slots_lines (cores_from base cores.now) (base + from) (take count (drop from table.now.slots)))) result }
 {
-    for place in from..from + u16::from(count) {
+    for place in from..from + count {
         put_slot(sink, gathered, table, cores, place, base + u32::from(place))?;
     }
     Ok(())
@@ -133,9 +133,18 @@ fn put_batch<K: Sink>(
     let span = step.allocated();
     let number = span.first + at;
     put_entries(sink, gathered, number, &step.batches()[at as usize])?;
-    let from = at as u16 * u16::from(b);
+    let count = u16::from(b);
+    let from = at as u16 * count;
     let base = span.first * u32::from(b) + 1;
-    put_slots(sink, gathered, step.slots(), step.cores(), from, b, base)
+    put_slots(
+        sink,
+        gathered,
+        step.slots(),
+        step.cores(),
+        from,
+        count,
+        base,
+    )
 }
 
 /// The batches of a step, each with its slots.

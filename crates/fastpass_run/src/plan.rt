@@ -8,11 +8,12 @@ ghost use Rattle.fastpass_run.specs.Progress.{window_lines, rounds_lines};
 ghost use Rattle.fastpass_run.specs.Scheduled.{WithCores, WithCoresOfWindow};
 ghost use Rattle.fastpass_run.specs.Text.{text_of, plan_text};
 ghost use Rattle.fastpass_run.specs.Output.{Passes, Writes};
+ghost use Rattle.fastpass_run.specs.Words.{IsTask};
 
 use crate::flows::put_flows;
 use crate::lines::put_window;
 use crate::output::{GATHERED, Stop, flush, put_line};
-use crate::words::PlanSetting;
+use crate::words::Task;
 use fp_edge::{Gate, Sink};
 use report_text::Line;
 use std::alloc::Global;
@@ -24,11 +25,8 @@ use window_engine::{
     every_record_has_cores,
 };
 
-/// How many workers there are where nothing else is asked for.
-const WORKERS: u16 = 4;
-
-/// How many rounds a window has.
-const WINDOW: u8 = 8;
+/// How many workers there are.
+pub(crate) const WORKERS: u16 = 4;
 
 /// Plans the next window of rounds, and gives out its batches and slots.
 fn put_step<R: Threads + Wait + Sync, G: Gate + Sync, K: Sink>(
@@ -89,24 +87,23 @@ fn put_lines<R: Threads + Wait + Sync, G: Gate + Sync, K: Sink>(
     gate: &G,
     alloc: Global,
     trace: &Trace,
-    setting: PlanSetting,
+    task: Task,
     sink: &mut K,
     gathered: &mut Vec<u8>,
 ) -> Result<(), Stop>
     requires accepted { IsTrace trace.now }
-    requires b { (0 < setting.b) × (setting.b ≤ 64) }
-    requires paths { (0 < setting.paths) × (setting.paths ≤ 16) }
-    requires cores { HasCores setting.b trace.now.net (plan_batches trace.now) }
-    ensures { WithCores setting.b trace.now (λ cores. Passes (K.held sink.old) (K.held sink.new) (K.faults sink.old) (K.faults sink.new) gathered.old.items gathered.new.items (plan_text cores setting.b trace.now) result) }
+    requires task { IsTask task }
+    requires cores { HasCores task.b trace.now.net (plan_batches trace.now) }
+    ensures { WithCores task.b trace.now (λ cores. Passes (K.held sink.old) (K.held sink.new) (K.faults sink.old) (K.faults sink.new) gathered.old.items gathered.new.items (plan_text cores task.b trace.now) result) }
 {
     every_plan_has_its_slots();
-    let b = setting.b;
+    let b = task.b;
     let how = Setting {
         replay: false,
         workers: WORKERS,
-        paths: u16::from(setting.paths),
+        paths: u16::from(task.paths),
         b,
-        g: WINDOW,
+        g: task.g,
     };
     let mut engine = Engine::open(alloc, trace, how)?;
     put_rounds(rt, gate, trace, &mut engine, b, sink, gathered)?;
@@ -126,19 +123,18 @@ pub(crate) fn plan<R: Threads + Wait + Sync, G: Gate + Sync, K: Sink>(
     gate: &G,
     alloc: Global,
     trace: &Trace,
-    setting: PlanSetting,
+    task: Task,
     sink: &mut K,
 ) -> Result<(), Stop>
     requires accepted { IsTrace trace.now }
-    requires b { (0 < setting.b) × (setting.b ≤ 64) }
-    requires paths { (0 < setting.paths) × (setting.paths ≤ 16) }
-    ensures writes { WithCores setting.b trace.now (λ cores. Writes (K.held sink.old) (K.held sink.new) (K.faults sink.old) (K.faults sink.new) (plan_text cores setting.b trace.now) result) }
-    ensures ledger { OnOk result (AllIsAllocatedOrPending setting.b (plan_batches trace.now)) }
+    requires task { IsTask task }
+    ensures writes { WithCores task.b trace.now (λ cores. Writes (K.held sink.old) (K.held sink.new) (K.faults sink.old) (K.faults sink.new) (plan_text cores task.b trace.now) result) }
+    ensures ledger { OnOk result (AllIsAllocatedOrPending task.b (plan_batches trace.now)) }
 {
     every_plan_is_recorded();
     every_record_has_cores();
     every_plan_balances();
     let mut gathered = Vec::with_capacity(alloc, GATHERED)?;
-    put_lines(rt, gate, alloc, trace, setting, sink, &mut gathered)?;
+    put_lines(rt, gate, alloc, trace, task, sink, &mut gathered)?;
     flush(sink, &mut gathered)
 }

@@ -1,5 +1,7 @@
 ghost use Rattle.std.specs.Prelude.{◌≡◌, ◌<◌, ◌≤◌, map, IfSome, option_map};
-ghost use Rattle.fastpass_run.specs.Words.{batch_size_of, options_of, no_options, with_option, plain_up_to, AreWithin};
+ghost use Rattle.fastpass_run.specs.Words.{asked_of, asked_in, command_of, options_of, no_options, with_option, plain_up_to, AreWithin, IsTask};
+
+use trace_text::Command;
 
 /// The slots of a batch where nothing else is asked for.
 const BATCH: u8 = 8;
@@ -7,16 +9,24 @@ const BATCH: u8 = 8;
 /// The greatest batch size.
 const MOST_BATCH: u8 = 64;
 
+/// The rounds of a window where nothing else is asked for.
+const WINDOW: u8 = 8;
+
+/// The most rounds of a window.
+const MOST_WINDOW: u8 = 16;
+
 /// How many path workers there are where nothing else is asked for.
 const PATHS: u8 = 2;
 
 /// The most path workers.
 const MOST_PATHS: u8 = 16;
 
-/// What the words set: the slots of a batch, and how many path workers there are.
+/// What the words ask for: a command, the slots of a batch, the rounds of a window, and how many path workers there are.
 #[derive(Clone, Copy, Debug)]
-pub(crate) struct PlanSetting {
+pub(crate) struct Task {
+    pub(crate) command: Command,
     pub(crate) b: u8,
+    pub(crate) g: u8,
     pub(crate) paths: u8,
 }
 
@@ -24,24 +34,35 @@ pub(crate) struct PlanSetting {
 #[derive(Clone, Copy, Debug)]
 struct Options {
     batch: Option<u8>,
+    window: Option<u8>,
     paths: Option<u8>,
 }
 
-/// What the words set: `plan`, and then `--batch n` and `--paths n`, in any order and each at most once. None where they are
-/// refused.
-pub(crate) fn setting(words: &[&str]) -> Option<PlanSetting>
-    ensures batch { option_map (λ setting. setting.b) result ≡ batch_size_of (map (λ word. word.now) words.now) }
-    ensures b { IfSome result (λ setting. (0 < setting.b) × (setting.b ≤ 64)) }
-    ensures paths { IfSome result (λ setting. (0 < setting.paths) × (setting.paths ≤ 16)) }
+/// What the words ask for: a command, and then `--batch n`, `--window n` and `--paths n`, in any order and each at most once. None
+/// where they are refused.
+pub(crate) fn read_task(words: &[&str]) -> Option<Task>
+    ensures asked { option_map asked_in result ≡ asked_of (map (λ word. word.now) words.now) }
+    ensures within { IfSome result IsTask }
 {
-    match words {
-        [command, pairs @ ..] if *command == "plan" => {
-            let options = read_options(pairs)?;
-            Some(PlanSetting {
-                b: options.batch.unwrap_or(BATCH),
-                paths: options.paths.unwrap_or(PATHS),
-            })
-        }
+    let [word, pairs @ ..] = words else {
+        return None;
+    };
+    let command = command(word)?;
+    let options = read_options(pairs)?;
+    Some(Task {
+        command,
+        b: options.batch.unwrap_or(BATCH),
+        g: options.window.unwrap_or(WINDOW),
+        paths: options.paths.unwrap_or(PATHS),
+    })
+}
+
+fn command(word: &str) -> Option<Command>
+    ensures { result ≡ command_of word.now }
+{
+    match word {
+        "plan" => Some(Command::Plan),
+        "replay" => Some(Command::Replay),
         _ => None,
     }
 }
@@ -52,6 +73,7 @@ fn read_options(pairs: &[&str]) -> Option<Options>
 {
     let mut options = Options {
         batch: None,
+        window: None,
         paths: None,
     };
     let mut rest = pairs;
@@ -75,14 +97,21 @@ fn with_option(name: &str, value: &str, options: Options) -> Option<Options>
         let batch = plain_number(value, MOST_BATCH)?;
         return Some(Options {
             batch: Some(batch),
-            paths: options.paths,
+            ..options
+        });
+    }
+    if name == "--window" && options.window.is_none() {
+        let window = plain_number(value, MOST_WINDOW)?;
+        return Some(Options {
+            window: Some(window),
+            ..options
         });
     }
     if name == "--paths" && options.paths.is_none() {
         let paths = plain_number(value, MOST_PATHS)?;
         return Some(Options {
-            batch: options.batch,
             paths: Some(paths),
+            ..options
         });
     }
     None

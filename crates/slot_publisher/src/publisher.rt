@@ -67,6 +67,7 @@ impl Publisher {
         ensures endpoints { IfOk result (λ publisher. publisher.endpoints ≡ endpoints) }
         ensures batches { IfOk result (λ publisher. publisher.batches ≡ batches) }
         ensures b { IfOk result (λ publisher. publisher.b ≡ b) }
+        ensures first { IfOk result (λ publisher. publisher.first_batch ≡ 0) }
         ensures count { IfOk result (λ publisher. publisher.count ≡ 0) }
         ensures slots { IfOk result (λ publisher. publisher.slots ≡ []) }
     {

@@ -1,7 +1,11 @@
+pub mod Agents
 pub mod Allocations
 pub mod Apart
 pub mod Applicable
 pub mod Asked
+pub mod CoresOfAgent
+pub mod CoresOfLane
+pub mod CoresOfRun
 pub mod Counts
 pub mod Examples
 pub mod Fronts

@@ -1,5 +1,7 @@
+pub mod Agents
 pub mod Allocations
 pub mod Applicable
+pub mod Cores
 pub mod Counts
 pub mod Examples
 pub mod Fronts

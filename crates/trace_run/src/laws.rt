@@ -1,7 +1,9 @@
 //! What holds of the run of every trace, whatever is lost, held back, repeated or forged, and however often endpoints boot.
 //! Crates above cite these functions' contracts.
+ghost use Rattle.trace_run.specs.Agents.{EpochsCountBoots, AskedIsWithinAll};
 ghost use Rattle.trace_run.specs.Allocations.{OneFlowMore, AFlowWithoutSlots, ABatchMore, NeedsAreOwed, AllocationIsPending};
 ghost use Rattle.trace_run.specs.Applicable.{EveryRunIsApplicable, EverySlotIsOfTheRun};
+ghost use Rattle.trace_run.specs.Cores.{CoresDecideNothing, CoresDecideNoSend, CoresStandInDownPackets, CoresDecideNoUpPacket, CoresDecideNoCount};
 ghost use Rattle.trace_run.specs.Counts.{ToldIsAllocated, TellingHasRoom, ToldFitsSlots, EveryFlowIsCounted, AddsAreDemandedAndLost};
 ghost use Rattle.trace_run.specs.Examples.{WorkedRuns};
 ghost use Rattle.trace_run.specs.Fronts.{EveryRoundHasABatch, ARunBeginsWithEach, RoundsAreOfTheWholeRun};
@@ -39,6 +41,12 @@ pub fn runs_go_on()
 {
     schedules_hold();
 }
+
+/// An agent's epoch counts its boots, and no more is asked of it than the trace asks for.
+pub fn agents_boot_and_are_asked()
+    ensures epochs { EpochsCountBoots }
+    ensures asked { AskedIsWithinAll }
+{}
 
 /// The batches of a run open, clear and add as their lanes record it, and leave a list that has each of their flows once.
 pub fn every_run_is_applicable()
@@ -151,6 +159,20 @@ pub fn no_slot_in_time_is_passed_over()
     ledger_and_rest_agree();
     what_is_told_is_allocated();
 }
+
+/// Two runs of one trace that differ in the cores alone record the same batches.
+pub fn cores_decide_nothing()
+    ensures { CoresDecideNothing }
+{}
+
+/// Two such runs differ in the cores that downward packets name and in nothing else: endpoints send in the same slots, upward
+/// packets are the same, and both ends of every connection count the same.
+pub fn cores_are_only_told()
+    ensures sends { CoresDecideNoSend }
+    ensures down { CoresStandInDownPackets }
+    ensures up { CoresDecideNoUpPacket }
+    ensures counts { CoresDecideNoCount }
+{}
 
 /// What the run of every trace shows: every slot is a matching within the limits of the racks that no waiting demand could join,
 /// endpoints send in scheduled slots alone, and each flow's recorded demand is acknowledged, in flight or pending, lost slots

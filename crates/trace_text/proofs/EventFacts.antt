@@ -4,7 +4,7 @@ use Rattle.std.specs.Prelude.{◌==◌, ◌&&◌, not, slice_get, option_map}
 use Rattle.std.specs.List.Sorted.{IsStableByKey, IsPermutation, ties}
 use Rattle.std.specs.Ordering.{is_lt, nat_cmp}
 use Rattle.std.proofs.lemmas.Bool.Decides.{nat_tests}
-use Rattle.std.proofs.lemmas.List.Elements.{All-cons, filter_agree}
+use Rattle.std.proofs.lemmas.List.Elements.{All-cons, All-drop, All-take, filter_agree}
 use Rattle.std.proofs.lemmas.List.Sorted.{All-permutation}
 use Rattle.loss_world.specs.declared.fate.Fate.{Fate}
 use Rattle.loss_world.specs.declared.fate.Fate.TheVariants.{Lose}
@@ -147,6 +147,11 @@ pub short-told : (bytes : List ℕ) (raws : List RawPacket) (round : ℕ) → Al
 short-told bytes raws round among =
     all-told (λ (packet : List ℕ). length packet ≤ 2048) (packet_of bytes) (is_raw_of round) raws
     (λ k d lt. let raw = get_or raws k d in let here = (among k d lt).1 in omega (arith, length-take raw.size (drop raw.start bytes)))
+
+pub bytes-told : (bytes : List ℕ) (raws : List RawPacket) (round : ℕ) → All (λ byte. byte < 256) bytes → All (All (λ byte. byte < 256)) (map (packet_of bytes) (filter (is_raw_of round) raws))
+bytes-told bytes raws round are =
+    all-told (All (λ byte. byte < 256)) (packet_of bytes) (is_raw_of round) raws
+    (λ k d lt. let raw = get_or raws k d in All-take (λ byte. byte < 256) raw.size (drop raw.start bytes) (All-drop (λ byte. byte < 256) raw.start bytes are))
 
 pub among-permuted : (n : ℕ) (fates fates2 : List GivenFate) (boots boots2 : List Boot) (raws raws2 : List RawPacket) (bytes : List ℕ)
     → IsPermutation fates fates2 → IsPermutation boots boots2 → IsPermutation raws raws2 → AreAmong n fates boots raws bytes → AreAmong n fates2 boots2 raws2 bytes

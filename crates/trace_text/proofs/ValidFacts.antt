@@ -23,7 +23,7 @@ use Rattle.trace_text.specs.declared.events.GivenFate.{GivenFate}
 use Rattle.trace_text.specs.declared.events.Boot.{Boot}
 use Rattle.trace_text.specs.declared.events.RawPacket.{RawPacket}
 use Rattle.trace_text.proofs.AskFacts.{own-none}
-use Rattle.trace_text.proofs.EventFacts.{holds-told, versions-told, short-told}
+use Rattle.trace_text.proofs.EventFacts.{holds-told, versions-told, short-told, bytes-told}
 use mathlib.Core.Path.{fun_ext}
 
 -- a sum is at most another where each term is
@@ -214,9 +214,9 @@ total-le endpoints rounds src dst f =
     (sum_by-below _ _ (range_with_len 0 rounds) (λ r. below-cases (λ l. amount_for dst l ≤ f r src dst) endpoints (some_asked endpoints f r) [] src (omega arith) (some-amount endpoints 0 (f r src) dst).0))
 
 pub content_by-sound : (net : Network) (rounds : ℕ) (asks : List Ask) (fates : List GivenFate) (boots : List Boot) (raws : List RawPacket) (bytes : List ℕ) → IsNetwork net → 1 ≤ rounds → rounds ≤ 100000 → All (IsAmong (endpoints_of net)) asks
-    → ((src dst : ℕ) → sum_by (slots_for src dst) asks ≤ 100000000) → AreAmong (endpoints_of net) fates boots raws bytes → length boots ≤ 67108864
+    → ((src dst : ℕ) → sum_by (slots_for src dst) asks ≤ 100000000) → AreAmong (endpoints_of net) fates boots raws bytes → length boots ≤ 67108864 → All (λ byte. byte < 256) bytes
     → IsTrace (content_by net rounds (λ round src dst. sum_by (slots_asked round src dst) asks) (events_kept fates boots raws bytes))
-content_by-sound net rounds asks fates boots raws bytes limits some few among bounded within few_boots = record {
+content_by-sound net rounds asks fates boots raws bytes limits some few among bounded within few_boots are = record {
   net = limits;
   some_round = some;
   few_rounds = few;
@@ -236,6 +236,7 @@ content_by-sound net rounds asks fates boots raws bytes limits some few among bo
       (versions-told endpoints boots round endpoint within.each_boot);
   few_boots = λ endpoint. omega (arith, boots-all endpoint, boots-le rounds endpoint boots, few_boots);
   short = λ round. below-cases (All (λ packet. length packet ≤ 2048)) rounds events.raw [] round (λ k d lt. absurd (omega arith)) (short-told bytes raws round within.each_raw);
+  bytes = λ round. below-cases (All (All (λ byte. byte < 256))) rounds events.raw [] round (λ k d lt. absurd (omega arith)) (bytes-told bytes raws round are);
 }
   where
     endpoints : ℕ

@@ -21,7 +21,8 @@ pub record IsAskList (endpoints : ℕ) (asks : List (ℕ × ℕ)) : Type 0 where
   pub some : All (λ p. 0 < p.1) asks
 
 -- the limits of a trace, with a list for each round and source, and what is asked for within them; a packet is held for 1 to
--- 100 rounds, a version is 1 or 2, an endpoint has no more boots than a text has bytes, a raw packet has at most 2,048 bytes
+-- 100 rounds, a version is 1 or 2, an endpoint has no more boots than a text has bytes, a raw packet has at most 2,048 bytes,
+-- each below 256
 pub record IsTrace (trace : TraceContent) : Type 0 where
   pub net : IsNetwork trace.net
   pub some_round : 1 ≤ trace.rounds
@@ -35,3 +36,4 @@ pub record IsTrace (trace : TraceContent) : Type 0 where
   pub versions : (round endpoint : ℕ) → All (λ version. (1 ≤ version) × (version ≤ 2)) (boots_at trace round endpoint)
   pub few_boots : (endpoint : ℕ) → sum_by (λ round. length (boots_at trace round endpoint)) (range_with_len 0 trace.rounds) ≤ 67108864
   pub short : (round : ℕ) → All (λ packet. length packet ≤ 2048) (raw_at trace round)
+  pub bytes : (round : ℕ) → All (All (λ byte. byte < 256)) (raw_at trace round)

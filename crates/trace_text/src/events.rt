@@ -1,5 +1,5 @@
 // What happens in a trace beside its asks: fates of packets, boots, and raw packets.
-ghost use Rattle.std.specs.Prelude.{◌≡◌, ◌≤◌, ◌+◌, ◌*◌, ◌/◌, ◌++◌, ◌∷◌, [], true, length, filter, OnOk};
+ghost use Rattle.std.specs.Prelude.{◌≡◌, ◌<◌, ◌≤◌, ◌+◌, ◌*◌, ◌/◌, ◌++◌, ◌∷◌, [], true, length, filter, All, OnOk};
 ghost use Rattle.std.specs.List.Sorted.{IsNonDecreasingBy};
 ghost use Rattle.trace_text.specs.Events.{way_number, raw_rank, is_raw_of, packet_of, IsWithin};
 ghost use Rattle.trace_text.specs.Fields.{is_hex, bytes_of};
@@ -96,6 +96,13 @@ pub fn packet_of<'a>(bytes: &'a [u8], raw: &RawPacket) -> &'a [u8]
     ensures { result.now ≡ packet_of bytes.now raw.now }
 {
     &bytes[raw.start..raw.start + usize::from(raw.size)]
+}
+
+/// Whatever the bytes are, each is below 256.
+pub fn bytes_are_below_256(bytes: &[u8])
+    ensures { All (λ byte. byte < 256) bytes.now }
+{
+    let _ = bytes;
 }
 
 /// The events of the rows so far, in the order of rows.

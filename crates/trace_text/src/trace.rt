@@ -9,7 +9,8 @@ ghost use Rattle.trace_text.specs.Valid.{IsTrace};
 
 use crate::ask::Ask;
 use crate::events::{
-    Boot, EventRows, GivenFate, RawPacket, boot_rank, fate_rank, packet_of, raws_of,
+    Boot, EventRows, GivenFate, RawPacket, boot_rank, bytes_are_below_256, fate_rank, packet_of,
+    raws_of,
 };
 use crate::order::{Ranked, between, gather, sort, starts_of};
 use clos_topology::Net;
@@ -86,6 +87,7 @@ impl Trace {
         sort(&mut fates)?;
         sort(&mut boots)?;
         sort(&mut raws)?;
+        bytes_are_below_256(&bytes);
         Ok(Trace {
             net,
             rounds,

@@ -9,7 +9,8 @@ use Rattle.clos_topology.specs.Network.{Network, endpoints_of}
 use Rattle.clos_topology.specs.Links.{CoreOf, IsClean}
 use Rattle.edge_colouring.specs.Degrees.{LimitsAreDegrees}
 use Rattle.edge_colouring.specs.Colouring.{EveryMatchingHasCleanCores}
-use Rattle.window_engine.specs.Batches.{limits_of, AreOfNet}
+use Rattle.replay_rounds.specs.Setting.{limits_of}
+use Rattle.window_engine.specs.Batches.{AreOfNet}
 use Rattle.window_engine.specs.Scheduled.{EveryRecordHasCores}
 
 -- a slot has some cores that make it clean

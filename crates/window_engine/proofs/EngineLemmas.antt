@@ -1,8 +1,8 @@
 -- What an engine stands for, at its start and after a step, and what it tells of a flow at the end.
-use Rattle.std.proofs.Common.{◌≡◌, ◌<◌, ◌≤◌, ◌+◌, ◌-◌, ◌*◌, ℕ, zero, suc, List, [], ◌∷◌, ◌++◌, length, get_or, take, drop, replicate, not, ◌==◌, Option, Some, None, refl, sym, ap, ◌∙◌, subst, arith}
+use Rattle.std.proofs.Common.{◌≡◌, ◌<◌, ◌≤◌, ◌+◌, ◌-◌, ◌*◌, ℕ, zero, suc, List, [], ◌∷◌, ◌++◌, length, get_or, take, drop, not, ◌==◌, Option, Some, None, sym, ap, ◌∙◌, subst, arith}
 use Rattle.std.proofs.lemmas.Bool.{cond-true, cond-false, eq-eqb, ne_eqb}
 use Rattle.std.proofs.lemmas.Nat.{mul-add-lt}
-use Rattle.std.proofs.lemmas.List.{length-replicate, get_or-replicate, get_or_default, length-take, length-drop, take_all, take_at, drop_at, take-append-drop}
+use Rattle.std.proofs.lemmas.List.{get_or_default, length-take, length-drop, take_all, take_at, drop_at, take-append-drop}
 use Rattle.std.proofs.SliceLists.{take_long}
 use Rattle.greedy_rules.specs.declared.flows.Flow.{Flow}
 use Rattle.greedy_rules.specs.declared.flows.Item.{Item}
@@ -18,12 +18,13 @@ use Rattle.clos_topology.specs.Network.{Network, endpoints_of}
 use Rattle.trace_text.specs.Trace.{TraceContent}
 use Rattle.trace_text.specs.Valid.{total_asked, IsTrace}
 use Rattle.window_engine.specs.declared.counts.Counts.{Counts}
-use Rattle.window_engine.specs.Batches.{Round, limits_of, AreOfNet, plan_batches, EveryPlanIsRecorded}
+use Rattle.replay_rounds.specs.Setting.{limits_of}
+use Rattle.window_engine.specs.Batches.{Round, AreOfNet, plan_batches, EveryPlanIsRecorded}
 use Rattle.window_engine.specs.Counts.{plan_counts, counts_of, EveryPlanBalances}
 use Rattle.window_engine.specs.Standing.{Collected, Allocated, EngineState, Needs, HasCollected, HasAllocated, Stands, window_of}
 use Rattle.window_engine.specs.declared.window.Span.{Span}
 use Rattle.window_engine.specs.Step.{WindowContent, StepContent, IsWindowOf, IsPlanned, window_slots}
-use Rattle.window_engine.specs.Tallies.{Tallies, place_of}
+use Rattle.window_engine.specs.Tallies.{place_of}
 use Rattle.window_engine.proofs.WindowLemmas.{HasNext, Goes}
 use Rattle.window_engine.proofs.PlanCounts.{added_in_plan, is_in_plan}
 

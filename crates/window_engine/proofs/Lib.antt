@@ -9,3 +9,10 @@ pub mod WindowLemmas
 pub mod NeedTable
 pub mod StepCounts
 pub mod EngineLemmas
+pub mod BatchCopies
+pub mod ReplayCores
+pub mod ReplayTables
+pub mod ReplaySteps
+pub mod ReplayPublish
+pub mod ReplayCounts
+pub mod ReplayScheduled

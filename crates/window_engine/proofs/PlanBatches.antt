@@ -3,17 +3,18 @@ use Rattle.std.proofs.Common.{◌≡◌, ◌<◌, ◌+◌, ◌^◌, ℕ, zero, s
 use Rattle.std.proofs.lemmas.Bool.Decides.{nat_tests}
 use Rattle.std.proofs.lemmas.List.{append-nil, append_assoc, take_more, length-drop, get_or-drop}
 use Rattle.std.proofs.lemmas.List.Sums.{sum_by_more, sum_by-take-le}
-use Rattle.std.proofs.lemmas.List.Elements.{All-nil, All-cons, All-head, All-tail, All-append, All-map}
+use Rattle.std.proofs.lemmas.List.Elements.{All-head, All-tail, All-append, All-map}
 use Rattle.greedy_rules.specs.declared.flows.Entry.{Entry}
 use Rattle.greedy_rules.specs.Flows.{flow_below}
 use Rattle.greedy_rules.specs.declared.limits.Limits.{Limits}
-use Rattle.greedy_rules.specs.Batches.{DemandBatch, IsBatch}
+use Rattle.greedy_rules.specs.Batches.{DemandBatch}
 use Rattle.greedy_rules.specs.Matching.{AreAmong}
 use Rattle.list_facts.proofs.Pairs.{AllPairs-nil, AllPairs-head, AllPairs-tail, AllPairs-cons}
 use Rattle.clos_topology.specs.Network.{endpoints_of}
 use Rattle.trace_text.specs.Trace.{TraceContent, asked_at}
 use Rattle.trace_text.specs.Valid.{amount_for, total_asked, IsAskList, IsTrace}
-use Rattle.window_engine.specs.Batches.{Round, entry_for, entries_from, limits_of, batch_after, batches_after, plan_batches}
+use Rattle.replay_rounds.specs.Setting.{limits_of}
+use Rattle.window_engine.specs.Batches.{Round, entry_for, entries_from, batch_after, batches_after, plan_batches}
 use Rattle.window_engine.specs.Tallies.{Tallies, place_of, added_in, Adds}
 use Rattle.window_engine.proofs.AskLemmas.{row_of}
 use Rattle.window_engine.proofs.EntryLemmas.{all_entries, round_adds}

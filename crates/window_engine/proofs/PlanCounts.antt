@@ -1,5 +1,5 @@
 -- What a plan comes to for each flow.
-use Rattle.std.proofs.Common.{◌≡◌, ◌+◌, ◌*◌, ℕ, List, [], ◌∷◌, ◌++◌, length, drop, Bool, true, false, not, ◌==◌, cond, All, Option, Some, None, refl, sym, ap, ◌∙◌, arith}
+use Rattle.std.proofs.Common.{◌≡◌, ◌+◌, ◌*◌, ℕ, List, [], ◌∷◌, drop, Bool, true, false, not, ◌==◌, Option, Some, None, refl, sym, ap, ◌∙◌, arith}
 use Rattle.std.proofs.lemmas.Bool.{cond-false}
 use Rattle.std.proofs.lemmas.List.Sums.{sum_by-cons}
 use Rattle.std.proofs.lemmas.List.Elements.{All-head, All-tail}
@@ -13,7 +13,8 @@ use Rattle.greedy_rules.specs.Balance.{is_recorded, AreInOrder, clears, added_by
 use Rattle.clos_topology.specs.Network.{endpoints_of}
 use Rattle.trace_text.specs.Trace.{TraceContent}
 use Rattle.trace_text.specs.Valid.{total_asked, IsTrace}
-use Rattle.window_engine.specs.Batches.{is_asked, limits_of, plan_batches}
+use Rattle.replay_rounds.specs.Setting.{limits_of}
+use Rattle.window_engine.specs.Batches.{is_asked, plan_batches}
 use Rattle.window_engine.specs.Counts.{AllIsAllocatedOrPending}
 use Rattle.window_engine.proofs.AskLemmas.{total_asked-zero}
 use Rattle.window_engine.proofs.EntryLemmas.{flow_of}

@@ -1,5 +1,5 @@
 -- The batches of a plan are as they are recorded.
-use Rattle.std.proofs.Common.{◌≡◌, ◌≢◌, ◌<◌, ◌≤◌, ◌+◌, ◌^◌, ℕ, List, [], ◌∷◌, ◌++◌, length, get_or, not, false, ◌||◌, IsTrue, All, Some, inl, inr, refl, sym, ap, ◌∙◌, subst, arith}
+use Rattle.std.proofs.Common.{◌≡◌, ◌≢◌, ◌≤◌, ◌+◌, ℕ, List, [], ◌∷◌, ◌++◌, length, get_or, not, false, ◌||◌, IsTrue, All, Some, inl, inr, refl, sym, ap, ◌∙◌, subst, arith}
 use Rattle.std.proofs.lemmas.Bool.{cond-true, cond-false, cases_Bool}
 use Rattle.std.proofs.lemmas.List.{append-nil, append_assoc, get_or_default}
 use Rattle.std.proofs.lemmas.List.Sums.{sum_by-cons, sum_by-append}
@@ -13,9 +13,9 @@ use Rattle.greedy_rules.specs.Demands.{need_with}
 use Rattle.greedy_rules.specs.Balance.{is_recorded, clears, added_by, added_of, NoneClears}
 use Rattle.greedy_rules.specs.Recorded.{demand_through, demand_of, IsRecordedAfter, AreRecordedAfter}
 use Rattle.clos_topology.specs.Network.{endpoints_of}
-use Rattle.trace_text.specs.Trace.{TraceContent}
-use Rattle.trace_text.specs.Valid.{amount_for, total_asked, IsAskList, IsTrace}
-use Rattle.window_engine.specs.Batches.{Round, asks_for, is_asked, entry_for, entries_from, limits_of, batch_after, batches_after, plan_batches, EveryPlanIsRecorded}
+use Rattle.trace_text.specs.Valid.{amount_for, total_asked, IsAskList}
+use Rattle.replay_rounds.specs.Setting.{limits_of}
+use Rattle.window_engine.specs.Batches.{Round, asks_for, is_asked, entries_from, batch_after, batches_after, EveryPlanIsRecorded}
 use Rattle.window_engine.proofs.AskLemmas.{row_of}
 use Rattle.window_engine.proofs.EntryLemmas.{flow_of, all_entries, round_has, round_added, round_needs}
 use Rattle.window_engine.proofs.PlanBatches.{among, rise_from, batch_count}

@@ -1,13 +1,15 @@
 -- How many rounds are done after so many steps.
-use Rattle.std.proofs.Common.{◌≡◌, ◌<◌, ◌≤◌, ◌+◌, ◌-◌, ◌*◌, ◌/◌, ℕ, zero, suc, min, nat_le, arith, inl, inr}
+use Rattle.std.proofs.Common.{◌≡◌, ◌<◌, ◌≤◌, ◌+◌, ◌-◌, ◌*◌, ◌/◌, ℕ, zero, suc, min, nat_le, sym, ap, ◌∙◌, arith, inl, inr}
 use Rattle.std.proofs.lemmas.Bool.{cases_Bool, leb-true, leb-false}
 use Rattle.std.proofs.lemmas.Nat.{div_below, le-div}
-use Rattle.window_engine.specs.Standing.{rounds_after, EveryPlanTakesItsSteps}
+use Rattle.trace_run.specs.Windows.{collected_after}
+use Rattle.window_engine.specs.Standing.{EveryPlanTakesItsSteps}
+use Rattle.window_engine.specs.Replay.{EveryReplayTakesItsSteps}
 
 one_more : (steps g : ℕ) → suc steps * g ≡ steps * g + g
 one_more steps g = grind arith
 
-rounds_are : (g rounds steps : ℕ) → rounds_after g rounds steps ≡ min (steps * g) rounds
+rounds_are : (g rounds steps : ℕ) → collected_after g rounds steps ≡ min (steps * g) rounds
 rounds_are g rounds zero = let none : 0 * g ≡ 0 = omega arith in omega arith
 rounds_are g rounds (suc steps) = omega (arith, rounds_are g rounds steps, one_more steps g)
 
@@ -31,3 +33,15 @@ done_after g rounds steps some = (
   λ done. enough g rounds steps some (omega (arith, rounds_are g rounds steps)),
   λ many. omega (arith, rounds_are g rounds steps, within_steps g rounds steps some many),
 )
+
+-- a replay is a step behind with its batches
+pub replayed_after : EveryReplayTakesItsSteps
+replayed_after g rounds zero some any = (λ done. absurd (omega arith), λ many. absurd (omega arith))
+replayed_after g rounds (suc steps) some any =
+    let plan = done_after g rounds steps some in
+    let before : suc steps - 1 ≡ steps = omega arith in (
+      λ done.
+          let many : (rounds + g - 1) / g ≤ steps = plan.0 (sym (ap (collected_after g rounds) before) ∙ done) in
+          omega arith,
+      λ many. ap (collected_after g rounds) before ∙ plan.1 (omega arith),
+    )

@@ -1,25 +1,24 @@
 -- A window of batches that are recorded next: they may be allocated, and what their slots and the list after them are.
-use Rattle.std.proofs.Common.{◌≡◌, ◌<◌, ◌≤◌, ◌+◌, ◌-◌, ◌*◌, ℕ, List, [], ◌++◌, length, get_or, replicate, All, refl, sym, ap, ◌∙◌, subst, arith, length-append}
+use Rattle.std.proofs.Common.{◌≡◌, ◌<◌, ◌≤◌, ◌+◌, ◌-◌, ◌*◌, ℕ, List, [], ◌++◌, length, get_or, replicate, All, sym, ap, ◌∙◌, subst, arith, length-append}
 use Rattle.std.proofs.lemmas.Nat.{mul-le}
 use Rattle.std.proofs.lemmas.List.{append-nil, length-replicate, get_or-append_right, get_or_default}
 use Rattle.greedy_rules.specs.declared.flows.Flow.{Flow}
 use Rattle.greedy_rules.specs.declared.flows.Item.{Item}
 use Rattle.greedy_rules.specs.Batches.{DemandBatch}
-use Rattle.greedy_rules.specs.Demands.{Demands, HasEachFlowOnce, AreBelow}
+use Rattle.greedy_rules.specs.Demands.{AreBelow}
 use Rattle.greedy_rules.specs.Schedule.{first_slot, schedule, schedule_from, slot_in, slot_at, rest, rest_from}
 use Rattle.greedy_rules.specs.Fronts.{FrontsAreFronts, EveryBatchHasItsSlots}
-use Rattle.greedy_rules.specs.Matching.{IsMatching}
-use Rattle.greedy_rules.specs.Recorded.{MayBeApplied, IsLeftBy, RecordedBatchesMayBeApplied, LaterBatchesMayBeApplied, IsRecordedSlot, EveryRecordedSlot}
+use Rattle.greedy_rules.specs.Recorded.{MayBeApplied, IsLeftBy, RecordedBatchesMayBeApplied, LaterBatchesMayBeApplied, EveryRecordedSlot}
 use Rattle.greedy_rules.specs.Room.{FlowsFitPairs}
 use Rattle.greedy_rules.specs.SlotTable.{Slots}
 use Rattle.slot_batches.specs.NextList.{IsListBefore}
 use Rattle.alloc_pipeline.specs.Ring.{RingWork}
 use Rattle.clos_topology.specs.Network.{Network, endpoints_of}
 use Rattle.clos_topology.specs.Links.{IsClean}
-use Rattle.path_workers.specs.Coloured.{IsFlowOf, IsWithinCores, NamesNoOther}
+use Rattle.path_workers.specs.Coloured.{NamesNoOther}
 use Rattle.path_workers.specs.CoreTable.{CoreSlots, core_of}
-use Rattle.window_engine.specs.Batches.{limits_of, AreOfNet}
-use Rattle.window_engine.specs.Scheduled.{AreClean, cores_from}
+use Rattle.replay_rounds.specs.Setting.{limits_of}
+use Rattle.window_engine.specs.Batches.{AreOfNet}
 use Rattle.window_engine.specs.Standing.{Allocated, HasAllocated}
 use Rattle.window_engine.specs.Step.{IsWindowOf}
 use Rattle.window_engine.specs.Ready.{IsFit, IsReady, EveryWindowIsReady}

@@ -6,3 +6,5 @@ pub mod Step
 pub mod Standing
 pub mod Settings
 pub mod Ready
+pub mod Replay
+pub mod Premises

@@ -9,11 +9,8 @@ use Rattle.greedy_rules.specs.Schedule.{schedule, slot_in, slot_at, need_before}
 use Rattle.clos_topology.specs.Network.{Network}
 use Rattle.clos_topology.specs.Links.{CoreOf, IsClean}
 use Rattle.path_workers.specs.CoreTable.{CoreSlots, core_of}
-use Rattle.window_engine.specs.Batches.{limits_of, AreOfNet}
-
--- for each slot, by its number, the core that each source's packet takes where it leaves its rack
-abbrev pub Cores : Type 0
-Cores = ℕ → CoreOf
+use Rattle.replay_rounds.specs.Setting.{Cores, limits_of}
+use Rattle.window_engine.specs.Batches.{AreOfNet}
 
 pub record IsScheduled (net : Network) (need : Flow → ℕ) (slot : List Flow) (core_of : CoreOf) : Type 0 where
   pub matching : IsMatching slot

@@ -1,6 +1,6 @@
 -- What an engine stands for: a trace, of which some rounds are collected and the batches of some allocated (this project's own
 -- profile).
-use Rattle.std.specs.Prelude.{◌≡◌, ◌↔◌, ◌<◌, ◌≤◌, ℕ, zero, suc, ◌+◌, ◌-◌, ◌*◌, ◌/◌, List, length, take, slice_index, min}
+use Rattle.std.specs.Prelude.{◌≡◌, ◌↔◌, ◌<◌, ◌≤◌, ℕ, ◌+◌, ◌-◌, ◌*◌, ◌/◌, List, length, take, slice_index, min}
 use Rattle.greedy_rules.specs.declared.flows.Item.{Item}
 use Rattle.greedy_rules.specs.Batches.{DemandBatch}
 use Rattle.greedy_rules.specs.Demands.{Demands, item_of, need_in}
@@ -10,6 +10,7 @@ use Rattle.alloc_pipeline.specs.Ring.{RingWork}
 use Rattle.clos_topology.specs.Network.{Network, endpoints_of}
 use Rattle.path_workers.specs.PathWork.{PathWork}
 use Rattle.trace_text.specs.Trace.{TraceContent}
+use Rattle.trace_run.specs.Windows.{collected_after}
 use Rattle.window_engine.specs.Batches.{AreOfNet, plan_batches}
 use Rattle.window_engine.specs.Tallies.{Tallies, place_of}
 
@@ -74,11 +75,6 @@ pub record Stands (trace : TraceContent) (engine : EngineState) : Type 0 where
 abbrev pub window_of : EngineState → ℕ
 window_of engine = min engine.g (engine.rounds - engine.collection.rounds)
 
--- the rounds that are done after so many steps
-abbrev pub rounds_after : ℕ → ℕ → ℕ → ℕ
-rounds_after g rounds zero = 0
-rounds_after g rounds (suc steps) = rounds_after g rounds steps + min g (rounds - rounds_after g rounds steps)
-
 -- all are done exactly after as many steps as there are windows of g rounds, the last of which may be shorter
 abbrev pub EveryPlanTakesItsSteps : Type 0
-EveryPlanTakesItsSteps = (g rounds steps : ℕ) → 0 < g → (rounds_after g rounds steps ≡ rounds) ↔ ((rounds + g - 1) / g ≤ steps)
+EveryPlanTakesItsSteps = (g rounds steps : ℕ) → 0 < g → (collected_after g rounds steps ≡ rounds) ↔ ((rounds + g - 1) / g ≤ steps)

@@ -1,6 +1,6 @@
 -- What a step gives: the batches of the rounds that it collected, and the slots and cores of those that it allocated (this
 -- project's own profile).
-use Rattle.std.specs.Prelude.{◌≡◌, ◌<◌, ℕ, ◌*◌, List, take, drop, length}
+use Rattle.std.specs.Prelude.{◌≡◌, ◌<◌, ℕ, ◌+◌, ◌*◌, ◌==◌, List, take, drop, length, if◌then◌else◌}
 use Rattle.greedy_rules.specs.declared.flows.Flow.{Flow}
 use Rattle.greedy_rules.specs.Batches.{DemandBatch}
 use Rattle.greedy_rules.specs.SlotTable.{Slots}
@@ -34,6 +34,10 @@ pub record IsWindowOf (net : Network) (b : ℕ) (slots : List (List Flow)) (wind
   pub core_endpoints : window.cores.endpoints ≡ endpoints_of net
   pub clean : AreClean net (cores_from (first_slot b window.span.first) window.cores) (first_slot b window.span.first) slots
   pub others : (at : ℕ) → at < length slots → NamesNoOther net.hosts (slot_in slots at) (core_of window.cores at)
+
+-- the jobs of so many batches of b slots: each slot is one, and each path worker's end; none where there is no batch
+abbrev pub jobs_for : ℕ → ℕ → ℕ → ℕ
+jobs_for count b paths = if count == 0 then 0 else count * b + paths
 
 -- the slots of so many batches from this one on
 abbrev pub window_slots : ℕ → List DemandBatch → ℕ → ℕ → List (List Flow)

@@ -4,7 +4,7 @@ ghost use Rattle.greedy_rules.specs.Schedule.{first_slot, schedule_from};
 ghost use Rattle.clos_topology.specs.Network.{Network};
 ghost use Rattle.window_engine.specs.Batches.{AreOfNet};
 ghost use Rattle.window_engine.specs.Standing.{Needs, HasAllocated};
-ghost use Rattle.window_engine.specs.Step.{IsWindowOf};
+ghost use Rattle.window_engine.specs.Step.{IsWindowOf, jobs_for};
 
 use crate::laws::every_window_is_ready;
 use crate::needs::write_needs;
@@ -72,6 +72,13 @@ impl Allocation {
         })
     }
 
+    /// How many endpoints the net has.
+    pub(crate) fn endpoints(&self) -> u16
+        ensures { result ≡ self.now.ring.endpoints }
+    {
+        self.endpoints
+    }
+
     /// Gives the next batches their slots and cores. After want of memory it is only to be dropped.
     pub(crate) fn window<R: Threads + Wait + Sync, G: Gate + Sync>(
         &mut self,
@@ -105,6 +112,40 @@ impl Allocation {
         };
         self.batches += span.count;
         Ok(Window { span, slots, cores })
+    }
+
+    /// The next batches, as by `window`; where there are none, nothing is started, and the window has no slots.
+    pub(crate) fn window_of_any<R: Threads + Wait + Sync, G: Gate + Sync>(
+        &mut self,
+        alloc: Global,
+        rt: &R,
+        gate: &G,
+        batches: &[Batch],
+    ) -> Result<Window, NoMemory>
+        requires stands { (earlier : List DemandBatch) × HasAllocated self.old.paths.net self.old.ring.batches earlier self.old × AreOfNet self.old.paths.net (earlier ++ batches.now) }
+        requires count { length batches.now ≤ self.old.ring.batches }
+        requires few { self.old.ring.batches ≤ 16 }
+        requires numbers { first_slot self.old.b (self.old.batches + length batches.now) ≤ 2 ^ 32 }
+        ensures stands { OnOk result ((earlier : List DemandBatch) →
+            HasAllocated self.old.paths.net self.old.ring.batches earlier self.old →
+            AreOfNet self.old.paths.net (earlier ++ batches.now) →
+            HasAllocated self.old.paths.net self.old.ring.batches (earlier ++ batches.now) self.new) }
+        ensures b { OnOk result (self.new.b ≡ self.old.b) }
+        ensures jobs { OnOk result (self.new.paths.jobs ≡ self.old.paths.jobs + jobs_for (length batches.now) self.old.b self.old.paths.paths) }
+        ensures span { IfOk result (λ window. window.span ≡ record { first = self.old.batches; count = length batches.now }) }
+        ensures window { IfOk result (IsWindowOf self.old.paths.net self.old.b (schedule_from self.old.b self.old.batches self.old.list.items batches.now)) }
+    {
+        if batches.is_empty() {
+            return Ok(Window {
+                span: Span {
+                    first: self.batches,
+                    count: 0,
+                },
+                slots: SlotTable::open(alloc, 0, self.endpoints)?,
+                cores: CoreTable::open(alloc, 0, self.endpoints)?,
+            });
+        }
+        self.window(alloc, rt, gate, batches)
     }
 
     /// Writes the need that each flow has left into the table, by source and then destination.

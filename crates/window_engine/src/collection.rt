@@ -3,7 +3,8 @@ ghost use Rattle.std.specs.List.{slice_index_or};
 ghost use Rattle.greedy_rules.specs.Matching.{AreAmong};
 ghost use Rattle.clos_topology.specs.Network.{endpoints_of};
 ghost use Rattle.trace_text.specs.Trace.{asked_at};
-ghost use Rattle.window_engine.specs.Batches.{limits_of, batch_after, entry_for, plan_batches};
+ghost use Rattle.replay_rounds.specs.Setting.{limits_of};
+ghost use Rattle.window_engine.specs.Batches.{batch_after, entry_for, plan_batches};
 ghost use Rattle.window_engine.specs.Standing.{HasCollected};
 ghost use Rattle.window_engine.specs.Tallies.{Tallies, place_of, added_in, Adds};
 

@@ -8,6 +8,8 @@ mod counts;
 mod engine;
 mod laws;
 mod needs;
+mod replay;
+mod replay_laws;
 mod setting;
 mod step;
 mod window;
@@ -19,6 +21,8 @@ pub use laws::{
     every_plan_takes_its_steps, every_record_has_cores,
 };
 pub use no_memory::NoMemory;
+pub use replay::{Replay, ReplayStep};
+pub use replay_laws::{every_replay_has_cores, every_replay_takes_its_steps};
 pub use setting::Setting;
 pub use step::Step;
 pub use window::Span;

@@ -1,4 +1,4 @@
-use super::run_on;
+use super::plan_on;
 use report_text::{Line, read_line};
 use std::alloc::{AllocError, Global};
 use std::process::Abort;
@@ -13,7 +13,7 @@ const CORES: u16 = 4;
 // Three racks of two with two cores: the fourth packet finds no core that is free at both its racks, and one path is flipped.
 #[test]
 fn a_path_is_flipped_for_the_fourth_packet(rt: HostRuntime) -> Result<(), Fail> {
-    let came = run_on(
+    let came = plan_on(
         &rt,
         rt.alloc(),
         &["plan", "--batch", "1"],
@@ -31,7 +31,7 @@ fn a_path_is_flipped_for_the_fourth_packet(rt: HostRuntime) -> Result<(), Fail> 
 // A core is named only for the packet that leaves its rack.
 #[test]
 fn packets_within_a_rack_take_no_core(rt: HostRuntime) -> Result<(), Fail> {
-    let came = run_on(
+    let came = plan_on(
         &rt,
         rt.alloc(),
         &["plan", "--batch", "1"],
@@ -73,17 +73,15 @@ fn a_rack_sends_and_receives_as_many_packets_as_there_are_cores(
         ),
     ];
     for (trace, text) in cases.iter() {
-        let came = run_on(&rt, rt.alloc(), &["plan", "--batch", "2"], trace)?;
+        let came = plan_on(&rt, rt.alloc(), &["plan", "--batch", "2"], trace)?;
         assert_eq!(rt; came.status, 0);
         assert!(rt; came.out.held() == *text);
     }
     Ok(())
 }
 
-// 130 sources, in the order of their numbers, send to one destination one after the other.
-#[test]
-fn equal_demands_keep_their_order(rt: HostRuntime) -> Result<(), Fail> {
-    let alloc = rt.alloc();
+// 130 sources in three racks ask for a slot each to one destination.
+pub(super) fn many_to_one(alloc: Global) -> Result<Vec<u8>, AllocError> {
     let mut trace = Vec::new(alloc);
     trace.extend_from_slice(b"net,3,44,44\n")?;
     for source in 1..=130 {
@@ -91,7 +89,14 @@ fn equal_demands_keep_their_order(rt: HostRuntime) -> Result<(), Fail> {
         trace.extend_from_slice(line.as_bytes())?;
     }
     trace.extend_from_slice(b"end,20\n")?;
-    let came = run_on(&rt, rt.alloc(), &["plan"], &trace)?;
+    Ok(trace)
+}
+
+// 130 sources, in the order of their numbers, send to one destination one after the other.
+#[test]
+fn equal_demands_keep_their_order(rt: HostRuntime) -> Result<(), Fail> {
+    let trace = many_to_one(rt.alloc())?;
+    let came = plan_on(&rt, rt.alloc(), &["plan"], &trace)?;
     assert_eq!(rt; came.status, 0);
     let mut source = 0u16;
     for bytes in came.out.held().split(|byte| *byte == b'\n') {
@@ -175,7 +180,7 @@ fn busy_trace(alloc: Global) -> Result<Vec<u8>, AllocError> {
 fn no_link_is_used_twice_in_a_busy_network(rt: HostRuntime) -> Result<(), Fail> {
     let alloc = rt.alloc();
     let trace = busy_trace(alloc)?;
-    let came = run_on(&rt, rt.alloc(), &["plan"], &trace)?;
+    let came = plan_on(&rt, rt.alloc(), &["plan"], &trace)?;
     assert_eq!(rt; came.status, 0);
     let mut links = UNUSED;
     let mut last = 0u32;

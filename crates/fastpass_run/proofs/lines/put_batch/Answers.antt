@@ -1,4 +1,4 @@
-use Rattle.std.proofs.Common.{◌≡◌, ◌+◌, ◌*◌, [], ℕ, List, get_or, map, take, drop, refl, ap, ◌∙◌, arith}
+use Rattle.std.proofs.Common.{◌≡◌, ◌+◌, ◌*◌, ◌++◌, ℕ, List, get_or, map, take, drop, refl, ap, ◌∙◌, arith}
 use Rattle.std.proofs.lemmas.Nat.{mul-le}
 use Rattle.std.proofs.lemmas.List.{get_or_default}
 use Rattle.greedy_rules.specs.Batches.{DemandBatch}
@@ -39,11 +39,12 @@ returns g c =
     let number : first + at ≡ step.window.span.first + at = ap (λ (s : Span). s.first + at) c.allocated-span.ensures in
     let batch : c.index-batches-at.result ≡ get_or step.batches at none =
     c.index-batches-at.is ∙ (ap (λ (bs : List DemandBatch). get_or bs at c.index-batches-at.result) c.batches.ensures ∙ get_or_default step.batches at c.index-batches-at.result none (omega (arith, c.requires.at, c.requires.window.all_allocated))) in
-    let base : ℕ = first * c.from-2.result + 1 in
-    let from : ℕ = at * c.from.result in
-    let base_is : base ≡ first_slot b step.window.span.first = ap (λ (s : Span). s.first * c.from-2.result + 1) c.allocated-span.ensures ∙ ap (λ (n : ℕ). step.window.span.first * n + 1) c.from-2.ensures in
-    let from_is : from ≡ at * b = ap (λ (n : ℕ). at * n) c.from.ensures in
+    let base : ℕ = first * c.from.result + 1 in
+    let from : ℕ = at * c.from-count.result in
+    let base_is : base ≡ first_slot b step.window.span.first = ap (λ (s : Span). s.first * c.from.result + 1) c.allocated-span.ensures ∙ ap (λ (n : ℕ). step.window.span.first * n + 1) c.from.ensures in
+    let from_is : from ≡ at * b = ap (λ (n : ℕ). at * n) c.from-count.ensures in
     Passes-join _ _ _ _ _ _ c.args.gathered.now.items c.put_entries.new.gathered.items c.put_slots.new.gathered.items
-    (text_of (map (entry_line (first + at)) c.index-batches-at.result.entries)) (text_of (slots_lines (cores_from base c.cores.result.now) (base + from) (take b (drop from c.slots.result.now.slots)))) _
+    (text_of (map (entry_line (first + at)) c.index-batches-at.result.entries)) (text_of (slots_lines (cores_from base c.cores.result.now) (base + from) (take c.from-count.result (drop from c.slots.result.now.slots)))) _
     c.in_ok-put_entries.field-0 c.put_slots.result c.in_ok-put_entries.ensures c.put_slots.ensures
-    (batch_text b at (first + at) base from step c.index-batches-at.result c.slots.result.now c.cores.result.now number batch base_is from_is c.slots.ensures c.cores.ensures)
+    (ap (λ (n : ℕ). text_of (map (entry_line (first + at)) c.index-batches-at.result.entries) ++ text_of (slots_lines (cores_from base c.cores.result.now) (base + from) (take n (drop from c.slots.result.now.slots)))) c.from-count.ensures
+    ∙ batch_text b at (first + at) base from step c.index-batches-at.result c.slots.result.now c.cores.result.now number batch base_is from_is c.slots.ensures c.cores.ensures)

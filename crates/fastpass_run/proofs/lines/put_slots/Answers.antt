@@ -4,14 +4,15 @@ use Rattle.greedy_rules.specs.declared.flows.Flow.{Flow}
 use Rattle.greedy_rules.specs.Schedule.{slot_in}
 use Rattle.clos_topology.specs.Links.{CoreOf}
 use Rattle.path_workers.specs.CoreTable.{core_of}
-use Rattle.window_engine.specs.Scheduled.{Cores, cores_from}
+use Rattle.replay_rounds.specs.Setting.{Cores}
+use Rattle.window_engine.specs.Scheduled.{cores_from}
 use Rattle.fastpass_run.specs.Text.{text_of, slots_lines}
 use Rattle.fastpass_run.proofs.OutputLemmas.{Passed-step, Passed-break}
 use Rattle.fastpass_run.proofs.TextLemmas.{slots_step, slots_whole}
 use Rattle.fastpass_run.proofs.lines.put_slots.Goals as goal
 
 pub overflow_add-place-end : goal.overflow_add-place-end
-overflow_add-place-end g c = omega (arith, c.from.ensures, c.requires.places)
+overflow_add-place-end g c = omega (arith, c.requires.places)
 
 pub returns-in_err-put_slot : goal.returns-in_err-put_slot
 returns-in_err-put_slot g c =
@@ -22,15 +23,15 @@ returns-in_err-put_slot g c =
     let at : ℕ = place - from in
     let cores : Cores = cores_from base c.args.cores.now in
     let own : CoreOf = core_of c.args.cores.now place in
-    let below : at < c.args.count = omega (arith, c.from.ensures) in
+    let below : at < c.args.count = omega arith in
     let within : c.args.count ≤ length slots = omega (arith, length-drop from c.args.table.now.slots, c.requires.count) in
     let is : from + at ≡ place = omega arith in
     let slot : slot_in c.args.table.now.slots place ≡ slot_in slots at = ap (slot_in c.args.table.now.slots) (sym is) ∙ sym (get_or-drop from c.args.table.now.slots at []) in
-    let number : base + c.from-in-loop-place.result ≡ base + from + at = omega (arith, c.from-in-loop-place.ensures) in
+    let number : base + c.from.result ≡ base + from + at = omega (arith, c.from.ensures) in
     let back : place ≡ base + from + at - base = omega arith in
     let named : own ≡ cores (base + from + at) = ap (core_of c.args.cores.now) back in
     Passed-break _ _ _ _ _ _ c.args.gathered.now.items c.loop-place.gathered.items c.put_slot.new.gathered.items _ _ _ _ c.in_err-put_slot.field-0.0 c.from_residual.result c.loop-place.invariant c.in_err-put_slot.ensures c.from_residual.ensures.1
-    (slots_whole cores (base + from) (base + c.from-in-loop-place.result) c.args.count slots at (slot_in c.args.table.now.slots place) own below within slot number named)
+    (slots_whole cores (base + from) (base + c.from.result) c.args.count slots at (slot_in c.args.table.now.slots place) own below within slot number named)
 
 pub loop-place-preserved : goal.loop-place-preserved
 loop-place-preserved g c =
@@ -41,13 +42,13 @@ loop-place-preserved g c =
     let at : ℕ = place - from in
     let cores : Cores = cores_from base c.args.cores.now in
     let own : CoreOf = core_of c.args.cores.now place in
-    let within : at < length slots = omega (arith, length-drop from c.args.table.now.slots, c.requires.count, c.from.ensures) in
+    let within : at < length slots = omega (arith, length-drop from c.args.table.now.slots, c.requires.count) in
     let is : from + at ≡ place = omega arith in
     let slot : slot_in c.args.table.now.slots place ≡ slot_in slots at = ap (slot_in c.args.table.now.slots) (sym is) ∙ sym (get_or-drop from c.args.table.now.slots at []) in
-    let number : base + c.from-in-loop-place.result ≡ base + from + at = omega (arith, c.from-in-loop-place.ensures) in
+    let number : base + c.from.result ≡ base + from + at = omega (arith, c.from.ensures) in
     let back : place ≡ base + from + at - base = omega arith in
     let named : own ≡ cores (base + from + at) = ap (core_of c.args.cores.now) back in
     let next : place + 1 - from ≡ at + 1 = omega arith in
     Passed-step _ _ _ _ _ _ c.args.gathered.now.items c.loop-place.gathered.items c.put_slot.new.gathered.items _ _ _ c.loop-place.invariant c.in_ok-put_slot.ensures
     (ap (λ (n : ℕ). text_of (slots_lines cores (base + from) (take n slots))) next
-    ∙ slots_step cores (base + from) (base + c.from-in-loop-place.result) slots at (slot_in c.args.table.now.slots place) own within slot number named)
+    ∙ slots_step cores (base + from) (base + c.from.result) slots at (slot_in c.args.table.now.slots place) own within slot number named)

@@ -17,7 +17,7 @@ returns-in_err-engine g c = (
 pub returns-in_err-put_rounds : goal.returns-in_err-put_rounds
 returns-in_err-put_rounds g c =
     let trace = c.args.trace.now in
-    let b : ℕ = c.args.setting.b in
+    let b : ℕ = c.args.task.b in
     let (cores, scheduled, passes) = c.in_err-put_rounds.ensures.passes in (
       cores,
       scheduled,
@@ -28,7 +28,7 @@ returns-in_err-put_rounds g c =
 pub returns-in_err-put_flows : goal.returns-in_err-put_flows
 returns-in_err-put_flows g c =
     let trace = c.args.trace.now in
-    let b : ℕ = c.args.setting.b in
+    let b : ℕ = c.args.task.b in
     let told : List ℕ = text_of (flows_lines c.put_rounds.new.engine.allocation.b trace) in
     let same : told ≡ text_of (flows_lines b trace) = ap (λ (n : ℕ). text_of (flows_lines n trace)) c.in_ok-put_rounds.ensures.b in
     let later : List ℕ = text_of (flows_lines b trace) ++ end_text trace in
@@ -45,7 +45,7 @@ returns-in_err-put_flows g c =
 pub returns : goal.returns
 returns g c =
     let trace = c.args.trace.now in
-    let b : ℕ = c.args.setting.b in
+    let b : ℕ = c.args.task.b in
     let told : List ℕ = text_of (flows_lines c.put_rounds.new.engine.allocation.b trace) in
     let same : told ≡ text_of (flows_lines b trace) = ap (λ (n : ℕ). text_of (flows_lines n trace)) c.in_ok-put_rounds.ensures.b in
     let ended : List ℕ = line_bytes (line.End c.rounds.result) ++ 10 ∷ [] in

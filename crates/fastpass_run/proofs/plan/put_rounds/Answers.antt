@@ -1,5 +1,5 @@
 use Rattle.std.proofs.Common.{◌*◌, ℕ}
-use Rattle.window_engine.specs.Scheduled.{Cores}
+use Rattle.replay_rounds.specs.Setting.{Cores}
 use Rattle.window_engine.specs.Standing.{window_of}
 use Rattle.fastpass_run.proofs.OutputLemmas.{Passed-step, Passed-break}
 use Rattle.fastpass_run.proofs.CoreLemmas.{spliced, scheduled_spliced}

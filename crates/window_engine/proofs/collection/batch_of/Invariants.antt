@@ -1,5 +1,6 @@
 use Rattle.std.proofs.Common.{◌≡◌, [], take, get_or}
-use Rattle.window_engine.specs.Batches.{entries_from, limits_of}
+use Rattle.replay_rounds.specs.Setting.{limits_of}
+use Rattle.window_engine.specs.Batches.{entries_from}
 use Rattle.window_engine.proofs.collection.batch_of.Given as goal
 
 abbrev pub invariant-loop-src : goal.invariant-loop-src

@@ -41,7 +41,7 @@ returns-clause-sound c =
     let events = c.args.events in
     subst IsTrace (sym (returns-clause-content c))
     (content_by-sound c.args.net c.args.rounds c.args.asks.items events.fates.items events.boots.items events.raws.items events.bytes.items c.requires.net c.requires.some c.requires.few c.requires.among
-    c.requires.bounded c.requires.events c.requires.boots)
+    c.requires.bounded c.requires.events c.requires.boots (rw (← c.deref-3.ensures.value) c.bytes_are_below_256.ensures))
 
 pub invariant_of-result : goal.invariant_of-result
 invariant_of-result c =
@@ -72,5 +72,5 @@ invariant_of-result c =
           (events-ordered events.fates.items c.sort.new.items.items events.boots.items c.sort-2.new.items.items events.raws.items c.sort-3.new.items.items events.bytes.items
           c.in_ok-sort.ensures.stable c.in_ok-sort-2.ensures.stable c.in_ok-sort-3.ensures.stable)))
           (content_by-sound c.args.net c.args.rounds c.args.asks.items events.fates.items events.boots.items events.raws.items events.bytes.items c.requires.net c.requires.some c.requires.few
-          c.requires.among c.requires.bounded c.requires.events c.requires.boots),
+          c.requires.among c.requires.bounded c.requires.events c.requires.boots (rw (← c.deref-3.ensures.value) c.bytes_are_below_256.ensures)),
     )

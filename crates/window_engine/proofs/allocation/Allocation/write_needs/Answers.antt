@@ -1,8 +1,5 @@
-use Rattle.std.proofs.Common.{◌≡◌, ◌*◌, ℕ, List, sym, ◌∙◌, subst}
-use Rattle.greedy_rules.specs.Batches.{DemandBatch}
+use Rattle.std.proofs.Common.{ℕ, sym, subst}
 use Rattle.greedy_rules.specs.Demands.{AreBelow}
-use Rattle.clos_topology.specs.Network.{Network, endpoints_of}
-use Rattle.window_engine.specs.Batches.{limits_of}
 use Rattle.window_engine.specs.Standing.{Allocated, HasAllocated}
 use Rattle.window_engine.proofs.WindowLemmas.{list_below}
 use Rattle.window_engine.proofs.allocation.Allocation.write_needs.Goals as goal

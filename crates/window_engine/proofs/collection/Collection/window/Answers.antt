@@ -1,4 +1,4 @@
-use Rattle.std.proofs.Common.{◌≤◌, ◌+◌, ap, arith}
+use Rattle.std.proofs.Common.{ap, arith}
 use Rattle.window_engine.specs.Standing.{Collected}
 use Rattle.window_engine.proofs.collection.Collection.window.Goals as goal
 

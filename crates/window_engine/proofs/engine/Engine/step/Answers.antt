@@ -2,7 +2,7 @@ use Rattle.std.proofs.Common.{◌≡◌, ◌+◌, ◌-◌, min, ℕ, List, ◌++
 use Rattle.greedy_rules.specs.Batches.{DemandBatch}
 use Rattle.greedy_rules.specs.Schedule.{schedule_from}
 use Rattle.window_engine.specs.Batches.{plan_batches}
-use Rattle.window_engine.specs.Standing.{Collected, Allocated, EngineState, Needs, HasCollected, HasAllocated}
+use Rattle.window_engine.specs.Standing.{Collected, Allocated, HasCollected, HasAllocated}
 use Rattle.window_engine.specs.Step.{IsWindowOf}
 use Rattle.window_engine.proofs.EngineLemmas.{stands_too, next_window, next_allocated, pending_room, stands_next, jobs_raised, planned}
 use Rattle.window_engine.proofs.engine.Engine.step.Goals as goal

@@ -1,0 +1,10 @@
+use Rattle.std.proofs.Common.{map, take}
+use Rattle.fastpass_run.specs.Text.{text_of}
+use Rattle.fastpass_run.specs.ReplayText.{sent_line}
+use Rattle.fastpass_run.specs.Output.{Passed}
+use Rattle.fastpass_run.proofs.rounds.put_departures.Given as goal
+
+abbrev pub invariant-loop-at : goal.invariant-loop-at
+invariant-loop-at g l =
+    Passed (g.K.Sink.held l.initial.sink) (g.K.Sink.held l.sink) (g.K.Sink.faults l.initial.sink) (g.K.Sink.faults l.sink) l.initial.gathered.items l.gathered.items
+    (text_of (map sent_line (take l.at l.departures)))

@@ -1,0 +1,17 @@
+pub mod Asking
+pub mod MayPlay
+pub mod Published
+pub mod Refusals
+pub mod TraceRules
+pub mod SlotSums
+pub mod SlotCounts
+pub mod LaneLists
+pub mod LaneReads
+pub mod OpenedLanes
+pub mod PublishedWindows
+pub mod LoopLemmas
+pub mod PlayLemmas
+pub mod PartLemmas
+pub mod RowLemmas
+pub mod AnswerLemmas
+pub mod WindowLemmas

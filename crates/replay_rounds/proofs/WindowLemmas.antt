@@ -1,0 +1,114 @@
+-- A window of rounds between what stands before it and after it.
+use Rattle.std.proofs.Common.{◌≡◌, ◌<◌, ◌≤◌, ℕ, ◌+◌, ◌*◌, ◌-◌, min, List, map, get_or, refl, sym, ◌∙◌, subst, arith}
+use Rattle.std.specs.List.{range_with_len}
+use Rattle.std.proofs.lemmas.Option.{slice_get-get_or, slice_get_within, get_or_from_slice_get}
+use Rattle.list_facts.specs.Order.{sort_by}
+use Rattle.greedy_rules.specs.Schedule.{first_slot}
+use Rattle.clos_topology.specs.Network.{endpoints_of}
+use Rattle.lane_rounds.specs.State.{RoundsState}
+use Rattle.trace_text.specs.Trace.{TraceContent}
+use Rattle.trace_text.specs.Valid.{IsTrace}
+use Rattle.trace_run.specs.Windows as windows
+use Rattle.trace_run.specs.Windows.{InWindows, batch_at}
+use Rattle.replay_rounds.specs.declared.played.Departure.{Departure}
+use Rattle.replay_rounds.specs.Setting.{Cores, setting_of}
+use Rattle.replay_rounds.specs.Standing.{LaneStands, RoundsContent, Stands, routed_from, slots_between}
+use Rattle.replay_rounds.specs.Played.{answers_in, departures_in, rounds_played}
+use Rattle.replay_rounds.specs.Collecting.{part_of, played_of, published_by, setting_by, LanesStand, MayBeCollected, RoundPart}
+use Rattle.replay_rounds.proofs.PartLemmas.{map_by, same_played}
+use Rattle.replay_rounds.proofs.AnswerLemmas.{answers_are}
+
+-- ---- what the rounds give
+
+pub rounds_give : (trace : TraceContent) (b g : ℕ) (cores : Cores) (first count : ℕ)
+    → played_of (map (part_of (setting_of trace b g cores) trace (endpoints_of trace.net)) (range_with_len first count)) ≡ rounds_played (setting_of trace b g cores) trace first count
+rounds_give trace b g cores first count =
+    let setting = setting_of trace b g cores in
+    let part = part_of setting trace (endpoints_of trace.net) in
+    let numbers = range_with_len first count in
+    same_played (played_of (map part numbers)) (rounds_played setting trace first count)
+    (map_by (λ (p : RoundPart). p.batch) part (batch_at setting) (λ number. refl) numbers)
+    (map_by (λ (p : RoundPart). p.answers) part (answers_in setting trace) (λ number. answers_are trace b g cores number) numbers)
+    (map_by (λ (p : RoundPart). sort_by (λ (d : Departure). d.slot) p.departures) part (departures_in setting) (λ number. refl) numbers)
+
+-- ---- before it
+
+module _ (trace : TraceContent) (cores : Cores) (all : RoundsContent) (stood : Stands trace cores all) where
+  -- what speaks of the rounds' sizes speaks of their window's
+  by_window : (P : (b published : ℕ) → Type 0) → P all.b all.published → P all.window.b (published_by all.window)
+  by_window P holds = subst (λ (b : ℕ). P b (published_by all.window)) (sym stood.size) (subst (λ (published : ℕ). P all.b published) (sym stood.held) holds)
+
+  of_window : (P : (b published : ℕ) → Type 0) → P all.window.b (published_by all.window) → P all.b all.published
+  of_window P holds = subst (λ (b : ℕ). P b all.published) stood.size (subst (λ (published : ℕ). P all.window.b published) stood.held holds)
+
+  pub may_collect : windows.WhatIsToldIsPublished → IsTrace trace → InWindows all.g trace.rounds all.collected all.published all.window.first_batch
+      → MayBeCollected trace all.g cores all.window all.collected (min all.g (trace.rounds - all.collected))
+  may_collect law sound within number from_first before_end =
+      let last : number < trace.rounds = omega (arith, before_end, within.within) in
+      let published = law all.g trace.rounds all.collected all.published all.window.first_batch number within stood.rounds.0 from_first (omega (arith, before_end)) last in
+      let room : 2 * all.g ≤ number → number + 1 ≤ all.published + 2 * all.g = λ late. (published late).2 in
+      record {
+        sound = sound;
+        named = stood.named;
+        batch = by_window (λ b _. (0 < b) × (b ≤ 64)) stood.batch;
+        rounds = stood.rounds;
+        within = last;
+        served = stood.served ∙ stood.endpoints;
+        slots = by_window (λ b published. all.window.slots ≡ routed_from cores (first_slot b all.window.first_batch) (slots_between (setting_of trace b all.g cores) all.window.first_batch published)) stood.slots;
+        behind = by_window (λ _ p. p ≤ number) (omega (arith, stood.behind, from_first));
+        allocated = by_window (λ _ p. number + 1 ≤ p + 2 * all.g) (omega (arith, room));
+        held = λ late. ((published late).0, by_window (λ _ p. number - 2 * all.g < p) (published late).1);
+      }
+
+  pub lanes_stand : LanesStand (setting_by trace all.g cores all.window) all.collected (published_by all.window) all.lanes
+  lanes_stand = record {
+    wide = stood.wide ∙ stood.endpoints;
+    each = λ endpoint d below.
+        by_window (λ b published. LaneStands (setting_of trace b all.g cores) all.collected published endpoint (get_or all.lanes endpoint d))
+        (stood.lanes endpoint (get_or all.lanes endpoint d) (slice_get-get_or all.lanes endpoint d below));
+  }
+
+  -- ---- after it
+
+  pub next_window : (count : ℕ) (lanes : List RoundsState) → all.collected + count ≤ trace.rounds
+      → LanesStand (setting_by trace all.g cores all.window) (all.collected + count) (published_by all.window) lanes
+      → Stands trace cores (record { endpoints = all.endpoints; b = all.b; g = all.g; collected = all.collected + count; published = all.published; lanes = lanes; window = all.window })
+  next_window count lanes within stand = record {
+    named = stood.named;
+    batch = stood.batch;
+    rounds = stood.rounds;
+    endpoints = stood.endpoints;
+    within = within;
+    behind = omega (arith, stood.behind);
+    wide = stand.wide ∙ sym stood.endpoints;
+    lanes = λ endpoint lane got.
+        of_window (λ b published. LaneStands (setting_of trace b all.g cores) (all.collected + count) published endpoint lane)
+        (subst (λ (l : RoundsState). LaneStands (setting_by trace all.g cores all.window) (all.collected + count) (published_by all.window) endpoint l) (get_or_from_slice_get lanes endpoint lane lane got)
+        (stand.each endpoint lane (slice_get_within lanes endpoint lane got)));
+    served = stood.served;
+    room = stood.room;
+    size = stood.size;
+    held = stood.held;
+    slots = stood.slots;
+  }
+
+-- the rounds as they stand, with what their next window asks for
+pub record Begins (trace : TraceContent) (cores : Cores) (all : RoundsContent) (count : ℕ) (lanes : List RoundsState) : Type 0 where
+  pub stood : Stands trace cores all
+  pub may : MayBeCollected trace all.g cores all.window all.collected count
+  pub stand : LanesStand (setting_by trace all.g cores all.window) all.collected (published_by all.window) lanes
+  pub within : all.collected + count ≤ trace.rounds
+
+pub begins : windows.WhatIsToldIsPublished → (trace : TraceContent) → IsTrace trace → (all now : RoundsContent) → all ≡ now
+    → InWindows now.g trace.rounds now.collected now.published now.window.first_batch
+    → (count : ℕ) → count ≡ min all.g (trace.rounds - all.collected) → (lanes : List RoundsState) → lanes ≡ all.lanes
+    → (cores : Cores) → Stands trace cores now → Begins trace cores all count lanes
+begins law trace sound all now is in_windows count count_is lanes lanes_are cores stood_now =
+    let stood = subst (λ (r : RoundsContent). Stands trace cores r) (sym is) stood_now in
+    let within = subst (λ (r : RoundsContent). InWindows r.g trace.rounds r.collected r.published r.window.first_batch) (sym is) in_windows in
+    record {
+      stood = stood;
+      may = subst (λ (n : ℕ). MayBeCollected trace all.g cores all.window all.collected n) (sym count_is) (may_collect trace cores all stood law sound within);
+      stand = subst (λ (ls : List RoundsState). LanesStand (setting_by trace all.g cores all.window) all.collected (published_by all.window) ls) (sym lanes_are) (lanes_stand trace cores all stood);
+      within = omega (arith, count_is, within.within);
+    }

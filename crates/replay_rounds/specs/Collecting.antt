@@ -1,0 +1,156 @@
+-- The rounds of a window as they are played for one endpoint after the other, each round growing by what an endpoint gives. From
+-- this project's own profile.
+use Rattle.std.specs.Prelude.{◌≡◌, ◌<◌, ◌≤◌, ℕ, zero, suc, ◌+◌, ◌*◌, ◌-◌, List, [], ◌∷◌, ◌++◌, length, map, Option, Some, None, option_map, is_none, slice_set, if◌then◌else◌}
+use Rattle.std.specs.List.{flat_map, range_with_len, slice_index_or}
+use Rattle.list_facts.specs.Order.{sort_by}
+use Rattle.fcp_framing.specs.Fields.{up_of}
+use Rattle.fcp_framing.specs.Refusals.{first_refusal, refuses_up, number_of}
+use Rattle.greedy_rules.specs.declared.flows.Entry.{Entry}
+use Rattle.greedy_rules.specs.Batches.{DemandBatch}
+use Rattle.greedy_rules.specs.Schedule.{first_slot}
+use Rattle.clos_topology.specs.Network.{endpoints_of}
+use Rattle.slot_publisher.specs.Window.{Window}
+use Rattle.endpoint_history.specs.Rounds.{entries_by}
+use Rattle.lane_rounds.specs.Refused.{refused_in}
+use Rattle.lane_rounds.specs.State.{RoundsState}
+use Rattle.trace_text.specs.Trace.{TraceContent, raw_at}
+use Rattle.trace_text.specs.Valid.{IsTrace}
+use Rattle.trace_run.specs.Run.{Setting, next_rounds, replayed}
+use Rattle.replay_rounds.specs.declared.played.Departure.{Departure}
+use Rattle.replay_rounds.specs.Setting.{Cores, AreCores, limits_of, setting_of}
+use Rattle.replay_rounds.specs.Standing.{LaneStands, routed_from, slots_between}
+use Rattle.replay_rounds.specs.Played.{Played, departures_of, lane_before_raw}
+use Rattle.replay_rounds.specs.Parts.{events_for}
+
+-- ---- raw packets
+
+-- the endpoint that bytes name, if they spell a packet
+abbrev pub source_of : ℕ → List ℕ → Option ℕ
+source_of endpoints bytes = if is_none (first_refusal (refuses_up endpoints bytes)) then Some (up_of bytes).src else None
+
+abbrev pub sources_in : TraceContent → ℕ → List (Option ℕ)
+sources_in trace round = map (source_of (endpoints_of trace.net)) (raw_at trace round)
+
+-- the number of the refusal of bytes that spell none
+abbrev pub framed_answer : ℕ → List ℕ → Option ℕ
+framed_answer endpoints bytes = option_map number_of (first_refusal (refuses_up endpoints bytes))
+
+abbrev pub framed_in : TraceContent → ℕ → List (Option ℕ)
+framed_in trace round = map (framed_answer (endpoints_of trace.net)) (raw_at trace round)
+
+-- answers with numbers at their places
+abbrev pub with_numbers : List (ℕ × ℕ) → List (Option ℕ) → List (Option ℕ)
+with_numbers [] answers = answers
+with_numbers (refused ∷ others) answers = with_numbers others (slice_set answers refused.0 (Some refused.1))
+
+-- what an endpoint's lane refuses of a round's raw packets
+abbrev pub refused_of : Setting → TraceContent → ℕ → ℕ → List (ℕ × ℕ)
+refused_of setting trace round endpoint =
+    refused_in endpoint setting.endpoints round (events_for trace round endpoint).raw (lane_before_raw setting round endpoint)
+
+-- the answers once the lanes below an endpoint were asked
+abbrev pub answers_below : Setting → TraceContent → ℕ → ℕ → List (Option ℕ)
+answers_below setting trace round zero = framed_in trace round
+answers_below setting trace round (suc endpoint) =
+    with_numbers (refused_of setting trace round endpoint) (answers_below setting trace round endpoint)
+
+-- ---- a round in parts
+
+-- what contracts see of a round that is being played: the batch and what is sent so far, the endpoint that each raw packet names,
+-- and what the raw packets are answered so far
+pub record RoundPart : Type 0 where
+  pub round : ℕ
+  pub batch : DemandBatch
+  pub sources : List (Option ℕ)
+  pub answers : List (Option ℕ)
+  pub departures : List Departure
+
+-- before the first endpoint
+abbrev pub blank_round : TraceContent → ℕ → RoundPart
+blank_round trace number = record {
+  round = number;
+  batch = record { entries = []; limits = limits_of trace.net };
+  sources = sources_in trace number;
+  answers = framed_in trace number;
+  departures = [];
+}
+
+-- what an endpoint records in a round
+abbrev pub entries_in : Setting → ℕ → ℕ → List Entry
+entries_in setting number endpoint = entries_by endpoint setting.endpoints setting.g (next_rounds setting number (replayed setting number) endpoint)
+
+-- with one endpoint more
+abbrev pub with_endpoint : Setting → TraceContent → ℕ → RoundPart → RoundPart
+with_endpoint setting trace endpoint part = record {
+  round = part.round;
+  batch = record { entries = part.batch.entries ++ entries_in setting part.round endpoint; limits = part.batch.limits };
+  sources = part.sources;
+  answers = with_numbers (refused_of setting trace part.round endpoint) part.answers;
+  departures = part.departures ++ departures_of setting part.round endpoint;
+}
+
+-- with the endpoints below a bound
+abbrev pub part_of : Setting → TraceContent → ℕ → ℕ → RoundPart
+part_of setting trace bound number = record {
+  round = number;
+  batch = record { entries = flat_map (entries_in setting number) (range_with_len 0 bound); limits = setting.limits };
+  sources = sources_in trace number;
+  answers = answers_below setting trace number bound;
+  departures = flat_map (departures_of setting number) (range_with_len 0 bound);
+}
+
+-- a list has the rounds from this one on, with the endpoints that their raw packets name
+abbrev pub AreRoundsFrom : TraceContent → ℕ → List RoundPart → Type 0
+AreRoundsFrom trace first parts =
+    (at : ℕ) (d : RoundPart) → at < length parts →
+    ((slice_index_or parts at d).round ≡ first + at) × ((slice_index_or parts at d).sources ≡ sources_in trace (first + at))
+
+-- ---- when they may be played
+
+-- the batches of so many rounds are published by the end of a window
+abbrev pub published_by : Window → ℕ
+published_by window = window.first_batch + window.count
+
+-- the run whose slots a window has
+abbrev pub setting_by : TraceContent → ℕ → Cores → Window → Setting
+setting_by trace g cores window = setting_of trace window.b g cores
+
+-- what is told in a round is allocated, and is published in this window
+pub record MayBeTold (trace : TraceContent) (g : ℕ) (cores : Cores) (window : Window) (number : ℕ) : Type 0 where
+  pub sound : IsTrace trace
+  pub named : AreCores cores
+  pub batch : (0 < window.b) × (window.b ≤ 64)
+  pub rounds : (0 < g) × (g ≤ 16)
+  pub within : number < trace.rounds
+  pub served : window.endpoints ≡ endpoints_of trace.net
+  pub slots : window.slots
+      ≡ routed_from cores (first_slot window.b window.first_batch) (slots_between (setting_by trace g cores window) window.first_batch (published_by window))
+  pub behind : published_by window ≤ number
+  pub allocated : number + 1 ≤ published_by window + 2 * g
+  pub held : 2 * g ≤ number → (window.first_batch ≤ number - 2 * g) × (number - 2 * g < published_by window)
+
+-- in each of so many rounds from this one on
+abbrev pub MayBeCollected : TraceContent → ℕ → Cores → Window → ℕ → ℕ → Type 0
+MayBeCollected trace g cores window first count = (number : ℕ) → first ≤ number → number < first + count → MayBeTold trace g cores window number
+
+-- there is a lane for each endpoint, and each stands for its rounds
+pub record LanesStand (setting : Setting) (collected published : ℕ) (lanes : List RoundsState) : Type 0 where
+  pub wide : length lanes ≡ setting.endpoints
+  pub each : (endpoint : ℕ) (d : RoundsState) → endpoint < length lanes → LaneStands setting collected published endpoint (slice_index_or lanes endpoint d)
+
+-- ---- what rounds give once every endpoint is played
+
+-- with one round more, in which what is sent stands in the order of slots
+abbrev pub with_round : RoundPart → Played → Played
+with_round part played = record {
+  batches = played.batches ++ part.batch ∷ [];
+  answers = played.answers ++ part.answers ∷ [];
+  departures = played.departures ++ sort_by (λ d. d.slot) part.departures ∷ [];
+}
+
+abbrev pub played_of : List RoundPart → Played
+played_of parts = record {
+  batches = map (λ part. part.batch) parts;
+  answers = map (λ part. part.answers) parts;
+  departures = map (λ part. sort_by (λ d. d.slot) part.departures) parts;
+}

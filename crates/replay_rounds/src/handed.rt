@@ -1,0 +1,114 @@
+//! What an endpoint is handed in a round of a trace.
+ghost use Rattle.std.specs.Prelude.{◌≡◌, ◌<◌, ◌≤◌, ◌+◌, ◌*◌, ◌-◌, ℕ, List, [], ◌∷◌, ◌++◌, length, filter, slice_get, Some, OnOk};
+ghost use Rattle.clos_topology.specs.Network.{endpoints_of};
+ghost use Rattle.lane_rounds.specs.Outside.{names};
+ghost use Rattle.trace_text.specs.Trace.{asked_at, raw_at};
+ghost use Rattle.replay_rounds.specs.Setting.{raw_rows};
+ghost use Rattle.replay_rounds.specs.Parts.{events_for, told_by};
+ghost use Rattle.replay_rounds.specs.Collecting.{source_of, sources_in};
+
+use crate::NoMemory;
+use arrayvec::ArrayVec;
+use fcp_framing::Told;
+use lane_rounds::{AskList, Events, RawList};
+use slot_publisher::Publisher;
+use trace_text::Trace;
+
+/// Writes what the trace says of the round and endpoint. The sources are those of the round's raw packets.
+pub(crate) fn fill_events(
+    events: &mut Events,
+    trace: &Trace,
+    round: u32,
+    endpoint: u16,
+    sources: &[Option<u16>],
+) -> Result<(), NoMemory>
+    requires round { round < trace.now.rounds }
+    requires endpoint { endpoint < endpoints_of trace.now.net }
+    requires sources { sources.now ≡ sources_in trace.now round }
+    ensures { OnOk result (events.new ≡ events_for trace.now round endpoint) }
+{
+    events.boots = trace.boots(round, endpoint);
+    events.version = trace.boot_version(round, endpoint).unwrap_or(1);
+    events.up = trace.fate(round, endpoint, true);
+    events.down = trace.fate(round, endpoint, false);
+    fill_asks(&mut events.asks, trace, round, endpoint)?;
+    fill_raw(&mut events.raw, trace, round, endpoint, sources)
+}
+
+/// Writes what the endpoint asks for in the round.
+fn fill_asks(asks: &mut AskList, trace: &Trace, round: u32, endpoint: u16) -> Result<(), NoMemory>
+    requires round { round < trace.now.rounds }
+    requires endpoint { endpoint < endpoints_of trace.now.net }
+    ensures { OnOk result (asks.new ≡ asked_at trace.now round endpoint) }
+{
+    asks.clear();
+    for at in 0..trace.ask_count(round, endpoint) {
+        let (dst, n) = trace.ask(round, endpoint, at);
+        asks.push(dst, n)?;
+    }
+    Ok(())
+}
+
+/// Writes the round's raw packets that have the endpoint as their source, each with its place.
+fn fill_raw(
+    raw: &mut RawList,
+    trace: &Trace,
+    round: u32,
+    endpoint: u16,
+    sources: &[Option<u16>],
+) -> Result<(), NoMemory>
+    requires round { round < trace.now.rounds }
+    requires sources { sources.now ≡ sources_in trace.now round }
+    ensures { OnOk result (raw.new ≡ filter (λ row. names endpoint (endpoints_of trace.now.net) row.bytes) (raw_rows trace.now round)) }
+{
+    raw.clear();
+    for (place, source) in sources.iter().enumerate() {
+        push_named(raw, trace, round, endpoint, place, *source)?;
+    }
+    Ok(())
+}
+
+/// Appends the round's raw packet at this place, with its place, if the endpoint is its source. A place that 32 bits do not hold
+/// is want of memory.
+fn push_named(
+    raw: &mut RawList,
+    trace: &Trace,
+    round: u32,
+    endpoint: u16,
+    place: usize,
+    source: Option<u16>,
+) -> Result<(), NoMemory>
+    requires round { round < trace.now.rounds }
+    requires place { place < length (raw_at trace.now round) }
+    ensures { OnOk result ((bytes : List ℕ) →
+        slice_get (raw_at trace.now round) place ≡ Some bytes →
+        source ≡ source_of (endpoints_of trace.now.net) bytes →
+        raw.new ≡ raw.old ++ filter (λ row. names endpoint (endpoints_of trace.now.net) row.bytes) (record { place = place; bytes = bytes } ∷ [])) }
+{
+    if source != Some(endpoint) {
+        return Ok(());
+    }
+    match u32::try_from(place) {
+        Ok(number) => raw.push(number, trace.raw(round, place)),
+        Err(_) => Err(NoMemory),
+    }
+}
+
+/// Writes what the endpoint is told in the round of the slots that are published.
+pub(crate) fn fill_told(
+    told: &mut ArrayVec<Told, 64>,
+    publisher: &Publisher,
+    g: u8,
+    round: u32,
+    endpoint: u16,
+)
+    requires endpoint { endpoint < publisher.now.endpoints }
+    requires held { 2 * g ≤ round → (publisher.now.first_batch ≤ round - 2 * g) × (round - 2 * g < publisher.now.first_batch + publisher.now.count) }
+    ensures { told.new.items ≡ told_by publisher.now g round endpoint }
+{
+    told.clear();
+    let lag = 2 * u32::from(g);
+    if lag <= round {
+        publisher.told_to(endpoint, round - lag, told);
+    }
+}

@@ -1,0 +1,238 @@
+//! A round as it is played, endpoint after endpoint.
+ghost use Rattle.std.specs.Prelude.{◌≡◌, ◌<◌, ◌≤◌, ℕ, ◌+◌, [], ◌++◌, map, slice_set, Some, IfOk, OnOk};
+ghost use Rattle.greedy_rules.specs.Batches.{IsAboveLast};
+ghost use Rattle.clos_topology.specs.Network.{endpoints_of};
+ghost use Rattle.endpoint_agent.specs.Lines.{slots_sent};
+ghost use Rattle.replay_rounds.specs.Setting.{Cores};
+ghost use Rattle.replay_rounds.specs.Standing.{LaneStands};
+ghost use Rattle.replay_rounds.specs.Played.{departure};
+ghost use Rattle.replay_rounds.specs.Collecting.{blank_round, framed_answer, framed_in, published_by, setting_by, source_of, sources_in, with_endpoint, with_numbers, with_round, MayBeTold};
+
+use crate::NoMemory;
+use crate::handed::{fill_events, fill_told};
+use crate::laws::rounds_may_be_played;
+use crate::played::{Departure, Played};
+use arrayvec::ArrayVec;
+use fcp_framing::{Told, Up, decode_up};
+use greedy_rules::{Batch, Limits};
+use lane_rounds::{AskList, Events, LaneRounds, RawList, RefusedList, Sent};
+use slot_publisher::Publisher;
+use std::alloc::Global;
+use std::marker::Model;
+use trace_text::Trace;
+
+/// What an endpoint is handed in a round, and what it gives: memory that is kept from one round to the next.
+#[derive(Drop)]
+pub(crate) struct Buffers {
+    events: Events,
+    told: ArrayVec<Told, 64>,
+    sent: ArrayVec<Sent, 64>,
+    refused: RefusedList,
+}
+
+impl Buffers {
+    pub(crate) fn new(alloc: Global) -> Buffers {
+        Buffers {
+            events: Events {
+                boots: 0,
+                version: 1,
+                asks: AskList::new(alloc),
+                up: None,
+                down: None,
+                raw: RawList::new(alloc),
+            },
+            told: ArrayVec::new(),
+            sent: ArrayVec::new(),
+            refused: RefusedList::new(alloc),
+        }
+    }
+}
+
+/// A round with what the endpoints played so far give in it.
+#[derive(Drop)]
+pub(crate) struct RoundInPlay {
+    round: u32,
+    batch: Batch,
+    // The endpoint that each raw packet names, if it is a packet.
+    sources: Vec<Option<u16>>,
+    // The number of the refusal of each raw packet, if one refuses it so far.
+    answers: Vec<Option<u8>>,
+    departures: Vec<Departure>,
+}
+
+impl Model for RoundInPlay {
+    ghost use Rattle.replay_rounds.specs.Collecting.{RoundPart};
+
+    ghost Value = { RoundPart };
+
+    ghost view = { λ r. record {
+      round = r.round;
+      batch = r.batch;
+      sources = r.sources.items;
+      answers = r.answers.items;
+      departures = r.departures.items;
+    } };
+}
+
+impl RoundInPlay {
+    /// Before the first endpoint. Raw packets are read once; what is no packet is answered at once.
+    pub(crate) fn open(alloc: Global, trace: &Trace, round: u32) -> Result<RoundInPlay, NoMemory>
+        requires { round < trace.now.rounds }
+        ensures { IfOk result (λ part. part ≡ blank_round trace.now round) }
+    {
+        let net = trace.net();
+        let limits = Limits {
+            hosts: net.hosts(),
+            cores: net.cores(),
+        };
+        let mut sources = Vec::new(alloc);
+        let mut answers = Vec::new(alloc);
+        if trace.raw_count(round) > 0 {
+            read_raw(trace, round, &mut sources, &mut answers)?;
+        }
+        Ok(RoundInPlay {
+            round,
+            batch: Batch::with_limits(alloc, limits),
+            sources,
+            answers,
+            departures: Vec::new(alloc),
+        })
+    }
+
+    /// Plays it for one endpoint more, which is above those before.
+    pub(crate) fn play(
+        &mut self,
+        lane: &mut LaneRounds,
+        endpoint: u16,
+        trace: &Trace,
+        publisher: &Publisher,
+        g: u8,
+        buffers: &mut Buffers,
+    ) -> Result<(), NoMemory>
+        requires may { (cores : Cores) × MayBeTold trace.now g cores publisher.now self.old.round
+            × LaneStands (setting_by trace.now g cores publisher.now) self.old.round (published_by publisher.now) endpoint lane.old }
+        requires endpoint { endpoint < endpoints_of trace.now.net }
+        requires sources { self.old.sources ≡ sources_in trace.now self.old.round }
+        requires above { IsAboveLast self.old.batch.entries (record { src = endpoint; dst = 0 }) }
+        ensures lane { OnOk result ((cores : Cores) →
+            MayBeTold trace.now g cores publisher.now self.old.round →
+            LaneStands (setting_by trace.now g cores publisher.now) self.old.round (published_by publisher.now) endpoint lane.old →
+            LaneStands (setting_by trace.now g cores publisher.now) (self.old.round + 1) (published_by publisher.now) endpoint lane.new) }
+        ensures part { OnOk result ((cores : Cores) →
+            MayBeTold trace.now g cores publisher.now self.old.round →
+            LaneStands (setting_by trace.now g cores publisher.now) self.old.round (published_by publisher.now) endpoint lane.old →
+            self.new ≡ with_endpoint (setting_by trace.now g cores publisher.now) trace.now endpoint self.old) }
+    {
+        rounds_may_be_played();
+        fill_events(
+            &mut buffers.events,
+            trace,
+            self.round,
+            endpoint,
+            &self.sources,
+        )?;
+        fill_told(&mut buffers.told, publisher, g, self.round, endpoint);
+        buffers.sent.clear();
+        buffers.refused.clear();
+        lane.round(
+            self.round,
+            &buffers.events,
+            &buffers.told,
+            &mut self.batch,
+            &mut buffers.sent,
+            &mut buffers.refused,
+        )?;
+        note_sent(&mut self.departures, endpoint, &buffers.sent)?;
+        note_refused(&mut self.answers, &buffers.refused);
+        Ok(())
+    }
+
+    /// Appends what it gives once every endpoint is played: what is sent stands in the order of slots.
+    pub(crate) fn add_to(self, played: &mut Played) -> Result<(), NoMemory>
+        ensures { OnOk result (played.new ≡ with_round self played.old) }
+    {
+        let RoundInPlay {
+            batch,
+            answers,
+            mut departures,
+            ..
+        } = self;
+        departures.sort_by_key(|departure| departure.slot)?;
+        played.batches.push(batch)?;
+        played.answers.push(answers)?;
+        played.departures.push(departures)?;
+        Ok(())
+    }
+}
+
+/// Reads each raw packet of a round: the endpoint that it names, or the number of its refusal.
+fn read_raw(
+    trace: &Trace,
+    round: u32,
+    sources: &mut Vec<Option<u16>>,
+    answers: &mut Vec<Option<u8>>,
+) -> Result<(), NoMemory>
+    requires round { round < trace.now.rounds }
+    requires no_sources { sources.old.items ≡ [] }
+    requires no_answers { answers.old.items ≡ [] }
+    ensures sources { OnOk result (sources.new.items ≡ sources_in trace.now round) }
+    ensures answers { OnOk result (answers.new.items ≡ framed_in trace.now round) }
+{
+    let endpoints = trace.endpoints();
+    let mut up = Up::default();
+    for at in 0..trace.raw_count(round) {
+        let (source, answer) = read_one(trace.raw(round, at), endpoints, &mut up);
+        sources.push(source)?;
+        answers.push(answer)?;
+    }
+    Ok(())
+}
+
+/// The endpoint that the bytes name, or the number of the refusal where they spell no packet.
+fn read_one(bytes: &[u8], endpoints: u16, up: &mut Up) -> (Option<u16>, Option<u8>)
+    requires { endpoints ≤ 256 }
+    ensures source { result.0 ≡ source_of endpoints bytes.now }
+    ensures answer { result.1 ≡ framed_answer endpoints bytes.now }
+{
+    match decode_up(bytes, endpoints, up) {
+        Ok(()) => (Some(up.src), None),
+        Err(refusal) => (None, Some(refusal.number())),
+    }
+}
+
+/// Appends what an endpoint sends.
+fn note_sent(
+    departures: &mut Vec<Departure>,
+    src: u16,
+    sent: &ArrayVec<Sent, 64>,
+) -> Result<(), NoMemory>
+    ensures { OnOk result (departures.new.items ≡ departures.old.items ++ map (departure src) (slots_sent sent.now.items)) }
+{
+    for one in sent.iter() {
+        departures.push(Departure {
+            slot: one.slot,
+            src,
+            dst: one.dst,
+        })?;
+    }
+    Ok(())
+}
+
+/// Writes the numbers of refusals at the places of the packets that are refused.
+fn note_refused(answers: &mut [Option<u8>], refused: &RefusedList)
+    ensures { answers.new ≡ with_numbers refused.now answers.old }
+{
+    for at in 0..refused.len() {
+        let (place, number) = refused.get(at);
+        note_number(answers, place as usize, number);
+    }
+}
+
+/// Writes a number at a place, if there is such a place.
+fn note_number(answers: &mut [Option<u8>], place: usize, number: u8)
+    ensures { answers.new ≡ slice_set answers.old place (Some number) }
+{
+    if place < answers.len() {
+        answers[place] = Some(number);
+    }
+}

@@ -1,0 +1,177 @@
+//! The rounds of all endpoints.
+ghost use Rattle.std.specs.Prelude.{◌≡◌, ◌<◌, ◌≤◌, ◌+◌, ◌*◌, ◌-◌, ◌↔◌, ℕ, true, length, min, IfOk, OnOk, IfSome, IsSome};
+ghost use Rattle.endpoint_history.specs.Entries.{had};
+ghost use Rattle.trace_text.specs.Trace.{TraceContent};
+ghost use Rattle.trace_text.specs.Valid.{IsTrace};
+ghost use Rattle.trace_run.specs.Histories.{lane_after};
+ghost use Rattle.trace_run.specs.Windows.{InWindows};
+ghost use Rattle.clos_topology.specs.Network.{endpoints_of};
+ghost use Rattle.slot_publisher.specs.Window.{NamesCores};
+ghost use Rattle.replay_rounds.specs.Setting.{Cores, AreCores};
+ghost use Rattle.replay_rounds.specs.Played.{rounds_played};
+ghost use Rattle.replay_rounds.specs.Standing.{Stands, IsNextWindow, setting_with};
+ghost use Rattle.replay_rounds.specs.Counts.{counted, lane_count, sent_and_missed};
+
+use crate::NoMemory;
+use crate::collect::collect;
+use crate::played::Played;
+use crate::publish::{count_slots, counting_holds};
+use flow_ledger::FlowCount;
+use greedy_rules::{Flow, SlotTable};
+use lane_rounds::LaneRounds;
+use path_workers::CoreTable;
+use slot_publisher::Publisher;
+use std::alloc::Global;
+use std::marker::Model;
+use trace_run::steps_go_on;
+use trace_text::Trace;
+
+/// The rounds of every endpoint of a trace. What clauses say of them holds for all cores for which they stand.
+#[derive(Drop)]
+pub struct ReplayRounds {
+    endpoints: u16,
+    b: u8,
+    g: u8,
+    // The first round that isn't collected.
+    collected: u32,
+    // The first batch that isn't published.
+    published: u32,
+    lanes: Vec<LaneRounds>,
+    publisher: Publisher,
+}
+
+impl Model for ReplayRounds {
+    ghost use Rattle.replay_rounds.specs.Standing.{RoundsContent};
+
+    ghost Value = { RoundsContent };
+
+    ghost view = { λ r. record {
+      endpoints = r.endpoints;
+      b = r.b;
+      g = r.g;
+      collected = r.collected;
+      published = r.published;
+      lanes = r.lanes.items;
+      window = r.publisher;
+    } };
+}
+
+impl ReplayRounds {
+    /// Before the first round of the trace, with batches of `b` slots (1 to 64) and windows of `g` rounds (1 to 16).
+    pub fn open(alloc: Global, trace: &Trace, b: u8, g: u8) -> Result<ReplayRounds, NoMemory>
+        requires b { (0 < b) × (b ≤ 64) }
+        requires g { (0 < g) × (g ≤ 16) }
+        ensures stands { IfOk result (λ all. (cores : Cores) → AreCores cores → Stands trace.now cores all) }
+        ensures b { IfOk result (λ all. all.b ≡ b) }
+        ensures g { IfOk result (λ all. all.g ≡ g) }
+        ensures collected { IfOk result (λ all. all.collected ≡ 0) }
+        ensures published { IfOk result (λ all. all.published ≡ 0) }
+        ensures first { IfOk result (λ all. all.window.first_batch ≡ 0) }
+    {
+        let endpoints = trace.endpoints();
+        let mut lanes = Vec::with_capacity(alloc, endpoints as usize)?;
+        for endpoint in 0..endpoints {
+            lanes.push(LaneRounds::open(alloc, endpoint, endpoints, b, g)?)?;
+        }
+        Ok(ReplayRounds {
+            endpoints,
+            b,
+            g,
+            collected: 0,
+            published: 0,
+            lanes,
+            publisher: Publisher::open(alloc, endpoints, u16::from(g), b)?,
+        })
+    }
+
+    /// How many rounds are collected.
+    pub fn collected(&self) -> u32
+        ensures { result ≡ self.now.collected }
+    {
+        self.collected
+    }
+
+    /// How many batches are published.
+    pub fn published(&self) -> u32
+        ensures { result ≡ self.now.published }
+    {
+        self.published
+    }
+
+    /// Plays the next window of `g` rounds, or those that are left. The trace is the one given to `open`; after want of memory the
+    /// rounds are only to be dropped.
+    pub fn collect(&mut self, alloc: Global, trace: &Trace) -> Result<Played, NoMemory>
+        requires stands { (cores : Cores) × Stands trace.now cores self.old }
+        // The batches up to two windows before each of these rounds are published.
+        requires windows { InWindows self.old.g trace.now.rounds self.old.collected self.old.published self.old.window.first_batch }
+        ensures frame { OnOk result (self.new ≡ record self.old {
+          collected = self.old.collected + min self.old.g (trace.now.rounds - self.old.collected);
+          lanes = self.new.lanes;
+        }) }
+        ensures stands { OnOk result ((cores : Cores) → Stands trace.now cores self.old → Stands trace.now cores self.new) }
+        ensures played { IfOk result (λ played. (cores : Cores) →
+            Stands trace.now cores self.old →
+            played ≡ rounds_played (setting_with trace.now cores self.old) trace.now self.old.collected (min self.old.g (trace.now.rounds - self.old.collected))) }
+    {
+        steps_go_on();
+        let count = u32::from(self.g).min(trace.rounds() - self.collected);
+        let played = collect(
+            alloc,
+            &mut self.lanes,
+            &self.publisher,
+            trace,
+            self.g,
+            self.collected,
+            count,
+        )?;
+        self.collected += count;
+        Ok(played)
+    }
+
+    /// Publishes the slots of the next `count` batches, with their cores, in place of the window that was published before: each
+    /// lane counts its own as allocated.
+    pub fn publish(&mut self, count: u16, slots: &SlotTable, cores: &CoreTable)
+        // These are the slots of the run's next batches, of rounds that are collected.
+        requires next { (trace : TraceContent) × (named : Cores) × IsTrace trace × Stands trace named self.old × IsNextWindow trace named self.old count slots.now cores.now }
+        requires collected { self.old.published + count ≤ self.old.collected }
+        requires room { count ≤ self.old.g }
+        requires served { slots.now.endpoints ≡ self.old.endpoints }
+        requires core_slots { length slots.now.slots ≤ cores.now.slots }
+        requires core_endpoints { slots.now.endpoints ≤ cores.now.endpoints }
+        ensures frame { self.new ≡ record self.old { published = self.old.published + count; lanes = self.new.lanes; window = self.new.window } }
+        ensures first { self.new.window.first_batch ≡ self.old.published }
+        ensures count { self.new.window.count ≡ count }
+        ensures stands { (trace : TraceContent) (named : Cores) →
+            IsTrace trace → Stands trace named self.old → IsNextWindow trace named self.old count slots.now cores.now →
+            Stands trace named self.new }
+    {
+        counting_holds();
+        count_slots(&mut self.lanes, self.b, self.published, slots);
+        self.publisher.put(self.published, slots, cores);
+        self.published += u32::from(count);
+    }
+
+    /// What the flow's lane counts since its last reset; None where no batch has the flow.
+    pub fn count(&self, flow: Flow) -> Option<FlowCount>
+        requires stands { (trace : TraceContent) × (cores : Cores) × Stands trace cores self.now }
+        requires src { flow.src < self.now.endpoints }
+        requires dst { flow.dst < self.now.endpoints }
+        ensures opened { (trace : TraceContent) (cores : Cores) → Stands trace cores self.now →
+            (IsSome result ↔ (had self.now.g (lane_after (setting_with trace cores self.now) self.now.collected flow.src) flow.dst ≡ true)) }
+        ensures counts { IfSome result (λ count. (trace : TraceContent) (cores : Cores) → Stands trace cores self.now →
+            counted count ≡ lane_count (setting_with trace cores self.now) self.now.collected self.now.published flow.src flow.dst) }
+    {
+        self.lanes[flow.src as usize].count(flow.dst)
+    }
+
+    /// The slots that the flow's source sent in, and those that it missed, since its last boot.
+    pub fn totals(&self, flow: Flow) -> (u32, u32)
+        requires stands { (trace : TraceContent) × (cores : Cores) × Stands trace cores self.now }
+        requires src { flow.src < self.now.endpoints }
+        requires dst { flow.dst < self.now.endpoints }
+        ensures { (trace : TraceContent) (cores : Cores) → Stands trace cores self.now →
+            result ≡ sent_and_missed (setting_with trace cores self.now) self.now.collected flow.src flow.dst }
+    {
+        self.lanes[flow.src as usize].totals(flow.dst)
+    }
+}

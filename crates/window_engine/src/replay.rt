@@ -1,0 +1,255 @@
+ghost use Rattle.std.specs.Prelude.{◌≡◌, ◌≢◌, ◌<◌, ◌≤◌, ◌+◌, ◌*◌, ◌-◌, ◌↔◌, ℕ, List, length, min, IsTrue, IfOk, OnOk, if◌then◌else◌};
+ghost use Rattle.greedy_rules.specs.Batches.{DemandBatch};
+ghost use Rattle.clos_topology.specs.Network.{Network};
+ghost use Rattle.trace_text.specs.Trace.{TraceContent};
+ghost use Rattle.trace_text.specs.Valid.{IsTrace};
+ghost use Rattle.replay_rounds.specs.Setting.{Cores, AreCores};
+ghost use Rattle.replay_rounds.specs.Played.{rounds_played};
+ghost use Rattle.replay_rounds.specs.Standing.{slots_between};
+ghost use Rattle.window_engine.specs.Replay.{StandsForReplay, HasCoresOf, run_of, replay_counts};
+ghost use Rattle.window_engine.specs.Settings.{IsSetting};
+ghost use Rattle.window_engine.specs.Standing.{Needs, HasAllocated};
+ghost use Rattle.window_engine.specs.Step.{IsWindowOf, jobs_for};
+
+use crate::allocation::Allocation;
+use crate::collection::place;
+use crate::counts::Counts;
+use crate::replay_laws::replays_hold;
+use crate::setting::Setting;
+use crate::window::{Span, Window};
+use fp_edge::Gate;
+use greedy_rules::{Batch, Flow, SlotTable};
+use no_memory::NoMemory;
+use path_workers::CoreTable;
+use replay_rounds::{Played, ReplayRounds};
+use std::alloc::Global;
+use std::marker::Model;
+use std::sync::Wait;
+use std::thread::Threads;
+use trace_text::Trace;
+
+/// Replays a trace, window after window of rounds: in each step the rounds of a window are collected, and the batches of the window
+/// before get their slots. What clauses say of it holds for all cores for which it stands.
+#[derive(Drop)]
+pub struct Replay {
+    alloc: Global,
+    rounds: u32,
+    lanes: ReplayRounds,
+    waiting: Vec<Batch>,
+    allocation: Allocation,
+    // By source and then destination, once every batch is allocated.
+    pending: Vec<u32>,
+}
+
+impl Model for Replay {
+    ghost use Rattle.window_engine.specs.Replay.{ReplayState};
+
+    ghost Value = { ReplayState };
+
+    ghost view = { λ r. record {
+      rounds = r.rounds;
+      lanes = r.lanes;
+      waiting = r.waiting.items;
+      allocation = r.allocation;
+      pending = r.pending.items;
+    } };
+}
+
+/// What a step gives: the rounds that it played, and the slots and cores of the batches that it allocated.
+#[derive(Drop)]
+pub struct ReplayStep {
+    first: u32,
+    played: Played,
+    window: Window,
+}
+
+impl Model for ReplayStep {
+    ghost use Rattle.window_engine.specs.Replay.{ReplayStepContent};
+
+    ghost Value = { ReplayStepContent };
+
+    ghost view = { λ s. record { first = s.first; played = s.played; window = s.window } };
+}
+
+/// A copy of each batch.
+fn copied(alloc: Global, batches: &[Batch]) -> Result<Vec<Batch>, NoMemory>
+    ensures { IfOk result (λ copies. copies.items ≡ batches.now) }
+{
+    let mut copies = Vec::with_capacity(alloc, batches.len())?;
+    for batch in batches {
+        copies.push(copy(alloc, batch)?)?;
+    }
+    Ok(copies)
+}
+
+/// A copy of a batch.
+fn copy(alloc: Global, batch: &Batch) -> Result<Batch, NoMemory>
+    ensures { IfOk result (λ copy. copy ≡ batch.now) }
+{
+    let mut copy = Batch::with_limits(alloc, batch.limits());
+    for at in 0..batch.len() {
+        copy.push(batch.entry(at))?;
+    }
+    Ok(copy)
+}
+
+impl ReplayStep {
+    /// The first of the rounds that were played.
+    pub fn first(&self) -> u32
+        ensures { result ≡ self.now.first }
+    {
+        self.first
+    }
+
+    /// What they give.
+    pub fn played(&self) -> &Played
+        ensures { result.now ≡ self.now.played }
+    {
+        &self.played
+    }
+
+    /// The rounds whose batches were allocated.
+    pub fn allocated(&self) -> Span
+        ensures { result ≡ self.now.window.span }
+    {
+        self.window.span
+    }
+
+    /// The slots of these: slot i of batch s, both counted from 0, stands at place `s * b + i`.
+    pub fn slots(&self) -> &SlotTable
+        ensures { result.now ≡ self.now.window.slots }
+    {
+        &self.window.slots
+    }
+
+    /// The cores of these slots, at the same places.
+    pub fn cores(&self) -> &CoreTable
+        ensures { result.now ≡ self.now.window.cores }
+    {
+        &self.window.cores
+    }
+}
+
+impl Replay {
+    /// Before the first round of the trace.
+    pub fn open(alloc: Global, trace: &Trace, setting: Setting) -> Result<Replay, NoMemory>
+        requires sizes { IsSetting setting }
+        ensures stands { IfOk result (λ replay. (cores : Cores) → AreCores cores → StandsForReplay trace.now cores replay) }
+        ensures b { IfOk result (λ replay. replay.lanes.b ≡ setting.b) }
+        ensures g { IfOk result (λ replay. replay.lanes.g ≡ setting.g) }
+        ensures collected { IfOk result (λ replay. replay.lanes.collected ≡ 0) }
+        ensures published { IfOk result (λ replay. replay.lanes.published ≡ 0) }
+    {
+        let endpoints = trace.endpoints();
+        let flows = endpoints as usize * endpoints as usize;
+        Ok(Replay {
+            alloc,
+            rounds: trace.rounds(),
+            lanes: ReplayRounds::open(alloc, trace, setting.b, setting.g)?,
+            waiting: Vec::new(alloc),
+            allocation: Allocation::open(
+                alloc,
+                trace.net(),
+                setting.workers,
+                setting.paths,
+                setting.b,
+                setting.g,
+            )?,
+            pending: vec![in alloc; 0; flows]?,
+        })
+    }
+
+    /// After the last batch the needs that are left are written down.
+    fn end(&mut self)
+        requires allocated { (net : Network) × (most : ℕ) × (batches : List DemandBatch) × HasAllocated net most batches self.old.allocation }
+        requires pending { length self.old.pending ≡ self.old.allocation.ring.endpoints * self.old.allocation.ring.endpoints }
+        ensures pending { length self.new.pending ≡ length self.old.pending }
+        ensures ended { self.new.lanes.published ≡ self.new.rounds → Needs self.new.allocation.ring.endpoints self.new.allocation.list.items self.new.pending }
+        ensures rounds { self.new.rounds ≡ self.old.rounds }
+        ensures lanes { self.new.lanes ≡ self.old.lanes }
+        ensures waiting { self.new.waiting ≡ self.old.waiting }
+        ensures allocation { self.new.allocation ≡ self.old.allocation }
+    {
+        if self.done() {
+            self.allocation.write_needs(&mut self.pending);
+        }
+    }
+
+    /// Plays the next window of `g` rounds, or of those that are left, and gives the batches of the window before their slots and
+    /// cores, which are then published. The trace is the one given to `open`; after want of memory the replay is only to be dropped.
+    pub fn step<R: Threads + Wait + Sync, G: Gate + Sync>(
+        &mut self,
+        rt: &R,
+        gate: &G,
+        trace: &Trace,
+    ) -> Result<ReplayStep, NoMemory>
+        requires stands { (cores : Cores) × StandsForReplay trace.now cores self.old }
+        requires more { self.old.lanes.published ≢ self.old.rounds }
+        ensures rounds { OnOk result (self.new.rounds ≡ self.old.rounds) }
+        ensures b { OnOk result (self.new.lanes.b ≡ self.old.lanes.b) }
+        ensures g { OnOk result (self.new.lanes.g ≡ self.old.lanes.g) }
+        ensures collected { OnOk result (self.new.lanes.collected ≡ self.old.lanes.collected + min self.old.lanes.g (self.old.rounds - self.old.lanes.collected)) }
+        ensures published { OnOk result (self.new.lanes.published ≡ self.old.lanes.collected) }
+        ensures first { IfOk result (λ step. step.first ≡ self.old.lanes.collected) }
+        ensures played { IfOk result (λ step. (cores : Cores) →
+            StandsForReplay trace.now cores self.old →
+            step.played ≡ rounds_played (run_of trace.now cores self.old) trace.now self.old.lanes.collected (min self.old.lanes.g (self.old.rounds - self.old.lanes.collected))) }
+        ensures span { IfOk result (λ step. step.window.span ≡ record { first = self.old.lanes.published; count = self.old.lanes.collected - self.old.lanes.published }) }
+        ensures window { IfOk result (λ step. (cores : Cores) →
+            StandsForReplay trace.now cores self.old →
+            IsWindowOf trace.now.net self.old.lanes.b (slots_between (run_of trace.now cores self.old) self.old.lanes.published self.old.lanes.collected) step.window) }
+        ensures jobs { OnOk result (self.new.allocation.paths.jobs ≡ self.old.allocation.paths.jobs + jobs_for (self.old.lanes.collected - self.old.lanes.published) self.old.lanes.b self.old.allocation.paths.paths) }
+        // It goes on standing for all cores that are, for these slots, the ones given.
+        ensures stands { IfOk result (λ step. (cores : Cores) →
+            StandsForReplay trace.now cores self.old →
+            HasCoresOf self.old.lanes.b step cores →
+            StandsForReplay trace.now cores self.new) }
+    {
+        replays_hold();
+        let _rounds = trace.rounds();
+        let first = self.lanes.collected();
+        let played = self.lanes.collect(self.alloc, trace)?;
+        let window = self
+            .allocation
+            .window_of_any(self.alloc, rt, gate, &self.waiting)?;
+        self.lanes
+            .publish(window.span.count as u16, &window.slots, &window.cores);
+        self.waiting = copied(self.alloc, played.batches())?;
+        self.end();
+        Ok(ReplayStep {
+            first,
+            played,
+            window,
+        })
+    }
+
+    /// Whether every round is played and every batch allocated.
+    pub fn done(&self) -> bool
+        ensures { IsTrue result ↔ (self.now.lanes.published ≡ self.now.rounds) }
+    {
+        self.lanes.published() == self.rounds
+    }
+
+    /// What became of the flow's demand; None where no batch has the flow. Only once every batch is allocated.
+    pub fn counts(&self, flow: Flow) -> Option<Counts>
+        requires stands { (trace : TraceContent) × (cores : Cores) × IsTrace trace × StandsForReplay trace cores self.now }
+        requires done { self.now.lanes.published ≡ self.now.rounds }
+        requires src { flow.src < self.now.lanes.endpoints }
+        requires dst { flow.dst < self.now.lanes.endpoints }
+        ensures { (trace : TraceContent) (cores : Cores) → IsTrace trace → StandsForReplay trace cores self.now →
+            result ≡ replay_counts (run_of trace cores self.now) trace.rounds flow }
+    {
+        let count = self.lanes.count(flow)?;
+        let (sent, missed) = self.lanes.totals(flow);
+        let endpoints = self.allocation.endpoints();
+        Some(Counts {
+            demanded: count.demanded,
+            allocated: count.allocated,
+            acknowledged: count.acknowledged,
+            lost: count.lost,
+            pending: self.pending[place(endpoints, flow)],
+            sent,
+            missed,
+        })
+    }
+}
