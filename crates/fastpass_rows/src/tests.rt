@@ -67,8 +67,8 @@ fn run_on<R: Threads + Wait + Sync>(
     ))
 }
 
-// What the plan writes where the words name no number of path workers; with 1, 2 and 16 it is the same.
-fn plan_on<R: Abort + Threads + Wait + Sync>(
+// What is written where the words name no number of path workers; with 1, 2 and 16 it is the same.
+fn run_with_any_paths<R: Abort + Threads + Wait + Sync>(
     rt: &R,
     alloc: Global,
     words: &[&'static str],
@@ -121,7 +121,7 @@ fn plans_are_written_whole(rt: HostRuntime) -> Result<(), Fail> {
         ),
     ];
     for (words, trace, text) in cases.iter() {
-        let came = plan_on(&rt, rt.alloc(), words, trace)?;
+        let came = run_with_any_paths(&rt, rt.alloc(), words, trace)?;
         assert_eq!(rt; came.status, 0);
         assert!(rt; came.out.held() == *text);
         assert!(rt; came.notes.held().is_empty());
@@ -150,7 +150,7 @@ fn a_batch_of_64_slots_leaves_the_rest(rt: HostRuntime) -> Result<(), Fail> {
         ),
     ];
     for (trace, slots, end) in cases.iter() {
-        let came = plan_on(&rt, rt.alloc(), &["plan", "--batch", "64"], trace)?;
+        let came = run_with_any_paths(&rt, rt.alloc(), &["plan", "--batch", "64"], trace)?;
         assert_eq!(rt; came.status, 0);
         let mut lines = came.out.held().split(|byte| *byte == b'\n').skip(1);
         for slot in 1..=*slots {

@@ -1,7 +1,10 @@
-use super::run_on;
+use super::{copied, run_on, run_with, run_with_any_paths, sink, source};
+use fp_edge::{MemSink, MemSource};
 use std::test::Fail;
 
 const ONE_BY_ONE: &[&str] = &["replay", "--batch", "1", "--window", "1"];
+
+const ONE_ASK: &[u8] = b"net,2,1,1\nask,0,0,1,1\nend,7\n";
 
 /// A slot asked for in round 0, told in round 3 and sent in round 5.
 const SENT: &[u8] = b"batch,1,0,1,0,1\nslot,2,0,1,0\nsent,2,0,1\ncount,0,1,1,1,0,0,0,1,0\nend,7\n";
@@ -17,7 +20,7 @@ const FOUND_LOST: &[u8] =
 #[test]
 fn replays_are_written_whole(rt: HostRuntime) -> Result<(), Fail> {
     let cases: [(&[u8], &[u8]); 12] = [
-        (b"net,2,1,1\nask,0,0,1,1\nend,7\n", SENT),
+        (ONE_ASK, SENT),
         (b"net,2,1,1\nask,0,0,1,1\nlose,3,0,down\nend,14\n", LOST),
         // Two rounds late is in time, three are not: the slot is asked for again.
         (b"net,2,1,1\nask,0,0,1,1\nhold,3,0,down,2\nend,7\n", SENT),
@@ -56,7 +59,7 @@ fn replays_are_written_whole(rt: HostRuntime) -> Result<(), Fail> {
         ),
     ];
     for (trace, text) in cases.iter() {
-        let came = run_on(&rt, rt.alloc(), ONE_BY_ONE, trace)?;
+        let came = run_with_any_paths(&rt, rt.alloc(), ONE_BY_ONE, trace)?;
         assert_eq!(rt; came.status, 0);
         assert!(rt; came.out.held() == *text);
         assert!(rt; came.notes.held().is_empty());
@@ -91,6 +94,39 @@ fn a_replay_takes_rows_that_a_plan_refuses(rt: HostRuntime) -> Result<(), Fail> 
         assert_eq!(rt; came.status, 2);
         assert!(rt; came.notes.held() == *note);
         assert!(rt; came.out.held().is_empty());
+    }
+    Ok(())
+}
+
+// Each read fails in turn, and then each write.
+#[test]
+fn a_fault_ends_a_replay(rt: HostRuntime) -> Result<(), Fail> {
+    let alloc = rt.alloc();
+    for call in 0..4u32 {
+        let mut failing = Vec::new(alloc);
+        failing.push(call)?;
+        let src = MemSource::new(copied(alloc, ONE_ASK)?, 10, failing);
+        let came = run_with(&rt, alloc, ONE_BY_ONE, src, sink(alloc)?, sink(alloc)?);
+        assert_eq!(rt; came.status, 3);
+        assert!(rt; came.notes.held() == b"read\n".as_slice());
+        assert!(rt; came.out.held().is_empty());
+    }
+    for call in 0..10u32 {
+        let mut failing = Vec::new(alloc);
+        failing.push(call)?;
+        let out = MemSink::new(alloc, 1_000_000, 7, failing)?;
+        let came = run_with(
+            &rt,
+            alloc,
+            ONE_BY_ONE,
+            source(alloc, ONE_ASK)?,
+            out,
+            sink(alloc)?,
+        );
+        assert_eq!(rt; came.status, 4);
+        assert!(rt; came.notes.held() == b"write\n".as_slice());
+        assert_eq!(rt; came.out.held().len(), call as usize * 7);
+        assert!(rt; SENT.starts_with(came.out.held()));
     }
     Ok(())
 }
