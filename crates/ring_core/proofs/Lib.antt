@@ -1,0 +1,12 @@
+pub mod WindowLemmas
+pub mod StreamLemmas
+pub mod PlayLemmas
+pub mod PushLemmas
+pub mod FeedLemmas
+pub mod BeginLemmas
+pub mod TurnLemmas
+pub mod EdgeLemmas
+pub mod RingLemmas
+pub mod ListLemmas
+pub mod StartLemmas
+pub mod EndLemmas

@@ -1,0 +1,17 @@
+use Rattle.std.proofs.Common.{◌≡◌, ◌<◌, ◌+◌, ℕ, length, All, Some, slice_get}
+use Rattle.greedy_rules.specs.Demands.{AreBelow, opened}
+use Rattle.slot_batches.specs.Stands.{StageState, endpoints_of, batch_size_of}
+use Rattle.ring_core.specs.Workers.{own_stage, HasBegun}
+use Rattle.ring_core.proofs.worker.begin_stages.Given as goal
+
+abbrev pub invariant-loop-own : goal.invariant-loop-own
+invariant-loop-own l = record {
+  stage : l.stage ≡ own_stage l.workers l.number l.own-index;
+  near : l.stage < length l.batches + l.workers;
+  count : length l.own-items ≡ length l.fn.stages;
+  in_range : All (λ stage. All (λ batch. AreBelow (endpoints_of stage) (opened batch.entries)) l.batches) l.own-items;
+  endpoints : (endpoints : ℕ) → All (λ stage. endpoints_of stage ≡ endpoints) l.fn.stages → All (λ stage. endpoints_of stage ≡ endpoints) l.own-items;
+  sizes : All (λ stage. batch_size_of stage ≡ l.b) l.own-items;
+  begun : (endpoints : ℕ) → All (λ stage. endpoints_of stage ≡ endpoints) l.fn.stages → (place : ℕ) (state : StageState) → place < l.own-index → slice_get l.own-items place ≡ Some state
+      → HasBegun endpoints l.b l.first_batch l.batches (own_stage l.workers l.number place) state;
+}

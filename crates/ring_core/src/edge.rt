@@ -1,0 +1,117 @@
+ghost use Rattle.std.specs.Prelude.{◌≡◌, ◌+◌, ◌<◌, ◌^◌, [], ◌∷◌, ◌++◌, MatchOption, MatchResult, IfOk};
+ghost use Rattle.std.specs.VecDeque.{deque_len, deque_capacity};
+
+use crate::link::Link;
+use greedy_rules::{Batch, DemandList};
+use no_memory::NoMemory;
+use slot_batches::Piece;
+use std::alloc::Global;
+use std::collections::VecDeque;
+use std::snapshot::Snapshot;
+
+/// An edge of fixed room: the pieces that were sent and not yet taken, and how many were taken and sent.
+#[derive(Drop)]
+pub(crate) struct Edge {
+    pieces: VecDeque<Piece>,
+    taken: u32,
+    sent: u32,
+}
+
+impl Edge {
+    /// With room for so many pieces. No later call takes memory.
+    pub(crate) fn open(alloc: Global, room: usize) -> Result<Edge, NoMemory>
+        ensures empty { IfOk result (λ edge. edge.pieces.items ≡ []) }
+        ensures room { IfOk result (λ edge. deque_capacity edge.pieces ≡ room) }
+        ensures taken { IfOk result (λ edge. edge.taken ≡ 0) }
+        ensures sent { IfOk result (λ edge. edge.sent ≡ 0) }
+    {
+        Ok(Edge {
+            pieces: VecDeque::with_capacity(alloc, room)?,
+            taken: 0,
+            sent: 0,
+        })
+    }
+
+    /// It holds nothing, and its positions begin at 0.
+    pub(crate) fn empty(&mut self)
+        ensures empty { self.new.pieces.items ≡ [] }
+        ensures taken { self.new.taken ≡ 0 }
+        ensures sent { self.new.sent ≡ 0 }
+        ensures room { deque_capacity self.new.pieces ≡ deque_capacity self.old.pieces }
+    {
+        self.pieces.clear();
+        self.taken = 0;
+        self.sent = 0;
+    }
+
+    pub(crate) fn take(&mut self) -> Option<Piece>
+        requires { self.old.taken + 1 < 2 ^ 32 }
+        ensures taken { MatchOption result
+            ((self.new.pieces.items ≡ self.old.pieces.items) × (self.old.pieces.items ≡ []) × (self.new.taken ≡ self.old.taken))
+            (λ piece. (self.old.pieces.items ≡ piece ∷ self.new.pieces.items) × (self.new.taken ≡ self.old.taken + 1)) }
+        ensures sent { self.new.sent ≡ self.old.sent }
+        ensures room { deque_capacity self.new.pieces ≡ deque_capacity self.old.pieces }
+    {
+        let piece = self.pieces.pop_front()?;
+        self.taken += 1;
+        Some(piece)
+    }
+
+    pub(crate) fn give(&mut self, piece: Piece) -> Result<(), Piece>
+        requires { self.old.sent + 1 < 2 ^ 32 }
+        ensures given { MatchResult result
+            (λ _. (self.new.pieces.items ≡ self.old.pieces.items ++ piece ∷ []) × (self.new.sent ≡ self.old.sent + 1) × (deque_len self.old.pieces < deque_capacity self.old.pieces))
+            (λ refused. (refused ≡ piece) × (self.new.pieces.items ≡ self.old.pieces.items) × (self.new.sent ≡ self.old.sent) × (deque_len self.old.pieces ≡ deque_capacity self.old.pieces)) }
+        ensures taken { self.new.taken ≡ self.old.taken }
+        ensures room { deque_capacity self.new.pieces ≡ deque_capacity self.old.pieces }
+    {
+        if self.pieces.len() == self.pieces.capacity() {
+            return Err(piece);
+        }
+        self.pieces.push_back_reserved(piece);
+        self.sent += 1;
+        Ok(())
+    }
+}
+
+/// The two ends of a worker over the edges of a ring.
+#[derive(Drop)]
+pub(crate) struct ListLink<'a> {
+    // The list and the batches name the window.
+    pub(crate) list: &'a Snapshot<DemandList>,
+    pub(crate) batches: &'a [Batch],
+    pub(crate) first_batch: u32,
+    pub(crate) b: u8,
+    pub(crate) workers: u16,
+    pub(crate) edges: &'a mut [Edge],
+    pub(crate) before: usize,
+    pub(crate) after: usize,
+}
+
+impl<'a> Link for ListLink<'a> {
+    ghost use Rattle.std.specs.Prelude.{◌≡◌, ◌<◌, length, refl};
+    ghost use Rattle.ring_core.specs.Edges.{AllHold, StreamsAreShort, OthersStay, IsFoundEmpty, IsFoundFull, ends_between};
+    ghost use Rattle.ring_core.specs.Windows.{window_of};
+
+    ghost ends = { λ l. ends_between (window_of l.list.now.value.items l.batches.now l.first_batch l.b l.workers) l.edges.now l.before l.after };
+
+    ghost ready = { λ l. (l.before < length l.edges.now) × (l.after < length l.edges.now) × StreamsAreShort (window_of l.list.now.value.items l.batches.now l.first_batch l.b l.workers) × AllHold (window_of l.list.now.value.items l.batches.now l.first_batch l.b l.workers) l.edges.now };
+
+    ghost stays = { λ l m. (m.edges.ghost_name ≡ l.edges.ghost_name) × (m.list.now ≡ l.list.now) × (m.batches.now ≡ l.batches.now) × (m.first_batch ≡ l.first_batch) × (m.b ≡ l.b) × (m.workers ≡ l.workers) × (m.before ≡ l.before) × (m.after ≡ l.after) × OthersStay l.before l.after l.edges.now m.edges.now };
+
+    ghost found_empty = { λ l at. IsFoundEmpty l.edges.now l.before at };
+
+    ghost found_full = { λ l at. IsFoundFull l.edges.now l.after at };
+
+    fn pop(&mut self) -> Option<Piece> {
+        let before = self.before;
+        self.edges[before].take()
+    }
+
+    fn push(&mut self, piece: Piece) -> Result<(), Piece> {
+        let after = self.after;
+        self.edges[after].give(piece)
+    }
+
+    ghost stays_same = { λ link. (refl, refl, refl, refl, refl, refl, refl, refl, record { count = refl; taken = λ number other. refl; sent = λ number other. refl; rooms = λ number. refl }) };
+}

@@ -1,0 +1,16 @@
+//! A ring of workers: each plays its own stages of a window, a stage for a batch, and hands the lists on piece by piece.
+#![tactic(auto)]
+
+mod edge;
+mod laws;
+mod link;
+mod ring;
+mod turn;
+mod worker;
+
+pub use laws::small_windows;
+pub use link::Link;
+pub use no_memory::NoMemory;
+pub use ring::RingCore;
+pub use turn::Turn;
+pub use worker::Worker;
