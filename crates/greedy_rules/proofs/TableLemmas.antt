@@ -1,6 +1,7 @@
 -- The cells of a slot table, row after row, and the slots that contracts see.
-use Rattle.std.proofs.Common.{◌≡◌, ◌≢◌, ◌<◌, ◌≤◌, ◌+◌, ◌-◌, ◌*◌, ℕ, zero, suc, List, [], ◌∷◌, length, get_or, set, replicate, Option, Some, None, IfSome, take, drop, All, refl, sym, ap, ◌∙◌, arith, inl, inr, length-set}
-use Rattle.std.proofs.lemmas.List.{drop-take, drop-drop, take-replicate, drop-replicate, length-take, length-drop, get_or-take, get_or-drop, get_or_default, get_or-set_same, get_or-set_other, same_lists}
+use Rattle.std.proofs.Common.{◌≡◌, ◌≢◌, ◌<◌, ◌≤◌, ◌+◌, ◌-◌, ◌*◌, ℕ, zero, suc, List, [], ◌∷◌, ◌++◌, length, get_or, set, replicate, Option, Some, None, IfSome, take, drop, All, refl, sym, ap, ◌∙◌, arith, inl, inr, length-set}
+use Rattle.std.proofs.Math.Seq.{take-append_seam, drop-append_seam, drop-append-add}
+use Rattle.std.proofs.lemmas.List.{take-append-drop, take-append-le, drop-append-le, drop-take, drop-drop, take-replicate, drop-replicate, length-take, length-drop, get_or-take, get_or-drop, get_or_default, get_or-set_same, get_or-set_other, same_lists}
 use Rattle.std.proofs.lemmas.List.Elements.{All-nil, All-cons, All-take, All-drop, All-append}
 use Rattle.std.proofs.lemmas.Bool.{cases_eq, cases_order}
 use Rattle.std.proofs.lemmas.Nat.{row_fits}
@@ -149,3 +150,52 @@ empty_table endpoints (suc count) places is =
     (ap (flows_from 0) (take-replicate endpoints places None (omega (arith, is))) ∙ flows_from-replicate 0 endpoints)
     ∙ ap (λ (slots : List (List Flow)). none ∷ slots)
     (ap (table_slots endpoints count) (drop-replicate endpoints places None) ∙ empty_table endpoints count (places - endpoints) rest)
+
+-- the slots of a table's first rows, and of the others
+table_slots-append : (endpoints count a b : ℕ) (xs ys : List (Option ℕ)) → count ≡ a + b → length xs ≡ a * endpoints → table_slots endpoints count (xs ++ ys) ≡ table_slots endpoints a xs ++ table_slots endpoints b ys
+table_slots-append endpoints count zero b [] ys counts is = ap (λ (n : ℕ). table_slots endpoints n ys) (omega (arith, counts))
+table_slots-append endpoints count zero b (x ∷ xs) ys counts is = absurd (omega (arith, is))
+table_slots-append endpoints zero (suc a) b xs ys counts is = absurd (omega (arith, counts))
+table_slots-append endpoints (suc count) (suc a) b xs ys counts is =
+    let row : endpoints ≤ length xs = omega (arith, is) in
+    let rest : length (drop endpoints xs) ≡ a * endpoints = omega (arith, is, length-drop endpoints xs) in
+    ap (λ (cells : List (Option ℕ)). flows_from 0 cells ∷ table_slots endpoints count (drop endpoints (xs ++ ys))) (take-append-le endpoints xs ys row)
+    ∙ ap (λ (slots : List (List Flow)). flows_from 0 (take endpoints xs) ∷ slots)
+    (ap (table_slots endpoints count) (drop-append-le endpoints xs ys row) ∙ table_slots-append endpoints count a b (drop endpoints xs) ys (omega (arith, counts)) rest)
+
+-- rows are written over by those of another table
+pub copied_is : (endpoints count to n k : ℕ) (cells other : List (Option ℕ)) → length cells ≡ count * endpoints → length other ≡ n * endpoints → k ≡ n * endpoints → to + n ≤ count
+    → table_slots endpoints count (put_mid (to * endpoints) k cells other)
+    ≡ take to (table_slots endpoints count cells) ++ (table_slots endpoints n other ++ drop (to + n) (table_slots endpoints count cells))
+copied_is endpoints count to n k cells other full whole size within =
+    let from : ℕ = to * endpoints in
+    let b : ℕ = count - (to + n) in
+    let counts : count ≡ to + (n + b) = omega (arith, within) in
+    let spread : count * endpoints ≡ to * endpoints + (n * endpoints + b * endpoints) = ap (λ (c : ℕ). c * endpoints) counts ∙ omega arith in
+    let before : List (Option ℕ) = take from cells in
+    let middle : List (Option ℕ) = take k (drop from cells) in
+    let after : List (Option ℕ) = drop k (drop from cells) in
+    let long : length before ≡ to * endpoints = omega (arith, length-take from cells, full, spread) in
+    let mid : length middle ≡ n * endpoints = omega (arith, length-take k (drop from cells), length-drop from cells, full, spread, size) in
+    let first : List (List Flow) = table_slots endpoints to before in
+    let second : List (List Flow) = table_slots endpoints n middle in
+    let last : List (List Flow) = table_slots endpoints b after in
+    let parts : cells ≡ before ++ (middle ++ after) =
+    sym (ap (λ (xs : List (Option ℕ)). before ++ xs) (take-append-drop k (drop from cells)) ∙ take-append-drop from cells) in
+    let old : table_slots endpoints count cells ≡ first ++ (second ++ last) =
+    ap (table_slots endpoints count) parts
+    ∙ (table_slots-append endpoints count to (n + b) before (middle ++ after) counts long
+    ∙ ap (λ (slots : List (List Flow)). first ++ slots) (table_slots-append endpoints (n + b) n b middle after refl mid)) in
+    let new : table_slots endpoints count (put_mid from k cells other) ≡ first ++ (table_slots endpoints n other ++ last) =
+    table_slots-append endpoints count to (n + b) before (other ++ after) counts long
+    ∙ ap (λ (slots : List (List Flow)). first ++ slots) (table_slots-append endpoints (n + b) n b other after refl whole) in
+    let firsts : length first ≡ to = length-table_slots endpoints to before in
+    let seconds : length second ≡ n = length-table_slots endpoints n middle in
+    let kept : take to (first ++ (second ++ last)) ≡ first = ap (λ (c : ℕ). take c (first ++ (second ++ last))) (sym firsts) ∙ take-append_seam first (second ++ last) in
+    let left : drop (to + n) (first ++ (second ++ last)) ≡ last =
+    ap (λ (c : ℕ). drop (c + n) (first ++ (second ++ last))) (sym firsts)
+    ∙ (drop-append-add first (second ++ last) n
+    ∙ (ap (λ (c : ℕ). drop c (second ++ last)) (sym seconds) ∙ drop-append_seam second last)) in
+    new
+    ∙ (ap (λ (slots : List (List Flow)). slots ++ (table_slots endpoints n other ++ last)) (sym (ap (take to) old ∙ kept))
+    ∙ ap (λ (slots : List (List Flow)). take to (table_slots endpoints count cells) ++ (table_slots endpoints n other ++ slots)) (sym (ap (drop (to + n)) old ∙ left)))

@@ -1,7 +1,7 @@
-ghost use Rattle.std.specs.Prelude.{◌≡◌, ◌<◌, ◌+◌, ◌*◌, List, [], length, replicate, None, IfOk, All, slice_set};
+ghost use Rattle.std.specs.Prelude.{◌≡◌, ◌<◌, ◌≤◌, ◌+◌, ◌*◌, List, [], ◌++◌, length, take, drop, replicate, None, IfOk, All, slice_set};
 ghost use Rattle.greedy_rules.specs.Slot.{slot_with};
 ghost use Rattle.greedy_rules.specs.Schedule.{slot_in};
-ghost use Rattle.greedy_rules.specs.SlotTable.{destination_of, IsSlotOf};
+ghost use Rattle.greedy_rules.specs.SlotTable.{destination_of, flows_from, IsSlotOf};
 
 use no_memory::NoMemory;
 use std::alloc::Global;
@@ -63,12 +63,33 @@ impl SlotTable {
         self.cells[self.place(slot, src)]
     }
 
+    /// Where each source sends in the slot, at the source's place.
+    pub fn row(&self, slot: u16) -> &[Option<u16>]
+        requires { slot < length self.now.slots }
+        ensures flows { flows_from 0 result.now ≡ slot_in self.now.slots slot }
+        ensures count { length result.now ≡ self.now.endpoints }
+    {
+        let from = self.place(slot, 0);
+        &self.cells[from..from + self.endpoints as usize]
+    }
+
     /// Empties every slot.
     pub fn clear(&mut self)
         ensures slots { self.new.slots ≡ replicate (length self.old.slots) [] }
         ensures endpoints { self.new.endpoints ≡ self.old.endpoints }
     {
         self.cells.fill(None);
+    }
+
+    /// Makes the slots from place `to` on those of a table for as many endpoints.
+    pub fn copy(&mut self, from: &SlotTable, to: u16)
+        requires endpoints { from.now.endpoints ≡ self.old.endpoints }
+        requires places { to + length from.now.slots ≤ length self.old.slots }
+        ensures slots { self.new.slots ≡ take to self.old.slots ++ from.now.slots ++ drop (to + length from.now.slots) self.old.slots }
+        ensures endpoints { self.new.endpoints ≡ self.old.endpoints }
+    {
+        let at = self.place(to, 0);
+        self.cells[at..at + from.cells.len()].copy_from_slice(&from.cells);
     }
 
     /// Lets the source, which sends nothing in the slot, send to this destination.
