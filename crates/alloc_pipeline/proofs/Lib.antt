@@ -1,4 +1,2 @@
-pub mod CopiedSlots
-pub mod JoinedPieces
-pub mod FedLists
+pub mod WholeLists
 pub mod RingLemmas

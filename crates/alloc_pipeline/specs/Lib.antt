@@ -1,2 +1,1 @@
-pub mod Allocated
 pub mod Ring

@@ -9,73 +9,18 @@ ghost use Rattle.greedy_rules.specs.Allocation.{batch_slots, list_after_slots};
 ghost use Rattle.slot_batches.specs.NextList.{IsListBefore};
 ghost use Rattle.slot_batches.specs.Stands.{endpoints_of, batch_size_of, first_slot_of, number_of, IsSameWork, Stands};
 ghost use Rattle.slot_batches.specs.Settled.{settled};
-ghost use Rattle.alloc_pipeline.specs.Allocated.{sources_below};
 
 use greedy_rules::{Batch, DemandList, Item, SlotTable};
-use slot_batches::{
-    Stage, early_pieces_are_of_the_list, every_batch_leaves_a_list, idle_lists_stay,
-    lists_may_be_fed,
-};
+use slot_batches::{Stage, every_batch_leaves_a_list, idle_lists_stay, lists_may_be_fed};
 
-/// Feeds the stage, which has begun the batch, the whole list.
-fn feed_list(stage: &mut Stage, batch: &Batch, list: &DemandList)
-    requires stands { Stands batch.now [] false 0 stage.old }
-    requires before { IsListBefore (first_slot_of stage.old) list.now.items }
-    requires in_range { AreBelow (endpoints_of stage.old) list.now.items }
-    requires opens { OpensNewFlows batch.now.entries list.now.items }
-    requires needs { All (λ item. need_with (entry_of batch.now.entries item.flow) item.need < 2 ^ 32) list.now.items }
-    ensures stands { Stands batch.now list.now.items false 0 stage.new }
-    ensures work { IsSameWork (endpoints_of stage.old) (batch_size_of stage.old) (number_of stage.old) (first_slot_of stage.old) stage.new }
+/// Takes over the list that the stage leaves.
+fn take_list(stage: &Stage, list: &mut DemandList)
+    requires settled { (batch : DemandBatch) × (fed : List Item) × Stands batch fed true 0 stage.now × (length (settled batch (first_slot_of stage.now) (batch_size_of stage.now) fed true) ≤ length list.old.items + list.old.spare) }
+    ensures list { (batch : DemandBatch) → (fed : List Item) → Stands batch fed true 0 stage.now → list.new.items ≡ settled batch (first_slot_of stage.now) (batch_size_of stage.now) fed true }
+    ensures spare { length list.new.items + list.new.spare ≡ length list.old.items + list.old.spare }
 {
-    lists_may_be_fed();
-    for at in 0..list.len() {
-        stage.feed(batch, list.item(at));
-    }
-}
-
-/// Lets the source send in slot `to` of `out` where it sends in slot `place`; the sources below it were copied.
-fn copy_source(slots: &SlotTable, place: u16, src: u16, out: &mut SlotTable, to: u16)
-    requires place { place < length slots.now.slots }
-    requires src { src < slots.now.endpoints }
-    requires to { to < length out.old.slots }
-    requires endpoints { out.old.endpoints ≡ slots.now.endpoints }
-    requires slot { IsSlotOf slots.now.endpoints (slot_in slots.now.slots place) }
-    requires copied { slot_in out.old.slots to ≡ sources_below src (slot_in slots.now.slots place) }
-    ensures slots { out.new.slots ≡ slice_set out.old.slots to (sources_below (src + 1) (slot_in slots.now.slots place)) }
-    ensures endpoints { out.new.endpoints ≡ out.old.endpoints }
-{
-    if let Some(dst) = slots.to(place, src) {
-        out.put(to, src, dst);
-    }
-}
-
-/// Copies slot `place` into slot `to` of `out`, which is empty.
-fn copy_slot(slots: &SlotTable, place: u16, out: &mut SlotTable, to: u16)
-    requires place { place < length slots.now.slots }
-    requires to { to < length out.old.slots }
-    requires endpoints { out.old.endpoints ≡ slots.now.endpoints }
-    requires slot { IsSlotOf slots.now.endpoints (slot_in slots.now.slots place) }
-    requires empty { slot_in out.old.slots to ≡ [] }
-    ensures slots { out.new.slots ≡ slice_set out.old.slots to (slot_in slots.now.slots place) }
-    ensures endpoints { out.new.endpoints ≡ out.old.endpoints }
-{
-    for src in 0..slots.endpoints() {
-        copy_source(slots, place, src, out, to);
-    }
-}
-
-/// Copies all slots into `out`, from place `from` on, where it is empty.
-fn copy_slots(slots: &SlotTable, out: &mut SlotTable, from: u16)
-    requires endpoints { out.old.endpoints ≡ slots.now.endpoints }
-    requires places { from + length slots.now.slots ≤ length out.old.slots }
-    requires empty { drop from out.old.slots ≡ replicate (length out.old.slots - from) [] }
-    ensures slots { out.new.slots ≡ (take from out.old.slots ++ slots.now.slots) ++ replicate (length out.old.slots - (from + length slots.now.slots)) [] }
-    ensures endpoints { out.new.endpoints ≡ out.old.endpoints }
-{
-    let _places = out.slots();
-    for place in 0..slots.slots() {
-        copy_slot(slots, place, out, from + place);
-    }
+    list.clear();
+    append_items(list, stage.settled_items());
 }
 
 /// Appends the items, for which there is room.
@@ -89,26 +34,12 @@ fn append_items(list: &mut DemandList, items: &[Item])
     }
 }
 
-/// Takes over the list that the stage gives, piece by piece.
-fn take_list(stage: &mut Stage, list: &mut DemandList)
-    requires giving { (batch : DemandBatch) × (fed : List Item) × Stands batch fed true 0 stage.old × (length (settled batch (first_slot_of stage.old) (batch_size_of stage.old) fed true) ≤ length list.old.items + list.old.spare) }
-    ensures list { (batch : DemandBatch) → (fed : List Item) → Stands batch fed true 0 stage.old → list.new.items ≡ settled batch (first_slot_of stage.old) (batch_size_of stage.old) fed true }
-    ensures spare { length list.new.items + list.new.spare ≡ length list.old.items + list.old.spare }
-    ensures work { IsSameWork (endpoints_of stage.old) (batch_size_of stage.old) (number_of stage.old) (first_slot_of stage.old) stage.new }
-{
-    early_pieces_are_of_the_list();
-    list.clear();
-    while let Some(piece) = stage.emit() {
-        append_items(list, &piece.items);
-    }
-}
-
 /// Whether no item needs a slot.
 fn needs_none(list: &DemandList) -> bool
     ensures { result ≡ true → All (λ item. item.need ≡ 0) list.now.items }
 {
-    for at in 0..list.len() {
-        if list.item(at).need > 0 {
+    for item in list.items() {
+        if item.need > 0 {
             return false;
         }
     }
@@ -142,11 +73,12 @@ fn serve_batch(
     ensures slots { out.new.slots ≡ (take from out.old.slots ++ batch_slots (is_barred batch.now.limits) first_slot (batch_size_of stage.old) (after_batch batch.now.entries list.old.items)) ++ replicate (length out.old.slots - (from + batch_size_of stage.old)) [] }
     ensures endpoints { out.new.endpoints ≡ out.old.endpoints }
 {
+    lists_may_be_fed();
     every_batch_leaves_a_list();
     stage.begin(batch, number, first_slot);
-    feed_list(stage, batch, list);
+    stage.feed_items(batch, list.items());
     stage.finish(batch);
-    copy_slots(stage.slots(), out, from);
+    out.copy(stage.slots(), from);
     take_list(stage, list);
 }
 

@@ -1,10 +1,8 @@
-use Rattle.std.proofs.Common.{◌≡◌, ◌<◌, ◌≤◌, ◌+◌, ◌*◌, ℕ, List, length, ap, ◌∙◌, subst, arith}
+use Rattle.std.proofs.Common.{◌≡◌, ◌≤◌, ◌+◌, ◌*◌, ℕ, length, ap, ◌∙◌, arith}
 use Rattle.std.proofs.lemmas.Nat.{mul-le}
-use Rattle.greedy_rules.specs.declared.flows.Item.{Item}
-use Rattle.greedy_rules.specs.declared.flows.Flow.{Flow}
 use Rattle.greedy_rules.specs.Schedule.{first_slot}
 use Rattle.slot_batches.specs.Stands.{endpoints_of, batch_size_of}
-use Rattle.alloc_pipeline.proofs.RingLemmas.{IsDone, next_is, room_for_next, one_more, places_for_next}
+use Rattle.alloc_pipeline.proofs.RingLemmas.{next_is, room_for_next, one_more, places_for_next}
 use Rattle.alloc_pipeline.proofs.ring.allocate_batches.Goals as goal
 
 pub overflow_add-number : goal.overflow_add-number
