@@ -1,7 +1,6 @@
 -- What holds of the parts of a batch, flow by flow, as its items are taken up.
-use Rattle.std.proofs.Common.{◌≡◌, ◌≤◌, ◌+◌, ℕ, List, [], ◌∷◌, length, map, replicate, not, nat_lt, refl, ap, arith, inl, inr}
+use Rattle.std.proofs.Common.{◌≡◌, ◌≤◌, ◌+◌, ℕ, List, [], ◌∷◌, length, replicate, not, nat_lt, refl, ap, arith, inl, inr}
 use Rattle.std.specs.Prelude.{vec_capacity, vec_len}
-use Rattle.std.proofs.lemmas.List.{length-map}
 use Rattle.greedy_rules.specs.declared.flows.Flow.{Flow}
 use Rattle.greedy_rules.specs.declared.flows.Item.{Item}
 use Rattle.greedy_rules.proofs.Facts.{few}
@@ -54,10 +53,9 @@ pub fits_waiting : (taken : List Item) (filling : Filling) → HasRoom filling �
 fits_waiting taken filling room is =
     omega (
       arith,
-      lengths_after (is_barred filling.maps.limits) filling.first_slot filling.b taken filling.slots.slots filling.waiting.items (map (λ s. s.item) filling.served.items) is.stands,
+      lengths_after (is_barred filling.maps.limits) filling.first_slot filling.b taken filling.slots.slots filling.waiting.items filling.served.items is.stands,
       few filling.endpoints taken is.may.once is.may.in_range,
       filling.waiting.ok.0,
       filling.served.ok.0,
-      length-map filling.served.items (λ s. s.item),
       room.pairs,
     )

@@ -1,5 +1,5 @@
 -- A list is fed to its end: the slots of the batch, and the list that it leaves.
-use Rattle.std.proofs.Common.{◌≡◌, ◌≤◌, ℕ, List, [], ◌∷◌, ◌++◌, length, map, take, true, false, cond, sym, ap, ◌∙◌, subst, arith}
+use Rattle.std.proofs.Common.{◌≡◌, ◌≤◌, ℕ, List, [], ◌∷◌, ◌++◌, length, take, true, false, cond, sym, ap, ◌∙◌, subst, arith}
 use Rattle.std.proofs.lemmas.Nat.{mul-le}
 use Rattle.std.proofs.lemmas.List.{length-append}
 use Rattle.greedy_rules.specs.declared.flows.Item.{Item}
@@ -11,7 +11,6 @@ use Rattle.greedy_rules.specs.Batches.{DemandBatch}
 use Rattle.greedy_rules.specs.Demands.{HasEachFlowOnce, AreBelow, by_last, after_batch, with_batch, opened}
 use Rattle.greedy_rules.specs.Allocation.{batch_slots, list_after_slots}
 use Rattle.greedy_rules.proofs.Facts.{few}
-use Rattle.slot_batches.specs.declared.served.Served.{Served}
 use Rattle.slot_batches.specs.Feeding.{IsInOrder, was_served, taken_up}
 use Rattle.slot_batches.specs.Filled.{Fill, HasTakenUp, MayBeTakenUp}
 use Rattle.slot_batches.specs.Stands.{MayBeFed, HasBeenFed}
@@ -25,7 +24,7 @@ use Rattle.list_facts.proofs.StableSort.{length-sort_by}
 -- what is there once all was taken up
 pub record IsComplete (bar : Bar) (first_slot b : ℕ) (list : List Item) (fill : Fill) : Type 0 where
   pub slots : fill.slots ≡ batch_slots bar first_slot b list
-  pub left : fill.waiting ++ by_last (map (λ s. s.item) fill.served) ≡ list_after_slots bar first_slot b list
+  pub left : fill.waiting ++ by_last fill.served ≡ list_after_slots bar first_slot b list
   pub few : length (list_after_slots bar first_slot b list) ≤ 65536
 
 complete_here : (batch : List Entry) (fed : List Item) (fill : Fill) → fill.endpoints ≤ 256 → IsInOrder fed → HasTakenUp (taken_up batch fed true) fill
@@ -34,7 +33,7 @@ complete_here batch fed fill small up is =
     let bar : Bar = is_barred fill.maps.limits in
     let whole = taken_up_all batch fed up in
     let once : HasEachFlowOnce (after_batch batch fed) = subst HasEachFlowOnce whole is.may.once in
-    let served : List Item = map (λ (s : Served). s.item) fill.served in
+    let served : List Item = fill.served in
     let ends = stands_at_end bar fill.first_slot fill.b batch fed fill.slots fill.waiting served up is.stands in
     let same = slot_by_slot bar fill.first_slot fill.b (after_batch batch fed) once in
     let left : fill.waiting ++ by_last served ≡ list_after_slots bar fill.first_slot fill.b (after_batch batch fed) = ends.1 ∙ ap by_last same.items in

@@ -7,8 +7,7 @@ pub mod ListOrder
 pub mod OpenedFlows
 pub mod SortedRuns
 pub mod TurnSteps
-pub mod OrderedLists
-pub mod SortedPlaces
+pub mod ServedSlots
 pub mod NextList
 pub mod TurnFacts
 pub mod ProgressLemmas

@@ -1,10 +1,9 @@
 -- A run of items that wait as they are.
-use Rattle.std.proofs.Common.{◌≡◌, ◌<◌, ◌≤◌, ◌+◌, ◌*◌, ◌^◌, ℕ, List, [], ◌∷◌, ◌++◌, length, map, take, Bool, false, not, ◌&&◌, ◌==◌, cond, Option, None, All, sym, ap, ◌∙◌, subst, arith, inl, inr}
+use Rattle.std.proofs.Common.{◌≡◌, ◌<◌, ◌≤◌, ◌+◌, ℕ, List, [], ◌∷◌, ◌++◌, length, take, Bool, false, not, ◌&&◌, ◌==◌, cond, Option, None, All, sym, ap, ◌∙◌, subst, arith, inl, inr}
 use Rattle.std.proofs.lemmas.Bool.{cases_Bool, eqb-true, not-false}
 use Rattle.std.proofs.lemmas.List.{append-nil, append_assoc, length-append}
 use Rattle.std.proofs.lemmas.List.Elements.{All-head, All-tail, All-weaker}
 use Rattle.std.specs.Prelude.{vec_len, vec_capacity}
-use Rattle.std.proofs.lemmas.Nat.{mul-le}
 use Rattle.greedy_rules.proofs.Facts.{few}
 use Rattle.greedy_rules.specs.declared.flows.Item.{Item}
 use Rattle.greedy_rules.specs.declared.flows.Entry.{Entry}
@@ -35,7 +34,7 @@ all_back P (x ∷ xs) ys all = all_back P xs ys (All-tail P x (xs ++ ys) all)
 
 -- the parts once these items wait as well
 abbrev pub kept : Fill → List Item → Fill
-kept fill items = record fill { waiting = fill.waiting ++ items; taken_up = fill.taken_up + length items }
+kept fill items = record fill { waiting = fill.waiting ++ items }
 
 keep_one : (taken : List Item) (fill : Fill) (item : Item) → HasTakenUp taken fill → MayBeTakenUp fill.endpoints fill.first_slot (taken ++ item ∷ []) → TakesNone fill.maps item
     → HasTakenUp (taken ++ item ∷ []) (kept fill (item ∷ []))
@@ -53,11 +52,8 @@ keep_one taken fill item is may none =
     record {
       numbers = is.numbers;
       may = may;
-      stands = stands_with_waiting bar fill.first_slot fill.b taken fill.slots fill.waiting (map (λ s. s.item) fill.served) is.stands item item fill.slots same_slots stays old_last;
+      stands = stands_with_waiting bar fill.first_slot fill.b taken fill.slots fill.waiting fill.served is.stands item item fill.slots same_slots stays old_last;
       free = is.free;
-      rising = is.rising;
-      before = All-weaker (λ s. s.place < fill.taken_up) (λ s. s.place < fill.taken_up + 1) (λ s below. omega arith) fill.served is.before;
-      count = omega (arith, is.count, length-append taken (item ∷ []));
     }
 
 -- items that take no slot wait, one after the other
@@ -65,7 +61,7 @@ pub keep_all : (taken items : List Item) (fill : Fill) → HasTakenUp taken fill
     → HasTakenUp (taken ++ items) (kept fill items)
 keep_all taken [] fill is may none =
     subst (λ (xs : List Item). HasTakenUp xs (kept fill [])) (sym (append-nil taken))
-    (subst (HasTakenUp taken) (ap (λ (xs : List Item). record fill { waiting = xs }) (sym (append-nil fill.waiting)) ∙ ap (λ (n : ℕ). record fill { waiting = fill.waiting ++ []; taken_up = n }) (omega arith)) is)
+    (subst (HasTakenUp taken) (ap (λ (xs : List Item). record fill { waiting = xs }) (sym (append-nil fill.waiting))) is)
 keep_all taken (item ∷ items) fill is may none =
     let more : List Item = taken ++ item ∷ [] in
     let same : more ++ items ≡ taken ++ (item ∷ items) = append_assoc taken (item ∷ []) items in
@@ -74,17 +70,15 @@ keep_all taken (item ∷ items) fill is may none =
     let rest = keep_all more items (kept fill (item ∷ [])) one may_more (All-tail (TakesNone fill.maps) item items none) in
     subst (λ (xs : List Item). HasTakenUp xs (kept fill (item ∷ items))) same
     (subst (HasTakenUp (more ++ items))
-    (ap (λ (xs : List Item). record fill { waiting = xs; taken_up = (fill.taken_up + 1) + length items }) (append_assoc fill.waiting (item ∷ []) items)
-    ∙ ap (λ (n : ℕ). record fill { waiting = fill.waiting ++ (item ∷ items); taken_up = n }) (omega arith)) rest)
+    (ap (λ (xs : List Item). record fill { waiting = xs }) (append_assoc fill.waiting (item ∷ []) items)) rest)
 
 -- there is room for them
 pub room_to_keep : (taken items : List Item) (f : Filling) → HasRoom f → HasTakenUp taken (fill_of f) → MayBeTakenUp f.endpoints f.first_slot (taken ++ items)
-    → (vec_len f.waiting + length items ≤ vec_capacity f.waiting) × (f.taken_up + length items < 2 ^ 32)
+    → vec_len f.waiting + length items ≤ vec_capacity f.waiting
 room_to_keep taken items f room is may =
-    let waits = lengths_after (is_barred f.maps.limits) f.first_slot f.b taken f.slots.slots f.waiting.items (map (λ s. s.item) f.served.items) is.stands in
+    let waits = lengths_after (is_barred f.maps.limits) f.first_slot f.b taken f.slots.slots f.waiting.items f.served.items is.stands in
     let fits = few f.endpoints (taken ++ items) may.once may.in_range in
-    let squared : f.endpoints * f.endpoints ≤ 65536 = mul-le f.endpoints f.endpoints 256 256 room.few_endpoints room.few_endpoints in
-    (omega (arith, waits, fits, length-append taken items, f.waiting.ok.0, room.pairs), omega (arith, is.count, fits, length-append taken items, squared))
+    omega (arith, waits, fits, length-append taken items, f.waiting.ok.0, room.pairs)
 
 no_item : (entries : List Entry) (item : Item) → entry_of entries item.flow ≡ None → with_batch entries item ≡ item
 no_item entries item none = ap (λ (e : Option Entry). record item { need = need_with e item.need }) none

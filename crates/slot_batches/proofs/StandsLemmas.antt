@@ -1,5 +1,5 @@
 -- A stage from its beginning to its end: what is settled stays, and what was given goes on.
-use Rattle.std.proofs.Common.{◌≡◌, ◌<◌, ◌≤◌, ◌+◌, ◌-◌, ◌*◌, ◌/◌, ◌⊎◌, ℕ, List, [], ◌∷◌, ◌++◌, length, map, replicate, take, drop, Bool, true, false, not, ◌&&◌, ◌||◌, Some, None, nat_le, nat_lt, min, cond, refl, sym, ap, ◌∙◌, subst, arith, inl, inr}
+use Rattle.std.proofs.Common.{◌≡◌, ◌<◌, ◌≤◌, ◌+◌, ◌-◌, ◌*◌, ◌/◌, ◌⊎◌, ℕ, List, [], ◌∷◌, ◌++◌, length, replicate, take, drop, Bool, true, false, not, ◌&&◌, ◌||◌, Some, None, nat_le, nat_lt, min, cond, refl, sym, ap, ◌∙◌, subst, arith, inl, inr}
 use Rattle.std.proofs.lemmas.Bool.{lt-ltb, ltb-true, cond-true}
 use Rattle.std.proofs.lemmas.Bool.Decides.{nat_tests}
 use Rattle.std.proofs.lemmas.Nat.{mul-le}
@@ -113,7 +113,7 @@ module _ (batch : DemandBatch) (fed : List Item) (fill : Fill) (unopened : ℕ) 
   few_waiting =
       omega (
         arith,
-        lengths_after (is_barred fill.maps.limits) fill.first_slot fill.b taken fill.slots fill.waiting (map (λ s. s.item) fill.served) so_far.taken.stands,
+        lengths_after (is_barred fill.maps.limits) fill.first_slot fill.b taken fill.slots fill.waiting fill.served so_far.taken.stands,
         few fill.endpoints taken so_far.taken.may.once so_far.taken.may.in_range,
         mul-le fill.endpoints fill.endpoints 256 256 so_far.small so_far.small,
       )
@@ -196,7 +196,7 @@ some_piece given n so_far = elim so_far [
 -- the list has ended
 pub stands_finished : (batch : DemandBatch) (fed : List Item) (given : ℕ) (old new : StageState) (mid : Fill) → Stands batch fed false given old → HasTakenUp (taken_up batch.entries fed true) mid
     → mid.maps.limits ≡ old.fill.maps.limits → mid.endpoints ≡ old.fill.endpoints → mid.first_slot ≡ first_slot_of old → mid.b ≡ batch_size_of old → new.fill.slots ≡ mid.slots
-    → new.fill.waiting ≡ mid.waiting ++ by_last (map (λ s. s.item) mid.served) → first_slot_of new ≡ first_slot_of old → batch_size_of new ≡ batch_size_of old → new.marks ≡ old.marks → new.given ≡ old.given
+    → new.fill.waiting ≡ mid.waiting ++ by_last mid.served → first_slot_of new ≡ first_slot_of old → batch_size_of new ≡ batch_size_of old → new.marks ≡ old.marks → new.given ≡ old.given
     → new.ends ≡ true → Stands batch fed true given new
 stands_finished batch fed given old new mid stands taken limits_are endpoints_are first_is size_is slots_are list_is new_first new_size marks_are given_is ends_is =
     let so_far = stands.feeding refl in

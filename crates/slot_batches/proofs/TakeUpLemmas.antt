@@ -1,12 +1,11 @@
 -- One item more is taken up.
-use Rattle.std.proofs.Common.{◌≡◌, ◌<◌, ◌≤◌, ◌+◌, ◌-◌, ◌*◌, ◌^◌, ℕ, List, [], ◌∷◌, ◌++◌, length, map, replicate, Bool, true, false, not, nat_lt, All, AllPairs, Vec, min, count_ones, None, sym, ap, ◌∙◌, subst, arith}
+use Rattle.std.proofs.Common.{◌≡◌, ◌<◌, ◌≤◌, ◌+◌, ◌-◌, ◌*◌, ℕ, List, [], ◌∷◌, ◌++◌, length, replicate, Bool, true, false, not, nat_lt, All, Vec, min, count_ones, None, sym, ap, ◌∙◌, subst, arith}
 use Rattle.std.specs.Prelude.{vec_capacity, vec_len}
 use Rattle.std.proofs.lemmas.Bool.{and_left, le-ltb}
-use Rattle.std.proofs.lemmas.List.{length-append, length-map, map-append}
-use Rattle.std.proofs.lemmas.List.Elements.{All-head, All-tail, All-push, All-weaker}
+use Rattle.std.proofs.lemmas.List.{length-append}
+use Rattle.std.proofs.lemmas.List.Elements.{All-head, All-tail}
 use Rattle.std.proofs.lemmas.List.Sums.{length-filter}
 use Rattle.std.specs.declared.alloc.Global.{Global}
-use Rattle.std.proofs.lemmas.Nat.{mul-le}
 use Rattle.greedy_rules.specs.declared.flows.Flow.{Flow}
 use Rattle.greedy_rules.specs.declared.flows.Item.{Item}
 use Rattle.greedy_rules.specs.Slot.{Bar}
@@ -14,12 +13,10 @@ use Rattle.greedy_rules.specs.declared.limits.Limits.{Limits}
 use Rattle.greedy_rules.specs.Limits.{is_barred}
 use Rattle.greedy_rules.specs.Schedule.{slot_in}
 use Rattle.greedy_rules.specs.SlotTable.{Slots, destination_of, IsSlotOf}
-use Rattle.list_facts.proofs.Pairs.{AllPairs-nil, AllPairs-cons, AllPairs-head, AllPairs-tail}
 use Rattle.greedy_rules.proofs.Facts.{slots-batch, few}
 use Rattle.endpoint_bitmaps.specs.Slots.{has_slot, count_below, is_among_lowest, NoneFrom}
 use Rattle.endpoint_bitmaps.specs.FreeSlots.{FreeSlots, is_common, HasTaken}
 use Rattle.endpoint_bitmaps.proofs.Facts.{count_below-same, count_of_lowest, has_slot-none}
-use Rattle.slot_batches.specs.declared.served.Served.{Served}
 use Rattle.slot_batches.specs.declared.filling.Filling.{Filling}
 use Rattle.slot_batches.specs.FlowByFlow.{slots_with, item_after, slots_after, items_after}
 use Rattle.slot_batches.specs.FreePlaces.{is_free, is_chosen, HasAdded}
@@ -38,13 +35,6 @@ use Rattle.slot_batches.proofs.SlotExchange.{slot_by_slot}
 pub last_of_all : (P : Item → Type 0) (xs : List Item) (x : Item) → All P (xs ++ x ∷ []) → P x
 last_of_all P [] x all = All-head P x [] all
 last_of_all P (y ∷ xs) x all = last_of_all P xs x (All-tail P y (xs ++ x ∷ []) all)
-
-module _ {X : Type 0} (R : X → X → Type 0) where
-  pub AllPairs-push : (xs : List X) (x : X) → AllPairs R xs → All (λ y. R y x) xs → AllPairs R (xs ++ x ∷ [])
-  AllPairs-push [] x pairs before = AllPairs-cons R x [] (λ k d below. absurd (omega arith)) (AllPairs-nil R)
-  AllPairs-push (y ∷ ys) x pairs before =
-      AllPairs-cons R y (ys ++ x ∷ []) (All-push (R y) ys x (AllPairs-head R y ys pairs) (All-head (λ z. R z x) y ys before))
-      (AllPairs-push ys x (AllPairs-tail R y ys pairs) (All-tail (λ z. R z x) y ys before))
 
 -- what a batch serves has room among what was served
 fits_served : (limits : Limits) (endpoints number b : ℕ) (taken : List Item) (slots : List (List Flow)) (waiting served : List Item) → StandsAfter (is_barred limits) number b taken slots waiting served
@@ -81,24 +71,11 @@ module _ (taken : List Item) (f : Filling) (item : Item) (room : HasRoom f) (is 
   pub item_in_table : (item.flow.src < f.slots.endpoints) × (item.flow.dst < f.slots.endpoints)
   item_in_table = (omega (arith, in_range.0, room.table), omega (arith, in_range.1, room.table))
 
-  pub one_more_fits : f.taken_up + 1 < 2 ^ 32
-  one_more_fits =
-      omega (
-        arith,
-        is.count,
-        few f.endpoints (taken ++ item ∷ []) may.once may.in_range,
-        length-append taken (item ∷ []),
-        few_squared f.endpoints room.few_endpoints,
-      )
-    where
-      few_squared : (n : ℕ) → n ≤ 256 → n * n ≤ 65536
-      few_squared n below = mul-le n n 256 256 below below
-
   pub waiting_has_room : vec_len f.waiting < vec_capacity f.waiting
   waiting_has_room =
       omega (
         arith,
-        lengths_after bar f.first_slot f.b taken f.slots.slots f.waiting.items (map (λ s. s.item) f.served.items) is.stands,
+        lengths_after bar f.first_slot f.b taken f.slots.slots f.waiting.items f.served.items is.stands,
         few f.endpoints (taken ++ item ∷ []) may.once may.in_range,
         length-append taken (item ∷ []),
         f.waiting.ok.0,
@@ -131,19 +108,16 @@ module _ (taken : List Item) (f : Filling) (item : Item) (room : HasRoom f) (is 
           (takes_lowest_free bar f.first_slot item f.slots.slots).slots_then
 
       pub taken_up_none : (maps : FreeSlots) (waiting : Vec Item Global) → HasTaken item.flow.src item.flow.dst (has_slot places) f.maps maps → waiting.items ≡ f.waiting.items ++ item ∷ []
-          → HasTakenUp (taken ++ item ∷ []) (fill_of (record f { maps = maps; waiting = waiting; taken_up = f.taken_up + 1 }))
+          → HasTakenUp (taken ++ item ∷ []) (fill_of (record f { maps = maps; waiting = waiting }))
       taken_up_none maps waiting gone pushed = record {
         numbers = is.numbers;
         may = may;
-        stands = subst (λ (l : Limits). StandsAfter (is_barred l) f.first_slot f.b (taken ++ item ∷ []) f.slots.slots waiting.items (map (λ s. s.item) f.served.items)) (sym gone.limits)
-            (subst (λ (xs : List Item). StandsAfter bar f.first_slot f.b (taken ++ item ∷ []) f.slots.slots xs (map (λ s. s.item) f.served.items)) (sym pushed)
-            (stands_with_waiting bar f.first_slot f.b taken f.slots.slots f.waiting.items (map (λ s. s.item) f.served.items) is.stands item item f.slots.slots same_slots stays old_last));
+        stands = subst (λ (l : Limits). StandsAfter (is_barred l) f.first_slot f.b (taken ++ item ∷ []) f.slots.slots waiting.items f.served.items) (sym gone.limits)
+            (subst (λ (xs : List Item). StandsAfter bar f.first_slot f.b (taken ++ item ∷ []) f.slots.slots xs f.served.items) (sym pushed)
+            (stands_with_waiting bar f.first_slot f.b taken f.slots.slots f.waiting.items f.served.items is.stands item item f.slots.slots same_slots stays old_last));
         free = shows_added f.endpoints f.maps maps item.flow (has_slot places) f.slots.slots f.slots.slots few_slots is.free
             (added-none item.flow (has_slot places) f.slots.slots (λ place. ap (λ (n : ℕ). has_slot n place) none ∙ has_slot-none place))
             gone;
-        rising = is.rising;
-        before = All-weaker (λ s. s.place < f.taken_up) (λ s. s.place < f.taken_up + 1) (λ s below. omega arith) f.served.items is.before;
-        count = omega (arith, is.count, length-append taken (item ∷ []));
       }
 
     -- the item takes some
@@ -181,37 +155,28 @@ module _ (taken : List Item) (f : Filling) (item : Item) (room : HasRoom f) (is 
           (added-same item.flow (has_slot places) (is_chosen bar item f.slots.slots) f.slots.slots slots.slots chosen_is added)
           (takes_lowest_free bar f.first_slot item f.slots.slots).slots_then
 
-      one_served : StandsAfter bar f.first_slot f.b (taken ++ item ∷ []) slots.slots f.waiting.items (map (λ s. s.item) f.served.items ++ now ∷ [])
+      one_served : StandsAfter bar f.first_slot f.b (taken ++ item ∷ []) slots.slots f.waiting.items (f.served.items ++ now ∷ [])
       one_served =
-          stands_with_served bar f.first_slot f.b taken f.slots.slots f.waiting.items (map (λ s. s.item) f.served.items) is.stands item now slots.slots slots_then now_is (omega arith)
+          stands_with_served bar f.first_slot f.b taken f.slots.slots f.waiting.items f.served.items is.stands item now slots.slots slots_then now_is (omega arith)
 
       pub served_has_room : vec_len f.served < vec_capacity f.served
       served_has_room =
           omega (
             arith,
-            fits_served f.maps.limits f.endpoints f.first_slot f.b (taken ++ item ∷ []) slots.slots f.waiting.items (map (λ s. s.item) f.served.items ++ now ∷ []) one_served may,
-            length-append (map (λ (s : Served). s.item) f.served.items) (now ∷ []),
-            length-map f.served.items (λ (s : Served). s.item),
+            fits_served f.maps.limits f.endpoints f.first_slot f.b (taken ++ item ∷ []) slots.slots f.waiting.items (f.served.items ++ now ∷ []) one_served may,
+            length-append f.served.items (now ∷ []),
             f.served.ok.0,
             room.places,
           )
 
-      pub taken_up_some : (maps : FreeSlots) (served : Vec Served Global) → HasTaken item.flow.src item.flow.dst (has_slot places) f.maps maps
-          → served.items ≡ f.served.items ++ record { item = now; place = f.taken_up } ∷ []
-          → HasTakenUp (taken ++ item ∷ []) (fill_of (record f { maps = maps; slots = slots; served = served; taken_up = f.taken_up + 1 }))
+      pub taken_up_some : (maps : FreeSlots) (served : Vec Item Global) → HasTaken item.flow.src item.flow.dst (has_slot places) f.maps maps
+          → served.items ≡ f.served.items ++ now ∷ []
+          → HasTakenUp (taken ++ item ∷ []) (fill_of (record f { maps = maps; slots = slots; served = served }))
       taken_up_some maps served gone pushed =
-          let new : Served = record { item = now; place = f.taken_up } in
           record {
             numbers = is.numbers;
             may = may;
-            stands = subst (λ (l : Limits). StandsAfter (is_barred l) f.first_slot f.b (taken ++ item ∷ []) slots.slots f.waiting.items (map (λ (s : Served). s.item) served.items))
-                (sym gone.limits)
-                (subst (λ (xs : List Item). StandsAfter bar f.first_slot f.b (taken ++ item ∷ []) slots.slots f.waiting.items xs)
-                (sym (ap (map (λ (s : Served). s.item)) pushed ∙ map-append (λ (s : Served). s.item) f.served.items (new ∷ []))) one_served);
+            stands = subst (λ (l : Limits). StandsAfter (is_barred l) f.first_slot f.b (taken ++ item ∷ []) slots.slots f.waiting.items served.items) (sym gone.limits)
+                (subst (λ (xs : List Item). StandsAfter bar f.first_slot f.b (taken ++ item ∷ []) slots.slots f.waiting.items xs) (sym pushed) one_served);
             free = shows_added f.endpoints f.maps maps item.flow (has_slot places) f.slots.slots slots.slots few_slots is.free added gone;
-            rising = subst (AllPairs (λ (s t : Served). s.place < t.place)) (sym pushed) (AllPairs-push (λ (s t : Served). s.place < t.place) f.served.items new is.rising is.before);
-            before = subst (All (λ (s : Served). s.place < f.taken_up + 1)) (sym pushed)
-                (All-push (λ (s : Served). s.place < f.taken_up + 1) f.served.items new
-                (All-weaker (λ s. s.place < f.taken_up) (λ s. s.place < f.taken_up + 1) (λ s below. omega arith) f.served.items is.before) (omega arith));
-            count = omega (arith, is.count, length-append taken (item ∷ []));
           }

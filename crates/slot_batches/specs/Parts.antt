@@ -13,7 +13,6 @@ fill_of filling = record {
   slots = filling.slots.slots;
   waiting = filling.waiting.items;
   served = filling.served.items;
-  taken_up = filling.taken_up;
 }
 
 -- there is room for every batch of its size

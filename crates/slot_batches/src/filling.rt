@@ -9,7 +9,7 @@ ghost use Rattle.slot_batches.specs.Filled.{HasTakenUp, MayBeTakenUp, IsGreatest
 ghost use Rattle.slot_batches.specs.Rests.{TakesNone};
 ghost use Rattle.slot_batches.specs.Parts.{fill_of, HasRoom, IsSameBatch};
 
-use crate::served::{Served, order_served};
+use crate::served::append_served;
 use endpoint_bitmaps::FreeMaps;
 use greedy_rules::{Flow, Item, Limits, SlotTable};
 use no_memory::NoMemory;
@@ -24,8 +24,7 @@ pub(crate) struct Filling {
     pub(crate) maps: FreeMaps,
     pub(crate) slots: SlotTable,
     pub(crate) waiting: Vec<Item>,
-    pub(crate) served: Vec<Served>,
-    pub(crate) taken_up: u32,
+    pub(crate) served: Vec<Item>,
 }
 
 impl Filling {
@@ -47,7 +46,6 @@ impl Filling {
             slots: SlotTable::open(alloc, u16::from(b), endpoints)?,
             waiting: Vec::with_capacity(alloc, pairs)?,
             served: Vec::with_capacity(alloc, places)?,
-            taken_up: 0,
         })
     }
 
@@ -65,7 +63,6 @@ impl Filling {
         self.slots.clear();
         self.waiting.clear();
         self.served.clear();
-        self.taken_up = 0;
     }
 
     /// Lets the item take the lowest slots that are free for it, as many as it needs.
@@ -79,8 +76,6 @@ impl Filling {
             MayBeTakenUp self.old.endpoints self.old.first_slot (taken ++ item ∷ []) →
             HasTakenUp (taken ++ item ∷ []) (fill_of self.new) }
     {
-        let place = self.taken_up;
-        self.taken_up += 1;
         let Flow { src, dst } = item.flow;
         let places = self.maps.take_lowest(src, dst, item.need);
         if places == 0 {
@@ -88,12 +83,11 @@ impl Filling {
             return;
         }
         let greatest = put_flow(&mut self.slots, places, item.flow);
-        let item = Item {
+        self.served.push_reserved(Item {
             flow: item.flow,
             need: item.need - places.count_ones(),
             last: self.first_slot + greatest,
-        };
-        self.served.push_reserved(Served { item, place });
+        });
     }
 
     /// Whether the item takes no slot.
@@ -119,7 +113,6 @@ impl Filling {
             HasTakenUp (taken ++ items.now) (fill_of self.new) }
     {
         let _ = self.waiting.extend_from_slice(items);
-        self.taken_up += items.len() as u32;
     }
 
     /// Ends the batch: what was served follows what waits, by the last slots.
@@ -129,20 +122,14 @@ impl Filling {
         ensures room { HasRoom self.new }
         ensures same { IsSameBatch self.old.maps.limits self.old.endpoints self.old.b self.old.first_slot self.new }
         ensures slots { self.new.slots ≡ self.old.slots }
-        ensures list { self.new.waiting.items ≡ self.old.waiting.items ++ by_last (map (λ s. s.item) self.old.served.items) }
+        ensures list { self.new.waiting.items ≡ self.old.waiting.items ++ by_last self.old.served.items }
     {
-        order_served(&mut self.served);
-        append_items(&mut self.waiting, &self.served);
-    }
-}
-
-fn append_items(waiting: &mut Vec<Item>, served: &[Served])
-    requires { vec_len waiting.old + length served.now ≤ vec_capacity waiting.old }
-    ensures items { waiting.new.items ≡ waiting.old.items ++ map (λ s. s.item) served.now }
-    ensures capacity { vec_capacity waiting.new ≡ vec_capacity waiting.old }
-{
-    for entry in served {
-        waiting.push_reserved(entry.item);
+        append_served(
+            &mut self.waiting,
+            &self.served,
+            self.first_slot,
+            self.b,
+        );
     }
 }
 

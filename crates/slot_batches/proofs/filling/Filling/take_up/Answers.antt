@@ -1,9 +1,6 @@
 use Rattle.std.proofs.Common.{arith}
-use Rattle.slot_batches.proofs.TakeUpLemmas.{item_in_maps, item_in_table, one_more_fits, waiting_has_room, places_within, places_free, ones_within, greatest_within, served_has_room, taken_up_none, taken_up_some}
+use Rattle.slot_batches.proofs.TakeUpLemmas.{item_in_maps, item_in_table, waiting_has_room, places_within, places_free, ones_within, greatest_within, served_has_room, taken_up_none, taken_up_some}
 use Rattle.slot_batches.proofs.filling.Filling.take_up.Goals as goal
-
-pub overflow_add-self : goal.overflow_add-self
-overflow_add-self c = let fits = one_more_fits c.requires.may.0 c.args.self.now c.args.item c.requires.room c.requires.may.1 c.requires.may.2 in omega (arith, fits)
 
 pub take_lowest-places-requires-clause-src_in_range : goal.take_lowest-places-requires-clause-src_in_range
 take_lowest-places-requires-clause-src_in_range c = (item_in_maps c.requires.may.0 c.args.self.now c.args.item c.requires.room c.requires.may.1 c.requires.may.2).0
@@ -40,8 +37,8 @@ overflow_sub-item c =
     ones_within c.requires.may.0 c.args.self.now c.args.item c.requires.room c.requires.may.1 c.requires.may.2 c.take_lowest-places.result took.lowest took.count c.put_flow-greatest.new.slots
     c.put_flow-greatest.result c.put_flow-greatest.ensures.slots c.put_flow-greatest.ensures.greatest
 
-pub overflow_add-item : goal.overflow_add-item
-overflow_add-item c =
+pub overflow_add-self : goal.overflow_add-self
+overflow_add-self c =
     let took = c.take_lowest-places.ensures in
     let below = greatest_within c.requires.may.0 c.args.self.now c.args.item c.requires.room c.requires.may.1 c.requires.may.2 c.take_lowest-places.result took.lowest took.count c.put_flow-greatest.new.slots
     c.put_flow-greatest.result c.put_flow-greatest.ensures.slots c.put_flow-greatest.ensures.greatest in
