@@ -124,12 +124,7 @@ impl Filling {
         ensures slots { self.new.slots ≡ self.old.slots }
         ensures list { self.new.waiting.items ≡ self.old.waiting.items ++ by_last self.old.served.items }
     {
-        append_served(
-            &mut self.waiting,
-            &self.served,
-            self.first_slot,
-            self.b,
-        );
+        append_served(&mut self.waiting, &self.served, self.first_slot, self.b);
     }
 }
 
