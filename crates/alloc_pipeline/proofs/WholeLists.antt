@@ -15,13 +15,12 @@ all_front P xs ys all = subst (All P) (take_at xs ys (length xs) refl) (All-take
 pub all_back : {X : Type 0} (P : X → Type 0) (xs ys : List X) → All P (xs ++ ys) → All P ys
 all_back P xs ys all = subst (All P) (drop_at xs ys (length xs) refl) (All-drop P (length xs) (xs ++ ys) all)
 
--- the list before a batch may be fed whole, by whatever name the code has for it
-pub may_feed_all : (batch : List Entry) (endpoints b stage number : ℕ) (list items : List Item) (state : StageState) → ListsMayBeFed → IsListBefore number list → AreBelow endpoints (list ++ opened batch)
-    → OpensNewFlows batch list → IsSameWork endpoints b stage number state → items ≡ list → MayBeFed batch (endpoints_of state) (first_slot_of state) items
-may_feed_all batch endpoints b stage number list items state law before in_range opens work is =
+-- the list before a batch may be fed whole
+pub may_feed_all : (batch : List Entry) (endpoints b stage number : ℕ) (list : List Item) (state : StageState) → ListsMayBeFed → IsListBefore number list → AreBelow endpoints (list ++ opened batch)
+    → OpensNewFlows batch list → IsSameWork endpoints b stage number state → MayBeFed batch (endpoints_of state) (first_slot_of state) list
+may_feed_all batch endpoints b stage number list state law before in_range opens work =
     let all : list ++ [] ≡ list = append-nil list in
     let below : AreBelow endpoints list = all_front (λ item. (item.flow.src < endpoints) × (item.flow.dst < endpoints)) list (opened batch) in_range in
     let may : MayBeFed batch endpoints number list =
     law batch endpoints number list [] (subst (IsListBefore number) (sym all) before) (subst (AreBelow endpoints) (sym all) below) (subst (OpensNewFlows batch) (sym all) opens) in
-    subst (λ (n : ℕ). MayBeFed batch n (first_slot_of state) items) (sym work.same_endpoints)
-    (subst (λ (n : ℕ). MayBeFed batch endpoints n items) (sym work.same_first) (subst (MayBeFed batch endpoints number) (sym is) may))
+    subst (λ (n : ℕ). MayBeFed batch n (first_slot_of state) list) (sym work.same_endpoints) (subst (λ (n : ℕ). MayBeFed batch endpoints n list) (sym work.same_first) may)

@@ -4,6 +4,7 @@
 
 mod batches;
 mod ring;
+mod stages;
 
 pub use no_memory::NoMemory;
 pub use ring::Ring;

@@ -1,38 +1,38 @@
-ghost use Rattle.std.specs.Prelude.{◌≡◌, ◌<◌, ◌≤◌, ◌+◌, ◌-◌, ◌*◌, ◌^◌, [], ◌++◌, length, replicate, IfOk};
+ghost use Rattle.std.specs.Prelude.{◌≡◌, ◌<◌, ◌≤◌, ◌+◌, ◌-◌, ◌*◌, ◌^◌, [], ◌++◌, length, replicate, false, IfOk};
 ghost use Rattle.greedy_rules.specs.Schedule.{first_slot, schedule_from, rest_from};
 ghost use Rattle.greedy_rules.specs.Recorded.{MayBeApplied};
 ghost use Rattle.slot_batches.specs.NextList.{IsListBefore};
-ghost use Rattle.slot_batches.specs.Stands.{endpoints_of, batch_size_of};
 ghost use Rattle.alloc_pipeline.specs.Ring.{IsRing};
+ghost use Rattle.alloc_pipeline.specs.Stages.{AreFor};
 
-use crate::batches::allocate_batch;
+use crate::stages::Stages;
 use fp_edge::Gate;
 use greedy_rules::{Batch, DemandList, SlotTable, schedules_go_on};
 use no_memory::NoMemory;
-use slot_batches::{Stage, every_batch_leaves_a_list};
+use slot_batches::every_batch_leaves_a_list;
 use std::alloc::Global;
 use std::marker::Model;
 
-/// Allocates the batches of a window, each by a stage of its own kind. So far one stage does them all, one after the other,
-/// on the caller's thread.
+/// Allocates the batches of a window, each by a stage of its own kind. So far two stages take turns, one batch after the
+/// other, on the caller's thread.
 #[derive(Drop)]
 pub struct Ring {
     batches: u16,
     b: u8,
     endpoints: u16,
-    stage: Stage,
+    stages: Stages,
 }
 
 impl Model for Ring {
-    ghost use Rattle.std.specs.Prelude.{◌≡◌, ◌<◌, ◌≤◌};
-    ghost use Rattle.slot_batches.specs.Stands.{endpoints_of, batch_size_of};
+    ghost use Rattle.std.specs.Prelude.{◌≡◌, ◌<◌, ◌≤◌, false};
+    ghost use Rattle.alloc_pipeline.specs.Stages.{AreFor};
     ghost use Rattle.alloc_pipeline.specs.Ring.{RingWork};
 
     ghost Value = { RingWork };
 
     ghost view = { λ r. record { endpoints = r.endpoints; batches = r.batches; b = r.b } };
 
-    ghost invariant = { λ r. (endpoints_of r.stage ≡ r.endpoints) × (batch_size_of r.stage ≡ r.b) × ((0 < r.b) × (r.b ≤ 64)) × (r.batches ≤ 16) };
+    ghost invariant = { λ r. AreFor r.endpoints r.b r.stages × (r.stages.holds ≡ false) × ((0 < r.b) × (r.b ≤ 64)) × (r.batches ≤ 16) };
 }
 
 impl Ring {
@@ -53,7 +53,7 @@ impl Ring {
             batches,
             b,
             endpoints,
-            stage: Stage::open(alloc, endpoints, b)?,
+            stages: Stages::open(alloc, endpoints, b)?,
         })
     }
 
@@ -85,13 +85,13 @@ impl Ring {
     {
         let _ = rt;
         let _ = gate;
-        allocate_batches(&mut self.stage, list, first_batch, batches, self.b, out);
+        allocate_batches(&mut self.stages, list, first_batch, batches, self.b, out);
     }
 }
 
-/// The batches one after the other, each by the stage.
+/// The batches one after the other, by the stages in turn.
 fn allocate_batches(
-    stage: &mut Stage,
+    stages: &mut Stages,
     list: &mut DemandList,
     first_batch: u32,
     batches: &[Batch],
@@ -100,15 +100,15 @@ fn allocate_batches(
 )
     requires b { (0 < b) × (b ≤ 64) }
     requires count { length batches.now ≤ 16 }
-    requires size { batch_size_of stage.old ≡ b }
-    requires may { MayBeApplied (endpoints_of stage.old) b first_batch list.old.items batches.now }
+    requires sizes { AreFor out.old.endpoints b stages.old }
+    requires none { stages.old.holds ≡ false }
+    requires may { MayBeApplied out.old.endpoints b first_batch list.old.items batches.now }
     requires before { IsListBefore (first_slot b first_batch) list.old.items }
     requires numbers { first_slot b (first_batch + length batches.now) ≤ 2 ^ 32 }
     requires room { length (rest_from b first_batch list.old.items batches.now) ≤ length list.old.items + list.old.spare }
-    requires serves { out.old.endpoints ≡ endpoints_of stage.old }
     requires places { length batches.now * b ≤ length out.old.slots }
-    ensures stage_endpoints { endpoints_of stage.new ≡ endpoints_of stage.old }
-    ensures size { batch_size_of stage.new ≡ batch_size_of stage.old }
+    ensures sizes { AreFor out.old.endpoints b stages.new }
+    ensures none { stages.new.holds ≡ false }
     ensures list { list.new.items ≡ rest_from b first_batch list.old.items batches.now }
     ensures spare { length list.new.items + list.new.spare ≡ length list.old.items + list.old.spare }
     ensures next { IsListBefore (first_slot b (first_batch + length batches.now)) list.new.items }
@@ -120,8 +120,7 @@ fn allocate_batches(
     out.clear();
     for place in 0..batches.len() {
         let number = first_batch + place as u32;
-        allocate_batch(
-            stage,
+        stages.allocate(
             list,
             &batches[place],
             place as u32,
@@ -130,4 +129,5 @@ fn allocate_batches(
             out,
         );
     }
+    stages.give(list);
 }
