@@ -1,9 +1,9 @@
 -- The maps of the endpoints, as lists of words.
-use Rattle.std.proofs.Common.{◌≡◌, ◌<◌, ◌+◌, ◌-◌, cond, false, arith, ◌^◌, ℕ, List, length, get_or, set, Bool, not, ◌==◌, ◌&&◌, bit_and, refl, sym, ap, ◌∙◌, inl, inr}
+use Rattle.std.proofs.Common.{◌≡◌, ◌<◌, ◌+◌, ◌-◌, cond, false, arith, ◌^◌, ℕ, List, length, get_or, set, Bool, not, ◌==◌, ◌&&◌, ◌||◌, bit_and, refl, sym, ap, ◌∙◌, inl, inr}
 use Rattle.std.proofs.lemmas.Bool.{cases_eq, and_left, eq-eqb, ne_eqb}
 use Rattle.std.proofs.lemmas.List.{get_or-set_same, get_or-set_other, get_or_read}
 use Rattle.endpoint_bitmaps.specs.Slots.{has_slot}
-use Rattle.endpoint_bitmaps.specs.FreeSlots.{FreeSlots, may_send, may_receive, leaving_in, entering_in, rack_in, is_between, HasTaken}
+use Rattle.endpoint_bitmaps.specs.FreeSlots.{FreeSlots, may_send, may_receive, leaving_in, entering_in, rack_in, is_between, has_links, is_common, HasTaken}
 use Rattle.endpoint_bitmaps.proofs.WordLemmas.{has_slot-both, has_slot-without, has_slot-none, and_true}
 
 -- what two endpoints have in common
@@ -49,3 +49,7 @@ none_taken src dst taken maps none = record {
 
     no_more : (n : ℕ) (here between taken : Bool) → taken ≡ false → n ≡ n + cond (here && (between && taken)) 1 0
     no_more n here between taken none = grind arith
+
+-- where either end isn't free, the slot is not common
+pub none_common : (maps : FreeSlots) (src dst slot : ℕ) → false ≡ (may_send maps src slot && may_receive maps dst slot) → false ≡ is_common maps src dst slot
+none_common maps src dst slot none = ap (λ (b : Bool). b && (not (is_between maps src dst) || has_links maps src dst slot)) none

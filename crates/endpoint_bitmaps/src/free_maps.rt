@@ -82,6 +82,9 @@ impl FreeMaps {
         ensures { (slot : ℕ) → has_slot result slot ≡ is_common self.now src dst slot }
     {
         let free = self.senders[src as usize] & self.receivers[dst as usize];
+        if free == 0 {
+            return 0;
+        }
         let from = self.racks[src as usize];
         let to = self.racks[dst as usize];
         if from == to {
