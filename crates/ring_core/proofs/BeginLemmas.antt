@@ -8,10 +8,9 @@ use Rattle.std.proofs.lemmas.List.{get_or_default, take_all, take_at}
 use Rattle.greedy_rules.specs.declared.flows.Item.{Item}
 use Rattle.greedy_rules.specs.Batches.{DemandBatch}
 use Rattle.greedy_rules.specs.Schedule.{first_slot}
-use Rattle.slot_batches.specs.declared.stage.Stage.{Stage}
 use Rattle.slot_batches.specs.Settled.{slots_filled}
 use Rattle.slot_batches.specs.Stands.{StageState, slots_of, IsSameWork, Stands, endpoints_of, batch_size_of}
-use Rattle.ring_core.specs.declared.worker.Worker.{Worker}
+use Rattle.ring_core.specs.States.{WorkerState}
 use Rattle.ring_core.specs.Windows.{Window, batch_at, batch_of, first_slot_in, list_before_stage, pieces_before, is_fed, items_fed, slots_in, worker_after}
 use Rattle.ring_core.specs.Streams.{pieces_into}
 use Rattle.ring_core.specs.Workers.{own_stage, StageIsAt, HasBegun, HaveBegun, IsWorker, IsWindowOf, HasPlayed, first_ends}
@@ -66,7 +65,7 @@ none_fed n = of (n / 64 + 1) 0 (omega arith)
     of : (a b : ℕ) → b < a → nat_le a b ≡ false
     of a b less = grind (arith, nat_tests)
 
-module _ (w : Worker) (window : Window) (first : ℕ) (batches : List DemandBatch) (is_window : IsWindowOf w first batches window) where
+module _ (w : WorkerState) (window : Window) (first : ℕ) (batches : List DemandBatch) (is_window : IsWindowOf w first batches window) where
   begun_at : (number : ℕ) (state : StageState) → HasBegun w.endpoints w.b first batches number state → StageIsAt w.endpoints window number 0 0 state
   begun_at stage state begun = record {
     work = record {
@@ -79,8 +78,8 @@ module _ (w : Worker) (window : Window) (first : ℕ) (batches : List DemandBatc
         (subst (λ (ds : List DemandBatch). Stands (batch_at ds stage) [] false 0 state) (sym is_window.batches_are) begun.stands);
   }
 
-  pub begun_played : (sent stage : ℕ) (stages : Vec Stage Global) → length batches ≤ w.batches → sent ≡ (first_ends window w.number).sent → stage ≡ w.number
-      → IsWorker (record w { stages = stages; place = 0; stage = stage; taken = 0; sent = sent; held = None }) → HaveBegun w.endpoints w.b first batches w.workers w.number stages.items
+  pub begun_played : (sent stage : ℕ) (stages : List StageState) → length batches ≤ w.batches → sent ≡ (first_ends window w.number).sent → stage ≡ w.number
+      → IsWorker (record w { stages = stages; place = 0; stage = stage; taken = 0; sent = sent; held = None }) → HaveBegun w.endpoints w.b first batches w.workers w.number stages
       → HasPlayed batches (first_ends window w.number) (record w { stages = stages; place = 0; stage = stage; taken = 0; sent = sent; held = None }) 0 0
   begun_played sent stage stages few sent_is stage_is is_worker begun =
       let workers_are = is_window.workers_are in
@@ -130,15 +129,15 @@ pub place_of : (workers worker place : ℕ) → worker < workers → own_stage w
 place_of workers worker place below = div-mul-add place workers worker below
 
 -- a worker whose stages were written anew
-pub worker_with : (w : Worker) (stages : Vec Stage Global) (new : List StageState) (sent stage : ℕ) → IsWorker w → stages.items ≡ new → length new ≡ length w.stages.items
-    → All (λ s. endpoints_of s ≡ w.endpoints) new → All (λ s. batch_size_of s ≡ w.b) new → IsWorker (record w { stages = stages; place = 0; stage = stage; taken = 0; sent = sent; held = None })
-worker_with w stages new sent stage is_worker items count endpoints sizes = record {
+pub worker_with : (w : WorkerState) (new : List StageState) (sent stage : ℕ) → IsWorker w → length new ≡ length w.stages
+    → All (λ s. endpoints_of s ≡ w.endpoints) new → All (λ s. batch_size_of s ≡ w.b) new → IsWorker (record w { stages = new; place = 0; stage = stage; taken = 0; sent = sent; held = None })
+worker_with w new sent stage is_worker count endpoints sizes = record {
   number = is_worker.number;
   some_slots = is_worker.some_slots;
   few_batches = is_worker.few_batches;
-  endpoints = subst (λ (xs : List StageState). All (λ s. endpoints_of s ≡ w.endpoints) xs) (sym items) endpoints;
-  sizes = subst (λ (xs : List StageState). All (λ s. batch_size_of s ≡ w.b) xs) (sym items) sizes;
-  enough = subst (λ (n : ℕ). w.batches ≤ own_stage w.workers w.number n) (sym (ap length items ∙ count)) is_worker.enough;
+  endpoints = endpoints;
+  sizes = sizes;
+  enough = subst (λ (n : ℕ). w.batches ≤ own_stage w.workers w.number n) (sym count) is_worker.enough;
 }
 
 -- what is written back

@@ -1,13 +1,11 @@
 -- A step of one edge among the edges of a ring.
-use Rattle.std.proofs.Common.{◌≡◌, ◌≢◌, ◌<◌, ◌≤◌, ◌+◌, ℕ, zero, suc, List, [], ◌∷◌, ◌++◌, length, map, get_or, set, Option, Some, None, slice_get, refl, sym, ap, ◌∙◌, subst, arith, inl, inr, length-set}
+use Rattle.std.proofs.Common.{◌≡◌, ◌≢◌, ◌<◌, ◌≤◌, ◌+◌, ℕ, zero, suc, List, [], ◌∷◌, ◌++◌, length, get_or, set, Option, Some, None, slice_get, refl, sym, ap, ◌∙◌, subst, arith, inl, inr, length-set}
 use Rattle.std.specs.Prelude.{MatchOption, MatchResult, Result, Ok, Err}
-use Rattle.std.specs.VecDeque.{deque_len, deque_capacity}
 use Rattle.std.proofs.lemmas.Bool.{cases_lt}
-use Rattle.std.proofs.lemmas.List.{map-append, length-map}
 use Rattle.std.proofs.lemmas.Option.{slice_get_read, same_Some}
 use Rattle.slot_batches.specs.declared.piece.Piece.{Piece}
 use Rattle.slot_batches.specs.Pieces.{Part, part_of}
-use Rattle.ring_core.specs.declared.edge.Edge.{Edge}
+use Rattle.ring_core.specs.States.{EdgeState}
 use Rattle.ring_core.specs.Windows.{Window}
 use Rattle.ring_core.specs.Streams.{EdgeInto, IsPieceAt, edge_stream}
 use Rattle.ring_core.specs.Ends.{one_taken, one_sent}
@@ -49,9 +47,9 @@ get_set_here (x ∷ xs) zero a below = refl
 get_set_here (x ∷ xs) (suc i) a below = get_set_here xs i a (omega arith)
 
 -- one edge
-took : (into : EdgeInto) (old new : Edge) (piece : Piece) → Holds into old → old.pieces.items ≡ piece ∷ new.pieces.items → new.taken ≡ old.taken + 1 → new.sent ≡ old.sent → Holds into new × IsPieceAt into old.taken piece
+took : (into : EdgeInto) (old new : EdgeState) (piece : Piece) → Holds into old → old.pieces ≡ part_of piece ∷ new.pieces → new.taken ≡ old.taken + 1 → new.sent ≡ old.sent → Holds into new × IsPieceAt into old.taken piece
 took into old new piece holds items taken sent =
-    let first = between_first old.taken old.sent (edge_stream into) (map part_of new.pieces.items) (part_of piece) (sym holds.pieces ∙ ap (map part_of) items) in
+    let first = between_first old.taken old.sent (edge_stream into) new.pieces (part_of piece) (sym holds.pieces ∙ items) in
     let on : suc old.taken ≡ new.taken = omega arith in
     let same : old.sent ≡ new.sent = sym sent in (
       record {
@@ -62,7 +60,7 @@ took into old new piece holds items taken sent =
       first.1,
     )
 
-gave : (into : EdgeInto) (old new : Edge) (piece : Piece) → Holds into old → IsPieceAt into old.sent piece → new.pieces.items ≡ old.pieces.items ++ piece ∷ [] → new.taken ≡ old.taken → new.sent ≡ old.sent + 1 → Holds into new
+gave : (into : EdgeInto) (old new : EdgeState) (piece : Piece) → Holds into old → IsPieceAt into old.sent piece → new.pieces ≡ old.pieces ++ part_of piece ∷ [] → new.taken ≡ old.taken → new.sent ≡ old.sent + 1 → Holds into new
 gave into old new piece holds next items taken sent =
     let more = between_more old.taken old.sent (edge_stream into) (part_of piece) holds.order next in
     let inside = get_inside (edge_stream into) old.sent (part_of piece) next in
@@ -71,30 +69,28 @@ gave into old new piece holds next items taken sent =
     record {
       order = omega (arith, holds.order, taken, sent);
       within = omega (arith, inside, sent);
-      pieces = ap (map part_of) items
-          ∙ (map-append part_of old.pieces.items (piece ∷ [])
-          ∙ (ap (λ (l : List Part). l ++ part_of piece ∷ []) holds.pieces ∙ (sym more ∙ (λ i. between (same i) (on i) (edge_stream into)))));
+      pieces = items ∙ (ap (λ (l : List Part). l ++ part_of piece ∷ []) holds.pieces ∙ (sym more ∙ (λ i. between (same i) (on i) (edge_stream into))));
     }
 
-kept : (into : EdgeInto) (old new : Edge) → Holds into old → new.pieces.items ≡ old.pieces.items → new.taken ≡ old.taken → new.sent ≡ old.sent → Holds into new
+kept : (into : EdgeInto) (old new : EdgeState) → Holds into old → new.pieces ≡ old.pieces → new.taken ≡ old.taken → new.sent ≡ old.sent → Holds into new
 kept into old new holds items taken sent = record {
   order = omega (arith, holds.order, taken, sent);
   within = omega (arith, holds.within, sent);
-  pieces = ap (map part_of) items ∙ (holds.pieces ∙ (λ i. between (sym taken i) (sym sent i) (edge_stream into)));
+  pieces = items ∙ (holds.pieces ∙ (λ i. between (sym taken i) (sym sent i) (edge_stream into)));
 }
 
 -- what a step of the edge tells
-abbrev pub TookOr : Edge → Edge → Option Piece → Type 0
+abbrev pub TookOr : EdgeState → EdgeState → Option Piece → Type 0
 TookOr old new result = MatchOption result
-    ((new.pieces.items ≡ old.pieces.items) × (old.pieces.items ≡ []) × (new.taken ≡ old.taken))
-    (λ piece. (old.pieces.items ≡ piece ∷ new.pieces.items) × (new.taken ≡ old.taken + 1))
+    ((new.pieces ≡ old.pieces) × (old.pieces ≡ []) × (new.taken ≡ old.taken))
+    (λ piece. (old.pieces ≡ part_of piece ∷ new.pieces) × (new.taken ≡ old.taken + 1))
 
-abbrev pub GaveOr : Edge → Edge → Piece → Result (Unit {0}) Piece → Type 0
+abbrev pub GaveOr : EdgeState → EdgeState → Piece → Result (Unit {0}) Piece → Type 0
 GaveOr old new piece result = MatchResult result
-    (λ _. (new.pieces.items ≡ old.pieces.items ++ piece ∷ []) × (new.sent ≡ old.sent + 1) × (deque_len old.pieces < deque_capacity old.pieces))
-    (λ refused. (refused ≡ piece) × (new.pieces.items ≡ old.pieces.items) × (new.sent ≡ old.sent) × (deque_len old.pieces ≡ deque_capacity old.pieces))
+    (λ _. (new.pieces ≡ old.pieces ++ part_of piece ∷ []) × (new.sent ≡ old.sent + 1) × (length old.pieces < old.room))
+    (λ refused. (refused ≡ piece) × (new.pieces ≡ old.pieces) × (new.sent ≡ old.sent) × (length old.pieces ≡ old.room))
 
-module _ (window : Window) (edges : List Edge) (at : ℕ) (old new : Edge) (below : at < length edges) (is : old ≡ get_or edges at old) (all : AllHold window edges) where
+module _ (window : Window) (edges : List EdgeState) (at : ℕ) (old new : EdgeState) (below : at < length edges) (is : old ≡ get_or edges at old) (all : AllHold window edges) where
   abbrev into : EdgeInto
   into = record { window = window; worker = at }
 
@@ -105,7 +101,7 @@ module _ (window : Window) (edges : List Edge) (at : ℕ) (old new : Edge) (belo
   holds = all.each at old here
 
   -- where it holds its part again, all do
-  each_again : Holds into new → (number : ℕ) (edge : Edge) → slice_get (set edges at new) number ≡ Some edge → Holds (record { window = window; worker = number }) edge
+  each_again : Holds into new → (number : ℕ) (edge : EdgeState) → slice_get (set edges at new) number ≡ Some edge → Holds (record { window = window; worker = number }) edge
   each_again again number edge there = elim (cases_lt number at) [
     | inl before ↦ all.each number edge (sym (get_set_other edges at number new (λ same. omega (arith, same, before))) ∙ there)
     | inr past ↦ elim (cases_lt at number) [
@@ -113,24 +109,24 @@ module _ (window : Window) (edges : List Edge) (at : ℕ) (old new : Edge) (belo
       | inr same ↦
           let is_at : number ≡ at = omega (arith, past, same) in
           let is_new : edge ≡ new = get_set_same edges at new edge (ap (slice_get (set edges at new)) (sym is_at) ∙ there) in
-          subst (λ (e : Edge). Holds (record { window = window; worker = number }) e) (sym is_new) (subst (λ (n : ℕ). Holds (record { window = window; worker = n }) new) (sym is_at) again)
+          subst (λ (e : EdgeState). Holds (record { window = window; worker = number }) e) (sym is_new) (subst (λ (n : ℕ). Holds (record { window = window; worker = n }) new) (sym is_at) again)
     ]
   ]
 
   all_again : Holds into new → AllHold window (set edges at new)
   all_again again = record { each = each_again again }
 
-  pub old_at : {X : Type 0} (f : Option Edge → X) → f (slice_get edges at) ≡ f (Some old)
+  pub old_at : {X : Type 0} (f : Option EdgeState → X) → f (slice_get edges at) ≡ f (Some old)
   old_at f = ap f here
 
-  pub new_at : {X : Type 0} (f : Option Edge → X) → f (slice_get (set edges at new) at) ≡ f (Some new)
+  pub new_at : {X : Type 0} (f : Option EdgeState → X) → f (slice_get (set edges at new) at) ≡ f (Some new)
   new_at f = ap f (get_set_here edges at new below)
 
-  pub other_at : {X : Type 0} (f : Option Edge → X) (number : ℕ) → number ≢ at → f (slice_get (set edges at new) number) ≡ f (slice_get edges number)
+  pub other_at : {X : Type 0} (f : Option EdgeState → X) (number : ℕ) → number ≢ at → f (slice_get (set edges at new) number) ≡ f (slice_get edges number)
   other_at f number other = ap f (get_set_other edges at number new other)
 
   -- what the edge has again, all have again
-  pub same_at : (f : Option Edge → ℕ) (number : ℕ) → f (Some new) ≡ f (Some old) → f (slice_get (set edges at new) number) ≡ f (slice_get edges number)
+  pub same_at : (f : Option EdgeState → ℕ) (number : ℕ) → f (Some new) ≡ f (Some old) → f (slice_get (set edges at new) number) ≡ f (slice_get edges number)
   same_at f number same = elim (cases_lt number at) [
     | inl before ↦ other_at f number (λ q. omega (arith, q, before))
     | inr past ↦ elim (cases_lt at number) [
@@ -149,7 +145,7 @@ module _ (window : Window) (edges : List Edge) (at : ℕ) (old new : Edge) (belo
   gave_all (Ok u) piece told taken next = all_again (gave into old new piece holds next told.0 taken told.1)
   gave_all (Err refused) piece told taken next = all_again (kept into old new holds told.1 taken told.2)
 
-  pub took_others : (after : ℕ) → new.sent ≡ old.sent → deque_capacity new.pieces ≡ deque_capacity old.pieces → OthersStay at after edges (set edges at new)
+  pub took_others : (after : ℕ) → new.sent ≡ old.sent → new.room ≡ old.room → OthersStay at after edges (set edges at new)
   took_others after sent room = record {
     count = length-set edges at new;
     taken = λ number other. other_at taken_of number other;
@@ -157,7 +153,7 @@ module _ (window : Window) (edges : List Edge) (at : ℕ) (old new : Edge) (belo
     rooms = λ number. same_at room_of number room;
   }
 
-  pub gave_others : (before : ℕ) → new.taken ≡ old.taken → deque_capacity new.pieces ≡ deque_capacity old.pieces → OthersStay before at edges (set edges at new)
+  pub gave_others : (before : ℕ) → new.taken ≡ old.taken → new.room ≡ old.room → OthersStay before at edges (set edges at new)
   gave_others before taken room = record {
     count = length-set edges at new;
     taken = λ number other. same_at taken_of number taken;
@@ -172,25 +168,25 @@ module _ (window : Window) (edges : List Edge) (at : ℕ) (old new : Edge) (belo
       (λ piece. IsPieceAt into (taken_at edges at) piece × (ends_between window (set edges at new) at after ≡ one_taken (ends_between window edges at after)))
   took_ends after None told sent =
       let taken : taken_at (set edges at new) at ≡ taken_at edges at = same_at taken_of at told.2 in
-      let none : old.sent ≡ old.taken = omega (arith, between_length old.taken old.sent (edge_stream into) holds.order holds.within, ap length (sym holds.pieces ∙ ap (map part_of) told.1)) in
+      let none : old.sent ≡ old.taken = omega (arith, between_length old.taken old.sent (edge_stream into) holds.order holds.within, ap length (sym holds.pieces ∙ told.1)) in
       ((λ i. record { before = into; after = record { window = window; worker = after }; taken = taken i; sent = same_at sent_of after sent i }), (new_at sent_of ∙ (sent ∙ (none ∙ sym (old_at taken_of))), taken))
   took_ends after (Some piece) told sent =
       let taken : taken_at (set edges at new) at ≡ taken_at edges at + 1 = new_at taken_of ∙ (told.1 ∙ ap (λ (n : ℕ). n + 1) (sym (old_at taken_of))) in
       let next = (took into old new piece holds told.0 told.1 sent).1 in
       (subst (λ (n : ℕ). IsPieceAt into n piece) (sym (old_at taken_of)) next, (λ i. record { before = into; after = record { window = window; worker = after }; taken = taken i; sent = same_at sent_of after sent i }))
 
-  pub gave_ends : (before : ℕ) (result : Result (Unit {0}) Piece) (piece : Piece) → GaveOr old new piece result → new.taken ≡ old.taken → deque_capacity new.pieces ≡ deque_capacity old.pieces → deque_len old.pieces ≡ length old.pieces.items
+  pub gave_ends : (before : ℕ) (result : Result (Unit {0}) Piece) (piece : Piece) → GaveOr old new piece result → new.taken ≡ old.taken → new.room ≡ old.room
       → MatchResult result
       (λ _. ends_between window (set edges at new) before at ≡ one_sent (ends_between window edges before at))
       (λ refused. (refused ≡ piece) × (ends_between window (set edges at new) before at ≡ ends_between window edges before at) × IsFoundFull (set edges at new) at (sent_at edges at))
-  gave_ends before (Ok u) piece told taken room len =
+  gave_ends before (Ok u) piece told taken room =
       let sent : sent_at (set edges at new) at ≡ sent_at edges at + 1 = new_at sent_of ∙ (told.1 ∙ ap (λ (n : ℕ). n + 1) (sym (old_at sent_of))) in
       λ i. record { before = record { window = window; worker = before }; after = into; taken = same_at taken_of before taken i; sent = sent i }
-  gave_ends before (Err refused) piece told taken room len =
+  gave_ends before (Err refused) piece told taken room =
       let sent : sent_at (set edges at new) at ≡ sent_at edges at = same_at sent_of at told.2 in
-      let full : old.taken + deque_capacity old.pieces ≡ old.sent =
-      omega (arith, between_length old.taken old.sent (edge_stream into) holds.order holds.within, ap length (sym holds.pieces), length-map old.pieces.items part_of, len, told.3) in
-      let held : taken_at (set edges at new) at + room_at (set edges at new) at ≡ old.taken + deque_capacity old.pieces = λ i. (new_at taken_of ∙ taken) i + (new_at room_of ∙ room) i in
+      let full : old.taken + old.room ≡ old.sent =
+      omega (arith, between_length old.taken old.sent (edge_stream into) holds.order holds.within, ap length (sym holds.pieces), told.3) in
+      let held : taken_at (set edges at new) at + room_at (set edges at new) at ≡ old.taken + old.room = λ i. (new_at taken_of ∙ taken) i + (new_at room_of ∙ room) i in
       (told.0, (λ i. record { before = record { window = window; worker = before }; after = into; taken = same_at taken_of before taken i; sent = sent i }), (sent, held ∙ (full ∙ sym (old_at sent_of))))
 
 -- what holds of each by its place holds again once one more is pushed
@@ -209,7 +205,7 @@ set_each P xs at x this earlier k y below there = elim (cases_lt k at) [
       subst (λ (n : ℕ). P n y) (sym is_at) (subst (P at) (sym (get_set_same xs at x y (ap (slice_get (set xs at x)) (sym is_at) ∙ there))) this)
 ]
 
-pub room_kept : (edges : List Edge) (at : ℕ) (new : Edge) (k : ℕ) → deque_capacity new.pieces ≡ room_at edges at → at < length edges → room_at (set edges at new) k ≡ room_at edges k
+pub room_kept : (edges : List EdgeState) (at : ℕ) (new : EdgeState) (k : ℕ) → new.room ≡ room_at edges at → at < length edges → room_at (set edges at new) k ≡ room_at edges k
 room_kept [] at new k same below = refl
 room_kept (e ∷ es) zero new zero same below = same
 room_kept (e ∷ es) zero new (suc k) same below = refl

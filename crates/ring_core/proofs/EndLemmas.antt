@@ -3,8 +3,7 @@ use Rattle.std.proofs.Common.{◌≡◌, ◌<◌, ◌≤◌, ◌+◌, ◌-◌, �
 use Rattle.std.proofs.lemmas.Nat.{div-add-mod'}
 use Rattle.std.proofs.lemmas.Option.{slice_get_within}
 use Rattle.greedy_rules.specs.Batches.{DemandBatch}
-use Rattle.ring_core.specs.declared.worker.Worker.{Worker}
-use Rattle.ring_core.specs.declared.ring.RingCore.{RingCore}
+use Rattle.ring_core.specs.States.{RingState, WorkerState}
 use Rattle.ring_core.specs.Windows.{Window, worker_of, worker_after}
 use Rattle.ring_core.specs.Streams.{pieces_at, pieces_into, edge_stream}
 use Rattle.ring_core.specs.Workers.{own_stage}
@@ -35,28 +34,28 @@ between_back (x ∷ xs) ys zero m is all = absurd (omega (arith, is))
 between_back (x ∷ xs) ys (suc n) zero is all = absurd (omega (arith, all))
 between_back (x ∷ xs) ys (suc n) (suc m) is all = between_back xs ys n m (omega (arith, is)) (omega (arith, all))
 
-get_some : {X : Type 0} (xs : List X) (k : ℕ) → k < length xs → (x : X) × (slice_get xs k ≡ Some x)
+pub get_some : {X : Type 0} (xs : List X) (k : ℕ) → k < length xs → (x : X) × (slice_get xs k ≡ Some x)
 get_some [] k below = absurd (omega arith)
 get_some (x ∷ xs) zero below = (x, refl)
 get_some (x ∷ xs) (suc k) below = get_some xs k (omega arith)
 
 -- the worker before another
-before_of : (workers number : ℕ) → number < workers → (before : ℕ) × (before < workers) × (worker_after workers before ≡ number)
+pub before_of : (workers number : ℕ) → number < workers → (before : ℕ) × (before < workers) × (worker_after workers before ≡ number)
 before_of workers zero below = (workers - 1, omega (arith, below), after_last workers (workers - 1) (omega (arith, below)) (omega (arith, below)))
 before_of workers (suc number) below = (number, omega (arith, below), after_small workers number (omega (arith, below)) ∙ (let q : number + 1 ≡ suc number = omega arith in q))
 
-module _ (batches : List DemandBatch) (core : RingCore) (playing : IsPlaying batches core) (finished : IsFinished core) where
+module _ (batches : List DemandBatch) (core : RingState) (playing : IsPlaying batches core) (finished : IsFinished core) where
   abbrev window : Window
   window = window_in batches core
 
-  worker_at : (number : ℕ) → number < core.workers → (w : Worker) × (slice_get core.crew.items number ≡ Some w)
-  worker_at number below = get_some core.crew.items number (omega (arith, below, playing.ring.worker_count))
+  pub worker_at : (number : ℕ) → number < core.workers → (w : WorkerState) × (slice_get core.crew number ≡ Some w)
+  worker_at number below = get_some core.crew number (omega (arith, below, playing.ring.worker_count))
 
-  ended : (number : ℕ) (w : Worker) → slice_get core.crew.items number ≡ Some w → length batches ≤ w.stage
+  pub ended : (number : ℕ) (w : WorkerState) → slice_get core.crew number ≡ Some w → length batches ≤ w.stage
   ended number w is = omega (arith, finished number w is, playing.stages)
 
   -- all that is brought to a worker, but for the last list, was taken
-  all_taken : (number : ℕ) (w : Worker) → slice_get core.crew.items number ≡ Some w → number < core.workers → length batches ≤ w.stage → taken_of (slice_get core.edges.items number) ≡ length (pieces_into window number (length batches))
+  pub all_taken : (number : ℕ) (w : WorkerState) → slice_get core.crew number ≡ Some w → number < core.workers → length batches ≤ w.stage → taken_of (slice_get core.edges number) ≡ length (pieces_into window number (length batches))
   all_taken number w is below past =
       let it = playing.ring.each number w is in
       let plays = playing.plays number w is in
@@ -73,8 +72,8 @@ module _ (batches : List DemandBatch) (core : RingCore) (playing : IsPlaying bat
       ∙ ((let q : length (pieces_into window number w.stage) + 0 ≡ length (pieces_into window number w.stage) = omega arith in q) ∙ ap length (back ∙ ap (pieces_into window number) at))))
 
   -- and all is sent
-  all_sent : (number before : ℕ) (w : Worker) → slice_get core.crew.items before ≡ Some w → before < core.workers → number < core.workers → worker_after core.workers before ≡ number → length batches ≤ w.stage
-      → sent_of (slice_get core.edges.items number) ≡ length (pieces_into window number (length batches + 1))
+  pub all_sent : (number before : ℕ) (w : WorkerState) → slice_get core.crew before ≡ Some w → before < core.workers → number < core.workers → worker_after core.workers before ≡ number → length batches ≤ w.stage
+      → sent_of (slice_get core.edges number) ≡ length (pieces_into window number (length batches + 1))
   all_sent number before w is below within after past =
       let it = playing.ring.each before w is in
       let plays = playing.plays before w is in
@@ -86,7 +85,7 @@ module _ (batches : List DemandBatch) (core : RingCore) (playing : IsPlaying bat
       let back = into_back window number (w.stage + 1) d within own (omega (arith, played.near, it.workers_is, past, playing.ring.some_workers)) (omega (arith, past)) in
       let at : w.stage + 1 - d ≡ length batches + 1 = omega (arith, past) in
       let none = (played.past past).1 in
-      ap (λ (n : ℕ). sent_of (slice_get core.edges.items n)) (sym after)
+      ap (λ (n : ℕ). sent_of (slice_get core.edges n)) (sym after)
       ∙ (played.sent
       ∙ (played.sent_is
       ∙ ((λ i. length (pieces_into window (next i) (w.stage + 1)) + none i)
@@ -95,7 +94,7 @@ module _ (batches : List DemandBatch) (core : RingCore) (playing : IsPlaying bat
   pub last_list : HoldsTheLastList batches core
   unfolding edge_stream
   last_list number edge is =
-      let below : number < core.workers = omega (arith, slice_get_within core.edges.items number edge is, playing.ring.edge_count) in
+      let below : number < core.workers = omega (arith, slice_get_within core.edges number edge is, playing.ring.edge_count) in
       let before = before_of core.workers number below in
       let this = worker_at number below in
       let other = worker_at before.0 before.1 in

@@ -1,6 +1,5 @@
 -- What a worker takes up, and where it is then.
-use Rattle.std.proofs.Common.{◌≡◌, ◌<◌, ◌≤◌, ◌+◌, ◌-◌, ◌*◌, ◌/◌, ◌^◌, ℕ, zero, suc, Bool, true, false, cond, nat_le, nat_lt, List, [], ◌∷◌, ◌++◌, length, take, drop, Option, Some, None, slice_get, All, refl, sym, ap, ◌∙◌, subst, arith, inl, inr}
-use Rattle.std.specs.Vec.{with_item}
+use Rattle.std.proofs.Common.{◌≡◌, ◌<◌, ◌≤◌, ◌+◌, ◌-◌, ◌*◌, ◌/◌, ◌^◌, ℕ, zero, suc, Bool, true, false, cond, nat_le, nat_lt, List, [], ◌∷◌, ◌++◌, length, set, take, drop, Option, Some, None, slice_get, All, refl, sym, ap, ◌∙◌, subst, arith, inl, inr}
 use Rattle.std.proofs.lemmas.Bool.{cases_Bool, cases_lt, both_ways, or_right}
 use Rattle.std.proofs.lemmas.Bool.Decides.{nat_tests}
 use Rattle.std.proofs.lemmas.Option.{same_Some}
@@ -15,7 +14,7 @@ use Rattle.slot_batches.specs.NextList.{IsListBefore, EveryBatchLeavesAList, Eve
 use Rattle.slot_batches.specs.Pieces.{Part, part_of, piece_count, piece_at, has_piece, next_piece, waiting_items}
 use Rattle.slot_batches.specs.Settled.{settled}
 use Rattle.slot_batches.specs.Stands.{StageState, IsSameWork, Stands, MayBeFed, ListsMayBeFed}
-use Rattle.ring_core.specs.declared.worker.Worker.{Worker}
+use Rattle.ring_core.specs.States.{WorkerState}
 use Rattle.ring_core.specs.Windows.{Window, MayBePlayed, list_before_stage, batch_of, first_slot_in, pieces_before, worker_of, is_fed, items_fed, piece_given_next}
 use Rattle.ring_core.specs.Streams.{IsPieceAt, pieces_into, edge_stream}
 use Rattle.ring_core.specs.Ends.{Ends, one_taken}
@@ -43,7 +42,7 @@ ended_alike n fed = elim (cases_lt (64 * (fed + 1)) n) [
     yes : (a b : ℕ) → a ≤ b → nat_le a b ≡ true
     yes a b le = grind (arith, nat_tests)
 
-joined : {X : Type 0} (n m : ℕ) (xs : List X) → take n xs ++ take m (drop n xs) ≡ take (n + m) xs
+pub joined : {X : Type 0} (n m : ℕ) (xs : List X) → take n xs ++ take m (drop n xs) ≡ take (n + m) xs
 joined zero m xs = ap (λ (k : ℕ). take k xs) (omega arith)
 joined (suc n) m [] = take_all m [] (omega arith) ∙ sym (take_all (suc n + m) [] (omega arith))
 joined {X = X} (suc n) m (x ∷ xs) =
@@ -103,7 +102,7 @@ module _ (endpoints : ℕ) (window : Window) (stage fed given : ℕ) (may : MayB
       All-take (λ (item : Item). need_with (entry_of batch.entries item.flow) item.need < 4294967296) 64 (drop (64 * fed) list)
       (All-drop (λ (item : Item). need_with (entry_of batch.entries item.flow) item.need < 4294967296) (64 * fed) list (may.applies stage below).needs)
 
-module _ (batches : List DemandBatch) (ends : Ends) (w : Worker) (fed given : ℕ) (played : HasPlayed batches ends w fed given) (below : w.stage < length batches)
+module _ (batches : List DemandBatch) (ends : Ends) (w : WorkerState) (fed given : ℕ) (played : HasPlayed batches ends w fed given) (below : w.stage < length batches)
     (none : piece_to_push ends w ≡ None) where
   abbrev w_window : Window
   w_window = ends.before.window
@@ -144,7 +143,7 @@ module _ (batches : List DemandBatch) (ends : Ends) (w : Worker) (fed given : �
         (subst (λ (p : Part). Stands (batch_of w_window w.stage) (items_fed w_window w.stage fed ++ p.items) p.end given new) is stands));
   }
 
-  pub fed_on : (new : StageState) (h : Option Piece) → h ≡ None → StageIsAt w.endpoints w_window w.stage (fed + 1) given new
-      → HasPlayed batches (one_taken ends) (record w { stages = with_item w.stages w.place new; taken = w.taken + 1; held = h }) (fed + 1) given
+  pub fed_on : (new : StageState) (h : Option Part) → h ≡ None → StageIsAt w.endpoints w_window w.stage (fed + 1) given new
+      → HasPlayed batches (one_taken ends) (record w { stages = set w.stages w.place new; taken = w.taken + 1; held = h }) (fed + 1) given
   fed_on new h is at =
       rw is (with_stage batches ends w fed given played None (ends.taken + 1) (w.taken + 1) (fed + 1) new below (ap (λ (n : ℕ). n + 1) played.taken) (omega (arith, played.taken_is)) (omega (arith, fed_more)) tt at)

@@ -10,3 +10,8 @@ pub mod RingLemmas
 pub mod ListLemmas
 pub mod StartLemmas
 pub mod EndLemmas
+pub mod CountLemmas
+pub mod MoveLemmas
+pub mod TakeLemmas
+pub mod RunLemmas
+pub mod AskLemmas

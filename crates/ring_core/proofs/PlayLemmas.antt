@@ -1,7 +1,6 @@
 -- A worker that has played so far, and its next piece.
 use Rattle.std.proofs.Common.{◌≡◌, ◌≢◌, ◌<◌, ◌≤◌, ◌+◌, ℕ, zero, suc, cond, List, [], ◌∷◌, length, get_or, set, Option, Some, None, option_map, slice_get, refl, sym, ap, ◌∙◌, subst, arith, inl, inr}
 use Rattle.std.specs.Prelude.{IfSome, IsSome, is_some}
-use Rattle.std.specs.Vec.{with_item}
 use Rattle.std.proofs.lemmas.Bool.{cases_lt}
 use Rattle.std.proofs.lemmas.Nat.{mul-le}
 use Rattle.std.proofs.lemmas.Option.{slice_get_read, same_Some}
@@ -9,10 +8,10 @@ use Rattle.std.proofs.lemmas.List.{length-set}
 use Rattle.std.proofs.lemmas.List.Elements.{All-set}
 use Rattle.greedy_rules.specs.Batches.{DemandBatch}
 use Rattle.slot_batches.specs.declared.piece.Piece.{Piece}
-use Rattle.slot_batches.specs.Pieces.{part_of, next_piece}
+use Rattle.slot_batches.specs.Pieces.{Part, part_of, next_piece}
 use Rattle.slot_batches.specs.Settled.{settled}
 use Rattle.slot_batches.specs.Stands.{StageState, endpoints_of, batch_size_of, first_slot_of, number_of}
-use Rattle.ring_core.specs.declared.worker.Worker.{Worker}
+use Rattle.ring_core.specs.States.{WorkerState}
 use Rattle.ring_core.specs.Windows.{Window, batch_of, pieces_before, is_fed, items_fed, piece_given_next}
 use Rattle.ring_core.specs.Streams.{pieces_into}
 use Rattle.ring_core.specs.Ends.{Ends}
@@ -32,18 +31,18 @@ get_set_other (x ∷ xs) (suc i) zero a other = refl
 get_set_other (x ∷ xs) (suc i) (suc j) a other = get_set_other xs i j a (λ is. other (ap suc is))
 
 -- an own stage for which there is a batch is one of the worker's
-pub place_within : (w : Worker) (n place : ℕ) → IsWorker w → n ≤ w.batches → own_stage w.workers w.number place < n → place < length w.stages.items
-place_within w n place is few below = elim (cases_lt place (length w.stages.items)) [
+pub place_within : (w : WorkerState) (n place : ℕ) → IsWorker w → n ≤ w.batches → own_stage w.workers w.number place < n → place < length w.stages
+place_within w n place is few below = elim (cases_lt place (length w.stages)) [
   | inl here ↦ here
-  | inr past ↦ absurd (let more = mul-le (length w.stages.items) w.workers place w.workers past (omega arith) in omega (arith, more, is.enough, few, below))
+  | inr past ↦ absurd (let more = mul-le (length w.stages) w.workers place w.workers past (omega arith) in omega (arith, more, is.enough, few, below))
 ]
 
-module _ (batches : List DemandBatch) (ends : Ends) (w : Worker) (fed given : ℕ) (played : HasPlayed batches ends w fed given) where
+module _ (batches : List DemandBatch) (ends : Ends) (w : WorkerState) (fed given : ℕ) (played : HasPlayed batches ends w fed given) where
   abbrev window : Window
   window = ends.before.window
 
-  pub held_is : (piece : Piece) → w.held ≡ Some piece → (w.stage < length batches) × (piece_given_next window w.stage fed given ≡ Some (part_of piece))
-  held_is piece is = subst (λ (h : Option Piece). IfSome h (λ p. (w.stage < length batches) × (piece_given_next window w.stage fed given ≡ Some (part_of p)))) is played.held
+  pub held_is : (part : Part) → w.held ≡ Some part → (w.stage < length batches) × (piece_given_next window w.stage fed given ≡ Some part)
+  held_is part is = subst (λ (h : Option Part). IfSome h (λ p. (w.stage < length batches) × (piece_given_next window w.stage fed given ≡ Some p))) is played.held
 
   pub fed_is : fed_at ends w ≡ fed
   fed_is = omega (arith, played.taken, played.taken_is)
@@ -55,21 +54,21 @@ module _ (batches : List DemandBatch) (ends : Ends) (w : Worker) (fed given : �
   to_push = λ i. piece_given_next window w.stage (fed_is i) (given_is i)
 
   -- the present stage
-  pub present_place : w.stage < length batches → w.place < length w.stages.items
+  pub present_place : w.stage < length batches → w.place < length w.stages
   present_place below = place_within w (length batches) w.place played.is_worker played.count (omega (arith, below, played.stage))
 
-  pub present_state : (state : StageState) → w.stage < length batches → state ≡ get_or w.stages.items w.place state → StageIsAt w.endpoints window w.stage fed (given_by w given) state
-  present_state state below is = played.present state below (slice_get_read w.stages.items (length w.stages.items) w.place state refl (present_place below) is)
+  pub present_state : (state : StageState) → w.stage < length batches → state ≡ get_or w.stages w.place state → StageIsAt w.endpoints window w.stage fed (given_by w given) state
+  present_state state below is = played.present state below (slice_get_read w.stages (length w.stages) w.place state refl (present_place below) is)
 
-  pub idle_state : (state : StageState) → w.stage < length batches → w.held ≡ None → state ≡ get_or w.stages.items w.place state → StageIsAt w.endpoints window w.stage fed given state
+  pub idle_state : (state : StageState) → w.stage < length batches → w.held ≡ None → state ≡ get_or w.stages w.place state → StageIsAt w.endpoints window w.stage fed given state
   idle_state state below none is =
-      subst (λ (h : Option Piece). StageIsAt w.endpoints window w.stage fed (cond (is_some h) (given + 1) given) state) none (present_state state below is)
+      subst (λ (h : Option Part). StageIsAt w.endpoints window w.stage fed (cond (is_some h) (given + 1) given) state) none (present_state state below is)
 
   -- it goes on
-  pub with_stage : (h : Option Piece) (t taken fed' : ℕ) (x : StageState) → w.stage < length batches → t ≡ taken → taken ≡ length (pieces_into window w.number w.stage) + fed' → fed' ≤ pieces_before window w.stage
-      → IfSome h (λ piece. (w.stage < length batches) × (piece_given_next window w.stage fed' given ≡ Some (part_of piece)))
+  pub with_stage : (h : Option Part) (t taken fed' : ℕ) (x : StageState) → w.stage < length batches → t ≡ taken → taken ≡ length (pieces_into window w.number w.stage) + fed' → fed' ≤ pieces_before window w.stage
+      → IfSome h (λ part. (w.stage < length batches) × (piece_given_next window w.stage fed' given ≡ Some part))
       → StageIsAt w.endpoints window w.stage fed' (cond (is_some h) (given + 1) given) x
-      → HasPlayed batches (record { before = ends.before; after = ends.after; taken = t; sent = ends.sent }) (record w { stages = with_item w.stages w.place x; taken = taken; held = h }) fed' given
+      → HasPlayed batches (record { before = ends.before; after = ends.after; taken = t; sent = ends.sent }) (record w { stages = set w.stages w.place x; taken = taken; held = h }) fed' given
   with_stage h t taken fed' x below t_is taken_is within held_is at =
       let work = at.work in
       record {
@@ -77,9 +76,9 @@ module _ (batches : List DemandBatch) (ends : Ends) (w : Worker) (fed given : �
           number = played.is_worker.number;
           some_slots = played.is_worker.some_slots;
           few_batches = played.is_worker.few_batches;
-          endpoints = All-set (λ stage. endpoints_of stage ≡ w.endpoints) w.stages.items w.place x work.same_endpoints played.is_worker.endpoints;
-          sizes = All-set (λ stage. batch_size_of stage ≡ w.b) w.stages.items w.place x (work.same_size ∙ played.window.b_is) played.is_worker.sizes;
-          enough = subst (λ (n : ℕ). w.batches ≤ own_stage w.workers w.number n) (sym (length-set w.stages.items w.place x)) played.is_worker.enough;
+          endpoints = All-set (λ stage. endpoints_of stage ≡ w.endpoints) w.stages w.place x work.same_endpoints played.is_worker.endpoints;
+          sizes = All-set (λ stage. batch_size_of stage ≡ w.b) w.stages w.place x (work.same_size ∙ played.window.b_is) played.is_worker.sizes;
+          enough = subst (λ (n : ℕ). w.batches ≤ own_stage w.workers w.number n) (sym (length-set w.stages w.place x)) played.is_worker.enough;
         };
         window = record { may = played.window.may; batches_are = played.window.batches_are; first_is = refl; b_is = played.window.b_is; workers_are = played.window.workers_are };
         before = played.before;
@@ -95,9 +94,9 @@ module _ (batches : List DemandBatch) (ends : Ends) (w : Worker) (fed given : �
         given_within = played.given_within;
         held = held_is;
         past = λ past. absurd (omega (arith, past, below));
-        ended = λ place state earlier is. played.ended place state earlier (sym (get_set_other w.stages.items w.place place x (λ same. omega (arith, same, earlier))) ∙ is);
-        present = λ state below' is. subst (λ (s : StageState). StageIsAt w.endpoints window w.stage fed' (cond (is_some h) (given + 1) given) s) (sym (get_set_same w.stages.items w.place x state is)) at;
-        later = λ place state after below' is. played.later place state after below' (sym (get_set_other w.stages.items w.place place x (λ same. omega (arith, same, after))) ∙ is);
+        ended = λ place state earlier is. played.ended place state earlier (sym (get_set_other w.stages w.place place x (λ same. omega (arith, same, earlier))) ∙ is);
+        present = λ state below' is. subst (λ (s : StageState). StageIsAt w.endpoints window w.stage fed' (cond (is_some h) (given + 1) given) s) (sym (get_set_same w.stages w.place x state is)) at;
+        later = λ place state after below' is. played.later place state after below' (sym (get_set_other w.stages w.place place x (λ same. omega (arith, same, after))) ∙ is);
       }
 
 -- the next piece of a stage, by its own numbers
@@ -110,6 +109,6 @@ stage_gives endpoints window stage fed given state at =
 -- a stage that gave a piece, or had none
 pub gave_or_not : (below : Type 0) (endpoints : ℕ) (window : Window) (stage fed given : ℕ) (new : StageState) (r : Option Piece) → below → option_map part_of r ≡ piece_given_next window stage fed given
     → (IsSome r → StageIsAt endpoints window stage fed (given + 1) new) → (r ≡ None → StageIsAt endpoints window stage fed given new)
-    → IfSome r (λ piece. below × (piece_given_next window stage fed given ≡ Some (part_of piece))) × StageIsAt endpoints window stage fed (cond (is_some r) (given + 1) given) new
+    → IfSome (option_map part_of r) (λ part. below × (piece_given_next window stage fed given ≡ Some part)) × StageIsAt endpoints window stage fed (cond (is_some (option_map part_of r)) (given + 1) given) new
 gave_or_not below endpoints win stage fed given new None inside is some none = (tt, none refl)
 gave_or_not below endpoints win stage fed given new (Some piece) inside is some none = ((inside, sym is), some refl)

@@ -10,13 +10,12 @@ use Rattle.greedy_rules.specs.declared.flows.Item.{Item}
 use Rattle.greedy_rules.specs.Batches.{DemandBatch}
 use Rattle.greedy_rules.specs.Demands.{OpensNewFlows}
 use Rattle.greedy_rules.specs.Room.{FlowsFitPairs}
-use Rattle.slot_batches.specs.declared.piece.Piece.{Piece}
 use Rattle.slot_batches.specs.NextList.{IsListBefore, EveryBatchLeavesAList, EveryBatchKeepsItsFlows}
-use Rattle.slot_batches.specs.Pieces.{Part, part_of, piece_count, piece_at, has_piece, next_piece}
+use Rattle.slot_batches.specs.Pieces.{Part, piece_count, piece_at, has_piece, next_piece}
 use Rattle.slot_batches.specs.Settled.{settled, SettledItemsStay, EarlyPiecesAreOfTheList}
-use Rattle.ring_core.specs.declared.worker.Worker.{Worker}
+use Rattle.ring_core.specs.States.{WorkerState}
 use Rattle.ring_core.specs.Windows.{Window, MayBePlayed, list_before_stage, batch_of, first_slot_in, pieces_before, worker_of, worker_after, is_fed, items_fed, piece_given_next}
-use Rattle.ring_core.specs.Streams.{EdgeInto, IsPieceAt, pieces_into, edge_stream}
+use Rattle.ring_core.specs.Streams.{EdgeInto, pieces_into, edge_stream}
 use Rattle.ring_core.specs.Ends.{Ends, one_sent}
 use Rattle.ring_core.specs.Workers.{own_stage, StageIsAt, HasPlayed}
 use Rattle.ring_core.proofs.WindowLemmas.{one_list_on, list_before, few_pieces}
@@ -123,7 +122,7 @@ module _ (endpoints : ℕ) (window : Window) (stage fed given : ℕ) (part : Par
       many_left : (n m : ℕ) → nat_le n m ≡ false → m < n
       many_left n m is = grind (arith, nat_tests)
 
-module _ (batches : List DemandBatch) (ends : Ends) (w : Worker) (fed given : ℕ) (piece : Piece) (played : HasPlayed batches ends w fed given) (held : w.held ≡ Some piece) where
+module _ (batches : List DemandBatch) (ends : Ends) (w : WorkerState) (fed given : ℕ) (piece : Part) (played : HasPlayed batches ends w fed given) (held : w.held ≡ Some piece) where
   abbrev w_window : Window
   w_window = ends.before.window
 
@@ -131,15 +130,15 @@ module _ (batches : List DemandBatch) (ends : Ends) (w : Worker) (fed given : �
   inside = omega (arith, (held_is batches ends w fed given played piece held).0, ap length played.window.batches_are)
 
   -- it is the next of its stream
-  pub pushes_next : EveryBatchLeavesAList → SettledItemsStay → EarlyPiecesAreOfTheList → IsPieceAt ends.after ends.sent piece
+  pub pushes_next : EveryBatchLeavesAList → SettledItemsStay → EarlyPiecesAreOfTheList → slice_get (edge_stream ends.after) ends.sent ≡ Some piece
   pushes_next leaves stay early =
       let after : EdgeInto = record { window = w_window; worker = worker_after w.workers w.number } in
-      let is = part_is w.endpoints w_window w.stage fed given (part_of piece) played.window.may leaves stay early inside (held_is batches ends w fed given played piece held).1 in
+      let is = part_is w.endpoints w_window w.stage fed given piece played.window.may leaves stay early inside (held_is batches ends w fed given played piece held).1 in
       let own : worker_of w_window.workers (w.stage + 1) ≡ after.worker =
       ap (λ (n : ℕ). worker_of n (w.stage + 1)) played.window.workers_are ∙ (ap (λ (n : ℕ). worker_of w.workers (n + 1)) played.stage ∙ next_own w.workers w.number w.place played.is_worker.number) in
       let at : ends.sent ≡ length (pieces_into w_window after.worker (w.stage + 1)) + given = played.sent ∙ played.sent_is in
-      subst (λ (e : EdgeInto). IsPieceAt e ends.sent piece) (sym played.after)
-      (subst (λ (n : ℕ). slice_get (edge_stream after) n ≡ Some (part_of piece)) (sym at)
+      subst (λ (e : EdgeInto). slice_get (edge_stream e) ends.sent ≡ Some piece) (sym played.after)
+      (subst (λ (n : ℕ). slice_get (edge_stream after) n ≡ Some piece) (sym at)
       (stream_has after (w.stage + 1) given own (omega (arith, inside)) played.given_within ∙ ap (λ (p : Part). Some p) (sym is)))
 
   pub sent_short : EveryBatchKeepsItsFlows → FlowsFitPairs → w.sent + 1 < 2 ^ 32
@@ -158,10 +157,10 @@ module _ (batches : List DemandBatch) (ends : Ends) (w : Worker) (fed given : �
       omega (arith, within, played.stage, inside, played.window.may.few_batches)
 
   -- the stage goes on
-  pub sent_on : EveryBatchLeavesAList → SettledItemsStay → EarlyPiecesAreOfTheList → piece.end ≡ false → (h : Option Piece) → h ≡ None → HasPlayed batches (one_sent ends) (record w { sent = w.sent + 1; held = h }) fed (given + 1)
+  pub sent_on : EveryBatchLeavesAList → SettledItemsStay → EarlyPiecesAreOfTheList → piece.end ≡ false → (h : Option Part) → h ≡ None → HasPlayed batches (one_sent ends) (record w { sent = w.sent + 1; held = h }) fed (given + 1)
   sent_on leaves stay early last h none =
       let is = held_is batches ends w fed given played piece held in
-      let more = more_given w.endpoints w_window w.stage fed given (part_of piece) played.window.may leaves stay early inside is.1 last in
+      let more = more_given w.endpoints w_window w.stage fed given piece played.window.may leaves stay early inside is.1 last in
       rw none (record {
         is_worker = record { number = played.is_worker.number; some_slots = played.is_worker.some_slots; few_batches = played.is_worker.few_batches; endpoints = played.is_worker.endpoints; sizes = played.is_worker.sizes; enough = played.is_worker.enough };
         window = record { may = played.window.may; batches_are = played.window.batches_are; first_is = refl; b_is = played.window.b_is; workers_are = played.window.workers_are };
@@ -179,14 +178,14 @@ module _ (batches : List DemandBatch) (ends : Ends) (w : Worker) (fed given : �
         held = tt;
         past = λ past. absurd (omega (arith, past, is.0));
         ended = played.ended;
-        present = λ state below at. subst (λ (g : ℕ). StageIsAt w.endpoints w_window w.stage fed g state) (ap (λ (o : Option Piece). cond (is_some o) (given + 1) given) held) (played.present state below at);
+        present = λ state below at. subst (λ (g : ℕ). StageIsAt w.endpoints w_window w.stage fed g state) (ap (λ (o : Option Part). cond (is_some o) (given + 1) given) held) (played.present state below at);
         later = played.later;
       })
 
   fed_whole : EveryBatchLeavesAList → SettledItemsStay → EarlyPiecesAreOfTheList → piece.end ≡ true → fed ≡ pieces_before w_window w.stage
   fed_whole leaves stay early last =
       let is = held_is batches ends w fed given played piece held in
-      let all = end_is_last w.endpoints w_window w.stage fed given (part_of piece) played.window.may leaves stay early inside is.1 last in
+      let all = end_is_last w.endpoints w_window w.stage fed given piece played.window.may leaves stay early inside is.1 last in
       let at_least : pieces_before w_window w.stage ≤ fed = of (pieces_before w_window w.stage) fed all in
       omega (arith, at_least, played.fed_within)
     where
@@ -194,14 +193,14 @@ module _ (batches : List DemandBatch) (ends : Ends) (w : Worker) (fed given : �
       of a b le = grind (arith, nat_tests)
 
   -- and where the piece has the end, the next stage follows
-  pub sent_last : EveryBatchLeavesAList → SettledItemsStay → EarlyPiecesAreOfTheList → piece.end ≡ true → (h : Option Piece) → h ≡ None
+  pub sent_last : EveryBatchLeavesAList → SettledItemsStay → EarlyPiecesAreOfTheList → piece.end ≡ true → (h : Option Part) → h ≡ None
       → HasPlayed batches (one_sent ends) (record w { stage = w.stage + w.workers; place = w.place + 1; sent = w.sent + 1; held = h }) 0 0
   sent_last leaves stay early last h none =
       let is = held_is batches ends w fed given played piece held in
       let next : ℕ = worker_after w.workers w.number in
       let workers_are = played.window.workers_are in
       let all = fed_whole leaves stay early last in
-      let whole = last_given w.endpoints w_window w.stage fed given (part_of piece) played.window.may leaves stay early inside is.1 last played.given_within in
+      let whole = last_given w.endpoints w_window w.stage fed given piece played.window.may leaves stay early inside is.1 last played.given_within in
       let below : w.number < w_window.workers = omega (arith, played.is_worker.number, workers_are) in
       let own : worker_of w_window.workers w.stage ≡ w.number =
       ap (λ (n : ℕ). worker_of n w.stage) workers_are ∙ (ap (worker_of w.workers) played.stage ∙ own_here w.workers w.number w.place played.is_worker.number) in
@@ -235,8 +234,8 @@ module _ (batches : List DemandBatch) (ends : Ends) (w : Worker) (fed given : �
           | inr here ↦
               let same : place ≡ w.place = omega (arith, earlier, here) in
               let stage_is : own_stage w.workers w.number place ≡ w.stage = ap (own_stage w.workers w.number) same ∙ sym played.stage in
-              let was = played.present state is.0 (ap (slice_get w.stages.items) (sym same) ∙ at) in
-              let given_is : cond (is_some w.held) (given + 1) given ≡ pieces_before w_window (w.stage + 1) = ap (λ (o : Option Piece). cond (is_some o) (given + 1) given) held ∙ whole in
+              let was = played.present state is.0 (ap (slice_get w.stages) (sym same) ∙ at) in
+              let given_is : cond (is_some w.held) (given + 1) given ≡ pieces_before w_window (w.stage + 1) = ap (λ (o : Option Part). cond (is_some o) (given + 1) given) held ∙ whole in
               subst (λ (s : ℕ). StageIsAt w.endpoints w_window s (pieces_before w_window s) (pieces_before w_window (s + 1)) state) (sym stage_is)
               (subst (λ (f : ℕ). StageIsAt w.endpoints w_window w.stage f (pieces_before w_window (w.stage + 1)) state) all
               (subst (λ (g : ℕ). StageIsAt w.endpoints w_window w.stage fed g state) given_is was))

@@ -1,6 +1,5 @@
 -- A ring as a window begins.
-use Rattle.std.proofs.Common.{◌≡◌, ◌<◌, ◌≤◌, ◌+◌, ◌*◌, ◌^◌, ℕ, zero, suc, Bool, true, false, cond, nat_eq, nat_le, List, [], ◌∷◌, ◌++◌, length, map, set, get_or, Option, Some, None, slice_get, All, refl, sym, ap, ◌∙◌, subst, arith, inl, inr, length-append, length-set, append_assoc}
-use Rattle.std.specs.VecDeque.{deque_capacity}
+use Rattle.std.proofs.Common.{◌≡◌, ◌<◌, ◌≤◌, ◌+◌, ◌*◌, ◌^◌, ℕ, zero, suc, Bool, true, false, cond, nat_eq, nat_le, List, [], ◌∷◌, ◌++◌, length, set, get_or, Option, Some, None, slice_get, All, refl, sym, ap, ◌∙◌, subst, arith, inl, inr, length-append, length-set, append_assoc}
 use Rattle.std.proofs.lemmas.Nat.{mod-mul-add}
 use Rattle.std.proofs.lemmas.List.FromFn.{length-map-range_with_len}
 use Rattle.std.proofs.lemmas.Bool.{cases_lt, ne_eqb}
@@ -15,10 +14,8 @@ use Rattle.greedy_rules.specs.Recorded.{Applies, MayBeApplied}
 use Rattle.greedy_rules.specs.Room.{FlowsFitPairs}
 use Rattle.greedy_rules.specs.Schedule.{first_slot, list_then}
 use Rattle.slot_batches.specs.NextList.{IsListBefore, EveryBatchKeepsItsFlows}
-use Rattle.slot_batches.specs.Pieces.{Part, part_of, piece_count, pieces}
-use Rattle.ring_core.specs.declared.edge.Edge.{Edge}
-use Rattle.ring_core.specs.declared.worker.Worker.{Worker}
-use Rattle.ring_core.specs.declared.ring.RingCore.{RingCore}
+use Rattle.slot_batches.specs.Pieces.{Part, piece_count, pieces}
+use Rattle.ring_core.specs.States.{EdgeState, RingState, WorkerState}
 use Rattle.ring_core.specs.Workers.{IsWorker, MayBegin, IsWindowOf, HasBegunWith, Plays, first_ends}
 use Rattle.ring_core.specs.Cores.{IsRing, IsPlaying, window_in}
 use Rattle.ring_core.proofs.EdgeLemmas.{room_kept}
@@ -54,19 +51,19 @@ streams_short endpoints window may keeps pairs worker =
     omega (arith, short, may.few_batches)
 
 -- the positions as the window begins
-no_edge : (f : Option Edge → ℕ) (o : Option Edge) → f None ≡ 0 → ((e : Edge) → o ≡ Some e → f (Some e) ≡ 0) → f o ≡ 0
+no_edge : (f : Option EdgeState → ℕ) (o : Option EdgeState) → f None ≡ 0 → ((e : EdgeState) → o ≡ Some e → f (Some e) ≡ 0) → f o ≡ 0
 no_edge f None none some = none
 no_edge f (Some e) none some = some e refl
 
-abbrev pub AreEmptied : List Edge → Type 0
-AreEmptied edges = (number : ℕ) (edge : Edge) → slice_get edges number ≡ Some edge → (edge.pieces.items ≡ []) × (edge.taken ≡ 0) × (edge.sent ≡ 0)
+abbrev pub AreEmptied : List EdgeState → Type 0
+AreEmptied edges = (number : ℕ) (edge : EdgeState) → slice_get edges number ≡ Some edge → (edge.pieces ≡ []) × (edge.taken ≡ 0) × (edge.sent ≡ 0)
 
-pub none_taken : (edges : List Edge) (first : Edge) → AreEmptied edges → first.taken ≡ 0 → (number : ℕ) → taken_at (set edges 0 first) number ≡ 0
+pub none_taken : (edges : List EdgeState) (first : EdgeState) → AreEmptied edges → first.taken ≡ 0 → (number : ℕ) → taken_at (set edges 0 first) number ≡ 0
 none_taken [] first empty none number = refl
 none_taken (e ∷ es) first empty none zero = none
 none_taken (e ∷ es) first empty none (suc number) = no_edge taken_of (slice_get es number) refl (λ edge is. (empty (suc number) edge is).1)
 
-pub list_sent : (edges : List Edge) (first : Edge) (count : ℕ) → AreEmptied edges → 0 < length edges → first.sent ≡ count → (number : ℕ) → sent_at (set edges 0 first) number ≡ cond (nat_eq number 0) count 0
+pub list_sent : (edges : List EdgeState) (first : EdgeState) (count : ℕ) → AreEmptied edges → 0 < length edges → first.sent ≡ count → (number : ℕ) → sent_at (set edges 0 first) number ≡ cond (nat_eq number 0) count 0
 list_sent [] first count empty some sent number = absurd (omega arith)
 list_sent (e ∷ es) first count empty some sent zero = sent
 list_sent (e ∷ es) first count empty some sent (suc number) =
@@ -96,7 +93,7 @@ between_front {A} (x ∷ xs) ys (suc n) is = ap (λ (zs : List A). x ∷ zs) (be
 own_zero : (workers : ℕ) → 0 < workers → worker_of workers 0 ≡ 0
 own_zero workers some = ap (worker_of workers) (let q : 0 ≡ 0 * workers + 0 = omega arith in q) ∙ mod-mul-add 0 workers 0 some
 
-holds_first : (window : Window) (edge : Edge) → 0 < window.workers → map part_of edge.pieces.items ≡ pieces 0 window.list → edge.taken ≡ 0 → edge.sent ≡ piece_count window.list → Holds (record { window = window; worker = 0 }) edge
+holds_first : (window : Window) (edge : EdgeState) → 0 < window.workers → edge.pieces ≡ pieces 0 window.list → edge.taken ≡ 0 → edge.sent ≡ piece_count window.list → Holds (record { window = window; worker = 0 }) edge
 unfolding edge_stream
 holds_first window edge some held taken sent =
     let front : pieces_into window 0 1 ≡ pieces 0 window.list = at_own window 0 0 (own_zero window.workers some) ∙ first_pieces window in
@@ -110,14 +107,14 @@ holds_first window edge some held taken sent =
       pieces = held ∙ (sym (between_front (pieces 0 window.list) all.0 edge.sent (sent ∙ sym count)) ∙ (λ i. between (sym taken i) edge.sent (sym stream i)));
     }
 
-holds_none : (into : EdgeInto) (edge : Edge) → edge.pieces.items ≡ [] → edge.taken ≡ 0 → edge.sent ≡ 0 → Holds into edge
+holds_none : (into : EdgeInto) (edge : EdgeState) → edge.pieces ≡ [] → edge.taken ≡ 0 → edge.sent ≡ 0 → Holds into edge
 holds_none into edge items taken sent = record {
   order = omega (arith, taken);
   within = omega (arith, sent);
-  pieces = ap (map part_of) items ∙ (λ i. between (sym taken i) (sym sent i) (edge_stream into));
+  pieces = items ∙ (λ i. between (sym taken i) (sym sent i) (edge_stream into));
 }
 
-pub all_hold : (window : Window) (edges : List Edge) (first : Edge) → 0 < window.workers → AreEmptied edges → map part_of first.pieces.items ≡ pieces 0 window.list → first.taken ≡ 0 → first.sent ≡ piece_count window.list → AllHold window (set edges 0 first)
+pub all_hold : (window : Window) (edges : List EdgeState) (first : EdgeState) → 0 < window.workers → AreEmptied edges → first.pieces ≡ pieces 0 window.list → first.taken ≡ 0 → first.sent ≡ piece_count window.list → AllHold window (set edges 0 first)
 all_hold window edges first some empty held taken sent = record {
   each = λ number edge is. elim (cases_lt 0 number) [
     | inl later ↦
@@ -126,7 +123,7 @@ all_hold window edges first some empty held taken sent = record {
     | inr here ↦
         let at : number ≡ 0 = omega (arith, here) in
         let same : edge ≡ first = get_set_same edges 0 first edge (ap (slice_get (set edges 0 first)) (sym at) ∙ is) in
-        subst (λ (n : ℕ). Holds (record { window = window; worker = n }) edge) (sym at) (subst (λ (e : Edge). Holds (record { window = window; worker = 0 }) e) (sym same) (holds_first window first some held taken sent))
+        subst (λ (n : ℕ). Holds (record { window = window; worker = n }) edge) (sym at) (subst (λ (e : EdgeState). Holds (record { window = window; worker = 0 }) e) (sym same) (holds_first window first some held taken sent))
   ];
 }
 
@@ -155,7 +152,7 @@ found_sent window worker some below = elim (cases_lt (worker + 1) window.workers
     le a b less = grind (arith, nat_tests)
 
 -- what a window begins with
-pub record Starts (core : RingCore) (first : ℕ) (batches : List DemandBatch) (list : List Item) : Type 0 where
+pub record Starts (core : RingState) (first : ℕ) (batches : List DemandBatch) (list : List Item) : Type 0 where
   pub ring : IsRing core
   pub endpoints : core.endpoints ≤ 256
   pub count : length batches ≤ core.batches
@@ -164,7 +161,7 @@ pub record Starts (core : RingCore) (first : ℕ) (batches : List DemandBatch) (
   pub numbers : first_slot core.b (first + length batches) ≤ 2 ^ 32
   pub few : length list ≤ 65536
 
-module _ (core : RingCore) (first : ℕ) (batches : List DemandBatch) (list : List Item) (starts : Starts core first batches list) where
+module _ (core : RingState) (first : ℕ) (batches : List DemandBatch) (list : List Item) (starts : Starts core first batches list) where
   abbrev window : Window
   window = window_of list batches first core.b core.workers
 
@@ -180,7 +177,7 @@ module _ (core : RingCore) (first : ℕ) (batches : List DemandBatch) (list : Li
     numbers = starts.numbers;
   }
 
-  pub may_begin : (number : ℕ) (worker : Worker) → slice_get core.crew.items number ≡ Some worker → IsWorker worker × MayBegin worker first batches
+  pub may_begin : (number : ℕ) (worker : WorkerState) → slice_get core.crew number ≡ Some worker → IsWorker worker × MayBegin worker first batches
   may_begin number worker is =
       let it = starts.ring.each number worker is in
       let range : All (λ batch. AreBelow core.endpoints (opened batch.entries)) batches = λ k d below.
@@ -198,7 +195,7 @@ module _ (core : RingCore) (first : ℕ) (batches : List DemandBatch) (list : Li
         },
       )
 
-  pub is_window : (number : ℕ) (worker : Worker) → slice_get core.crew.items number ≡ Some worker → IsWindowOf worker first batches window
+  pub is_window : (number : ℕ) (worker : WorkerState) → slice_get core.crew number ≡ Some worker → IsWindowOf worker first batches window
   is_window number worker is =
       let it = starts.ring.each number worker is in
       record {
@@ -210,12 +207,12 @@ module _ (core : RingCore) (first : ℕ) (batches : List DemandBatch) (list : Li
       }
 
   -- each worker plays from its first ends
-  pub plays_first : (edges : List Edge) (pieces : ℕ) (number : ℕ) (old new : Worker) → pieces ≡ pieces_before window 0 → slice_get core.crew.items number ≡ Some old
+  pub plays_first : (edges : List EdgeState) (pieces : ℕ) (number : ℕ) (old new : WorkerState) → pieces ≡ pieces_before window 0 → slice_get core.crew number ≡ Some old
       → HasBegunWith first batches (cond (nat_le old.workers (old.number + 1)) pieces 0) old new → ((k : ℕ) → taken_at edges k ≡ 0) → ((k : ℕ) → sent_at edges k ≡ cond (nat_eq k 0) (pieces_before window 0) 0)
       → Plays batches (ends_between window edges number (worker_after core.workers number)) new
   plays_first edges pieces number old new pieces_is is begun taken sent =
       let it = starts.ring.each number old is in
-      let below : number < core.workers = omega (arith, slice_get_within core.crew.items number old is, starts.ring.worker_count) in
+      let below : number < core.workers = omega (arith, slice_get_within core.crew number old is, starts.ring.worker_count) in
       let found = found_sent window number starts.ring.some_workers below in
       let sent_is : cond (nat_le old.workers (old.number + 1)) pieces 0 ≡ (first_ends window old.number).sent =
       (λ i. cond (nat_le (it.workers_is i) (it.number_is i + 1)) (pieces_is i) 0)
@@ -231,17 +228,17 @@ module _ (core : RingCore) (first : ℕ) (batches : List DemandBatch) (list : Li
       subst (λ (e : Ends). Plays batches e new) (ap (first_ends window) it.number_is ∙ there) plays
 
   -- and so the ring plays the window
-  pub ring_playing : (next : RingCore) (empty : List Edge) (edge : Edge) (crew : List Worker) (pieces_sent : ℕ) → window_in batches next ≡ window → next.workers ≡ core.workers → next.endpoints ≡ core.endpoints → next.batches ≡ core.batches → next.b ≡ core.b → next.room ≡ core.room → next.stages ≡ length batches
-      → next.edges.items ≡ set empty 0 edge → next.crew.items ≡ crew → length empty ≡ length core.edges.items → AreEmptied empty → ((number : ℕ) → room_at empty number ≡ room_at core.edges.items number)
-      → map part_of edge.pieces.items ≡ pieces 0 list → edge.taken ≡ 0 → edge.sent ≡ piece_count list → deque_capacity edge.pieces ≡ room_at empty 0 → pieces_sent ≡ piece_count list → length crew ≡ length core.crew.items
-      → ((number : ℕ) (old new : Worker) → slice_get core.crew.items number ≡ Some old → slice_get crew number ≡ Some new → HasBegunWith first batches (cond (nat_le old.workers (old.number + 1)) pieces_sent 0) old new)
+  pub ring_playing : (next : RingState) (empty : List EdgeState) (edge : EdgeState) (crew : List WorkerState) (pieces_sent : ℕ) → window_in batches next ≡ window → next.workers ≡ core.workers → next.endpoints ≡ core.endpoints → next.batches ≡ core.batches → next.b ≡ core.b → next.room ≡ core.room → next.stages ≡ length batches
+      → next.edges ≡ set empty 0 edge → next.crew ≡ crew → length empty ≡ length core.edges → AreEmptied empty → ((number : ℕ) → room_at empty number ≡ room_at core.edges number)
+      → edge.pieces ≡ pieces 0 list → edge.taken ≡ 0 → edge.sent ≡ piece_count list → edge.room ≡ room_at empty 0 → pieces_sent ≡ piece_count list → length crew ≡ length core.crew
+      → ((number : ℕ) (old new : WorkerState) → slice_get core.crew number ≡ Some old → slice_get crew number ≡ Some new → HasBegunWith first batches (cond (nat_le old.workers (old.number + 1)) pieces_sent 0) old new)
       → EveryBatchKeepsItsFlows → FlowsFitPairs → IsPlaying batches next
   ring_playing next empty edge crew pieces_sent window_is workers_is endpoints_is batches_is b_is room_is stages_is edges_are crew_is count emptied rooms held taken sent room sent_is crew_count begun keeps pairs =
       let some : 0 < length empty = omega (arith, count, starts.ring.edge_count, starts.ring.some_workers) in
       let here : pieces_sent ≡ pieces_before window 0 = sent_is ∙ first_count window in
       let sent_here : edge.sent ≡ pieces_before window 0 = sent ∙ first_count window in
-      let old_of : (number : ℕ) (new : Worker) → slice_get crew number ≡ Some new → slice_get core.crew.items number ≡ Some (get_or core.crew.items number new) =
-      λ number new is. slice_get-get_or core.crew.items number new (omega (arith, slice_get_within crew number new is, crew_count)) in
+      let old_of : (number : ℕ) (new : WorkerState) → slice_get crew number ≡ Some new → slice_get core.crew number ≡ Some (get_or core.crew number new) =
+      λ number new is. slice_get-get_or core.crew number new (omega (arith, slice_get_within crew number new is, crew_count)) in
       record {
         ring = record {
           some_workers = omega (arith, workers_is, starts.ring.some_workers);
@@ -249,13 +246,13 @@ module _ (core : RingCore) (first : ℕ) (batches : List DemandBatch) (list : Li
           few_batches = omega (arith, batches_is, starts.ring.few_batches);
           edge_count = ap length edges_are ∙ (length-set empty 0 edge ∙ (count ∙ (starts.ring.edge_count ∙ sym workers_is)));
           worker_count = ap length crew_is ∙ (crew_count ∙ (starts.ring.worker_count ∙ sym workers_is));
-          rooms = λ number within. ap (λ (es : List Edge). room_at es number) edges_are
+          rooms = λ number within. ap (λ (es : List EdgeState). room_at es number) edges_are
               ∙ (room_kept empty 0 edge number room some ∙ (rooms number ∙ (starts.ring.rooms number (omega (arith, within, workers_is)) ∙ sym room_is)));
           each = λ number new is.
-              let there = ap (λ (ws : List Worker). slice_get ws number) (sym crew_is) ∙ is in
+              let there = ap (λ (ws : List WorkerState). slice_get ws number) (sym crew_is) ∙ is in
               let old = old_of number new there in
-              let it = starts.ring.each number (get_or core.crew.items number new) old in
-              let was = begun number (get_or core.crew.items number new) new old there in
+              let it = starts.ring.each number (get_or core.crew number new) old in
+              let was = begun number (get_or core.crew number new) new old there in
               record {
                 is_worker = was.is_worker;
                 number_is = was.same.same_number ∙ it.number_is;
@@ -268,13 +265,13 @@ module _ (core : RingCore) (first : ℕ) (batches : List DemandBatch) (list : Li
         stages = stages_is;
         may = subst (λ (n : ℕ). MayBePlayed n (window_in batches next)) (sym endpoints_is) (subst (MayBePlayed core.endpoints) (sym window_is) may_be_played);
         short = subst StreamsAreShort (sym window_is) (streams_short core.endpoints window may_be_played keeps pairs);
-        holds = subst (λ (w : Window). AllHold w next.edges.items) (sym window_is) (subst (AllHold window) (sym edges_are) (all_hold window empty edge starts.ring.some_workers emptied held taken sent));
+        holds = subst (λ (w : Window). AllHold w next.edges) (sym window_is) (subst (AllHold window) (sym edges_are) (all_hold window empty edge starts.ring.some_workers emptied held taken sent));
         plays = λ number new is.
-            let there = ap (λ (ws : List Worker). slice_get ws number) (sym crew_is) ∙ is in
+            let there = ap (λ (ws : List WorkerState). slice_get ws number) (sym crew_is) ∙ is in
             let old = old_of number new there in
-            let plays = plays_first (set empty 0 edge) pieces_sent number (get_or core.crew.items number new) new here old (begun number (get_or core.crew.items number new) new old there)
+            let plays = plays_first (set empty 0 edge) pieces_sent number (get_or core.crew number new) new here old (begun number (get_or core.crew number new) new old there)
             (none_taken empty edge emptied taken) (list_sent empty edge (pieces_before window 0) emptied some sent_here) in
-            subst (λ (n : ℕ). Plays batches (ends_between (window_in batches next) next.edges.items number (worker_after n number)) new) (sym workers_is)
-            (subst (λ (w : Window). Plays batches (ends_between w next.edges.items number (worker_after core.workers number)) new) (sym window_is)
-            (subst (λ (es : List Edge). Plays batches (ends_between window es number (worker_after core.workers number)) new) (sym edges_are) plays));
+            subst (λ (n : ℕ). Plays batches (ends_between (window_in batches next) next.edges number (worker_after n number)) new) (sym workers_is)
+            (subst (λ (w : Window). Plays batches (ends_between w next.edges number (worker_after core.workers number)) new) (sym window_is)
+            (subst (λ (es : List EdgeState). Plays batches (ends_between window es number (worker_after core.workers number)) new) (sym edges_are) plays));
       }

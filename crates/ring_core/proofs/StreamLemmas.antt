@@ -153,7 +153,7 @@ pub stream_has : (edge : EdgeInto) (stage place : ℕ) → worker_of edge.window
 unfolding edge_stream
 stream_has edge stage place own inside within = into_get edge.window edge.worker stage place own within (length edge.window.batches + 1) (omega arith)
 
-at_most : (b : Bool) (ps : List Part) (n : ℕ) → length ps ≤ n → length (cond b ps []) ≤ n
+pub at_most : (b : Bool) (ps : List Part) (n : ℕ) → length ps ≤ n → length (cond b ps []) ≤ n
 at_most true ps n few = few
 at_most false ps n few = omega arith
 

@@ -3,7 +3,7 @@ use Rattle.std.proofs.Common.{◌≡◌, ◌<◌, ◌≤◌, ◌+◌, ◌-◌, �
 use Rattle.std.specs.Prelude.{IsSome}
 use Rattle.greedy_rules.specs.Batches.{DemandBatch}
 use Rattle.slot_batches.specs.Pieces.{Part}
-use Rattle.ring_core.specs.declared.worker.Worker.{Worker}
+use Rattle.ring_core.specs.States.{WorkerState}
 use Rattle.ring_core.specs.declared.turn.Turn.{Turn}
 use Rattle.ring_core.specs.declared.turn.Turn.TheVariants.{Moved, NoPiece, NoRoom, Done}
 use Rattle.ring_core.specs.Windows.{worker_after, piece_given_next}
@@ -12,7 +12,7 @@ use Rattle.ring_core.specs.Ends.{Ends}
 use Rattle.ring_core.specs.Workers.{IsAt}
 use Rattle.ring_core.specs.Turns.{fed_at, given_at, piece_to_push, Answers}
 
-pub pushes_same : (ends : Ends) (w v : Worker) → IsAt w v → piece_to_push ends v ≡ piece_to_push ends w
+pub pushes_same : (ends : Ends) (w v : WorkerState) → IsAt w v → piece_to_push ends v ≡ piece_to_push ends w
 pushes_same ends w v same =
     let fed : fed_at ends v ≡ fed_at ends w = λ i. fed_from ends (same.same_number i) (same.same_stage i) in
     let given : given_at ends v ≡ given_at ends w = λ i. given_from ends (same.same_workers i) (same.same_number i) (same.same_stage i) in
@@ -24,7 +24,7 @@ pushes_same ends w v same =
     given_from : Ends → ℕ → ℕ → ℕ → ℕ
     given_from ends workers number stage = ends.sent - length (pieces_into ends.before.window (worker_after workers number) (stage + 1))
 
-module _ (batches : List DemandBatch) (w v : Worker) (same : IsAt w v) (old new : Ends) (empty full : ℕ → Type 0) where
+module _ (batches : List DemandBatch) (w v : WorkerState) (same : IsAt w v) (old new : Ends) (empty full : ℕ → Type 0) where
   within : v.stage < length batches → w.stage < length batches
   within below = subst (λ (n : ℕ). n < length batches) same.same_stage below
 

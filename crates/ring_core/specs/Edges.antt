@@ -1,8 +1,6 @@
 -- Edges as lists: what each holds, and the positions on it (this project's own profile).
-use Rattle.std.specs.Prelude.{◌≡◌, ◌≢◌, ◌<◌, ◌≤◌, ℕ, zero, suc, ◌+◌, ◌^◌, List, [], ◌∷◌, length, map, Option, Some, None, slice_get}
-use Rattle.std.specs.VecDeque.{deque_capacity}
-use Rattle.slot_batches.specs.Pieces.{part_of}
-use Rattle.ring_core.specs.declared.edge.Edge.{Edge}
+use Rattle.std.specs.Prelude.{◌≡◌, ◌≢◌, ◌<◌, ◌≤◌, ℕ, zero, suc, ◌+◌, ◌^◌, List, [], ◌∷◌, length, Option, Some, None, slice_get}
+use Rattle.ring_core.specs.States.{EdgeState}
 use Rattle.ring_core.specs.Windows.{Window}
 use Rattle.ring_core.specs.Streams.{EdgeInto, edge_stream}
 use Rattle.ring_core.specs.Ends.{Ends}
@@ -17,39 +15,39 @@ between (suc taken) (suc sent) [] = []
 between (suc taken) (suc sent) (x ∷ xs) = between taken sent xs
 
 -- the edge holds exactly the pieces of its stream that were sent and not yet taken
-pub record Holds (into : EdgeInto) (edge : Edge) : Type 0 where
+pub record Holds (into : EdgeInto) (edge : EdgeState) : Type 0 where
   pub order : edge.taken ≤ edge.sent
   pub within : edge.sent ≤ length (edge_stream into)
-  pub pieces : map part_of edge.pieces.items ≡ between edge.taken edge.sent (edge_stream into)
+  pub pieces : edge.pieces ≡ between edge.taken edge.sent (edge_stream into)
 
 -- so does each of a window's edges; edge k is the one into worker k
-pub record AllHold (window : Window) (edges : List Edge) : Type 0 where
-  pub each : (number : ℕ) (edge : Edge) → slice_get edges number ≡ Some edge → Holds (record { window = window; worker = number }) edge
+pub record AllHold (window : Window) (edges : List EdgeState) : Type 0 where
+  pub each : (number : ℕ) (edge : EdgeState) → slice_get edges number ≡ Some edge → Holds (record { window = window; worker = number }) edge
 
 -- the positions on an edge, and its room
-abbrev pub taken_of : Option Edge → ℕ
+abbrev pub taken_of : Option EdgeState → ℕ
 taken_of None = 0
 taken_of (Some edge) = edge.taken
 
-abbrev pub sent_of : Option Edge → ℕ
+abbrev pub sent_of : Option EdgeState → ℕ
 sent_of None = 0
 sent_of (Some edge) = edge.sent
 
-abbrev pub room_of : Option Edge → ℕ
+abbrev pub room_of : Option EdgeState → ℕ
 room_of None = 0
-room_of (Some edge) = deque_capacity edge.pieces
+room_of (Some edge) = edge.room
 
-abbrev pub taken_at : List Edge → ℕ → ℕ
+abbrev pub taken_at : List EdgeState → ℕ → ℕ
 taken_at edges number = taken_of (slice_get edges number)
 
-abbrev pub sent_at : List Edge → ℕ → ℕ
+abbrev pub sent_at : List EdgeState → ℕ → ℕ
 sent_at edges number = sent_of (slice_get edges number)
 
-abbrev pub room_at : List Edge → ℕ → ℕ
+abbrev pub room_at : List EdgeState → ℕ → ℕ
 room_at edges number = room_of (slice_get edges number)
 
 -- the two ends of a worker that pops from one of the edges and pushes to another
-abbrev pub ends_between : Window → List Edge → ℕ → ℕ → Ends
+abbrev pub ends_between : Window → List EdgeState → ℕ → ℕ → Ends
 ends_between window edges before after =
     record {
       before = record { window = window; worker = before };
@@ -63,16 +61,16 @@ abbrev pub StreamsAreShort : Window → Type 0
 StreamsAreShort window = (worker : ℕ) → length (edge_stream (record { window = window; worker = worker })) + 1 < 2 ^ 32
 
 -- but for what is taken from the one and sent into the other the edges are as they were
-pub record OthersStay (before after : ℕ) (old new : List Edge) : Type 0 where
+pub record OthersStay (before after : ℕ) (old new : List EdgeState) : Type 0 where
   pub count : length new ≡ length old
   pub taken : (number : ℕ) → number ≢ before → taken_at new number ≡ taken_at old number
   pub sent : (number : ℕ) → number ≢ after → sent_at new number ≡ sent_at old number
   pub rooms : (number : ℕ) → room_at new number ≡ room_at old number
 
 -- all that was sent was taken
-abbrev pub IsFoundEmpty : List Edge → ℕ → ℕ → Type 0
+abbrev pub IsFoundEmpty : List EdgeState → ℕ → ℕ → Type 0
 IsFoundEmpty edges number at = (sent_at edges number ≡ at) × (taken_at edges number ≡ at)
 
 -- there is no room for another
-abbrev pub IsFoundFull : List Edge → ℕ → ℕ → Type 0
+abbrev pub IsFoundFull : List EdgeState → ℕ → ℕ → Type 0
 IsFoundFull edges number at = (sent_at edges number ≡ at) × (taken_at edges number + room_at edges number ≡ at)

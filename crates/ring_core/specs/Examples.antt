@@ -1,9 +1,11 @@
 -- Small windows in full.
-use Rattle.std.specs.Prelude.{◌≡◌, ℕ, true, false, Bool, List, [], ◌∷◌, replicate}
+use Rattle.std.specs.Prelude.{◌≡◌, ◌<◌, ℕ, true, false, Bool, List, [], ◌∷◌, replicate}
 use Rattle.greedy_rules.specs.declared.flows.Item.{Item}
+use Rattle.greedy_rules.specs.declared.flows.Entry.{Entry}
 use Rattle.greedy_rules.specs.Batches.{DemandBatch}
 use Rattle.greedy_rules.specs.Examples.{opening, waiting, in_one_rack}
 use Rattle.slot_batches.specs.Pieces.{Part}
+use Rattle.ring_core.specs.Windows.{window_of, turns_of}
 use Rattle.ring_core.specs.Streams.{EdgeInto, edge_stream}
 
 abbrev pub part : ℕ → ℕ → List Item → Bool → Part
@@ -37,3 +39,14 @@ abbrev pub SixtyFiveItemsAreTwoPieces : Type 0
 SixtyFiveItemsAreTwoPieces =
     edge_stream (edge_into 0 1 (replicate 65 (waiting 0 1 0 0)) [])
     ≡ part 0 0 (replicate 64 (waiting 0 1 0 0)) false ∷ part 0 64 (waiting 0 1 0 0 ∷ []) true ∷ []
+
+-- One piece of the empty list is taken up, and one given; then one is taken up again, and one given. Two pieces of 65 items
+-- are taken up, and two given.
+abbrev pub EachPieceTakesATurn : Type 0
+EachPieceTakesATurn =
+    (turns_of (window_of [] (in_one_rack (opening 0 1 3 ∷ []) ∷ in_one_rack [] ∷ []) 0 2 2) ≡ 4)
+    × (turns_of (window_of (replicate 65 (waiting 0 1 0 0)) (in_one_rack [] ∷ []) 0 2 1) ≡ 4)
+
+-- an entry that opens a flow to endpoint 0, of one slot
+abbrev pub OpensOneSlot : Entry → Type 0
+OpensOneSlot entry = (0 < entry.flow.src) × (entry.flow.src < 132) × (entry.flow.dst ≡ 0) × (entry.opens ≡ true) × (entry.clear ≡ false) × (entry.add ≡ 1)

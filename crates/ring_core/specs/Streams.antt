@@ -1,6 +1,7 @@
 -- What flows through the edges of a ring in a window: the edge into a worker brings it the pieces of the lists before its own
 -- stages, one list after the other (this project's own profile).
-use Rattle.std.specs.Prelude.{◌≡◌, ℕ, zero, suc, ◌+◌, List, [], ◌++◌, length, Some, ◌==◌, slice_get, if◌then◌else◌}
+use Rattle.std.specs.Prelude.{◌≡◌, ℕ, zero, suc, ◌+◌, List, [], ◌∷◌, ◌++◌, length, Some, ◌==◌, slice_get, if◌then◌else◌}
+use Rattle.greedy_rules.specs.declared.flows.Item.{Item}
 use Rattle.slot_batches.specs.declared.piece.Piece.{Piece}
 use Rattle.slot_batches.specs.Pieces.{Part, part_of, pieces}
 use Rattle.ring_core.specs.Windows.{Window, list_before_stage, worker_of}
@@ -9,6 +10,11 @@ use Rattle.ring_core.specs.Windows.{Window, list_before_stage, worker_of}
 pub record EdgeInto : Type 0 where
   pub window : Window
   pub worker : ℕ
+
+-- the items of pieces, one piece after the other
+abbrev pub items_of : List Part → List Item
+items_of [] = []
+items_of (part ∷ parts) = part.items ++ items_of parts
 
 -- the pieces of the list before a stage, where the worker is the stage's
 abbrev pub pieces_at : Window → ℕ → ℕ → List Part

@@ -3,9 +3,8 @@ use Rattle.std.specs.Prelude.{◌≡◌, ◌<◌, ◌≤◌, ℕ, ◌+◌, ◌*�
 use Rattle.greedy_rules.specs.Batches.{DemandBatch}
 use Rattle.greedy_rules.specs.Demands.{AreBelow, opened}
 use Rattle.greedy_rules.specs.Schedule.{first_slot}
-use Rattle.slot_batches.specs.Pieces.{part_of}
 use Rattle.slot_batches.specs.Stands.{StageState, IsSameWork, Stands, endpoints_of, batch_size_of}
-use Rattle.ring_core.specs.declared.worker.Worker.{Worker}
+use Rattle.ring_core.specs.States.{WorkerState}
 use Rattle.ring_core.specs.Windows.{Window, MayBePlayed, batch_at, batch_of, first_slot_in, pieces_before, worker_after, is_fed, items_fed, piece_given_next}
 use Rattle.ring_core.specs.Streams.{pieces_into}
 use Rattle.ring_core.specs.Ends.{Ends}
@@ -20,16 +19,16 @@ pub record StageIsAt (endpoints : ℕ) (window : Window) (stage fed given : ℕ)
   pub stands : Stands (batch_of window stage) (items_fed window stage fed) (is_fed window stage fed) given state
 
 -- the worker has its stages: each of its number of slots a batch, and one for each of its own batches
-pub record IsWorker (worker : Worker) : Type 0 where
+pub record IsWorker (worker : WorkerState) : Type 0 where
   pub number : worker.number < worker.workers
   pub some_slots : 0 < worker.b
   pub few_batches : worker.batches < 2 ^ 16
-  pub endpoints : All (λ stage. endpoints_of stage ≡ worker.endpoints) worker.stages.items
-  pub sizes : All (λ stage. batch_size_of stage ≡ worker.b) worker.stages.items
-  pub enough : worker.batches ≤ own_stage worker.workers worker.number (length worker.stages.items)
+  pub endpoints : All (λ stage. endpoints_of stage ≡ worker.endpoints) worker.stages
+  pub sizes : All (λ stage. batch_size_of stage ≡ worker.b) worker.stages
+  pub enough : worker.batches ≤ own_stage worker.workers worker.number (length worker.stages)
 
 -- what the worker takes up: batches of its number of slots, of flows between its endpoints
-pub record MayBegin (worker : Worker) (first_batch : ℕ) (batches : List DemandBatch) : Type 0 where
+pub record MayBegin (worker : WorkerState) (first_batch : ℕ) (batches : List DemandBatch) : Type 0 where
   pub most : length batches ≤ worker.batches
   pub in_range : All (λ batch. AreBelow worker.endpoints (opened batch.entries)) batches
   pub numbers : (first_batch + length batches) * worker.b + 1 ≤ 2 ^ 32
@@ -46,7 +45,7 @@ HaveBegun endpoints b first_batch batches workers worker stages =
     → HasBegun endpoints b first_batch batches (own_stage workers worker place) state
 
 -- a window that the worker may have begun
-pub record IsWindowOf (worker : Worker) (first_batch : ℕ) (batches : List DemandBatch) (window : Window) : Type 0 where
+pub record IsWindowOf (worker : WorkerState) (first_batch : ℕ) (batches : List DemandBatch) (window : Window) : Type 0 where
   pub may : MayBePlayed worker.endpoints window
   pub batches_are : window.batches ≡ batches
   pub first_is : window.first_batch ≡ first_batch
@@ -64,12 +63,12 @@ first_ends window worker =
     }
 
 -- how many pieces the present stage gave, with the one that was refused
-abbrev pub given_by : Worker → ℕ → ℕ
+abbrev pub given_by : WorkerState → ℕ → ℕ
 given_by worker given = if is_some worker.held then given + 1 else given
 
 -- the worker has played these batches up to these ends: of its present stage's list it has taken so many pieces, and so
 -- many of the next it has sent
-pub record HasPlayed (batches : List DemandBatch) (ends : Ends) (worker : Worker) (fed given : ℕ) : Type 0 where
+pub record HasPlayed (batches : List DemandBatch) (ends : Ends) (worker : WorkerState) (fed given : ℕ) : Type 0 where
   pub is_worker : IsWorker worker
   pub window : IsWindowOf worker ends.before.window.first_batch batches ends.before.window
   pub before : ends.before.worker ≡ worker.number
@@ -83,25 +82,25 @@ pub record HasPlayed (batches : List DemandBatch) (ends : Ends) (worker : Worker
   pub sent_is : worker.sent ≡ length (pieces_into ends.before.window (worker_after worker.workers worker.number) (worker.stage + 1)) + given
   pub fed_within : fed ≤ pieces_before ends.before.window worker.stage
   pub given_within : given < pieces_before ends.before.window (worker.stage + 1)
-  pub held : IfSome worker.held (λ piece. (worker.stage < length batches) × (piece_given_next ends.before.window worker.stage fed given ≡ Some (part_of piece)))
+  pub held : IfSome worker.held (λ part. (worker.stage < length batches) × (piece_given_next ends.before.window worker.stage fed given ≡ Some part))
   pub past : length batches ≤ worker.stage → (fed ≡ 0) × (given ≡ 0)
-  pub ended : (place : ℕ) (state : StageState) → place < worker.place → slice_get worker.stages.items place ≡ Some state
+  pub ended : (place : ℕ) (state : StageState) → place < worker.place → slice_get worker.stages place ≡ Some state
       → StageIsAt worker.endpoints ends.before.window (own_stage worker.workers worker.number place) (pieces_before ends.before.window (own_stage worker.workers worker.number place))
       (pieces_before ends.before.window (own_stage worker.workers worker.number place + 1)) state
-  pub present : (state : StageState) → worker.stage < length batches → slice_get worker.stages.items worker.place ≡ Some state
+  pub present : (state : StageState) → worker.stage < length batches → slice_get worker.stages worker.place ≡ Some state
       → StageIsAt worker.endpoints ends.before.window worker.stage fed (given_by worker given) state
-  pub later : (place : ℕ) (state : StageState) → worker.place < place → own_stage worker.workers worker.number place < length batches → slice_get worker.stages.items place ≡ Some state
+  pub later : (place : ℕ) (state : StageState) → worker.place < place → own_stage worker.workers worker.number place < length batches → slice_get worker.stages place ≡ Some state
       → StageIsAt worker.endpoints ends.before.window (own_stage worker.workers worker.number place) 0 0 state
 
-abbrev pub Plays : List DemandBatch → Ends → Worker → Type 0
+abbrev pub Plays : List DemandBatch → Ends → WorkerState → Type 0
 Plays batches ends worker = (fed : ℕ) × (given : ℕ) × HasPlayed batches ends worker fed given
 
 -- all stages of the worker have ended
-abbrev pub HasEnded : List DemandBatch → Worker → Type 0
+abbrev pub HasEnded : List DemandBatch → WorkerState → Type 0
 HasEnded batches worker = length batches ≤ worker.stage
 
 -- it is the same worker
-pub record IsSameWorker (old new : Worker) : Type 0 where
+pub record IsSameWorker (old new : WorkerState) : Type 0 where
   pub same_number : new.number ≡ old.number
   pub same_workers : new.workers ≡ old.workers
   pub same_endpoints : new.endpoints ≡ old.endpoints
@@ -109,17 +108,17 @@ pub record IsSameWorker (old new : Worker) : Type 0 where
   pub same_b : new.b ≡ old.b
 
 -- it is at the same stage
-pub record IsAt (old new : Worker) : Type 0 where
+pub record IsAt (old new : WorkerState) : Type 0 where
   pub same_number : new.number ≡ old.number
   pub same_workers : new.workers ≡ old.workers
   pub same_stage : new.stage ≡ old.stage
 
 -- the stage is one of its own, and has ended
-abbrev pub IsEndedStage : Worker → ℕ → Type 0
+abbrev pub IsEndedStage : WorkerState → ℕ → Type 0
 IsEndedStage worker stage = (place : ℕ) × (place < worker.place) × (stage ≡ own_stage worker.workers worker.number place)
 
 -- the worker has begun a window of these batches, where so many pieces were sent into the edge after it before
-pub record HasBegunWith (first_batch : ℕ) (batches : List DemandBatch) (sent : ℕ) (old new : Worker) : Type 0 where
+pub record HasBegunWith (first_batch : ℕ) (batches : List DemandBatch) (sent : ℕ) (old new : WorkerState) : Type 0 where
   pub same : IsSameWorker old new
   pub is_worker : IsWorker new
   pub plays : (window : Window) → IsWindowOf old first_batch batches window → sent ≡ (first_ends window old.number).sent → Plays batches (first_ends window old.number) new

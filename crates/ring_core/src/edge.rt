@@ -1,5 +1,5 @@
-ghost use Rattle.std.specs.Prelude.{◌≡◌, ◌+◌, ◌<◌, ◌^◌, [], ◌∷◌, ◌++◌, MatchOption, MatchResult, IfOk};
-ghost use Rattle.std.specs.VecDeque.{deque_len, deque_capacity};
+ghost use Rattle.std.specs.Prelude.{◌≡◌, ◌+◌, ◌<◌, ◌^◌, [], ◌∷◌, ◌++◌, length, MatchOption, MatchResult, IfOk};
+ghost use Rattle.slot_batches.specs.Pieces.{part_of};
 
 use crate::link::Link;
 use greedy_rules::{Batch, DemandList};
@@ -7,6 +7,7 @@ use no_memory::NoMemory;
 use slot_batches::Piece;
 use std::alloc::Global;
 use std::collections::VecDeque;
+use std::marker::Model;
 use std::snapshot::Snapshot;
 
 /// An edge of fixed room: the pieces that were sent and not yet taken, and how many were taken and sent.
@@ -17,11 +18,22 @@ pub(crate) struct Edge {
     sent: u32,
 }
 
+impl Model for Edge {
+    ghost use Rattle.std.specs.Prelude.{map};
+    ghost use Rattle.std.specs.VecDeque.{deque_capacity};
+    ghost use Rattle.slot_batches.specs.Pieces.{part_of};
+    ghost use Rattle.ring_core.specs.States.{EdgeState};
+
+    ghost Value = { EdgeState };
+
+    ghost view = { λ e. record { pieces = map part_of e.pieces.items; taken = e.taken; sent = e.sent; room = deque_capacity e.pieces } };
+}
+
 impl Edge {
     /// With room for so many pieces. No later call takes memory.
     pub(crate) fn open(alloc: Global, room: usize) -> Result<Edge, NoMemory>
-        ensures empty { IfOk result (λ edge. edge.pieces.items ≡ []) }
-        ensures room { IfOk result (λ edge. deque_capacity edge.pieces ≡ room) }
+        ensures empty { IfOk result (λ edge. edge.pieces ≡ []) }
+        ensures room { IfOk result (λ edge. edge.room ≡ room) }
         ensures taken { IfOk result (λ edge. edge.taken ≡ 0) }
         ensures sent { IfOk result (λ edge. edge.sent ≡ 0) }
     {
@@ -34,10 +46,10 @@ impl Edge {
 
     /// It holds nothing, and its positions begin at 0.
     pub(crate) fn empty(&mut self)
-        ensures empty { self.new.pieces.items ≡ [] }
+        ensures empty { self.new.pieces ≡ [] }
         ensures taken { self.new.taken ≡ 0 }
         ensures sent { self.new.sent ≡ 0 }
-        ensures room { deque_capacity self.new.pieces ≡ deque_capacity self.old.pieces }
+        ensures room { self.new.room ≡ self.old.room }
     {
         self.pieces.clear();
         self.taken = 0;
@@ -47,10 +59,10 @@ impl Edge {
     pub(crate) fn take(&mut self) -> Option<Piece>
         requires { self.old.taken + 1 < 2 ^ 32 }
         ensures taken { MatchOption result
-            ((self.new.pieces.items ≡ self.old.pieces.items) × (self.old.pieces.items ≡ []) × (self.new.taken ≡ self.old.taken))
-            (λ piece. (self.old.pieces.items ≡ piece ∷ self.new.pieces.items) × (self.new.taken ≡ self.old.taken + 1)) }
+            ((self.new.pieces ≡ self.old.pieces) × (self.old.pieces ≡ []) × (self.new.taken ≡ self.old.taken))
+            (λ piece. (self.old.pieces ≡ part_of piece ∷ self.new.pieces) × (self.new.taken ≡ self.old.taken + 1)) }
         ensures sent { self.new.sent ≡ self.old.sent }
-        ensures room { deque_capacity self.new.pieces ≡ deque_capacity self.old.pieces }
+        ensures room { self.new.room ≡ self.old.room }
     {
         let piece = self.pieces.pop_front()?;
         self.taken += 1;
@@ -60,10 +72,10 @@ impl Edge {
     pub(crate) fn give(&mut self, piece: Piece) -> Result<(), Piece>
         requires { self.old.sent + 1 < 2 ^ 32 }
         ensures given { MatchResult result
-            (λ _. (self.new.pieces.items ≡ self.old.pieces.items ++ piece ∷ []) × (self.new.sent ≡ self.old.sent + 1) × (deque_len self.old.pieces < deque_capacity self.old.pieces))
-            (λ refused. (refused ≡ piece) × (self.new.pieces.items ≡ self.old.pieces.items) × (self.new.sent ≡ self.old.sent) × (deque_len self.old.pieces ≡ deque_capacity self.old.pieces)) }
+            (λ _. (self.new.pieces ≡ self.old.pieces ++ part_of piece ∷ []) × (self.new.sent ≡ self.old.sent + 1) × (length self.old.pieces < self.old.room))
+            (λ refused. (refused ≡ piece) × (self.new.pieces ≡ self.old.pieces) × (self.new.sent ≡ self.old.sent) × (length self.old.pieces ≡ self.old.room)) }
         ensures taken { self.new.taken ≡ self.old.taken }
-        ensures room { deque_capacity self.new.pieces ≡ deque_capacity self.old.pieces }
+        ensures room { self.new.room ≡ self.old.room }
     {
         if self.pieces.len() == self.pieces.capacity() {
             return Err(piece);

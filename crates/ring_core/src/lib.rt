@@ -8,9 +8,12 @@ mod ring;
 mod turn;
 mod worker;
 
-pub use laws::small_windows;
+pub use laws::{every_window_is_small, small_windows};
 pub use link::Link;
 pub use no_memory::NoMemory;
 pub use ring::RingCore;
 pub use turn::Turn;
 pub use worker::Worker;
+
+#[cfg(test)]
+mod tests;

@@ -1,26 +1,27 @@
-ghost use Rattle.std.specs.Prelude.{◌≡◌, ◌<◌, ◌≤◌, ◌+◌, ◌^◌, ◌↔◌, ℕ, List, [], length, IsTrue, true, IfOk, All, Some, slice_get, map, ◌==◌, nat_le, if◌then◌else◌};
-ghost use Rattle.std.specs.VecDeque.{deque_capacity};
+ghost use Rattle.std.specs.Prelude.{◌≡◌, ◌<◌, ◌≤◌, ◌+◌, ◌-◌, ◌*◌, ◌^◌, ◌↔◌, ℕ, List, [], ◌++◌, length, replicate, IsTrue, true, IfOk, All, Some, slice_get, ◌==◌, nat_le, if◌then◌else◌};
 ghost use Rattle.greedy_rules.specs.Batches.{DemandBatch};
 ghost use Rattle.greedy_rules.specs.Recorded.{MayBeApplied};
-ghost use Rattle.greedy_rules.specs.Schedule.{first_slot};
+ghost use Rattle.greedy_rules.specs.Schedule.{first_slot, schedule_from, rest_from};
 ghost use Rattle.slot_batches.specs.NextList.{IsListBefore};
 ghost use Rattle.slot_batches.specs.Pieces.{part_of, piece_count, piece_at, pieces};
-ghost use Rattle.ring_core.specs.declared.edge.Edge.{Edge as EdgeState};
-ghost use Rattle.ring_core.specs.declared.worker.Worker.{Worker as WorkerState};
-ghost use Rattle.ring_core.specs.Windows.{window_of, worker_after};
+ghost use Rattle.ring_core.specs.States.{EdgeState, WorkerState};
+ghost use Rattle.ring_core.specs.Windows.{window_of, turns_of};
 ghost use Rattle.ring_core.specs.Workers.{Plays, IsWorker, MayBegin, HasBegunWith, IsSameWorker};
+ghost use Rattle.ring_core.specs.declared.turn.Turn.TheVariants.{Moved};
+ghost use Rattle.ring_core.specs.Streams.{items_of};
 ghost use Rattle.ring_core.specs.Turns.{Answers};
-ghost use Rattle.ring_core.specs.Edges.{taken_at, sent_at, room_at, AllHold, StreamsAreShort, OthersStay, IsFoundEmpty, IsFoundFull, ends_between};
-ghost use Rattle.ring_core.specs.Cores.{IsRing, IsFinished, HoldsTheLastList, AreCrewed, IsPlaying, AnswersIn, OthersWait, window_in};
+ghost use Rattle.ring_core.specs.Edges.{room_at, AllHold, StreamsAreShort, OthersStay, IsFoundEmpty, IsFoundFull, ends_between};
+ghost use Rattle.ring_core.specs.Cores.{IsRing, IsSameRing, IsFinished, IsGoing, HoldsTheLastList, HasJustBegun, HasRoomForTwo, AreCrewed, IsPlaying, AnswersIn, CanMove, OthersWait, window_in};
 
 use crate::edge::{Edge, ListLink};
 use crate::turn::Turn;
 use crate::worker::Worker;
 use arrayvec::ArrayVec;
-use greedy_rules::{Batch, DemandList, flows_fit_pairs};
+use greedy_rules::{Batch, DemandList, Item, SlotTable, flows_fit_pairs};
 use no_memory::NoMemory;
 use slot_batches::{Piece, every_batch_leaves_a_list};
 use std::alloc::Global;
+use std::marker::Model;
 use std::snapshot::Snapshot;
 
 /// A ring of workers over edges of fixed room, of which any may take the next turn.
@@ -37,6 +38,14 @@ pub struct RingCore {
     stages: usize,
     edges: Vec<Edge>,
     crew: Vec<Worker>,
+}
+
+impl Model for RingCore {
+    ghost use Rattle.ring_core.specs.States.{RingState};
+
+    ghost Value = { RingState };
+
+    ghost view = { λ r. record { workers = r.workers; endpoints = r.endpoints; batches = r.batches; b = r.b; room = r.room; list = r.list.value.items; first_batch = r.first_batch; stages = r.stages; edges = r.edges.items; crew = r.crew.items } };
 }
 
 impl RingCore {
@@ -89,8 +98,8 @@ impl RingCore {
         requires room { piece_count list.old.items ≤ self.old.room }
         ensures playing { IsPlaying batches.now self.new }
         ensures window { window_in batches.now self.new ≡ window_of list.old.items batches.now first_batch self.old.b self.old.workers }
-        ensures none_taken { (number : ℕ) → taken_at self.new.edges.items number ≡ 0 }
-        ensures list_sent { (number : ℕ) → sent_at self.new.edges.items number ≡ (if number == 0 then piece_count list.old.items else 0) }
+        ensures begun { HasJustBegun self.new }
+        ensures same { IsSameRing self.old self.new }
         ensures list { list.new.items ≡ [] }
         ensures spare { list.new.spare ≡ list.old.spare + length list.old.items }
     {
@@ -127,6 +136,7 @@ impl RingCore {
         ensures window { window_in batches.now self.new ≡ window_in batches.now self.old }
         ensures answer { AnswersIn batches.now self.old self.new worker result }
         ensures others { OthersWait worker self.old self.new }
+        ensures moves { CanMove batches.now self.old worker → result ≡ Moved }
     {
         let before = worker as usize;
         let after = (before + 1) % self.edges.len();
@@ -142,12 +152,119 @@ impl RingCore {
             after,
         )
     }
+
+    /// A worker whose next turn moves a piece: the one of the earliest stage that has not ended.
+    pub fn movable(&self) -> u16
+        requires going { IsGoing self.now }
+        requires room { (batches : List DemandBatch) × IsPlaying batches self.now × HasRoomForTwo batches self.now }
+        ensures worker { result < self.now.workers }
+        ensures moves { (batches : List DemandBatch) → IsPlaying batches self.now → HasRoomForTwo batches self.now → CanMove batches self.now result }
+    {
+        let mut least = 0;
+        for number in 1..self.workers {
+            if self.crew[number as usize].is_behind(&self.crew[least as usize]) {
+                least = number;
+            }
+        }
+        least
+    }
+
+    /// Plays the window to its end, each turn that of a worker that can move, and answers how many turns these were: as many as
+    /// the stages take up and give pieces.
+    pub fn run_out(&mut self, batches: &[Batch]) -> u64
+        requires playing { IsPlaying batches.now self.old }
+        requires begun { HasJustBegun self.old }
+        requires room { HasRoomForTwo batches.now self.old }
+        ensures playing { IsPlaying batches.now self.new }
+        ensures window { window_in batches.now self.new ≡ window_in batches.now self.old }
+        ensures finished { IsFinished self.new }
+        ensures turns { result ≡ turns_of (window_in batches.now self.old) }
+        ensures same { IsSameRing self.old self.new }
+    {
+        every_batch_leaves_a_list();
+        flows_fit_pairs();
+        let mut turns = 0;
+        while !self.finished() {
+            let worker = self.movable();
+            let _ = self.step(batches, worker);
+            turns += 1;
+        }
+        turns
+    }
+
+    /// Takes the list that is left out of the ring, and copies the slots: slot i of stage s, both counted from 0, to place
+    /// `s * b + i` of `out`, whose other places are emptied.
+    pub fn take(&mut self, list: &mut DemandList, out: &mut SlotTable)
+        requires finished { IsFinished self.old }
+        requires room { (batches : List DemandBatch) × IsPlaying batches self.old × (length (rest_from self.old.b self.old.first_batch self.old.list batches) ≤ length list.old.items + list.old.spare) }
+        requires places { self.old.stages * self.old.b ≤ length out.old.slots }
+        requires serves { out.old.endpoints ≡ self.old.endpoints }
+        ensures list { (batches : List DemandBatch) → IsPlaying batches self.old → list.new.items ≡ rest_from self.old.b self.old.first_batch self.old.list batches }
+        ensures spare { length list.new.items + list.new.spare ≡ length list.old.items + list.old.spare }
+        ensures slots { (batches : List DemandBatch) →
+            IsPlaying batches self.old →
+            out.new.slots ≡ schedule_from self.old.b self.old.first_batch self.old.list batches ++ replicate (length out.old.slots - self.old.stages * self.old.b) [] }
+        ensures endpoints { out.new.endpoints ≡ out.old.endpoints }
+        ensures ring { IsRing self.new }
+        ensures same { IsSameRing self.old self.new }
+        ensures empty { (number : ℕ) (edge : EdgeState) → slice_get self.new.edges number ≡ Some edge → edge.pieces ≡ [] }
+    {
+        out.clear();
+        self.copy_slots(out);
+        list.clear();
+        let last = self.stages % self.edges.len();
+        take_list(&mut self.edges[last], list);
+        empty_edges(&mut self.edges);
+    }
+
+    /// Copies the slots of every stage into a table of empty slots.
+    fn copy_slots(&self, out: &mut SlotTable)
+        requires finished { IsFinished self.now }
+        requires playing { (batches : List DemandBatch) × IsPlaying batches self.now }
+        requires empty { out.old.slots ≡ replicate (length out.old.slots) [] }
+        requires places { self.now.stages * self.now.b ≤ length out.old.slots }
+        requires serves { out.old.endpoints ≡ self.now.endpoints }
+        ensures slots { (batches : List DemandBatch) →
+            IsPlaying batches self.now →
+            out.new.slots ≡ schedule_from self.now.b self.now.first_batch self.now.list batches ++ replicate (length out.old.slots - self.now.stages * self.now.b) [] }
+        ensures endpoints { out.new.endpoints ≡ out.old.endpoints }
+    {
+        let _places = out.slots();
+        for stage in 0..self.stages {
+            let worker = &self.crew[stage % self.crew.len()];
+            out.copy(worker.slots(stage as u32), (stage * self.b as usize) as u16);
+        }
+    }
+}
+
+/// Takes all pieces out of an edge, and appends their items to the list.
+fn take_list(edge: &mut Edge, list: &mut DemandList)
+    requires room { length (items_of edge.old.pieces) ≤ list.old.spare }
+    requires counts { edge.old.taken + length edge.old.pieces + 1 < 2 ^ 32 }
+    ensures items { list.new.items ≡ list.old.items ++ items_of edge.old.pieces }
+    ensures spare { length list.new.items + list.new.spare ≡ length list.old.items + list.old.spare }
+    ensures room { edge.new.room ≡ edge.old.room }
+{
+    while let Some(piece) = edge.take() {
+        append_items(list, &piece.items);
+    }
+}
+
+/// Appends the items, for which there is room.
+fn append_items(list: &mut DemandList, items: &[Item])
+    requires { length items.now ≤ list.old.spare }
+    ensures items { list.new.items ≡ list.old.items ++ items.now }
+    ensures spare { list.new.spare + length items.now ≡ list.old.spare }
+{
+    for item in items {
+        list.push(*item);
+    }
 }
 
 /// An edge into each of so many workers.
 fn open_edges(alloc: Global, workers: u16, room: u32) -> Result<Vec<Edge>, NoMemory>
     ensures count { IfOk result (λ edges. length edges.items ≡ workers) }
-    ensures rooms { IfOk result (λ edges. All (λ edge. deque_capacity edge.pieces ≡ room) edges.items) }
+    ensures rooms { IfOk result (λ edges. All (λ edge. edge.room ≡ room) edges.items) }
 {
     let mut edges = Vec::with_capacity(alloc, workers as usize)?;
     for _ in 0..workers {
@@ -179,7 +296,7 @@ fn open_crew(
 /// Empties every edge.
 fn empty_edges(edges: &mut [Edge])
     ensures count { length edges.new ≡ length edges.old }
-    ensures empty { (number : ℕ) (edge : EdgeState) → slice_get edges.new number ≡ Some edge → (edge.pieces.items ≡ []) × (edge.taken ≡ 0) × (edge.sent ≡ 0) }
+    ensures empty { (number : ℕ) (edge : EdgeState) → slice_get edges.new number ≡ Some edge → (edge.pieces ≡ []) × (edge.taken ≡ 0) × (edge.sent ≡ 0) }
     ensures rooms { (number : ℕ) → room_at edges.new number ≡ room_at edges.old number }
 {
     for edge in edges {
@@ -209,12 +326,12 @@ fn piece_from(list: &DemandList, place: usize) -> Piece
 /// Sends the pieces of the list into an edge that is empty, and answers how many these are.
 fn give_list(edge: &mut Edge, list: &DemandList) -> u32
     requires few { length list.now.items ≤ 65536 }
-    requires empty { (edge.old.pieces.items ≡ []) × (edge.old.taken ≡ 0) × (edge.old.sent ≡ 0) }
-    requires room { piece_count list.now.items ≤ deque_capacity edge.old.pieces }
-    ensures pieces { map part_of edge.new.pieces.items ≡ pieces 0 list.now.items }
+    requires empty { (edge.old.pieces ≡ []) × (edge.old.taken ≡ 0) × (edge.old.sent ≡ 0) }
+    requires room { piece_count list.now.items ≤ edge.old.room }
+    ensures pieces { edge.new.pieces ≡ pieces 0 list.now.items }
     ensures taken { edge.new.taken ≡ 0 }
     ensures sent { edge.new.sent ≡ piece_count list.now.items }
-    ensures room { deque_capacity edge.new.pieces ≡ deque_capacity edge.old.pieces }
+    ensures room { edge.new.room ≡ edge.old.room }
     ensures count { result ≡ piece_count list.now.items }
 {
     let count = list.len().saturating_sub(1) / 64 + 1;

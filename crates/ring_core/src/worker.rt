@@ -1,9 +1,8 @@
-ghost use Rattle.std.specs.Prelude.{◌≡◌, ◌<◌, ◌≤◌, ◌+◌, ◌*◌, ◌^◌, ℕ, List, ◌++◌, length, false, None, Some, IfOk, option_map, All, nat_le, if◌then◌else◌};
+ghost use Rattle.std.specs.Prelude.{◌≡◌, ◌<◌, ◌≤◌, ◌+◌, ◌*◌, ◌^◌, ℕ, List, ◌++◌, length, false, None, Some, IfOk, option_map, All, nat_le, nat_lt, if◌then◌else◌};
 ghost use Rattle.greedy_rules.specs.declared.flows.Item.{Item};
 ghost use Rattle.greedy_rules.specs.Batches.{DemandBatch, entry_of};
 ghost use Rattle.greedy_rules.specs.Demands.{need_with, AreBelow, opened};
-ghost use Rattle.slot_batches.specs.declared.piece.Piece.{Piece as PieceState};
-ghost use Rattle.slot_batches.specs.Pieces.{part_of};
+ghost use Rattle.slot_batches.specs.Pieces.{Part, part_of};
 ghost use Rattle.slot_batches.specs.Stands.{endpoints_of, batch_size_of, first_slot_of, number_of, IsSameWork, MayBeFed, Stands};
 ghost use Rattle.ring_core.specs.Windows.{Window, slots_in};
 ghost use Rattle.ring_core.specs.Streams.{IsPieceAt};
@@ -19,6 +18,7 @@ use slot_batches::{
     Piece, Stage, early_pieces_are_of_the_list, every_batch_leaves_a_list, lists_may_be_fed,
 };
 use std::alloc::Global;
+use std::marker::Model;
 
 /// A worker of the ring. Of so many workers, number i has the stages i, i and so many more, and so on, a stage for each batch
 /// of a window.
@@ -35,6 +35,16 @@ pub struct Worker {
     taken: u32,
     sent: u32,
     held: Option<Piece>,
+}
+
+impl Model for Worker {
+    ghost use Rattle.std.specs.Prelude.{option_map};
+    ghost use Rattle.slot_batches.specs.Pieces.{part_of};
+    ghost use Rattle.ring_core.specs.States.{WorkerState};
+
+    ghost Value = { WorkerState };
+
+    ghost view = { λ w. record { number = w.number; workers = w.workers; endpoints = w.endpoints; batches = w.batches; b = w.b; stages = w.stages.items; place = w.place; stage = w.stage; taken = w.taken; sent = w.sent; held = option_map part_of w.held } };
 }
 
 impl Worker {
@@ -123,6 +133,13 @@ impl Worker {
         self.stage as usize >= batches
     }
 
+    /// Whether it is at an earlier stage than the other.
+    pub(crate) fn is_behind(&self, other: &Worker) -> bool
+        ensures { result ≡ nat_lt self.now.stage other.now.stage }
+    {
+        self.stage < other.stage
+    }
+
     /// Takes a turn: hands a piece on where there is one, and else takes one up; at most one call of the link.
     pub fn turn<L: Link>(&mut self, batches: &[Batch], link: &mut L) -> Turn
         requires plays { Plays batches.now (L.ends link.old) self.old }
@@ -151,7 +168,7 @@ impl Worker {
         ensures plays { (batches : List DemandBatch) → (ends : Ends) →
             Plays batches ends self.old →
             self.old.stage < length batches →
-            Plays batches ends (record self.new { held = result }) }
+            Plays batches ends (record self.new { held = option_map part_of result }) }
         ensures held { self.new.held ≡ None }
         ensures same { IsAt self.old self.new }
         ensures worker { IsSameWorker self.old self.new }
@@ -166,15 +183,15 @@ impl Worker {
 
     /// Pushes the piece; a refused one stays with the worker.
     fn hand_on<L: Link>(&mut self, piece: Piece, link: &mut L) -> Turn
-        requires plays { (batches : List DemandBatch) × Plays batches (L.ends link.old) (record self.old { held = Some piece }) × (self.old.stage < length batches) }
+        requires plays { (batches : List DemandBatch) × Plays batches (L.ends link.old) (record self.old { held = Some (part_of piece) }) × (self.old.stage < length batches) }
         requires held { self.old.held ≡ None }
         requires ready { L.ready link.old }
         ensures plays { (batches : List DemandBatch) →
-            Plays batches (L.ends link.old) (record self.old { held = Some piece }) →
+            Plays batches (L.ends link.old) (record self.old { held = Some (part_of piece) }) →
             Plays batches (L.ends link.new) self.new }
         ensures ready { L.ready link.new × L.stays link.old link.new }
         ensures answer { (batches : List DemandBatch) →
-            Plays batches (L.ends link.old) (record self.old { held = Some piece }) →
+            Plays batches (L.ends link.old) (record self.old { held = Some (part_of piece) }) →
             Answers batches self.old (L.ends link.old) (L.ends link.new) (L.found_empty link.new) (L.found_full link.new) result }
         ensures worker { IsSameWorker self.old self.new }
     {
@@ -195,11 +212,11 @@ impl Worker {
 
     /// Counts a piece that was sent. With the end of its list the present stage has ended, and the next one follows.
     fn count_sent(&mut self, end: bool)
-        requires plays { (batches : List DemandBatch) × (ends : Ends) × (piece : PieceState) × Plays batches ends (record self.old { held = Some piece }) × (piece.end ≡ end) }
+        requires plays { (batches : List DemandBatch) × (ends : Ends) × (part : Part) × Plays batches ends (record self.old { held = Some part }) × (part.end ≡ end) }
         requires held { self.old.held ≡ None }
-        ensures plays { (batches : List DemandBatch) → (ends : Ends) → (piece : PieceState) →
-            Plays batches ends (record self.old { held = Some piece }) →
-            piece.end ≡ end →
+        ensures plays { (batches : List DemandBatch) → (ends : Ends) → (part : Part) →
+            Plays batches ends (record self.old { held = Some part }) →
+            part.end ≡ end →
             Plays batches (one_sent ends) self.new }
         ensures worker { IsSameWorker self.old self.new }
     {
@@ -257,6 +274,7 @@ impl Worker {
         requires { (batches : List DemandBatch) × (ends : Ends) × Plays batches ends self.now × IsEndedStage self.now stage }
         ensures slots { (batches : List DemandBatch) → (ends : Ends) → Plays batches ends self.now → result.now.slots ≡ slots_in ends.before.window stage }
         ensures endpoints { result.now.endpoints ≡ self.now.endpoints }
+        ensures count { length result.now.slots ≡ self.now.b }
     {
         self.stages[(stage / u32::from(self.workers)) as usize].slots()
     }

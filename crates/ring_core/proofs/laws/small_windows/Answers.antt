@@ -18,3 +18,7 @@ returns-clause-without_a_stage c = refl
 pub returns-clause-two_pieces : goal.returns-clause-two_pieces
 unfolding list_before_stage edge_stream
 returns-clause-two_pieces c = refl
+
+pub returns-clause-turns : goal.returns-clause-turns
+unfolding list_before_stage
+returns-clause-turns c = (refl, refl)

@@ -1,13 +1,13 @@
 use Rattle.std.proofs.Common.{◌≡◌, ◌<◌, ◌+◌, ℕ, List, nat_le, if◌then◌else◌, length, get_or, Some, slice_get, refl, sym, ap, ◌∙◌, subst, arith, length-set}
 use Rattle.std.proofs.lemmas.Option.{slice_get_read, slice_get_within, same_Some}
-use Rattle.ring_core.specs.declared.worker.Worker.{Worker}
+use Rattle.ring_core.specs.States.{WorkerState}
 use Rattle.ring_core.specs.Workers.{HasBegunWith}
 use Rattle.ring_core.proofs.PlayLemmas.{get_set_other}
 use Rattle.ring_core.proofs.EdgeLemmas.{set_each}
 use Rattle.ring_core.proofs.ring.begin_crew.Goals as goal
 
 -- the worker that is next
-next : (items crew : List Worker) (at : ℕ) (d : Worker) → at < length items → d ≡ get_or items at d → slice_get items at ≡ slice_get crew at → slice_get crew at ≡ Some (get_or items at d)
+next : (items crew : List WorkerState) (at : ℕ) (d : WorkerState) → at < length items → d ≡ get_or items at d → slice_get items at ≡ slice_get crew at → slice_get crew at ≡ Some (get_or items at d)
 next items crew at d within is same = sym same ∙ slice_get_read items (length items) at (get_or items at d) refl within (ap (get_or items at) is)
 
 pub begin-requires-clause-worker : goal.begin-requires-clause-worker
@@ -26,18 +26,18 @@ pub loop-worker-preserved : goal.loop-worker-preserved
 loop-worker-preserved c =
     let was = c.loop-worker.invariant in
     let at : ℕ = c.loop-worker.worker-index in
-    let items : List Worker = c.loop-worker.worker-items in
-    let new : Worker = c.begin.new.self in
+    let items : List WorkerState = c.loop-worker.worker-items in
+    let new : WorkerState = c.begin.new.self in
     let here = next items c.args.crew.now at c.worker-item.result (omega (arith, c.loop-worker-test.true, was.count)) c.worker-item.is (was.rest at (omega arith)) in
-    let sent : Worker → ℕ = λ w. if nat_le w.workers (w.number + 1) then c.args.pieces else 0 in
+    let sent : WorkerState → ℕ = λ w. if nat_le w.workers (w.number + 1) then c.args.pieces else 0 in
     let told = c.begin.ensures in
     record {
       count = length-set items at new ∙ was.count;
       rest = λ number past. get_set_other items at number new (λ q. omega (arith, q, past)) ∙ was.rest number (omega (arith, past));
-      begun = set_each (λ number w. (old : Worker) → slice_get c.args.crew.now number ≡ Some old → HasBegunWith c.args.first_batch c.args.batches.now (sent old) old w) items at new
+      begun = set_each (λ number w. (old : WorkerState) → slice_get c.args.crew.now number ≡ Some old → HasBegunWith c.args.first_batch c.args.batches.now (sent old) old w) items at new
           (λ old is.
           let same : get_or items at c.worker-item.result ≡ old = same_Some _ old (sym here ∙ is) in
-          subst (λ (w : Worker). HasBegunWith c.args.first_batch c.args.batches.now (sent w) w new) same
+          subst (λ (w : WorkerState). HasBegunWith c.args.first_batch c.args.batches.now (sent w) w new) same
           (record { same = told.same; is_worker = told.worker; plays = λ window is_window sent_is. told.plays window is_window (c.sent_before-sent.ensures ∙ sent_is) })) was.begun;
     }
 

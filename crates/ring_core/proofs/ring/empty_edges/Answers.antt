@@ -1,6 +1,6 @@
 use Rattle.std.proofs.Common.{◌≡◌, ◌<◌, ℕ, List, [], length, get_or, refl, sym, ap, ◌∙◌, arith, length-set}
 use Rattle.std.proofs.lemmas.Option.{slice_get_read, slice_get_within}
-use Rattle.ring_core.specs.declared.edge.Edge.{Edge}
+use Rattle.ring_core.specs.States.{EdgeState}
 use Rattle.ring_core.specs.Edges.{room_of}
 use Rattle.ring_core.proofs.EdgeLemmas.{set_each, room_kept}
 use Rattle.ring_core.proofs.ring.empty_edges.Goals as goal
@@ -9,14 +9,14 @@ pub loop-edge-preserved : goal.loop-edge-preserved
 loop-edge-preserved c =
     let was = c.loop-edge.invariant in
     let at : ℕ = c.loop-edge.edge-index in
-    let items : List Edge = c.loop-edge.edge-items in
+    let items : List EdgeState = c.loop-edge.edge-items in
     let within : at < length items = omega (arith, c.loop-edge-test.true, was.count) in
-    let old : Edge = get_or items at c.edge-item.result in
+    let old : EdgeState = get_or items at c.edge-item.result in
     let is : old ≡ get_or items at old = ap (get_or items at) c.edge-item.is in
     let room = c.empty.ensures.room ∙ sym (ap room_of (slice_get_read items (length items) at old refl within is)) in
     record {
       count = length-set items at c.empty.new.self ∙ was.count;
-      empty = set_each (λ k e. (e.pieces.items ≡ []) × (e.taken ≡ 0) × (e.sent ≡ 0)) items at c.empty.new.self (c.empty.ensures.empty, c.empty.ensures.taken, c.empty.ensures.sent) was.empty;
+      empty = set_each (λ k e. (e.pieces ≡ []) × (e.taken ≡ 0) × (e.sent ≡ 0)) items at c.empty.new.self (c.empty.ensures.empty, c.empty.ensures.taken, c.empty.ensures.sent) was.empty;
       rooms = λ number. room_kept items at c.empty.new.self number room within ∙ was.rooms number;
     }
 

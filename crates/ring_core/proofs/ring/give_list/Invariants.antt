@@ -1,13 +1,12 @@
 use Rattle.std.proofs.Common.{◌≡◌, map}
 use Rattle.std.specs.List.{range_with_len}
-use Rattle.std.specs.VecDeque.{deque_capacity}
-use Rattle.slot_batches.specs.Pieces.{part_of, piece_at}
+use Rattle.slot_batches.specs.Pieces.{piece_at}
 use Rattle.ring_core.proofs.ring.give_list.Given as goal
 
 abbrev pub invariant-loop-place : goal.invariant-loop-place
 invariant-loop-place l = record {
-  pieces : map part_of l.edge.pieces.items ≡ map (piece_at 0 l.list.items) (range_with_len 0 l.place);
+  pieces : l.edge.pieces ≡ map (piece_at 0 l.list.items) (range_with_len 0 l.place);
   taken : l.edge.taken ≡ 0;
   sent : l.edge.sent ≡ l.place;
-  room : deque_capacity l.edge.pieces ≡ deque_capacity l.fn.edge.pieces;
+  room : l.edge.room ≡ l.fn.edge.room;
 }

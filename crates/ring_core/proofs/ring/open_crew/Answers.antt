@@ -1,5 +1,5 @@
 use Rattle.std.proofs.Common.{◌≡◌, ℕ, List, [], ◌∷◌, ◌++◌, length, slice_get, sym, ap, ◌∙◌, subst, arith, length-append}
-use Rattle.ring_core.specs.declared.worker.Worker.{Worker}
+use Rattle.ring_core.specs.States.{WorkerState}
 use Rattle.ring_core.specs.Cores.{IsCrewed}
 use Rattle.ring_core.proofs.EdgeLemmas.{get_push}
 use Rattle.ring_core.proofs.ring.open_crew.Goals as goal
@@ -7,8 +7,8 @@ use Rattle.ring_core.proofs.ring.open_crew.Goals as goal
 pub loop-number-preserved : goal.loop-number-preserved
 loop-number-preserved c =
     let was = c.loop-number.invariant in
-    let old : List Worker = c.loop-number.crew.items in
-    let new : Worker = c.in_ok-open.field-0 in
+    let old : List WorkerState = c.loop-number.crew.items in
+    let new : WorkerState = c.in_ok-open.field-0 in
     let items : c.push.new.self.items ≡ old ++ new ∷ [] = c.in_ok-push.ensures.items in
     let told = c.in_ok-open.ensures in
     let this : IsCrewed c.args.workers c.args.endpoints c.args.batches c.args.b c.loop-number.number new =
@@ -17,5 +17,5 @@ loop-number-preserved c =
       count = omega (arith, ap length items, length-append old (new ∷ []), was.count);
       each = λ number worker is.
           get_push (IsCrewed c.args.workers c.args.endpoints c.args.batches c.args.b) old new number worker
-          (subst (λ (n : ℕ). IsCrewed c.args.workers c.args.endpoints c.args.batches c.args.b n new) (sym was.count) this) was.each (sym (ap (λ (ws : List Worker). slice_get ws number) items) ∙ is);
+          (subst (λ (n : ℕ). IsCrewed c.args.workers c.args.endpoints c.args.batches c.args.b n new) (sym was.count) this) was.each (sym (ap (λ (ws : List WorkerState). slice_get ws number) items) ∙ is);
     }

@@ -1,5 +1,5 @@
 use Rattle.std.proofs.Common.{◌≡◌, ℕ, get_or, refl, ap, subst, arith, length-set}
-use Rattle.ring_core.specs.declared.edge.Edge.{Edge}
+use Rattle.ring_core.specs.States.{EdgeState}
 use Rattle.ring_core.specs.Windows.{window_of}
 use Rattle.ring_core.specs.Streams.{IsPieceAt}
 use Rattle.ring_core.specs.Edges.{sent_of}
@@ -10,7 +10,7 @@ pub give-requires : goal.give-requires
 give-requires c =
     let l = c.args.self.now in
     let window = window_of l.list.now.value.items l.batches.now l.first_batch l.b l.workers in
-    let old : Edge = get_or l.edges.now l.after c.index-self-after.result in
+    let old : EdgeState = get_or l.edges.now l.after c.index-self-after.result in
     let is : old ≡ get_or l.edges.now l.after old = ap (get_or l.edges.now l.after) c.index-self-after.is in
     let held = holds window l.edges.now l.after old old c.requires.ready.1 is c.requires.ready.3 in
     omega (arith, held.within, c.requires.ready.2 l.after)
@@ -20,7 +20,7 @@ returns-clause-ready c =
     let l = c.args.self.now in
     let r = c.requires.ready in
     let window = window_of l.list.now.value.items l.batches.now l.first_batch l.b l.workers in
-    let old : Edge = get_or l.edges.now l.after c.index-self-after.result in
+    let old : EdgeState = get_or l.edges.now l.after c.index-self-after.result in
     let is : old ≡ get_or l.edges.now l.after old = ap (get_or l.edges.now l.after) c.index-self-after.is in
     let count = length-set l.edges.now l.after c.give.new.self in
     let next = subst (λ (n : ℕ). IsPieceAt (record { window = window; worker = l.after }) n c.args.piece) (old_at window l.edges.now l.after old c.give.new.self r.1 is r.3 sent_of) c.requires.next in (
@@ -33,6 +33,6 @@ returns-clause-pushed c =
     let l = c.args.self.now in
     let r = c.requires.ready in
     let window = window_of l.list.now.value.items l.batches.now l.first_batch l.b l.workers in
-    let old : Edge = get_or l.edges.now l.after c.index-self-after.result in
+    let old : EdgeState = get_or l.edges.now l.after c.index-self-after.result in
     let is : old ≡ get_or l.edges.now l.after old = ap (get_or l.edges.now l.after) c.index-self-after.is in
-    gave_ends window l.edges.now l.after old c.give.new.self r.1 is r.3 l.before c.give.result c.args.piece c.give.ensures.given c.give.ensures.taken c.give.ensures.room (omega (arith, old.pieces.ok))
+    gave_ends window l.edges.now l.after old c.give.new.self r.1 is r.3 l.before c.give.result c.args.piece c.give.ensures.given c.give.ensures.taken c.give.ensures.room

@@ -5,12 +5,15 @@ use Rattle.greedy_rules.specs.Batches.{DemandBatch, entry_of}
 use Rattle.greedy_rules.specs.Demands.{need_with}
 use Rattle.slot_batches.specs.Pieces.{Part, part_of, piece_at}
 use Rattle.slot_batches.specs.Stands.{StageState, endpoints_of, first_slot_of, IsSameWork, MayBeFed, Stands, ListsMayBeFed}
-use Rattle.ring_core.specs.declared.worker.Worker.{Worker}
+use Rattle.ring_core.specs.contracts.worker.Worker.{the_view}
+use Rattle.ring_core.specs.States.{WorkerState}
 use Rattle.ring_core.specs.Windows.{Window, batch_at, batch_of, first_slot_in, items_fed, list_before_stage}
+use Rattle.ring_core.specs.Streams.{IsPieceAt}
 use Rattle.ring_core.specs.Ends.{Ends}
+use Rattle.slot_batches.specs.declared.piece.Piece.{Piece}
 use Rattle.ring_core.specs.Turns.{piece_to_push}
 use Rattle.slot_batches.specs.NextList.{EveryBatchLeavesAList}
-use Rattle.ring_core.specs.Workers.{HasPlayed, StageIsAt}
+use Rattle.ring_core.specs.Workers.{HasPlayed, Plays, StageIsAt}
 use Rattle.ring_core.proofs.PlayLemmas.{idle_state}
 use Rattle.ring_core.proofs.FeedLemmas.{some_left, piece_is, taken_short, one_piece_on, may_be_fed, needs_fit, at_more, fed_on}
 use Rattle.ring_core.proofs.worker.Worker.feed.Goals as goal
@@ -19,14 +22,14 @@ pub overflow_add-self : goal.overflow_add-self
 overflow_add-self c =
     let plays = c.requires.plays in
     let short = taken_short c.args.batches.now plays.0 c.args.self.now plays.1.0 plays.1.1 plays.1.2 c.requires.going plays.2 c.every_batch_leaves_a_list.ensures.flows c.flows_fit_pairs.ensures in
-    omega (arith, short)
+    omega (arith, short, ap (λ (w : WorkerState). w.taken) c.self.view_is)
 
 -- the batch that the code reads
 batch_is : (batches all : List DemandBatch) (stage : ℕ) (batch : DemandBatch) → all ≡ batches → stage < length batches → batch ≡ get_or batches stage batch → batch ≡ batch_at all stage
 batch_is batches all stage batch same below is = is ∙ (get_or_default batches stage batch _ below ∙ ap (λ (bs : List DemandBatch). batch_at bs stage) (sym same))
 
 -- what the present stage may be fed
-may_feed : (batches : List DemandBatch) (ends : Ends) (w : Worker) (fed given : ℕ) (batch : DemandBatch) (state : StageState) (part : Part) (played : HasPlayed batches ends w fed given)
+may_feed : (batches : List DemandBatch) (ends : Ends) (w : WorkerState) (fed given : ℕ) (batch : DemandBatch) (state : StageState) (part : Part) (played : HasPlayed batches ends w fed given)
     → w.stage < length batches → piece_to_push ends w ≡ None → batch ≡ batch_of ends.before.window w.stage → StageIsAt w.endpoints ends.before.window w.stage fed given state
     → part ≡ piece_at w.stage (list_before_stage ends.before.window w.stage) fed → EveryBatchLeavesAList → ListsMayBeFed
     → Stands batch (items_fed ends.before.window w.stage fed) false given state × MayBeFed batch.entries (endpoints_of state) (first_slot_of state) (items_fed ends.before.window w.stage fed ++ part.items)
@@ -43,43 +46,56 @@ may_feed batches ends w fed given batch state part played below none batch_is at
           (subst (λ (n : ℕ). MayBeFed (batch_of window w.stage).entries w.endpoints n (items_fed window w.stage (fed + 1))) (sym at.work.same_first) may)),
     )
 
+-- what is asked of the worker, as its fields have it
+abbrev Asked : List DemandBatch → Piece → WorkerState → Type 0
+Asked batches piece w = ((ends : Ends) × Plays batches ends w × (piece_to_push ends w ≡ None) × IsPieceAt ends.before ends.taken piece) × (w.stage < length batches) × (w.held ≡ None)
+
 pub feed_stage-requires-clause-may : goal.feed_stage-requires-clause-may
 feed_stage-requires-clause-may c =
-    let w = c.args.self.now in
-    let it = c.requires.plays in
+    let w : WorkerState = the_view c.self.inside in
+    let asked : Asked c.args.batches.now c.args.piece.now w = subst (Asked c.args.batches.now c.args.piece.now) (sym c.self.view_is) (c.requires.plays, c.requires.going, c.requires.held) in
+    let it = asked.0 in
+    let going = asked.1 in
+    let held = asked.2 in
     let fed = it.1.0 in
     let given = it.1.1 in
-    let here = batch_is c.args.batches.now it.0.before.window.batches w.stage c.index-batches-self.result it.1.2.window.batches_are c.requires.going c.index-batches-self.is in
-    let at = idle_state c.args.batches.now it.0 w fed given it.1.2 c.index_mut.result.now c.requires.going c.requires.held c.index_mut.ensures.value in
-    let part = piece_is c.args.batches.now it.0 w fed given it.1.2 c.requires.going it.2 c.args.piece.now it.3 in
-    let may = may_feed c.args.batches.now it.0 w fed given c.index-batches-self.result c.index_mut.result.now (part_of c.args.piece.now) it.1.2 c.requires.going it.2 here at part c.every_batch_leaves_a_list.ensures.next c.lists_may_be_fed.ensures in
+    let here = batch_is c.args.batches.now it.0.before.window.batches w.stage c.index-batches-self.result it.1.2.window.batches_are going c.index-batches-self.is in
+    let at = idle_state c.args.batches.now it.0 w fed given it.1.2 c.index_mut.result.now going held c.index_mut.ensures.value in
+    let part = piece_is c.args.batches.now it.0 w fed given it.1.2 going it.2 c.args.piece.now it.3 in
+    let may = may_feed c.args.batches.now it.0 w fed given c.index-batches-self.result c.index_mut.result.now (part_of c.args.piece.now) it.1.2 going it.2 here at part c.every_batch_leaves_a_list.ensures.next c.lists_may_be_fed.ensures in
     (items_fed it.0.before.window w.stage fed, given, may.0, may.1)
 
 pub feed_stage-requires-clause-needs : goal.feed_stage-requires-clause-needs
 feed_stage-requires-clause-needs c =
-    let w = c.args.self.now in
-    let it = c.requires.plays in
+    let w : WorkerState = the_view c.self.inside in
+    let asked : Asked c.args.batches.now c.args.piece.now w = subst (Asked c.args.batches.now c.args.piece.now) (sym c.self.view_is) (c.requires.plays, c.requires.going, c.requires.held) in
+    let it = asked.0 in
+    let going = asked.1 in
+    let held = asked.2 in
     let fed = it.1.0 in
     let given = it.1.1 in
     let window : Window = it.0.before.window in
-    let here = batch_is c.args.batches.now window.batches w.stage c.index-batches-self.result it.1.2.window.batches_are c.requires.going c.index-batches-self.is in
-    let part = piece_is c.args.batches.now it.0 w fed given it.1.2 c.requires.going it.2 c.args.piece.now it.3 in
-    let inside : w.stage < length window.batches = omega (arith, c.requires.going, ap length it.1.2.window.batches_are) in
+    let here = batch_is c.args.batches.now window.batches w.stage c.index-batches-self.result it.1.2.window.batches_are going c.index-batches-self.is in
+    let part = piece_is c.args.batches.now it.0 w fed given it.1.2 going it.2 c.args.piece.now it.3 in
+    let inside : w.stage < length window.batches = omega (arith, going, ap length it.1.2.window.batches_are) in
     let Fit : DemandBatch → List Item → Type 0 = λ batch items. All (λ item. need_with (entry_of batch.entries item.flow) item.need < 4294967296) items in
     subst (λ (b : DemandBatch). Fit b c.args.piece.now.items.items) (sym here)
     (subst (λ (p : Part). Fit (batch_of window w.stage) p.items) (sym part) (needs_fit w.endpoints window w.stage fed given it.1.2.window.may inside))
 
 pub returns-clause-plays : goal.returns-clause-plays
-returns-clause-plays c = λ ends plays none is.
-    let w = c.args.self.now in
+returns-clause-plays c =
+    rw (← c.self.view_is) (λ ends plays none is.
+    let w : WorkerState = the_view c.self.inside in
+    let asked : Asked c.args.batches.now c.args.piece.now w = subst (Asked c.args.batches.now c.args.piece.now) (sym c.self.view_is) (c.requires.plays, c.requires.going, c.requires.held) in
+    let held = asked.2 in
     let batches = c.args.batches.now in
     let fed = plays.0 in
     let given = plays.1 in
     let played = plays.2 in
     let window : Window = ends.before.window in
-    let below = c.requires.going in
+    let below = asked.1 in
     let here = batch_is batches window.batches w.stage c.index-batches-self.result played.window.batches_are below c.index-batches-self.is in
-    let at = idle_state batches ends w fed given played c.index_mut.result.now below c.requires.held c.index_mut.ensures.value in
+    let at = idle_state batches ends w fed given played c.index_mut.result.now below held c.index_mut.ensures.value in
     let part = piece_is batches ends w fed given played below none c.args.piece.now is in
     let may = may_feed batches ends w fed given c.index-batches-self.result c.index_mut.result.now (part_of c.args.piece.now) played below none here at part c.every_batch_leaves_a_list.ensures.next c.lists_may_be_fed.ensures in
     let stands = c.feed_stage.ensures.stands (items_fed window w.stage fed) given may.0 may.1 in
@@ -92,4 +108,4 @@ returns-clause-plays c = λ ends plays none is.
     } in
     let more = at_more batches ends w fed given played below none (part_of c.args.piece.now) c.feed_stage.new.stage part same
     (subst (λ (b : DemandBatch). Stands b (items_fed window w.stage fed ++ c.args.piece.now.items.items) c.args.piece.now.end given c.feed_stage.new.stage) here stands) in
-    (fed + 1, given, fed_on batches ends w fed given played below none c.feed_stage.new.stage w.held c.requires.held more)
+    (fed + 1, given, fed_on batches ends w fed given played below none c.feed_stage.new.stage w.held held more))

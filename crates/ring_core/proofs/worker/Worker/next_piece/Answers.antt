@@ -1,52 +1,61 @@
-use Rattle.std.proofs.Common.{◌≡◌, ◌<◌, ◌+◌, ℕ, length, Option, Some, sym, ◌∙◌, subst}
+use Rattle.std.proofs.Common.{◌≡◌, ◌<◌, ◌+◌, length, Option, None, Some, option_map, sym, ap, ◌∙◌, subst}
 use Rattle.std.specs.Prelude.{IsSome}
-use Rattle.slot_batches.specs.declared.piece.Piece.{Piece}
+use Rattle.slot_batches.specs.Pieces.{Part, part_of}
 use Rattle.slot_batches.specs.Stands.{StageState}
+use Rattle.ring_core.specs.contracts.worker.Worker.{the_view}
+use Rattle.ring_core.specs.States.{WorkerState}
 use Rattle.ring_core.specs.Windows.{batch_of, items_fed, is_fed}
-use Rattle.ring_core.specs.Workers.{StageIsAt, HasPlayed}
+use Rattle.ring_core.specs.Workers.{StageIsAt, HasPlayed, Plays}
 use Rattle.ring_core.proofs.PlayLemmas.{held_is, to_push, idle_state, with_stage, stage_gives, gave_or_not}
 use Rattle.ring_core.proofs.worker.Worker.next_piece.Goals as goal
 
 pub emit-requires : goal.emit-requires
 emit-requires c =
+    let w : WorkerState = the_view c.self.inside in
     let batches = c.requires.0 in
     let ends = c.requires.1 in
-    let fed = c.requires.2.0 in
-    let given = c.requires.2.1 in
+    let plays : Plays batches ends w = subst (λ (v : WorkerState). Plays batches ends v) (sym c.self.view_is) c.requires.2 in
+    let below : w.stage < length batches = subst (λ (v : WorkerState). v.stage < length batches) (sym c.self.view_is) c.requires.3 in
+    let none : w.held ≡ None = ap (option_map part_of) (sym c.take.ensures.value ∙ c.in-None.is) in
     let window = ends.before.window in
-    let stage : ℕ = c.args.self.now.stage in
-    let at = idle_state batches ends c.args.self.now fed given c.requires.2.2 c.index_mut.result.now c.requires.3 (sym c.take.ensures.value ∙ c.in-None.is) c.index_mut.ensures.value in
-    (batch_of window stage, items_fed window stage fed, is_fed window stage fed, given, at.stands)
+    let at = idle_state batches ends w plays.0 plays.1 plays.2 c.index_mut.result.now below none c.index_mut.ensures.value in
+    (batch_of window w.stage, items_fed window w.stage plays.0, is_fed window w.stage plays.0, plays.1, at.stands)
 
 pub returns-in-Some-clause-piece : goal.returns-in-Some-clause-piece
-returns-in-Some-clause-piece c = λ batches ends plays below.
-    let w = c.args.self.now in
-    let held : w.held ≡ Some c.in-Some.piece = sym c.take.ensures.value ∙ c.in-Some.is in
-    sym (held_is batches ends w plays.0 plays.1 plays.2 c.in-Some.piece held).1 ∙ sym (to_push batches ends w plays.0 plays.1 plays.2)
+returns-in-Some-clause-piece c =
+    rw (← c.self.view_is) (λ batches ends plays below.
+    let w : WorkerState = the_view c.self.inside in
+    let held : w.held ≡ Some (part_of c.in-Some.piece) = ap (option_map part_of) (sym c.take.ensures.value ∙ c.in-Some.is) in
+    sym (held_is batches ends w plays.0 plays.1 plays.2 (part_of c.in-Some.piece) held).1 ∙ sym (to_push batches ends w plays.0 plays.1 plays.2))
 
 pub returns-in-Some-clause-plays : goal.returns-in-Some-clause-plays
-returns-in-Some-clause-plays c = λ batches ends plays below.
-    let w = c.args.self.now in
-    let held : w.held ≡ Some c.in-Some.piece = sym c.take.ensures.value ∙ c.in-Some.is in
-    (plays.0, plays.1, subst (λ (h : Option Piece). HasPlayed batches ends (record w { held = h }) plays.0 plays.1) held plays.2)
+returns-in-Some-clause-plays c =
+    rw (← c.self.view_is) (λ batches ends plays below.
+    let w : WorkerState = the_view c.self.inside in
+    let held : w.held ≡ Some (part_of c.in-Some.piece) = ap (option_map part_of) (sym c.take.ensures.value ∙ c.in-Some.is) in
+    (plays.0, plays.1, subst (λ (h : Option Part). HasPlayed batches ends (record w { held = h }) plays.0 plays.1) held plays.2))
 
 pub returns-in-None-clause-piece : goal.returns-in-None-clause-piece
-returns-in-None-clause-piece c = λ batches ends plays below.
-    let w = c.args.self.now in
-    let at = idle_state batches ends w plays.0 plays.1 plays.2 c.index_mut.result.now below (sym c.take.ensures.value ∙ c.in-None.is) c.index_mut.ensures.value in
+returns-in-None-clause-piece c =
+    rw (← c.self.view_is) (λ batches ends plays below.
+    let w : WorkerState = the_view c.self.inside in
+    let none : w.held ≡ None = ap (option_map part_of) (sym c.take.ensures.value ∙ c.in-None.is) in
+    let at = idle_state batches ends w plays.0 plays.1 plays.2 c.index_mut.result.now below none c.index_mut.ensures.value in
     let window = ends.before.window in
     c.emit.ensures.piece (batch_of window w.stage) (items_fed window w.stage plays.0) (is_fed window w.stage plays.0) plays.1 at.stands
-    ∙ (stage_gives w.endpoints window w.stage plays.0 plays.1 c.index_mut.result.now at ∙ sym (to_push batches ends w plays.0 plays.1 plays.2))
+    ∙ (stage_gives w.endpoints window w.stage plays.0 plays.1 c.index_mut.result.now at ∙ sym (to_push batches ends w plays.0 plays.1 plays.2)))
 
 pub returns-in-None-clause-plays : goal.returns-in-None-clause-plays
-returns-in-None-clause-plays c = λ batches ends plays below.
-    let w = c.args.self.now in
+returns-in-None-clause-plays c =
+    rw (← c.self.view_is) (λ batches ends plays below.
+    let w : WorkerState = the_view c.self.inside in
+    let none : w.held ≡ None = ap (option_map part_of) (sym c.take.ensures.value ∙ c.in-None.is) in
     let fed = plays.0 in
     let given = plays.1 in
     let window = ends.before.window in
     let old : StageState = c.index_mut.result.now in
     let new : StageState = c.emit.new.self in
-    let at = idle_state batches ends w fed given plays.2 old below (sym c.take.ensures.value ∙ c.in-None.is) c.index_mut.ensures.value in
+    let at = idle_state batches ends w fed given plays.2 old below none c.index_mut.ensures.value in
     let is = c.emit.ensures.piece (batch_of window w.stage) (items_fed window w.stage fed) (is_fed window w.stage fed) given at.stands ∙ stage_gives w.endpoints window w.stage fed given old at in
     let some : IsSome c.emit.result → StageIsAt w.endpoints window w.stage fed (given + 1) new = λ s. record {
       work = record {
@@ -58,4 +67,4 @@ returns-in-None-clause-plays c = λ batches ends plays below.
       stands = c.emit.ensures.more (batch_of window w.stage) (items_fed window w.stage fed) (is_fed window w.stage fed) given at.stands s;
     } in
     let both = gave_or_not (w.stage < length batches) w.endpoints window w.stage fed given new c.emit.result below is some (λ none. subst (StageIsAt w.endpoints window w.stage fed given) (sym (c.emit.ensures.none none)) at) in
-    (fed, given, with_stage batches ends w fed given plays.2 c.emit.result ends.taken w.taken fed new below plays.2.taken plays.2.taken_is plays.2.fed_within both.0 both.1)
+    (fed, given, with_stage batches ends w fed given plays.2 (option_map part_of c.emit.result) ends.taken w.taken fed new below plays.2.taken plays.2.taken_is plays.2.fed_within both.0 both.1))
