@@ -10,7 +10,7 @@ use Rattle.trace_text.specs.Asks.{rank_of, slots_asked, is_asked_by, IsAmong, Is
 use Rattle.trace_text.specs.Ranks.{has_rank_in}
 use Rattle.trace_text.specs.Trace.{some_below}
 use Rattle.trace_text.specs.declared.ask.Ask.{Ask}
-use Rattle.trace_text.proofs.RankFacts.{filter-part, filter-filter}
+use Rattle.trace_text.proofs.RankFacts.{filter-part}
 
 -- one more, above the last
 pub rising-more : (low : ℕ) (asks : List Ask) (last next : Ask) → IsRisingFrom low (asks ++ last ∷ []) → rank_of last < rank_of next → IsRisingFrom low ((asks ++ last ∷ []) ++ next ∷ [])
@@ -209,16 +209,3 @@ pub round-part : (endpoints rounds : ℕ) (asks : List Ask) (starts : List ℕ) 
 round-part endpoints rounds asks starts round start end kept low at at2 =
     rw (at, at2) (filter-part rank_of asks (round * 65536) ((round + 1) * 65536) (get_or starts round 0) (get_or starts (round + 1) 0) (omega arith)
     (kept.begin round (omega arith)) (kept.begin (round + 1) (omega arith)))
-
--- what one source asks for in one round, found in the asks of the round
-pub round-asked : (endpoints rounds : ℕ) (asks : List Ask) (starts : List ℕ) (round src start end : ℕ) → IsKept endpoints rounds asks starts → round < rounds → src < endpoints
-    → start ≡ get_or starts round 0 → end ≡ get_or starts (round + 1) 0
-    → map pair_of (filter (has_rank_in rank_of ((round * 256 + src) * 256) ((round * 256 + src) * 256 + 256)) (take (end - start) (drop start asks)))
-    ≡ some_below endpoints (λ dst. sum_by (slots_asked round src dst) asks)
-round-asked endpoints rounds asks starts round src start end kept low low2 at at2 =
-    let few = kept.few in
-    let part = (round-part endpoints rounds asks starts round start end kept low at at2).1 in
-    ap (λ l. map pair_of (filter (has_rank_in rank_of ((round * 256 + src) * 256) ((round * 256 + src) * 256 + 256)) l)) part
-    ∙ ap (map pair_of) (filter-filter rank_of asks ((round * 256 + src) * 256) ((round * 256 + src) * 256 + 256) (round * 65536) ((round + 1) * 65536) (omega arith) (omega arith))
-    ∙ ap (map pair_of) (filter-block asks round src (omega arith) (among-more endpoints 256 asks kept.few kept.among))
-    ∙ asked-pairs endpoints round src asks kept.rising kept.among

@@ -1,6 +1,7 @@
 mod Digits
 mod CsvFacts
 mod ReaderFacts
+mod LineFacts
 mod FieldFacts
 mod ReadFacts
 mod RowFacts

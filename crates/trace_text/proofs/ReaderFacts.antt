@@ -7,11 +7,11 @@ use Rattle.csv.specs.Machine.{Read, ends_at_end, next_record}
 use Rattle.csv.specs.Reading.{NextIs, ReadRecord, ReadsNext, default_config, is_flexible, pending_of, took_first}
 use Rattle.csv.specs.declared.parser.State.{State}
 use Rattle.trace_text.specs.Fields.{Record}
-use Rattle.trace_text.specs.Records.{TextReader, IsReading, records_left, records_of_rest, text_left}
+use Rattle.trace_text.specs.Records.{TextReader, IsReading, bytes_of_marked, records_left, records_of_rest, text_left}
 use Rattle.trace_text.proofs.CsvFacts.{next-facts, records_from-next, records_from-none}
 
 -- once the start of the text was read, what is left is what was not read yet
-pending : (b : TextReader) → b.bom_checked ≡ true → text_left b ≡ pending_of (Some b.rdr.now) b
+pending : (b : TextReader) → b.bom_checked ≡ true → text_left b ≡ pending_of (bytes_of_marked b.rdr) b
 pending b e = rw e refl
 
 more : (s s2 : State) (text rest : Option (List ℕ)) (fields : Record) → IsSome text → ends_at_end s ≡ false → ReadsNext default_config s text rest true fields s2
@@ -35,10 +35,10 @@ none s s2 (Some xs) (Some ys) fields known reads = by (next_record default_confi
     by (Some r) e is = absurd (false≢true is.0)
 
 -- a record was found
-read-found : (a b : TextReader) (fields : Record) → IsReading a → ReadRecord (λ s. Some s.now) a b true fields → took_first b ≡ true → is_flexible b ≡ is_flexible a
+read-found : (a b : TextReader) (fields : Record) → IsReading a → ReadRecord bytes_of_marked a b true fields → took_first b ≡ true → is_flexible b ≡ is_flexible a
     → IsReading b × (records_left a ≡ fields ∷ records_left b)
 read-found a b fields reading read first flexible =
-    let step = more a.state b.state (text_left a) (pending_of (Some b.rdr.now) b) fields reading.known reading.between (rw reading.config at read.0) in
+    let step = more a.state b.state (text_left a) (pending_of (bytes_of_marked b.rdr) b) fields reading.known reading.between (rw reading.config at read.0) in
     let left = pending b read.1 in (
       record {
         untrimmed = read.3 ∙ reading.untrimmed;
@@ -52,12 +52,12 @@ read-found a b fields reading read first flexible =
     )
 
 -- none was found
-read-none : (a b : TextReader) (fields : Record) → IsReading a → ReadRecord (λ s. Some s.now) a b false fields → records_left a ≡ []
+read-none : (a b : TextReader) (fields : Record) → IsReading a → ReadRecord bytes_of_marked a b false fields → records_left a ≡ []
 read-none a b fields reading read =
-    none a.state b.state (text_left a) (pending_of (Some b.rdr.now) b) fields reading.known (rw reading.config at read.0)
+    none a.state b.state (text_left a) (pending_of (bytes_of_marked b.rdr) b) fields reading.known (rw reading.config at read.0)
 
 -- a read, as it answers whether there was a record
-pub read-step : (found : Bool) (a b : TextReader) (fields : Record) → IsReading a → ReadRecord (λ s. Some s.now) a b found fields → took_first b ≡ true → is_flexible b ≡ is_flexible a
+pub read-step : (found : Bool) (a b : TextReader) (fields : Record) → IsReading a → ReadRecord bytes_of_marked a b found fields → took_first b ≡ true → is_flexible b ≡ is_flexible a
     → (not found ≡ false → IsReading b) × MatchBool found (records_left a ≡ fields ∷ (if not found then [] else records_left b)) (records_left a ≡ [])
 read-step true a b fields reading read first flexible = let step = read-found a b fields reading read first flexible in (λ _. step.0, step.1)
 read-step false a b fields reading read first flexible = (λ e. absurd (false≢true (sym e)), read-none a b fields reading read)

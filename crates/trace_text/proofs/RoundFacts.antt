@@ -6,9 +6,9 @@ use Rattle.std.proofs.lemmas.Bool.Decides.{nat_tests}
 use Rattle.clos_topology.specs.Network.{Network, endpoints_of}
 use Rattle.trace_text.specs.Asks.{rank_of, slots_asked, is_asked_by, ask_for, asks_in, IsAmong, IsRisingFrom, IsKept}
 use Rattle.trace_text.specs.Ranks.{has_rank_in}
-use Rattle.trace_text.specs.Trace.{Events, content_by}
+use Rattle.trace_text.specs.Trace.{Events, asked_at, content_by}
 use Rattle.trace_text.specs.declared.ask.Ask.{Ask}
-use Rattle.trace_text.proofs.RankFacts.{filter_no}
+use Rattle.trace_text.proofs.RankFacts.{filter_no, filter-filter}
 use Rattle.trace_text.proofs.AskFacts.{among-more, asked-pairs, filter-block, pair_of, round-part}
 use Rattle.trace_text.proofs.ContentFacts.{asked_at-content_by}
 use Rattle.trace_text.proofs.EventFacts.{filter-same}
@@ -106,3 +106,17 @@ round-asks net rounds events asks starts round start end kept low at at2 =
     ∙ sources-of asks round n kept.rising (among-more n 256 asks kept.few kept.among) kept.few
     ∙ flat-same (λ src. filter (is_asked_by round src) asks) _ 0 n (λ src lt. sym (asks-back asks round src)
     ∙ ap (map (ask_for round src)) (asked-pairs n round src asks kept.rising kept.among ∙ sym (asked_at-content_by net rounds (λ r s d. sum_by (slots_asked r s d) asks) events round src low (omega arith))))
+
+-- what one source asks for in one round, found in the asks of the round
+pub source-asks : (net : Network) (rounds : ℕ) (events : Events) (asks : List Ask) (starts : List ℕ) (round src start end : ℕ) → IsKept (endpoints_of net) rounds asks starts → round < rounds
+    → src < endpoints_of net → start ≡ get_or starts round 0 → end ≡ get_or starts (round + 1) 0
+    → filter (has_rank_in rank_of ((round * 256 + src) * 256) ((round * 256 + src) * 256 + 256)) (take (end - start) (drop start asks))
+    ≡ map (ask_for round src) (asked_at (content_by net rounds (λ r s d. sum_by (slots_asked r s d) asks) events) round src)
+source-asks net rounds events asks starts round src start end kept low low2 at at2 =
+    let n = endpoints_of net in
+    let few = kept.few in
+    ap (filter (has_rank_in rank_of ((round * 256 + src) * 256) ((round * 256 + src) * 256 + 256))) (round-part n rounds asks starts round start end kept low at at2).1
+    ∙ filter-filter rank_of asks ((round * 256 + src) * 256) ((round * 256 + src) * 256 + 256) (round * 65536) ((round + 1) * 65536) (omega arith) (omega arith)
+    ∙ filter-block asks round src (omega arith) (among-more n 256 asks kept.few kept.among)
+    ∙ sym (asks-back asks round src)
+    ∙ ap (map (ask_for round src)) (asked-pairs n round src asks kept.rising kept.among ∙ sym (asked_at-content_by net rounds (λ r s d. sum_by (slots_asked r s d) asks) events round src low low2))

@@ -8,6 +8,7 @@ pub mod Asks
 pub mod Events
 pub mod Standing
 pub mod Records
+pub mod Lines
 pub mod Trace
 pub mod Valid
 pub mod Made

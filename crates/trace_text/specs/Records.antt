@@ -6,15 +6,24 @@ use Rattle.csv.specs.declared.parser.State.{State}
 use Rattle.csv.specs.declared.reader.Reader.{Reader}
 use Rattle.csv.specs.declared.reader.Trim.TheVariants as trim
 use Rattle.std.specs.Borrow.{Bor}
+use Rattle.std.specs.Io.Chain.{chain_remaining}
+use Rattle.std.specs.declared.io.traits.Chain.{Chain}
 use Rattle.trace_text.specs.Fields.{Record}
 
--- a reader of a text in memory
+-- a text in memory behind a byte order mark
+abbrev pub MarkedText : Type 0
+MarkedText = Chain (Bor (List ℕ)) (Bor (List ℕ))
+
+abbrev pub bytes_of_marked : MarkedText → Option (List ℕ)
+bytes_of_marked = chain_remaining (λ s. Some s.now) (λ s. Some s.now)
+
+-- a reader of it
 abbrev pub TextReader : Type 0
-TextReader = Reader (Bor (List ℕ))
+TextReader = Reader MarkedText
 
 -- the bytes that it has left
 abbrev pub text_left : TextReader → Option (List ℕ)
-text_left reader = source_of (λ s. Some s.now) reader
+text_left reader = source_of bytes_of_marked reader
 
 -- the records of what is left, from the state between two records
 abbrev pub records_of_rest : State → Option (List ℕ) → List Record

@@ -3,13 +3,16 @@
 
 mod ask;
 mod command;
+mod csv_records;
 mod events;
 mod fault;
 mod fields;
 mod kind;
+mod line;
 mod make;
 mod number;
 mod order;
+mod plain_ask;
 mod read;
 mod records;
 mod rows;

@@ -1,6 +1,10 @@
 // The numbers of a trace.
-ghost use Rattle.std.specs.Prelude.{◌≡◌, true, false, MatchOption};
+ghost use Rattle.std.specs.Prelude.{◌≡◌, ◌<◌, ◌≤◌, true, false, length, take, slice_index, IfSome, MatchOption};
+ghost use Rattle.std.specs.Char.{is_ascii_digit};
+ghost use Rattle.std.specs.List.{list_all};
+ghost use Rattle.std.specs.Str.Parse.{digits_value};
 ghost use Rattle.trace_text.specs.Fields.{has_shape, is_number, number_of};
+ghost use Rattle.trace_text.specs.Lines.{IsNumberBefore};
 
 const MOST_DIGITS: usize = 10;
 
@@ -28,4 +32,39 @@ fn has_shape(text: &[u8]) -> bool
     ensures { result ≡ has_shape text.now }
 {
     !text.is_empty() && text.len() <= MOST_DIGITS && !(text.len() > 1 && text[0] == b'0')
+}
+
+/// The number that a text begins with, as a field writes one, and what stands behind the byte that ends it.
+pub fn number_before(text: &[u8], end: u8) -> Option<(u32, &[u8])>
+    ensures { IfSome result (λ r. IsNumberBefore text.now end r.0 r.1.now) }
+{
+    let mut value: u64 = 0;
+    for at in 0..text.len() {
+        let byte = text[at];
+        if byte == end {
+            return number_at_front(text, at, value);
+        }
+        if !byte.is_ascii_digit() {
+            return None;
+        }
+        value = value * 10 + u64::from(byte - b'0');
+        if value > u64::from(u32::MAX) {
+            return None;
+        }
+    }
+    None
+}
+
+// The number of the digits before a place, if they have its shape, and what stands behind the byte there.
+fn number_at_front(text: &[u8], at: usize, value: u64) -> Option<(u32, &[u8])>
+    requires within { at < length text.now }
+    requires digits { list_all is_ascii_digit (take at text.now) ≡ true }
+    requires value { value ≡ digits_value 10 (take at text.now) }
+    requires small { value ≤ 4294967295 }
+    ensures { IfSome result (λ r. IsNumberBefore text.now (slice_index text.now at) r.0 r.1.now) }
+{
+    if !has_shape(&text[..at]) {
+        return None;
+    }
+    Some((value as u32, &text[at + 1..]))
 }

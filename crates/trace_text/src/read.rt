@@ -4,7 +4,7 @@ ghost use Rattle.trace_text.specs.Trace.{trace_of, IsFaultOf};
 ghost use Rattle.trace_text.specs.Valid.{IsTrace};
 ghost use Rattle.trace_text.specs.Standing.{Stands, Finishes};
 
-use crate::records::Records;
+use crate::records::{Found, Records};
 use crate::rows::Rows;
 use crate::{Command, Fault, Trace, TraceRefused};
 use csv::ByteRecord;
@@ -21,10 +21,14 @@ pub fn read_trace(alloc: Global, bytes: &[u8], command: Command) -> Result<Trace
     let mut records = Records::new(alloc, bytes);
     let mut fields = ByteRecord::new(alloc);
     let mut rows = Rows::new(alloc);
-    while records.read(&mut fields)? {
-        rows.take(command, &fields)?;
+    loop {
+        let found = records.read(&mut fields)?;
+        match found {
+            Found::Ask(ask) => rows.take_ask(&ask)?,
+            Found::Fields => rows.take(command, &fields)?,
+            Found::End => return finish(rows),
+        }
     }
-    finish(rows)
 }
 
 // What stands after the last row.

@@ -2,7 +2,8 @@
 ghost use Rattle.std.specs.Prelude.{◌≡◌, ◌+◌, ◌*◌, ◌<◌, ◌≤◌, ◌∷◌, [], ◌++◌, List, length, true, ◌==◌, nat_lt, is_some, slice_index, ◌||◌, IfNone, IsSome, OnOk, IfOk};
 ghost use Rattle.csv.specs.Records.{fields_of};
 ghost use Rattle.clos_topology.specs.Limits.{IsNetwork};
-ghost use Rattle.trace_text.specs.Fields.{bytes_of};
+ghost use Rattle.trace_text.specs.Fields.{Record, bytes_of};
+ghost use Rattle.trace_text.specs.Lines.{IsAskRow};
 ghost use Rattle.trace_text.specs.Rows.{Row};
 ghost use Rattle.trace_text.specs.Rows as row;
 ghost use Rattle.trace_text.specs.Faults.{read_row, checked, is_in_range, is_between, is_fate};
@@ -10,12 +11,14 @@ ghost use Rattle.std.specs.List.{list_any};
 ghost use Rattle.trace_text.specs.Earlier.{fate_in};
 ghost use Rattle.trace_text.specs.Events.{way_number};
 ghost use Rattle.trace_text.specs.Standing.{StandsFor, Stands, IsAllowed, IsWhole, IsPacket, is_net, endpoints_kept, row_value, as_rows, row_unless, TakesRow};
+ghost use Rattle.trace_text.specs.declared.fault.TraceRefused.TheVariants as refused;
 ghost use Rattle.trace_text.specs.declared.taken_row.TakenRow.TheVariants as taken;
 
 use crate::ask::Ask;
 use crate::events::{Boot, EventRows, GivenFate};
 use crate::fields::field;
 use crate::kind::Kind;
+use crate::plain_ask::PlainAsk;
 use crate::taken_row::TakenRow;
 use crate::{Command, Fault, TraceRefused};
 use clos_topology::Net;
@@ -94,11 +97,44 @@ impl Rows {
     {
         match self.judge(command, fields) {
             Ok(row) => Ok(self.push(row)?),
-            Err(fault) => Err(TraceRefused::Row {
-                row: self.count + 1,
-                fault,
-            }),
+            Err(fault) => Err(self.refused(fault)),
         }
+    }
+
+    /// Takes an ask that is the next row, or tells the row's number and fault.
+    pub fn take_ask(&mut self, ask: &PlainAsk) -> Result<(), TraceRefused>
+        requires stands { Stands self.old }
+        requires room { self.old.count < 4294967295 }
+        ensures { (command : Command) (before : List Row) (fields : Record) → StandsFor before self.old → IsAskRow ask.now fields → TakesRow command before fields self.new result }
+    {
+        match self.judge_ask(ask) {
+            None => Ok(self.push_ask(ask.round, ask.src, ask.dst, ask.slots)?),
+            Some(fault) => Err(self.refused(fault)),
+        }
+    }
+
+    // Why a text whose next row has this fault is not read.
+    fn refused(&self, fault: Fault) -> TraceRefused
+        requires { self.now.count < 4294967295 }
+        ensures { result ≡ refused.Row (self.now.count + 1) fault }
+    {
+        TraceRefused::Row {
+            row: self.count + 1,
+            fault,
+        }
+    }
+
+    // What is wrong with an ask that is the next row.
+    #[tactic(auto, unfolding(crate::specs::Faults::read_row, crate::specs::Faults::read_kind))]
+    fn judge_ask(&self, ask: &PlainAsk) -> Option<Fault>
+        requires { Stands self.now }
+        ensures row { (command : Command) (before : List Row) (fields : Record) → StandsFor before self.now → IsAskRow ask.now fields → read_row command before fields ≡ row_unless (row.Ask ask.now.round ask.now.src ask.now.dst ask.now.slots) result }
+        ensures allowed { IfNone result (IsAllowed self.now (taken.Ask ask.now.round ask.now.src ask.now.dst ask.now.slots)) }
+    {
+        if self.count == 0 {
+            return Some(Fault::NoNet);
+        }
+        self.ask_fault(ask.round, ask.src, ask.dst, ask.slots)
     }
 
     // What is wrong with a row that could be read.

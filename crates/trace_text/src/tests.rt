@@ -1,4 +1,4 @@
-use crate::{Command, Fault, Trace, TraceRefused, make_trace, read_trace};
+use crate::{Ask, Command, Fault, Trace, TraceRefused, make_trace, read_trace};
 use clos_topology::Net;
 use loss_world::Fate;
 use std::alloc::Global;
@@ -18,7 +18,7 @@ fn fault_of(alloc: Global, text: &[u8], command: Command) -> Option<(u32, u8)> {
 
 #[test]
 fn each_faulty_trace_tells_its_first_row_and_fault(rt: HostRuntime) {
-    let cases: [(&[u8], u32, u8); 37] = [
+    let cases: [(&[u8], u32, u8); 40] = [
         (b"", 1, 1),
         (b"\n\r\n", 1, 1),
         (b"ask,0,0,1,1\n", 1, 1),
@@ -59,6 +59,11 @@ fn each_faulty_trace_tells_its_first_row_and_fault(rt: HostRuntime) {
             8,
         ),
         (b"net,1,2,1\n", 2, 9),
+        (b"net,1,2,1\nask,0,0,1,1", 3, 9),
+        // A byte order mark is dropped at the start of a text alone.
+        (b"net,1,2,1\n\xef\xbb\xbfask,0,0,\"1\",7\nend,1\n", 2, 2),
+        // Quoted rows, and plain ones after them.
+        (b"net,1,2,1\n\"ask\",0,0,1,1\nask,0,0,1,01\nend,1\n", 3, 4),
         (b"net,1,2,1\nlose,0,0,up\n", 2, 10),
     ];
     for (text, row, number) in cases {
@@ -284,6 +289,14 @@ fn endpoints_of_several_racks_ask(rt: HostRuntime) -> Result<(), Fail> {
     assert_eq!(rt; (trace.endpoints(), trace.rounds()), (6, 2));
     assert!(rt; trace.rounds() == 2);
     assert_eq!(rt; trace.asks_in(0).len(), 2);
+    assert!(rt; trace.endpoints() == 6);
+    let by_4 = [Ask {
+        round: 0,
+        src: 4,
+        dst: 1,
+        slots: 2,
+    }];
+    assert_eq!(rt; trace.asks_by(0, 4), by_4.as_slice());
     let asks = [(0, 0, 5, 4), (0, 4, 1, 2), (1, 5, 0, 1)];
     assert_eq!(rt; asks_of(alloc, &trace)?.as_slice(), asks.as_slice());
     Ok(())
@@ -292,8 +305,11 @@ fn endpoints_of_several_racks_ask(rt: HostRuntime) -> Result<(), Fail> {
 #[test]
 fn a_text_is_read_as_comma_separated_values(rt: HostRuntime) -> Result<(), Fail> {
     let alloc = rt.alloc();
-    let cases: [&[u8]; 5] = [
+    let cases: [&[u8]; 8] = [
         b"net,1,2,1\nask,0,0,1,7\nend,1\n",
+        b"net,1,2,1\nask,0,0,1,3\n\nask,0,0,1,4\nend,1\n",
+        b"net,1,2,1\nask,0,0,1,3\n\"ask\",0,0,1,1\nask,0,0,1,3\nend,1\n",
+        b"net,1,2,1\rask,0,0,1,7\rend,1\r",
         b"net,1,2,1\r\nask,0,0,1,7\r\nend,1",
         b"\xef\xbb\xbfnet,1,2,1\nask,0,0,1,7\nend,1\n",
         b"\n\nnet,1,2,1\n\r\n\"ask\",\"0\",0,\"1\",7\n\nend,\"1\"\n\n",

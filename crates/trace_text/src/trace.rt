@@ -2,7 +2,7 @@
 ghost use Rattle.std.specs.Prelude.{◌≡◌, ◌<◌, ◌≤◌, ◌^◌, ℕ, Some, length, map, slice_get, sum_by, All, IfOk};
 ghost use Rattle.clos_topology.specs.Network.{endpoints_of};
 ghost use Rattle.clos_topology.specs.Limits.{IsNetwork};
-ghost use Rattle.trace_text.specs.Asks.{slots_asked, slots_for, asks_in, IsAmong};
+ghost use Rattle.trace_text.specs.Asks.{slots_asked, slots_for, ask_for, asks_in, IsAmong};
 ghost use Rattle.trace_text.specs.Events.{AreAmong, events_kept};
 ghost use Rattle.trace_text.specs.Trace.{asked_at, fate_at, boots_at, raw_at, content_by, last_of};
 ghost use Rattle.trace_text.specs.Valid.{IsTrace};
@@ -154,10 +154,11 @@ impl Trace {
         (ask.dst, ask.slots)
     }
 
-    fn asks_by(&self, round: u32, src: u16) -> &[Ask]
+    /// The asks of the source in the round, one a destination, rising by destination.
+    pub fn asks_by(&self, round: u32, src: u16) -> &[Ask]
         requires round { round < self.now.rounds }
         requires src { src < endpoints_of self.now.net }
-        ensures { map (λ ask. (ask.dst, ask.slots)) result.now ≡ asked_at self.now round src }
+        ensures { result.now ≡ map (ask_for round src) (asked_at self.now round src) }
     {
         let start = self.starts[round as usize];
         let end = self.starts[round as usize + 1];

@@ -6,13 +6,25 @@ use Rattle.trace_text.proofs.RowFacts.{length-more}
 use Rattle.trace_text.proofs.TraceFacts.{told, finished, rows_after-ok, rows_after-none}
 use Rattle.trace_text.proofs.read.read_trace.Goals as goal
 
+pub loop-rows-preserved-in-Continue-branch-2 : goal.loop-rows-preserved-in-Continue-branch-2
+loop-rows-preserved-in-Continue-branch-2 c =
+    let before = c.loop-rows.invariant.stands.0 in
+    let stands = c.loop-rows.invariant.stands.1 in
+    let same = c.loop-rows.invariant.stands.2 in
+    let found = rw c.in-Ask.is at c.in_ok-found.ensures in
+    let taken = c.in_ok-take_ask-in-Ask.ensures c.args.command before found.0 stands found.1 in
+    record {
+      stands = (before ++ taken.0 ∷ [], taken.2, same ∙ ap (λ l. rows_after c.args.command l before) found.2 ∙ rows_after-ok c.args.command found.0 c.read.new.self before taken.0 taken.1);
+      room = omega (arith, c.loop-rows.invariant.room, taken.2.count, stands.count, length-more before taken.0, ap length found.2);
+    }
+
 pub loop-rows-preserved : goal.loop-rows-preserved
 loop-rows-preserved c =
     let before = c.loop-rows.invariant.stands.0 in
     let stands = c.loop-rows.invariant.stands.1 in
     let same = c.loop-rows.invariant.stands.2 in
-    let next = rw c.if-branch.true at c.in_ok-read.ensures in
-    let taken = c.in_ok-take.ensures before stands in
+    let next = rw c.in-Fields.is at c.in_ok-found.ensures in
+    let taken = c.in_ok-take-in-Fields.ensures before stands in
     record {
       stands = (
         before ++ taken.0 ∷ [],
@@ -22,33 +34,39 @@ loop-rows-preserved c =
       room = omega (arith, c.loop-rows.invariant.room, taken.2.count, stands.count, length-more before taken.0, ap length next);
     }
 
-pub returns-in_err-take-clause-refused : goal.returns-in_err-take-clause-refused
-returns-in_err-take-clause-refused c =
+pub returns-in_err-take_ask-in-Ask-clause-refused :
+    goal.returns-in_err-take_ask-in-Ask-clause-refused
+returns-in_err-take_ask-in-Ask-clause-refused c =
     let before = c.loop-rows.invariant.stands.0 in
     let stands = c.loop-rows.invariant.stands.1 in
-    let next = rw c.if-branch.true at c.in_ok-read.ensures in
-    let same = c.loop-rows.invariant.stands.2 ∙ ap (λ l. rows_after c.args.command l before) next in
-    let p = err_from_is_err_and c.from_residual-in_err-take.result c.from_residual-in_err-take.ensures.1 in
+    let found = rw c.in-Ask.is at c.in_ok-found.ensures in
+    let same = c.loop-rows.invariant.stands.2 ∙ ap (λ l. rows_after c.args.command l before) found.2 in
+    let p = err_from_is_err_and c.from_residual-in_err-take_ask-in-Ask.result c.from_residual-in_err-take_ask-in-Ask.ensures.1 in
     rw (p.1, p.2)
-    (told c.args.command c.args.bytes.now (fields_of c.read.new.fields) c.read.new.self before c.take.new.self c.in_err-take.field-0.0 same (c.in_err-take.ensures before stands))
+    (told c.args.command c.args.bytes.now found.0 c.read.new.self before c.take_ask.new.self c.in_err-take_ask-in-Ask.field-0.0 same
+    (c.in_err-take_ask-in-Ask.ensures c.args.command before found.0 stands found.1))
 
-pub returns-clause-accepted : goal.returns-clause-accepted
-returns-clause-accepted c =
+pub returns-in_err-take-in-Fields-clause-refused :
+    goal.returns-in_err-take-in-Fields-clause-refused
+returns-in_err-take-in-Fields-clause-refused c =
     let before = c.loop-rows.invariant.stands.0 in
-    let none = rw c.if-branch.false at c.in_ok-read.ensures in
+    let stands = c.loop-rows.invariant.stands.1 in
+    let next = rw c.in-Fields.is at c.in_ok-found.ensures in
+    let same = c.loop-rows.invariant.stands.2 ∙ ap (λ l. rows_after c.args.command l before) next in
+    let p = err_from_is_err_and c.from_residual-in_err-take-in-Fields.result c.from_residual-in_err-take-in-Fields.ensures.1 in
+    rw (p.1, p.2)
+    (told c.args.command c.args.bytes.now (fields_of c.read.new.fields) c.read.new.self before c.take.new.self c.in_err-take-in-Fields.field-0.0 same (c.in_err-take-in-Fields.ensures before stands))
+
+pub returns-in-End-clause-accepted : goal.returns-in-End-clause-accepted
+returns-in-End-clause-accepted c =
+    let before = c.loop-rows.invariant.stands.0 in
+    let none = rw c.in-End.is at c.in_ok-found.ensures in
     let all = c.loop-rows.invariant.stands.2 ∙ ap (λ l. rows_after c.args.command l before) none ∙ rows_after-none c.args.command before in
     (finished c.args.command c.args.bytes.now before c.loop-rows.rows c.finish.result all c.loop-rows.invariant.stands.1 c.finish.ensures).0
 
-pub returns-clause-refused : goal.returns-clause-refused
-returns-clause-refused c =
+pub returns-in-End-clause-refused : goal.returns-in-End-clause-refused
+returns-in-End-clause-refused c =
     let before = c.loop-rows.invariant.stands.0 in
-    let none = rw c.if-branch.false at c.in_ok-read.ensures in
+    let none = rw c.in-End.is at c.in_ok-found.ensures in
     let all = c.loop-rows.invariant.stands.2 ∙ ap (λ l. rows_after c.args.command l before) none ∙ rows_after-none c.args.command before in
     (finished c.args.command c.args.bytes.now before c.loop-rows.rows c.finish.result all c.loop-rows.invariant.stands.1 c.finish.ensures).2
-
-pub returns-clause-valid : goal.returns-clause-valid
-returns-clause-valid c =
-    let before = c.loop-rows.invariant.stands.0 in
-    let none = rw c.if-branch.false at c.in_ok-read.ensures in
-    let all = c.loop-rows.invariant.stands.2 ∙ ap (λ l. rows_after c.args.command l before) none ∙ rows_after-none c.args.command before in
-    (finished c.args.command c.args.bytes.now before c.loop-rows.rows c.finish.result all c.loop-rows.invariant.stands.1 c.finish.ensures).1

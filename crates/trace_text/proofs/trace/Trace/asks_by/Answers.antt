@@ -1,11 +1,11 @@
-use Rattle.std.proofs.Common.{◌≡◌, ◌<◌, ◌+◌, get_or, sym, ◌∙◌, arith}
+use Rattle.std.proofs.Common.{◌≡◌, ◌<◌, ◌+◌, get_or, arith}
 use Rattle.std.proofs.lemmas.Grind.{common_steps}
 use Rattle.std.proofs.lemmas.List.Sorted.{IsNonDecreasingBy-drop, IsNonDecreasingBy-take}
 use Rattle.clos_topology.specs.Network.{endpoints_of}
 use Rattle.trace_text.specs.Asks.{rank_of}
 use Rattle.trace_text.specs.Events.{events_kept}
-use Rattle.trace_text.proofs.AskFacts.{rising-sorted, round-part, round-asked}
-use Rattle.trace_text.proofs.ContentFacts.{asked_at-content_by}
+use Rattle.trace_text.proofs.AskFacts.{rising-sorted, round-part}
+use Rattle.trace_text.proofs.RoundFacts.{source-asks}
 use Rattle.trace_text.proofs.trace.Trace.asks_by.Goals as goal
 
 pub slice_bounds-between-count : goal.slice_bounds-between-count
@@ -34,5 +34,5 @@ returns c =
     let start : c.index-start.result.now ≡ get_or c.self.inside.starts.items c.args.round 0 = grind (arith, common_steps) in
     let end : c.index-end.result.now ≡ get_or c.self.inside.starts.items (c.args.round + 1) 0 = grind (arith, common_steps) in
     rw (← c.self.view_is, c.between.ensures, c.deref.ensures.value, c.from.ensures, c.from-2.ensures)
-    (round-asked (endpoints_of c.self.inside.net) c.self.inside.rounds c.self.inside.asks.items c.self.inside.starts.items c.args.round c.args.src _ _ c.self.invariant.0 low low2 start end
-    ∙ sym (asked_at-content_by c.self.inside.net c.self.inside.rounds _ (events_kept c.self.inside.fates.items c.self.inside.boots.items c.self.inside.raws.items c.self.inside.bytes.items) c.args.round c.args.src low low2))
+    (source-asks c.self.inside.net c.self.inside.rounds (events_kept c.self.inside.fates.items c.self.inside.boots.items c.self.inside.raws.items c.self.inside.bytes.items) c.self.inside.asks.items
+    c.self.inside.starts.items c.args.round c.args.src _ _ c.self.invariant.0 low low2 start end)

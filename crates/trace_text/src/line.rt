@@ -1,0 +1,59 @@
+// Lines whose fields are plain, taken apart at their commas.
+ghost use Rattle.std.specs.Prelude.{◌≡◌, ◌<◌, ◌∷◌, ◌⊎◌, true, length, take, slice_index, IfOk, IfSome};
+ghost use Rattle.std.specs.List.{list_all};
+ghost use Rattle.csv.specs.Records.{fields_of};
+ghost use Rattle.trace_text.specs.Lines.{records_in, is_plain, begins_blank, IsFieldBefore};
+
+use csv::ByteRecord;
+use no_memory::NoMemory;
+
+/// Takes the first line of a text as a record, and answers what stands behind it; None for a blank line, and for one that
+/// has a quote or a carriage return, or that no line feed ends.
+pub fn read_line<'a>(text: &'a [u8], fields: &mut ByteRecord) -> Result<Option<&'a [u8]>, NoMemory>
+    ensures { IfOk result (λ line. IfSome line (λ rest. records_in text.now ≡ fields_of fields.new ∷ records_in rest.now)) }
+{
+    fields.clear();
+    if is_blank(text) {
+        return Ok(None);
+    }
+    let mut rest = text;
+    while let Some((field, is_last, more)) = first_field(rest) {
+        fields.push_field(field)?;
+        if is_last {
+            return Ok(Some(more));
+        }
+        rest = more;
+    }
+    Ok(None)
+}
+
+// The plain field that a text begins with, whether it is the last of its line, and what stands behind the byte that ends it.
+fn first_field(text: &[u8]) -> Option<(&[u8], bool, &[u8])>
+    ensures { IfSome result (λ r. IsFieldBefore text.now r.0.now r.1 r.2.now) }
+{
+    let at = field_end(text)?;
+    Some((&text[..at], text[at] == b'\n', &text[at + 1..]))
+}
+
+// Where the comma or the line feed stands that ends a plain field.
+fn field_end(text: &[u8]) -> Option<usize>
+    ensures within { IfSome result (λ at. at < length text.now) }
+    ensures plain { IfSome result (λ at. list_all is_plain (take at text.now) ≡ true) }
+    ensures end { IfSome result (λ at. (slice_index text.now at ≡ 44) ⊎ (slice_index text.now at ≡ 10)) }
+{
+    for at in 0..text.len() {
+        match text[at] {
+            b',' | b'\n' => return Some(at),
+            b'"' | b'\r' => return None,
+            _ => {}
+        }
+    }
+    None
+}
+
+// Whether a text has no first byte, or one that ends a line.
+fn is_blank(text: &[u8]) -> bool
+    ensures { result ≡ begins_blank text.now }
+{
+    matches!(text, [] | [b'\n' | b'\r', ..])
+}
