@@ -5,3 +5,4 @@ pub mod Within
 pub mod RefusalNames
 pub mod LineKinds
 pub mod Spelling
+pub mod ShortTable

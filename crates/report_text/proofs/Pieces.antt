@@ -1,6 +1,8 @@
 -- A line spelled piece by piece.
 use Rattle.std.proofs.Common.{◌≡◌, ◌<◌, ◌≤◌, ◌+◌, ◌-◌, ℕ, List, [], ◌∷◌, ◌++◌, length, get_or, take, drop, map, decimal, refl, sym, ap, ◌∙◌, arith}
-use Rattle.std.proofs.lemmas.List.{drop-drop, append_assoc, length-append, take_more, map-append}
+use Rattle.std.proofs.Math.Seq.{take-append-add}
+use Rattle.std.proofs.lemmas.Fmt.{length-decimal-le}
+use Rattle.std.proofs.lemmas.List.{drop-drop, append_assoc, length-append, length-take-le, take-take, take_more, map-append}
 use Rattle.report_text.specs.Lines.{fields, numbers}
 
 -- what was left alone from some place on was left alone from any later one on
@@ -40,3 +42,21 @@ spelled_more front values i d n at next buf new old below is so_far end written 
       written = written ∙ (ap (λ (bs : List ℕ). bs ++ numbers (n ∷ [])) so_far.written ∙ sym more);
       rest = rest ∙ later_rest at next buf old (omega (arith, end)) so_far.rest;
     }
+
+-- a front of what was put at a place
+pub front_of : (at count whole : ℕ) (old bytes new : List ℕ) → at ≤ length old → count ≤ length bytes → whole ≡ at + length bytes → take whole new ≡ take at old ++ bytes
+    → take (at + count) new ≡ take at old ++ take count bytes
+front_of at count whole old bytes new fits most is written =
+    let within : at + count ≤ whole = omega (arith, is) in
+    sym (take-take (at + count) whole new within)
+    ∙ (ap (take (at + count)) written
+    ∙ (ap (λ (n : ℕ). take (n + count) (take at old ++ bytes)) (sym (length-take-le at old fits))
+    ∙ take-append-add (take at old) bytes count))
+
+-- ---- how long a number is
+
+pub decimal_of_3_digits : (n : ℕ) → n < 1000 → length (decimal n) ≤ 3
+decimal_of_3_digits n small = length-decimal-le 3 n (omega arith) (omega arith) (omega arith)
+
+pub decimal_of_32_bits : (n : ℕ) → n < 4294967296 → length (decimal n) ≤ 10
+decimal_of_32_bits n small = length-decimal-le 10 n (omega arith) (omega arith) (omega arith)

@@ -1,3 +1,6 @@
 pub mod Names
 pub mod Lines
 pub mod Laws
+pub mod Fields
+pub mod ShortFields
+pub mod Buffer

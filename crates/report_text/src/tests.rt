@@ -1,5 +1,6 @@
-use crate::{Line, read_line, write_line};
+use crate::{Line, LineBuffer, Numeral, read_line, write_line};
 use std::process::Abort;
+use std::test::Fail;
 
 const LINES: [(Line, &str); 19] = [
     (
@@ -257,4 +258,43 @@ fn many_lines(rt: HostRuntime) {
     }
     assert_eq!(rt; length, 21);
     assert!(rt; buf.starts_with(b"slot,199999,63,192,-\n"));
+}
+
+#[test]
+fn lines_in_a_buffer(rt: HostRuntime) -> Result<(), Fail> {
+    let mut buffer = LineBuffer::open(rt.alloc())?;
+    let mut slot = Numeral::new(64_000);
+    assert_eq!(rt; slot.number(), 64_000);
+    assert!(rt; buffer.has_room());
+    buffer.put_slot(&slot, 0, 999, None);
+    assert!(rt; buffer.has_room());
+    buffer.put_slot(&slot, 1_000, u16::MAX, Some(17));
+    assert!(rt; buffer.has_room());
+    buffer.put_sent(&slot, 9, 10);
+    assert!(rt; buffer.has_room());
+    slot.set(u32::MAX);
+    buffer.put_batch(&slot, 99, 100, true, u32::MAX);
+    assert!(rt; buffer.has_room());
+    buffer.put_line(&Line::End { rounds: 3 });
+    let text =
+        "slot,64000,0,999,-\nslot,64000,1000,65535,17\nsent,64000,9,10\nbatch,4294967295,99,100,1,4294967295\nend,3\n";
+    assert!(rt; buffer.text() == text.as_bytes());
+    buffer.clear();
+    assert!(rt; buffer.text().is_empty());
+    Ok(())
+}
+
+// Lines of 20 bytes up to where a line of 192 might not fit.
+#[test]
+fn a_full_buffer(rt: HostRuntime) -> Result<(), Fail> {
+    let mut buffer = LineBuffer::open(rt.alloc())?;
+    let slot = Numeral::new(123_456);
+    for src in 0..4_000 {
+        if buffer.has_room() {
+            buffer.put_slot(&slot, src % 10, 255, None);
+        }
+    }
+    assert!(rt; !buffer.has_room());
+    assert_eq!(rt; buffer.text().len(), 65_360);
+    Ok(())
 }

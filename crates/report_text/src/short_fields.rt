@@ -1,0 +1,43 @@
+//! The fields of small numbers, spelled once for all lines.
+ghost use Rattle.std.specs.Prelude.{◌≡◌, ◌+◌, ◌≤◌, [], ◌∷◌, ◌++◌, length, take};
+ghost use Rattle.report_text.specs.Lines.{numbers};
+ghost use Rattle.report_text.specs.ShortFields.{AreShortFields};
+
+use crate::numeral::Numeral;
+use crate::put::put_front;
+use crate::short_field::{ShortField, short_field};
+
+/// How many numbers have their field in the table.
+const SMALL: u16 = 1_000;
+
+/// The field of each number below 1,000, at the number's place.
+#[derive(Debug, Drop)]
+pub(crate) struct ShortFields {
+    fields: [ShortField; 1_000],
+    ghost spelled: { AreShortFields fields },
+}
+
+impl ShortFields {
+    /// Spells them all.
+    pub(crate) fn new() -> ShortFields {
+        let mut fields = [short_field(0); 1_000];
+        for number in 0..SMALL {
+            fields[number as usize] = short_field(number);
+        }
+        ShortFields { fields }
+    }
+
+    /// Puts the field of a number at this place, and answers where it ends.
+    pub(crate) fn put(&self, buf: &mut [u8], at: usize, number: u32) -> usize
+        requires { at + 16 ≤ length buf.old }
+        ensures fits { result ≤ at + 11 }
+        ensures written { take result buf.new ≡ take at buf.old ++ numbers (number ∷ []) }
+        ensures count { length buf.new ≡ length buf.old }
+    {
+        if number < u32::from(SMALL) {
+            let field = self.fields[number as usize];
+            return put_front(buf, at, &field.bytes, field.end.into());
+        }
+        Numeral::new(number).put(buf, at)
+    }
+}
