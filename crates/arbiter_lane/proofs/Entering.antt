@@ -34,6 +34,13 @@ above_pushed [] entry src dst is = subst (λ (flow : Flow). IsTrue (flow_below f
 above_pushed (first ∷ []) entry src dst is = above_pushed [] entry src dst is
 above_pushed (_ ∷ (next ∷ entries)) entry src dst is = above_pushed (next ∷ entries) entry src dst is
 
+-- and so below each later flow of its source
+pub above_from : (entries : List Entry) (src n : ℕ) → IsAboveLast entries (record { src = src; dst = 0 }) → IsAboveLast entries (record { src = src; dst = n })
+above_from entries src zero above = above
+above_from entries src (suc n) above =
+    let next : n + 1 ≡ suc n = omega arith in
+    subst (λ (d : ℕ). IsAboveLast entries (record { src = src; dst = d })) next (above_later entries src n (above_from entries src n above))
+
 -- ---- the lines
 
 -- the line of the next destination is still as it was
@@ -83,7 +90,7 @@ range-last : (first n last : ℕ) → first + n ≡ last → range_with_len firs
 range-last first zero last is = let same : first ≡ last = omega (arith, is) in ap (λ k. k ∷ []) same
 range-last first (suc n) last is = ap (λ l. first ∷ l) (range-last (first + 1) n last (omega (arith, is)))
 
-filter_map-more : {X : Type 0} (h : ℕ → Option X) (n : ℕ) → filter_map h (range_with_len 0 n) ++ option_to_list (h n) ≡ filter_map h (range_with_len 0 (n + 1))
+pub filter_map-more : {X : Type 0} (h : ℕ → Option X) (n : ℕ) → filter_map h (range_with_len 0 n) ++ option_to_list (h n) ≡ filter_map h (range_with_len 0 (n + 1))
 filter_map-more h n =
     let more : range_with_len 0 (n + 1) ≡ range_with_len 0 n ++ n ∷ [] = ap (range_with_len 0) (add-one n) ∙ range-last 0 n n (omega arith) in
     sym (ap (filter_map h) more ∙ (filter_map-append h (range_with_len 0 n) (n ∷ []) ∙ ap (λ l. filter_map h (range_with_len 0 n) ++ l) (cons_option-none (h n))))

@@ -60,10 +60,14 @@ DecidesSlots shown lost old new = HasChanged old new (record (counts_on old) { a
 abbrev pub add_on : Line → ℕ
 add_on line = line.count.demanded + line.count.lost - line.entered
 
+-- whether a line's flow has an entry
+abbrev pub has_entry : Bool → Line → Bool
+has_entry resets line = nat_lt 0 (add_on line) || (resets && line.opened)
+
 -- the entry of a line's flow, where it has one, in a round in which a reset was taken or not
 abbrev pub entry_on : Line → Flow → Bool → Option Entry
 entry_on line flow resets =
-    if nat_lt 0 (add_on line) || (resets && line.opened)
+    if has_entry resets line
     then Some (record { flow = flow; opens = nat_lt 0 (add_on line) && not line.opened; clear = resets && line.opened; add = add_on line })
     else None
 

@@ -1,5 +1,5 @@
 -- What the parts of a lane's calls read of it and write into it (this project's own profile).
-use Rattle.std.specs.Prelude.{◌≡◌, ◌≤◌, ◌<◌, ◌^◌, ℕ, ◌+◌, ◌*◌, ◌-◌, ◌&&◌, Bool, nat_le, List, [], ◌∷◌, length, Option, Some, slice_get, if◌then◌else◌}
+use Rattle.std.specs.Prelude.{◌≡◌, ◌≤◌, ◌<◌, ◌^◌, ℕ, ◌+◌, ◌*◌, ◌-◌, ◌&&◌, ◌⊎◌, Bool, false, nat_le, List, [], ◌∷◌, length, Option, Some, slice_get, if◌then◌else◌}
 use Rattle.std.specs.Option.{option_and_then}
 use Rattle.std.specs.List.{filter_map, range_with_len}
 use Rattle.greedy_rules.specs.declared.flows.Entry.{Entry}
@@ -14,7 +14,7 @@ use Rattle.ack_window.specs.Versions.{span_of}
 use Rattle.ack_window.specs.Windows.{Sender}
 use Rattle.endpoint_history.specs.Packets.{Telling, slots_to}
 use Rattle.arbiter_lane.specs.State.{LaneState}
-use Rattle.arbiter_lane.specs.Lines.{entry_on}
+use Rattle.arbiter_lane.specs.Lines.{entry_on, has_entry}
 
 -- the packet of a number that tells these slots, with the acknowledgement of what arrived
 abbrev pub packet_with : LaneState → ℕ → ℕ → List Told → Down
@@ -53,6 +53,10 @@ entry_at lines endpoint resets dst =
 
 abbrev pub entries_on : List Line → ℕ → Bool → List Entry
 entries_on lines endpoint resets = filter_map (entry_at lines endpoint resets) (range_with_len 0 (length lines))
+
+-- only lines from one on, up to another, have an entry
+abbrev pub HaveEntriesWithin : ℕ → ℕ → Bool → List Line → Type 0
+HaveEntriesWithin from to resets lines = (dst : ℕ) (line : Line) → slice_get lines dst ≡ Some line → (dst < from) ⊎ (to ≤ dst) → has_entry resets line ≡ false
 
 -- a new number may be sent
 abbrev pub may_tell : Sender Telling → Bool

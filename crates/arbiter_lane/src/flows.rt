@@ -1,5 +1,5 @@
 //! The lines of a lane, one for each destination: what each call makes of all of them.
-ghost use Rattle.std.specs.Prelude.{◌≢◌, ◌≤◌, ◌^◌, ◌++◌, OnOk, OnErr, IfSome, Some, slice_get, slice_set, option_to_list, ◌≡◌, ◌<◌, ◌+◌, ℕ, [], ◌∷◌, length, All, false};
+ghost use Rattle.std.specs.Prelude.{◌≢◌, ◌≤◌, ◌^◌, ◌++◌, OnOk, OnErr, IfSome, Some, slice_get, slice_set, option_to_list, ◌≡◌, ◌<◌, ◌+◌, ℕ, [], ◌∷◌, length, All, false, min, if◌then◌else◌};
 ghost use Rattle.fcp_framing.specs.declared.packet.Told.{Told as ToldSlot};
 ghost use Rattle.fcp_framing.specs.declared.packet.Demand.{Demand as DemandItem};
 ghost use Rattle.ack_window.specs.declared.send_window.Decided.{Decided as DecidedNumber};
@@ -9,7 +9,7 @@ ghost use Rattle.arbiter_lane.specs.Lines.{entry_on, Become, LosesSlots, Acknowl
 ghost use Rattle.std.specs.List.{filter_map};
 ghost use Rattle.greedy_rules.specs.Batches.{IsAboveLast};
 ghost use Rattle.arbiter_lane.specs.declared.line.Line.{Line as LineOf};
-ghost use Rattle.arbiter_lane.specs.Parts.{CanRise, HaveNotRisen, entries_on};
+ghost use Rattle.arbiter_lane.specs.Parts.{CanRise, HaveNotRisen, HaveEntriesWithin, entries_on};
 ghost use Rattle.endpoint_history.specs.Confirmed.{total_named};
 
 use crate::NoMemory;
@@ -138,22 +138,75 @@ pub(crate) fn record(
     ensures unchanged { OnErr result (lines.new ≡ lines.old) }
 {
     if rises | resets {
-        enter(lines, endpoint, resets, batch)?;
-        settle(lines);
+        let span = entered_lines(lines, resets);
+        enter(lines, span, endpoint, resets, batch)?;
+        settle(lines, span, resets);
     }
     Ok(())
 }
 
-/// Enters the flows of an endpoint one by one, rising by destination. There is none from the endpoint to itself, whose line
-/// never rises.
-fn enter(lines: &[Line], endpoint: u16, resets: bool, batch: &mut Batch) -> Result<(), NoMemory>
+/// The lines from one on, up to another.
+#[derive(Clone, Copy)]
+struct Span {
+    from: usize,
+    to: usize,
+}
+
+impl Span {
+    /// With the line at this place too, which is past it, if the line has an entry.
+    fn with(self, at: usize, has_entry: bool) -> Span
+        requires { at < 2 ^ 32 }
+        ensures from { result.from ≡ (if has_entry then min self.from at else self.from) }
+        ensures to { result.to ≡ (if has_entry then at + 1 else self.to) }
+    {
+        if has_entry {
+            Span {
+                from: self.from.min(at),
+                to: at + 1,
+            }
+        } else {
+            self
+        }
+    }
+}
+
+/// The lines between which all that have an entry lie.
+fn entered_lines(lines: &[Line], resets: bool) -> Span
     requires few { length lines.now ≤ 256 }
+    requires can_rise { CanRise lines.now }
+    ensures within { result.to ≤ length lines.now }
+    ensures begins { result.from ≤ length lines.now }
+    ensures all { HaveEntriesWithin result.from result.to resets lines.now }
+{
+    let mut span = Span {
+        from: lines.len(),
+        to: 0,
+    };
+    for at in 0..lines.len() {
+        span = span.with(at, lines[at].has_entry(resets));
+    }
+    span
+}
+
+/// Enters the flows of an endpoint in these lines one by one, rising by destination. There is none from the endpoint to itself,
+/// whose line never rises.
+fn enter(
+    lines: &[Line],
+    span: Span,
+    endpoint: u16,
+    resets: bool,
+    batch: &mut Batch,
+) -> Result<(), NoMemory>
+    requires few { length lines.now ≤ 256 }
+    requires within { span.to ≤ length lines.now }
+    requires begins { span.from ≤ length lines.now }
+    requires all { HaveEntriesWithin span.from span.to resets lines.now }
     requires above { IsAboveLast batch.old.entries (record { src = endpoint; dst = 0 }) }
     requires can_rise { CanRise lines.now }
     ensures entries { OnOk result (batch.new.entries ≡ batch.old.entries ++ entries_on lines.now endpoint resets) }
     ensures limits { batch.new.limits ≡ batch.old.limits }
 {
-    for dst in 0..lines.len() {
+    for dst in span.from..span.to {
         let flow = Flow {
             src: endpoint,
             dst: dst as u16,
@@ -178,12 +231,14 @@ fn enter_one(line: &Line, flow: Flow, resets: bool, batch: &mut Batch) -> Result
     }
 }
 
-/// Takes all that the flows have risen by for entered.
-fn settle(lines: &mut [Line])
-    requires { CanRise lines.old }
+/// Takes all that the flows in these lines have risen by for entered. The others have not risen.
+fn settle(lines: &mut [Line], span: Span, resets: bool)
+    requires within { span.to ≤ length lines.old }
+    requires all { HaveEntriesWithin span.from span.to resets lines.old }
+    requires can_rise { CanRise lines.old }
     ensures { Become (λ dst. IsEntered) lines.old lines.new }
 {
-    for at in 0..lines.len() {
+    for at in span.from..span.to {
         lines[at].settle();
     }
 }

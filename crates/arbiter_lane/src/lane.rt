@@ -58,7 +58,8 @@ pub struct Lane {
     is_made: bool,
     is_reset: bool,
     has_risen: bool,
-    /// The packet that arrived last.
+    /// The packet that was made last, and the one that arrived last.
+    down: Down,
     up: Up,
     /// What its acknowledgement decides. Empty between two calls.
     found: ArrayVec<Decided<Telling>, 129>,
@@ -146,6 +147,7 @@ impl Lane {
             is_made: false,
             is_reset: false,
             has_risen: false,
+            down: Down::default(),
             up: Up::default(),
             found: ArrayVec::new(),
         })
@@ -183,15 +185,22 @@ impl Lane {
     {
         lanes_count_slots();
         let told = self.slots_told(round, told);
-        let mut down = self.header();
+        put_header(
+            &mut self.down,
+            self.version,
+            self.endpoint,
+            self.epoch,
+            &self.arrived,
+        );
         self.is_made = true;
         if self.epoch == 0 {
             return None;
         }
         let batch = round.saturating_sub(2 * u32::from(self.g));
-        let loses = tell(&mut self.sent, &mut self.lines, batch, told, &mut down);
+        let down = &mut self.down;
+        let loses = tell(&mut self.sent, &mut self.lines, batch, told, down);
         self.has_risen |= loses;
-        Some(encode_alloc(&down, buf))
+        Some(encode_alloc(&self.down, buf))
     }
 
     /// Takes what arrives in this round. After `OldSeq` and `Repeat` the acknowledgement was read; any other refusal leaves
@@ -338,23 +347,6 @@ impl Lane {
         }
     }
 
-    /// An allocation of the connection as it is, which tells nothing under no number.
-    fn header(&self) -> Down
-        ensures header { result ≡ packet_with self.now 0 0 [] }
-        ensures mask { IsMask result.high result.mask }
-        ensures width { result.mask < 2 ^ mask_bits result.version }
-    {
-        let (high, mask) = self.arrived.ack();
-        Down {
-            version: self.version,
-            dst: self.endpoint,
-            epoch: self.epoch,
-            high,
-            mask,
-            ..Down::default()
-        }
-    }
-
     /// Begins the connection of a reset of a greater epoch.
     fn begin(&mut self, epoch: u32, version: u8)
         requires epoch { self.old.epoch < epoch }
@@ -383,6 +375,33 @@ impl Lane {
         self.sent.restart(version);
         flows::restart(&mut self.lines);
     }
+}
+
+/// Makes it an allocation of the connection as it is, which tells nothing under no number.
+fn put_header(down: &mut Down, version: u8, endpoint: u16, epoch: u32, arrived: &TakeWindow)
+    requires { arrived.now.version ≡ version }
+    ensures header { down.new ≡ record {
+      version = version;
+      dst = endpoint;
+      epoch = epoch;
+      seq = 0;
+      high = arrived.now.told.high;
+      mask = arrived.now.told.mask;
+      batch = 0;
+      told = record { items = [] };
+    } }
+    ensures mask { IsMask arrived.now.told.high arrived.now.told.mask }
+    ensures width { arrived.now.told.mask < 2 ^ mask_bits version }
+{
+    let (high, mask) = arrived.ack();
+    down.version = version;
+    down.dst = endpoint;
+    down.epoch = epoch;
+    down.seq = 0;
+    down.high = high;
+    down.mask = mask;
+    down.batch = 0;
+    down.told.clear();
 }
 
 /// Reads the acknowledgement that a request carries, and counts the slots in the numbers that it decides. Answers whether some

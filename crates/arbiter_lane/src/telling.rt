@@ -58,7 +58,7 @@ pub(crate) fn tell(
 {
     if sent.may_send() {
         down.batch = batch;
-        down.told = list_of(told);
+        put_slots(&mut down.told, told);
         down.seq = sent.push(Telling {
             batch,
             told: list_of(told),
@@ -69,8 +69,17 @@ pub(crate) fn tell(
     let (number, telling) = sent.newest();
     down.seq = number;
     down.batch = telling.batch;
-    down.told = list_of(telling.told.as_slice());
+    put_slots(&mut down.told, telling.told.as_slice());
     !told.is_empty()
+}
+
+/// Puts these slots in place of those that a packet tells.
+fn put_slots(list: &mut ArrayVec<Told, 64>, told: &[Told])
+    requires { length told.now ≤ 64 }
+    ensures { list.new.items ≡ told.now }
+{
+    list.clear();
+    let _ = list.try_extend_from_slice(told);
 }
 
 fn list_of(told: &[Told]) -> ArrayVec<Told, 64>
@@ -78,8 +87,6 @@ fn list_of(told: &[Told]) -> ArrayVec<Told, 64>
     ensures { result.items ≡ told.now }
 {
     let mut list = ArrayVec::new();
-    for slot in told {
-        list.push(*slot);
-    }
+    let _ = list.try_extend_from_slice(told);
     list
 }

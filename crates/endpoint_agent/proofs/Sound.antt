@@ -1,5 +1,5 @@
 -- What the numbers of an agent keep to after each of its calls.
-use Rattle.std.proofs.Common.{◌≡◌, ◌≢◌, ℕ, zero, suc, get_or, ◌+◌, ◌<◌, ◌≤◌, Bool, true, false, cond, ◌==◌, List, [], ◌∷◌, length, set, replicate, All, refl, sym, ◌∙◌, ap, subst, inl, inr, arith, ◌⊎◌}
+use Rattle.std.proofs.Common.{◌≡◌, ◌≢◌, ℕ, zero, suc, get_or, ◌+◌, ◌<◌, ◌≤◌, Bool, true, false, cond, ◌==◌, List, [], ◌∷◌, length, set, replicate, All, refl, sym, ◌∙◌, ap, subst, inl, inr, arith}
 use Rattle.std.proofs.lemmas.Bool.{cases_eq, cases_lt, cond-false, ne_eqb, eqb-true}
 use Rattle.std.proofs.lemmas.List.{get_or-set_same, get_or-set_other, get_or-replicate, get_or_past, length-replicate}
 use Rattle.std.proofs.lemmas.List.Elements.{All-nil, All-from_get_or}
@@ -269,36 +269,28 @@ missed-from : (c : Bool) (old next from : ℕ) → old ≤ from → from ≤ nex
 missed-from true old next from low high = omega (arith, low, high)
 missed-from false old next from low high = omega arith
 
--- slots are taken
-pub Reached-takes : (agent after : AgentState) (seq from from' : ℕ) (told : List Told) (n : ℕ → ℕ) → IsReached seq from agent → after.sent.outstanding.newest ≡ agent.sent.outstanding.newest
+-- slots are taken: where some are missed, every total may be carried from the next request on
+pub Reached-takes : (agent after : AgentState) (seq from from' : ℕ) (misses : Bool) (n : ℕ → ℕ) → IsReached seq from agent → after.sent.outstanding.newest ≡ agent.sent.outstanding.newest
     → ((dst : ℕ) → line_at after.lines dst ≡ with_missed (agent.sent.outstanding.newest + 1) (n dst) (line_at agent.lines dst))
-    → (told ≡ [] → (dst : ℕ) → n dst ≡ 0) → (told ≡ [] → from' ≡ from) → (told ≢ [] → from' ≡ seq + 1) → IsReached seq from' after
-Reached-takes agent after seq from from' told n reached newest counted none_missed stays moves =
+    → (misses ≡ false → (dst : ℕ) → n dst ≡ 0) → from' ≡ cond misses (seq + 1) from → IsReached seq from' after
+Reached-takes agent after seq from from' false n reached newest counted none_missed moves =
     let next = agent.sent.outstanding.newest + 1 in
-    elim (empty_or told) [
-      | inl none ↦
-          let same = stays none in
-          record {
-            number = reached.number ∙ sym newest;
-            within = omega (arith, reached.within, newest, same);
-            lines = λ dst.
-                let old = line_at agent.lines dst in
-                let is = ap (λ (l : FlowLine). l.carried_from) (counted dst) ∙ ap (λ (k : ℕ). cond (k == 0) old.carried_from next) (none_missed none dst) in
-                omega (arith, is, reached.lines dst, same);
-          }
-      | inr some ↦
-          let same = moves some in
-          record {
-            number = reached.number ∙ sym newest;
-            within = omega (arith, reached.number, newest, same);
-            lines = λ dst.
-                let old = line_at agent.lines dst in
-                let is = ap (λ (l : FlowLine). l.carried_from) (counted dst) in
-                let low = missed-from (n dst == 0) old.carried_from next from (reached.lines dst) reached.within in
-                omega (arith, is, low, same, reached.number);
-          }
-    ]
-  where
-    empty_or : (xs : List Told) → (xs ≡ []) ⊎ (xs ≢ [])
-    empty_or [] = inl refl
-    empty_or (x ∷ xs) = inr (λ e. absurd cc)
+    record {
+      number = reached.number ∙ sym newest;
+      within = omega (arith, reached.within, newest, moves);
+      lines = λ dst.
+          let old = line_at agent.lines dst in
+          let is = ap (λ (l : FlowLine). l.carried_from) (counted dst) ∙ ap (λ (k : ℕ). cond (k == 0) old.carried_from next) (none_missed refl dst) in
+          omega (arith, is, reached.lines dst, moves);
+    }
+Reached-takes agent after seq from from' true n reached newest counted none_missed moves =
+    let next = agent.sent.outstanding.newest + 1 in
+    record {
+      number = reached.number ∙ sym newest;
+      within = omega (arith, reached.number, newest, moves);
+      lines = λ dst.
+          let old = line_at agent.lines dst in
+          let is = ap (λ (l : FlowLine). l.carried_from) (counted dst) in
+          let low = missed-from (n dst == 0) old.carried_from next from (reached.lines dst) reached.within in
+          omega (arith, is, low, moves, reached.number);
+    }

@@ -54,6 +54,9 @@ pub struct Agent {
     waiting: [ArrayVec<Told, 64>; 3],
     round: u32,
     is_made: bool,
+    /// The packet that arrived last, and what its acknowledgement decides.
+    down: Down,
+    acks: ArrayVec<Decided<()>, 129>,
 }
 
 impl Model for Agent {
@@ -134,6 +137,8 @@ impl Agent {
             waiting: [ArrayVec::new(), ArrayVec::new(), ArrayVec::new()],
             round: 0,
             is_made: false,
+            down: Down::default(),
+            acks: ArrayVec::new(),
         })
     }
 
@@ -214,27 +219,26 @@ impl Agent {
             StandsFor self.old calls →
             StandsFor self.new (TakesDown round (down_packet (down_of bytes.now)) ∷ calls) }
     {
-        let mut down = Down::default();
-        if let Err(refusal) = decode_down(bytes, self.endpoints, self.b, &mut down) {
+        if let Err(refusal) = decode_down(bytes, self.endpoints, self.b, &mut self.down) {
             return Err(DownRefused::Frame(refusal));
         }
-        if down.dst != self.me {
+        if self.down.dst != self.me {
             return Err(DownRefused::NotMine);
         }
-        if down.epoch != self.epoch {
+        if self.down.epoch != self.epoch {
             return Err(DownRefused::OtherEpoch);
         }
-        if down.version != self.version {
+        if self.down.version != self.version {
             return Err(DownRefused::OtherVersion);
         }
         agents_count_slots();
-        self.acknowledged = read_ack(&mut self.sent, self.acknowledged, down.high, down.mask);
+        let down = &self.down;
+        self.acknowledged = read_ack(down, &mut self.sent, &mut self.acks, self.acknowledged);
         match self.arrived.take(down.seq) {
             Taken::Fresh => {
                 self.has_begun = true;
                 let next = self.request.seq + 1;
-                self.carried_from = reached(&down.told, self.carried_from, next);
-                take_slots(
+                let misses = take_slots(
                     &mut self.lines,
                     &mut self.waiting,
                     self.g,
@@ -242,6 +246,7 @@ impl Agent {
                     down,
                     next,
                 );
+                self.carried_from = reached(misses, self.carried_from, next);
                 Ok(())
             }
             Taken::Old => Err(DownRefused::OldSeq),
@@ -338,19 +343,24 @@ fn forget(waiting: &mut [ArrayVec<Told, 64>; 3])
     waiting[2].clear();
 }
 
-/// Reads what a packet acknowledges, and answers the greatest number that is acknowledged by now.
-fn read_ack(sent: &mut SendWindow<()>, acknowledged: u32, high: u32, mask: u128) -> u32
+/// Reads what a packet acknowledges, and answers the greatest number that is acknowledged by now. What it decides is `found`.
+fn read_ack(
+    down: &Down,
+    sent: &mut SendWindow<()>,
+    found: &mut ArrayVec<Decided<()>, 129>,
+    acknowledged: u32,
+) -> u32
     ensures acknowledged { (events : List (Event (Unit {0}))) →
         HasDone sent.old events →
-        result ≡ greatest_shown acknowledged (decided_by (reorder_of sent.old.version) (span_of sent.old.version) events (record { high = high; mask = mask })) }
+        result ≡ greatest_shown acknowledged (decided_by (reorder_of sent.old.version) (span_of sent.old.version) events (record { high = down.now.high; mask = down.now.mask })) }
     ensures newest { sent.new.outstanding.newest ≡ sent.old.outstanding.newest }
     ensures version { sent.new.version ≡ sent.old.version }
     ensures stands { (events : List (Event (Unit {0}))) →
         HasDone sent.old events →
-        HasDone sent.new (Reads (record { high = high; mask = mask }) ∷ events) }
+        HasDone sent.new (Reads (record { high = down.now.high; mask = down.now.mask }) ∷ events) }
 {
-    let mut found = ArrayVec::new();
-    sent.read_ack(high, mask, &mut found);
+    found.clear();
+    sent.read_ack(down.high, down.mask, found);
     greatest_of(acknowledged, found.as_slice())
 }
 
@@ -395,42 +405,55 @@ fn renew(
     }
 }
 
-/// From which request on all totals may be carried, once these slots are taken. `next` is the number of the next request.
-fn reached(told: &ArrayVec<Told, 64>, carried_from: u32, next: u32) -> u32
-    ensures none { told.now.items ≡ [] → result ≡ carried_from }
-    ensures some { told.now.items ≢ [] → result ≡ next }
+/// From which request on every total may be carried, once slots were taken: from the next one where some are missed.
+fn reached(misses: bool, carried_from: u32, next: u32) -> u32
+    ensures { result ≡ (if misses then next else carried_from) }
 {
-    if told.is_empty() { carried_from } else { next }
+    if misses { next } else { carried_from }
 }
 
 /// Lets the slots of a packet wait where they are in time, and counts them as missed where they are not. `next` is the number of
-/// the next request.
+/// the next request. Answers whether some are missed.
 fn take_slots(
     lines: &mut [FlowLine],
     waiting: &mut [ArrayVec<Told, 64>; 3],
     g: u8,
     round: u32,
-    down: Down,
+    down: &Down,
     next: u32,
-)
-    requires destinations { All (λ (t : ToldSlot). t.dst < length lines.old) down.told.items }
-    requires late { down.told.items ≢ [] → down.batch ≤ round }
+) -> bool
+    requires destinations { All (λ (t : ToldSlot). t.dst < length lines.old) down.now.told.items }
+    requires late { down.now.told.items ≢ [] → down.now.batch ≤ round }
     requires rounds { round < 100000 }
-    requires room { All (λ line. line.missed + length down.told.items < 2 ^ 32) lines.old }
+    requires room { All (λ line. line.missed + length down.now.told.items < 2 ^ 32) lines.old }
     ensures length { length lines.new ≡ length lines.old }
     ensures lines { (dst : ℕ) → line_at lines.new dst
-        ≡ with_missed next (if nat_le round (down.batch + 2 * g + 2) then 0 else slots_to dst down.told.items) (line_at lines.old dst) }
-    ensures waiting { down.told.items ≢ [] → round ≤ down.batch + 2 * g + 2 → waiting.new ≡ slice_set waiting.old (down.batch % 3) down.told }
-    ensures others { (down.told.items ≡ []) ⊎ (down.batch + 2 * g + 2 < round) → waiting.new ≡ waiting.old }
+        ≡ with_missed next (if nat_le round (down.now.batch + 2 * g + 2) then 0 else slots_to dst down.now.told.items) (line_at lines.old dst) }
+    ensures waiting { down.now.told.items ≢ [] → round ≤ down.now.batch + 2 * g + 2 → waiting.new ≡ slice_set waiting.old (down.now.batch % 3) down.now.told }
+    ensures others { (down.now.told.items ≡ []) ⊎ (down.now.batch + 2 * g + 2 < round) → waiting.new ≡ waiting.old }
+    ensures none_missed { result ≡ false → (dst : ℕ) → (if nat_le round (down.now.batch + 2 * g + 2) then 0 else slots_to dst down.now.told.items) ≡ 0 }
 {
     if down.told.is_empty() {
-        return;
+        return false;
     }
     if round <= down.batch + 2 * u32::from(g) + 2 {
-        waiting[(down.batch % 3) as usize] = down.told;
-    } else {
-        miss_all(lines, down.told.as_slice(), next);
+        put_slots(
+            &mut waiting[(down.batch % 3) as usize],
+            down.told.as_slice(),
+        );
+        return false;
     }
+    miss_all(lines, down.told.as_slice(), next);
+    true
+}
+
+/// Puts these slots in place of those that wait.
+fn put_slots(waiting: &mut ArrayVec<Told, 64>, told: &[Told])
+    requires { length told.now ≤ 64 }
+    ensures { waiting.new.items ≡ told.now }
+{
+    waiting.clear();
+    let _ = waiting.try_extend_from_slice(told);
 }
 
 /// Sends in the slots of a batch that wait, and forgets them.

@@ -52,6 +52,8 @@ pub struct LaneRounds {
     down: World,
     up: World,
     is_whole: bool,
+    /// The bytes of the packet that was made or arrived last, and what is left of those before.
+    buf: [u8; 2048],
 }
 
 impl Model for LaneRounds {
@@ -94,6 +96,7 @@ impl LaneRounds {
             down: World::open(alloc)?,
             up: World::open(alloc)?,
             is_whole: true,
+            buf: [0; 2048],
         })
     }
 
@@ -154,7 +157,7 @@ impl LaneRounds {
         each_number_is_taken_once();
         arrivals_are_given_in_order();
         self.is_whole = false;
-        let mut buf = [0; 2048];
+        let buf = &mut self.buf;
         boot_all(&mut self.agent, events.boots, events.version);
         ask_all(&mut self.agent, events.asks.as_slice());
         post_down(
@@ -163,11 +166,11 @@ impl LaneRounds {
             round,
             events.down,
             told,
-            &mut buf,
+            buf,
         )?;
-        hear(&mut self.agent, &mut self.down, round, &mut buf);
-        post_up(&mut self.agent, &mut self.up, round, events.up, &mut buf)?;
-        read(&mut self.lane, &mut self.up, round, &mut buf);
+        hear(&mut self.agent, &mut self.down, round, buf);
+        post_up(&mut self.agent, &mut self.up, round, events.up, buf)?;
+        read(&mut self.lane, &mut self.up, round, buf);
         read_raw(&mut self.lane, round, events.raw.as_slice(), refused)?;
         self.lane.record(round, batch)?;
         self.agent.send_due(round, sent);

@@ -84,14 +84,14 @@ encode_alloc-requires c =
     (Become-written (λ dst. LosesSlots (lost_by was.sent c.slots_told-told.result.now dst)) c.self.inside.lines c.deref_mut.result.now c.tell-loses.new.lines c.deref_mut.ensures.value c.tell-loses.ensures.lines) c.tell-loses.ensures.none_lost in
     let begun : 0 < was.epoch = above was.epoch c.if-self-eq0.false in
     let are = subst (λ (l : LaneState). AreSlots l.endpoints l.b l.endpoint slots) (sym c.self.view_is) c.requires.slots in
-    let header : c.header-down.result ≡ packet_with was 0 0 [] = c.header-down.ensures.header ∙ ap (λ (l : LaneState). packet_with l 0 0 []) (sym c.self.view_is) in
+    let header : c.put_header.new.down ≡ packet_with was 0 0 [] = c.put_header.ensures.header in
     let down_is : down ≡ packet_with was c.tell-loses.new.sent.outstanding.newest down.batch down.told.items =
     c.tell-loses.ensures.down ∙ ap (λ (d : Down). record d { seq = c.tell-loses.new.sent.outstanding.newest; batch = down.batch; told = down.told }) header in (
       was.endpoints,
       was.b,
       subst (IsAllocation was.endpoints was.b) (sym down_is)
           (rules-made was c.args.round slots c.tell-loses.new.sent lines c.tell-loses.result content before.1.0 before.1.1 before.0 begun
-          (subst (λ (d : Down). IsMask d.high d.mask) header c.header-down.ensures.mask) (subst (λ (d : Down). d.mask < 2 ^ mask_bits d.version) header c.header-down.ensures.width)
+          c.put_header.ensures.mask c.put_header.ensures.width
           c.tell-loses.ensures.few are told before.1.2 before.1.3),
     )
 
@@ -139,7 +139,7 @@ returns-clause-packet c = λ history allocations stood.
     (Become-written (λ dst. LosesSlots (lost_by was.sent c.slots_told-told.result.now dst)) c.self.inside.lines c.deref_mut.result.now c.tell-loses.new.lines c.deref_mut.ensures.value c.tell-loses.ensures.lines) c.tell-loses.ensures.none_lost in
     let begun : 0 < was.epoch = above was.epoch c.if-self-eq0.false in
     let stands = subst (λ (l : LaneState). StandsFor l history allocations) (sym c.self.view_is) stood in
-    let header : c.header-down.result ≡ packet_with was 0 0 [] = c.header-down.ensures.header ∙ ap (λ (l : LaneState). packet_with l 0 0 []) (sym c.self.view_is) in
+    let header : c.put_header.new.down ≡ packet_with was 0 0 [] = c.put_header.ensures.header in
     let down_is : down ≡ packet_with was c.tell-loses.new.sent.outstanding.newest down.batch down.told.items =
     c.tell-loses.ensures.down ∙ ap (λ (d : Down). record d { seq = c.tell-loses.new.sent.outstanding.newest; batch = down.batch; told = down.told }) header in
     let made = packet-made was history allocations c.args.round slots c.tell-loses.new.sent content before.0.heard_version before.0.sent_version begun (told.done (numbers was.g history) stands.sent) (told.says (numbers was.g history) stands.sent) stands in
@@ -161,14 +161,14 @@ returns-clause-spelled c = λ history allocations stood.
     (Become-written (λ dst. LosesSlots (lost_by was.sent c.slots_told-told.result.now dst)) c.self.inside.lines c.deref_mut.result.now c.tell-loses.new.lines c.deref_mut.ensures.value c.tell-loses.ensures.lines) c.tell-loses.ensures.none_lost in
     let begun : 0 < was.epoch = above was.epoch c.if-self-eq0.false in
     let stands = subst (λ (l : LaneState). StandsFor l history allocations) (sym c.self.view_is) stood in
-    let header : c.header-down.result ≡ packet_with was 0 0 [] = c.header-down.ensures.header ∙ ap (λ (l : LaneState). packet_with l 0 0 []) (sym c.self.view_is) in
+    let header : c.put_header.new.down ≡ packet_with was 0 0 [] = c.put_header.ensures.header in
     let down_is : down ≡ packet_with was c.tell-loses.new.sent.outstanding.newest down.batch down.told.items =
     c.tell-loses.ensures.down ∙ ap (λ (d : Down). record d { seq = c.tell-loses.new.sent.outstanding.newest; batch = down.batch; told = down.told }) header in
     let made = packet-made was history allocations c.args.round slots c.tell-loses.new.sent content before.0.heard_version before.0.sent_version begun (told.done (numbers was.g history) stands.sent) (told.says (numbers was.g history) stands.sent) stands in
     let are = subst (λ (l : LaneState). AreSlots l.endpoints l.b l.endpoint slots) (sym c.self.view_is) c.requires.slots in
     let rules =
     rules-made was c.args.round slots c.tell-loses.new.sent lines c.tell-loses.result content before.1.0 before.1.1 before.0 begun
-    (subst (λ (d : Down). IsMask d.high d.mask) header c.header-down.ensures.mask) (subst (λ (d : Down). d.mask < 2 ^ mask_bits d.version) header c.header-down.ensures.width)
+    c.put_header.ensures.mask c.put_header.ensures.width
     c.tell-loses.ensures.few are told before.1.2 before.1.3 in
     let bytes = take c.encode_alloc.result c.encode_alloc.new.buf in
     let spells = subst (SpellsDown was.endpoints was.b bytes) down_is (c.encode_alloc.ensures.spelled was.endpoints was.b (subst (IsAllocation was.endpoints was.b) (sym down_is) rules)) in

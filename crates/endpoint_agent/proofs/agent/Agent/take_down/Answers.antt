@@ -21,7 +21,7 @@ use Rattle.endpoint_agent.specs.Refusals.{IsOwn}
 use Rattle.endpoint_agent.specs.Standing.{StandsFor}
 use Rattle.endpoint_agent.specs.State.{AgentState, line_at, MayTake, IsSound}
 use Rattle.endpoint_agent.proofs.Calls.{StandsFor-passed, Read}
-use Rattle.endpoint_agent.proofs.Taking.{IsMine, takes-it, reads, AreTaken, takes-slots, Sound-slots, either-none}
+use Rattle.endpoint_agent.proofs.Taking.{IsMine, takes-it, reads, AreTaken, takes-slots, Sound-slots}
 use Rattle.endpoint_agent.proofs.Sound.{All-lines, Sound-reads, Reached-makes, Reached-takes}
 use Rattle.endpoint_agent.proofs.agent.Agent.take_down.Goals as goal
 
@@ -30,25 +30,27 @@ After agent round history packet = StandsFor agent (TakesDown round packet ∷ h
 
 -- ---- of another epoch or version
 
-pub returns-then-down-self-2-clause-stands : goal.returns-then-down-self-2-clause-stands
-returns-then-down-self-2-clause-stands c = λ own history stands.
-    let now = c.args.self.now in
+pub returns-then-self-2-clause-stands : goal.returns-then-self-2-clause-stands
+returns-then-self-2-clause-stands c = λ own history stood.
+    let now : AgentState = the_view c.self.inside in
+    let stands = subst (λ (a : AgentState). StandsFor a history) (sym c.self.view_is) stood in
     let down : Down = c.decode_down.new.into in
     let is : down ≡ down_of c.args.bytes.now = c.in_default.ensures.read in
-    let epoch : c.self.inside.epoch ≡ epoch_of history = ap (λ (a : AgentState). a.epoch) c.self.view_is ∙ stands.epoch in
+    let epoch : c.self.inside.epoch ≡ epoch_of history = stands.epoch in
     subst (λ (d : Down). After now c.args.round history (down_packet d)) is
     (StandsFor-passed now history c.args.round (down_packet down) stands
-    (and_left (down.epoch == epoch_of history) (down.version == version_of history) (ne_eqb down.epoch (epoch_of history) (λ e. c.if-down-self-2.true (e ∙ sym epoch)))))
+    (and_left (down.epoch == epoch_of history) (down.version == version_of history) (ne_eqb down.epoch (epoch_of history) (λ e. c.if-self-2.true (e ∙ sym epoch)))))
 
-pub returns-then-down-self-3-clause-stands : goal.returns-then-down-self-3-clause-stands
-returns-then-down-self-3-clause-stands c = λ own history stands.
-    let now = c.args.self.now in
+pub returns-then-self-3-clause-stands : goal.returns-then-self-3-clause-stands
+returns-then-self-3-clause-stands c = λ own history stood.
+    let now : AgentState = the_view c.self.inside in
+    let stands = subst (λ (a : AgentState). StandsFor a history) (sym c.self.view_is) stood in
     let down : Down = c.decode_down.new.into in
     let is : down ≡ down_of c.args.bytes.now = c.in_default.ensures.read in
-    let version : c.self.inside.version ≡ version_of history = ap (λ (a : AgentState). a.version) c.self.view_is ∙ stands.version in
+    let version : c.self.inside.version ≡ version_of history = stands.version in
     subst (λ (d : Down). After now c.args.round history (down_packet d)) is
     (StandsFor-passed now history c.args.round (down_packet down) stands
-    (and_right (down.epoch == epoch_of history) (down.version == version_of history) (ne_eqb down.version (version_of history) (λ e. c.if-down-self-3.true (e ∙ sym version)))))
+    (and_right (down.epoch == epoch_of history) (down.version == version_of history) (ne_eqb down.version (version_of history) (λ e. c.if-self-3.true (e ∙ sym version)))))
 
 -- ---- a fresh number
 
@@ -84,14 +86,14 @@ slots-by agent round down vec old new waiting waiting' seq value long same lines
       kept = λ why. ap (map items) (kept why) ∙ places;
     }
 
-pub take_slots-requires-clause-late : goal.take_slots-requires-clause-late
-take_slots-requires-clause-late c = λ some.
+pub take_slots-misses-requires-clause-late : goal.take_slots-misses-requires-clause-late
+take_slots-misses-requires-clause-late c = λ some.
     let agent : AgentState = the_view c.self.inside in
     let (sound, calls, same) = c.self.invariant in
     let down : Down = c.decode_down.new.into in
     let is : down ≡ down_of c.args.bytes.now = c.in_default.ensures.read in
     let spelled : SpellsDown agent.endpoints agent.b c.args.bytes.now down = c.in_default.ensures.spelled in
-    let mine : IsMine agent down = record { rules = spelled.rules; destination = c.if-down-self.false; epoch = c.if-down-self-2.false; version = c.if-down-self-3.false } in
+    let mine : IsMine agent down = record { rules = spelled.rules; destination = c.if-self.false; epoch = c.if-self-2.false; version = c.if-self-3.false } in
     let own : IsOwn c.args.self.now.me c.args.self.now.endpoints c.args.self.now.b c.args.bytes.now =
     subst (λ (a : AgentState). IsOwn a.me a.endpoints a.b c.args.bytes.now) c.self.view_is
     (record { spelled = sym c.in_default.ensures.refused; destination = ap (λ (d : Down). d.dst) (sym is) ∙ mine.destination }) in
@@ -101,28 +103,28 @@ take_slots-requires-clause-late c = λ some.
     let late = may.late some in
     omega (arith, late)
 
-pub take_slots-requires-clause-room : goal.take_slots-requires-clause-room
-take_slots-requires-clause-room c =
+pub take_slots-misses-requires-clause-room : goal.take_slots-misses-requires-clause-room
+take_slots-misses-requires-clause-room c =
     let agent : AgentState = the_view c.self.inside in
     let (sound, calls, same) = c.self.invariant in
     let down : Down = c.decode_down.new.into in
     let is : down ≡ down_of c.args.bytes.now = c.in_default.ensures.read in
     let spelled : SpellsDown agent.endpoints agent.b c.args.bytes.now down = c.in_default.ensures.spelled in
-    let mine : IsMine agent down = record { rules = spelled.rules; destination = c.if-down-self.false; epoch = c.if-down-self-2.false; version = c.if-down-self-3.false } in
+    let mine : IsMine agent down = record { rules = spelled.rules; destination = c.if-self.false; epoch = c.if-self-2.false; version = c.if-self-3.false } in
     subst (λ (ls : List FlowLine). All (λ (line : FlowLine). line.missed + length down.told.items < 4294967296) ls) (sym c.deref_mut.ensures.value)
     (All-lines agent.lines (λ (line : FlowLine). line.missed + length down.told.items < 4294967296) (λ dst. omega (arith, (sound.lines dst).missed, mine.rules.count)))
 
 later-or-same : (before after : ℕ) → after ≡ before → before ≤ after
 later-or-same before after same = omega (arith, same)
 
-pub invariant_of-self : goal.invariant_of-self
-invariant_of-self c =
+pub invariant_of-self-in-Fresh : goal.invariant_of-self-in-Fresh
+invariant_of-self-in-Fresh c =
     let agent : AgentState = the_view c.self.inside in
     let (sound, calls, same) = c.self.invariant in
     let down : Down = c.decode_down.new.into in
     let is : down ≡ down_of c.args.bytes.now = c.in_default.ensures.read in
     let spelled : SpellsDown agent.endpoints agent.b c.args.bytes.now down = c.in_default.ensures.spelled in
-    let mine : IsMine agent down = record { rules = spelled.rules; destination = c.if-down-self.false; epoch = c.if-down-self-2.false; version = c.if-down-self-3.false } in
+    let mine : IsMine agent down = record { rules = spelled.rules; destination = c.if-self.false; epoch = c.if-self-2.false; version = c.if-self-3.false } in
     let (history, stands) = calls in
     let own : IsOwn c.args.self.now.me c.args.self.now.endpoints c.args.self.now.b c.args.bytes.now =
     subst (λ (a : AgentState). IsOwn a.me a.endpoints a.b c.args.bytes.now) c.self.view_is
@@ -130,15 +132,15 @@ invariant_of-self c =
     let fresh : (history : AgentHistory) → StandsFor agent history → Fresh ≡ receive_verdict (reorder_of agent.arrived.version) (arrived history) down.seq = λ history stands.
     sym c.in-Fresh.is ∙ c.take.ensures.verdict (arrived history) stands.arrived in
     let may = may_take agent c.args.self.now c.args.round c.args.bytes.now down c.self.view_is is sound mine own fresh c.requires.may_take in
-    let slots = slots-by agent c.args.round down c.self.inside.lines c.deref_mut.result.now c.take_slots.new.lines c.self.inside.waiting c.take_slots.new.waiting c.self.inside.request.seq
-    c.deref_mut.ensures.value c.deref_mut.ensures.len same.number (λ i. agent.lines) (λ i. agent.waiting) c.take_slots.ensures.length c.take_slots.ensures.lines c.take_slots.ensures.waiting c.take_slots.ensures.others in
+    let slots = slots-by agent c.args.round down c.self.inside.lines c.deref_mut.result.now c.take_slots-misses.new.lines c.self.inside.waiting c.take_slots-misses.new.waiting c.self.inside.request.seq
+    c.deref_mut.ensures.value c.deref_mut.ensures.len same.number (λ i. agent.lines) (λ i. agent.waiting) c.take_slots-misses.ensures.length c.take_slots-misses.ensures.lines c.take_slots-misses.ensures.waiting c.take_slots-misses.ensures.others in
     let read : (history : AgentHistory) → StandsFor agent history → Read agent history (down_packet down) c.take.new.self c.read_ack-self-inside.new.sent c.read_ack-self-inside.result = λ history stands. (
       c.take.ensures.stands (arrived history) stands.arrived,
       c.read_ack-self-inside.ensures.stands (bare_numbers agent.endpoints agent.g history) stands.sent,
       c.read_ack-self-inside.ensures.acknowledged (bare_numbers agent.endpoints agent.g history) stands.sent,
     ) in
-    let lines = (with_items c.self.inside.lines c.take_slots.new.lines).items in
-    let waiting = map (λ (w : ArrayVec Told). w.items) c.take_slots.new.waiting in
+    let lines = (with_items c.self.inside.lines c.take_slots-misses.new.lines).items in
+    let waiting = map (λ (w : ArrayVec Told). w.items) c.take_slots-misses.new.waiting in
     let now : c.args.round ≡ agent.round = c.requires.round ∙ sym (ap (λ (a : AgentState). a.round) c.self.view_is) in (
       Sound-slots agent c.args.round down c.take.new.self c.read_ack-self-inside.new.sent c.read_ack-self-inside.result lines waiting sound mine may c.take.ensures.version c.read_ack-self-inside.ensures.version c.read_ack-self-inside.ensures.newest slots,
       (
@@ -146,9 +148,9 @@ invariant_of-self c =
         takes-slots c.agents_count_slots.ensures.taking agent history c.args.round down c.take.new.self c.read_ack-self-inside.new.sent c.read_ack-self-inside.result lines waiting stands sound mine now may
             (fresh history stands) (read history stands) slots,
       ),
-      Reached-takes agent _ c.self.inside.request.seq c.self.inside.carried_from c.reached-self-inside.result down.told.items
+      Reached-takes agent _ c.self.inside.request.seq c.self.inside.carried_from c.reached-self-inside.result c.take_slots-misses.result
           (λ dst. cond (leb c.args.round (down.batch + 2 * agent.g + 2)) 0 (slots_to dst down.told.items)) same c.read_ack-self-inside.ensures.newest slots.counted
-          (λ none dst. either-none (leb c.args.round (down.batch + 2 * agent.g + 2)) (slots_to dst down.told.items) (ap (slots_to dst) none)) c.reached-self-inside.ensures.none c.reached-self-inside.ensures.some,
+          c.take_slots-misses.ensures.none_missed c.reached-self-inside.ensures,
     )
 
 pub returns-in-Fresh-clause-stands : goal.returns-in-Fresh-clause-stands
@@ -158,7 +160,7 @@ returns-in-Fresh-clause-stands c = λ is_own history stands.
     let down : Down = c.decode_down.new.into in
     let is : down ≡ down_of c.args.bytes.now = c.in_default.ensures.read in
     let spelled : SpellsDown agent.endpoints agent.b c.args.bytes.now down = c.in_default.ensures.spelled in
-    let mine : IsMine agent down = record { rules = spelled.rules; destination = c.if-down-self.false; epoch = c.if-down-self-2.false; version = c.if-down-self-3.false } in
+    let mine : IsMine agent down = record { rules = spelled.rules; destination = c.if-self.false; epoch = c.if-self-2.false; version = c.if-self-3.false } in
     let here = subst (λ (a : AgentState). StandsFor a history) (sym c.self.view_is) stands in
     let own : IsOwn c.args.self.now.me c.args.self.now.endpoints c.args.self.now.b c.args.bytes.now =
     subst (λ (a : AgentState). IsOwn a.me a.endpoints a.b c.args.bytes.now) c.self.view_is
@@ -166,15 +168,15 @@ returns-in-Fresh-clause-stands c = λ is_own history stands.
     let fresh : (history : AgentHistory) → StandsFor agent history → Fresh ≡ receive_verdict (reorder_of agent.arrived.version) (arrived history) down.seq = λ history stands.
     sym c.in-Fresh.is ∙ c.take.ensures.verdict (arrived history) stands.arrived in
     let may = may_take agent c.args.self.now c.args.round c.args.bytes.now down c.self.view_is is sound mine own fresh c.requires.may_take in
-    let slots = slots-by agent c.args.round down c.self.inside.lines c.deref_mut.result.now c.take_slots.new.lines c.self.inside.waiting c.take_slots.new.waiting c.self.inside.request.seq
-    c.deref_mut.ensures.value c.deref_mut.ensures.len same.number (λ i. agent.lines) (λ i. agent.waiting) c.take_slots.ensures.length c.take_slots.ensures.lines c.take_slots.ensures.waiting c.take_slots.ensures.others in
+    let slots = slots-by agent c.args.round down c.self.inside.lines c.deref_mut.result.now c.take_slots-misses.new.lines c.self.inside.waiting c.take_slots-misses.new.waiting c.self.inside.request.seq
+    c.deref_mut.ensures.value c.deref_mut.ensures.len same.number (λ i. agent.lines) (λ i. agent.waiting) c.take_slots-misses.ensures.length c.take_slots-misses.ensures.lines c.take_slots-misses.ensures.waiting c.take_slots-misses.ensures.others in
     let read : (history : AgentHistory) → StandsFor agent history → Read agent history (down_packet down) c.take.new.self c.read_ack-self-inside.new.sent c.read_ack-self-inside.result = λ history stands. (
       c.take.ensures.stands (arrived history) stands.arrived,
       c.read_ack-self-inside.ensures.stands (bare_numbers agent.endpoints agent.g history) stands.sent,
       c.read_ack-self-inside.ensures.acknowledged (bare_numbers agent.endpoints agent.g history) stands.sent,
     ) in
-    let lines = (with_items c.self.inside.lines c.take_slots.new.lines).items in
-    let waiting = map (λ (w : ArrayVec Told). w.items) c.take_slots.new.waiting in
+    let lines = (with_items c.self.inside.lines c.take_slots-misses.new.lines).items in
+    let waiting = map (λ (w : ArrayVec Told). w.items) c.take_slots-misses.new.waiting in
     let now : c.args.round ≡ agent.round = c.requires.round ∙ sym (ap (λ (a : AgentState). a.round) c.self.view_is) in
     subst (λ (d : Down). After (record agent { arrived = c.take.new.self; sent = c.read_ack-self-inside.new.sent; has_begun = true; acknowledged = c.read_ack-self-inside.result; lines = lines; waiting = waiting }) c.args.round history (down_packet d)) is
     (takes-slots c.agents_count_slots.ensures.taking agent history c.args.round down c.take.new.self c.read_ack-self-inside.new.sent c.read_ack-self-inside.result lines waiting here sound mine now may
@@ -189,7 +191,7 @@ invariant_of-self-in-Old c =
     let down : Down = c.decode_down.new.into in
     let is : down ≡ down_of c.args.bytes.now = c.in_default.ensures.read in
     let spelled : SpellsDown agent.endpoints agent.b c.args.bytes.now down = c.in_default.ensures.spelled in
-    let mine : IsMine agent down = record { rules = spelled.rules; destination = c.if-down-self.false; epoch = c.if-down-self-2.false; version = c.if-down-self-3.false } in
+    let mine : IsMine agent down = record { rules = spelled.rules; destination = c.if-self.false; epoch = c.if-self-2.false; version = c.if-self-3.false } in
     let (history, stands) = calls in
     let read : (history : AgentHistory) → StandsFor agent history → Read agent history (down_packet down) c.take.new.self c.read_ack-self-inside.new.sent c.read_ack-self-inside.result = λ history stands. (
       c.take.ensures.stands (arrived history) stands.arrived,
@@ -213,7 +215,7 @@ returns-in-Old-clause-stands c = λ own history stands.
     let down : Down = c.decode_down.new.into in
     let is : down ≡ down_of c.args.bytes.now = c.in_default.ensures.read in
     let spelled : SpellsDown agent.endpoints agent.b c.args.bytes.now down = c.in_default.ensures.spelled in
-    let mine : IsMine agent down = record { rules = spelled.rules; destination = c.if-down-self.false; epoch = c.if-down-self-2.false; version = c.if-down-self-3.false } in
+    let mine : IsMine agent down = record { rules = spelled.rules; destination = c.if-self.false; epoch = c.if-self-2.false; version = c.if-self-3.false } in
     let here = subst (λ (a : AgentState). StandsFor a history) (sym c.self.view_is) stands in
     let read : (history : AgentHistory) → StandsFor agent history → Read agent history (down_packet down) c.take.new.self c.read_ack-self-inside.new.sent c.read_ack-self-inside.result = λ history stands. (
       c.take.ensures.stands (arrived history) stands.arrived,
@@ -231,7 +233,7 @@ invariant_of-self-in-Repeat c =
     let down : Down = c.decode_down.new.into in
     let is : down ≡ down_of c.args.bytes.now = c.in_default.ensures.read in
     let spelled : SpellsDown agent.endpoints agent.b c.args.bytes.now down = c.in_default.ensures.spelled in
-    let mine : IsMine agent down = record { rules = spelled.rules; destination = c.if-down-self.false; epoch = c.if-down-self-2.false; version = c.if-down-self-3.false } in
+    let mine : IsMine agent down = record { rules = spelled.rules; destination = c.if-self.false; epoch = c.if-self-2.false; version = c.if-self-3.false } in
     let (history, stands) = calls in
     let read : (history : AgentHistory) → StandsFor agent history → Read agent history (down_packet down) c.take.new.self c.read_ack-self-inside.new.sent c.read_ack-self-inside.result = λ history stands. (
       c.take.ensures.stands (arrived history) stands.arrived,
@@ -255,7 +257,7 @@ returns-in-Repeat-clause-stands c = λ own history stands.
     let down : Down = c.decode_down.new.into in
     let is : down ≡ down_of c.args.bytes.now = c.in_default.ensures.read in
     let spelled : SpellsDown agent.endpoints agent.b c.args.bytes.now down = c.in_default.ensures.spelled in
-    let mine : IsMine agent down = record { rules = spelled.rules; destination = c.if-down-self.false; epoch = c.if-down-self-2.false; version = c.if-down-self-3.false } in
+    let mine : IsMine agent down = record { rules = spelled.rules; destination = c.if-self.false; epoch = c.if-self-2.false; version = c.if-self-3.false } in
     let here = subst (λ (a : AgentState). StandsFor a history) (sym c.self.view_is) stands in
     let read : (history : AgentHistory) → StandsFor agent history → Read agent history (down_packet down) c.take.new.self c.read_ack-self-inside.new.sent c.read_ack-self-inside.result = λ history stands. (
       c.take.ensures.stands (arrived history) stands.arrived,
