@@ -6,8 +6,10 @@ use std::sync::Wait;
 use std::test::Fail;
 use std::thread::Threads;
 
+mod makes;
 mod meeting;
 mod racks;
+mod reader;
 mod replays;
 
 const PIECE: usize = 65_536;
@@ -164,7 +166,7 @@ fn a_batch_of_64_slots_leaves_the_rest(rt: HostRuntime) -> Result<(), Fail> {
 
 #[test]
 fn other_words_are_refused(rt: HostRuntime) -> Result<(), Fail> {
-    let cases: [&[&str]; 16] = [
+    let cases: [&[&str]; 22] = [
         &[],
         &["plan", "--batch", "0"],
         &["plan", "--batch", "65"],
@@ -181,6 +183,12 @@ fn other_words_are_refused(rt: HostRuntime) -> Result<(), Fail> {
         &["plan", "--paths", "0"],
         &["plan", "--paths", "17"],
         &["plan", "--paths", "2", "--batch", "2", "--paths", "2"],
+        &["make"],
+        &["make", "07"],
+        &["make", "+7"],
+        &["make", "4294967296"],
+        &["make", "--batch", "2"],
+        &["make", "7", "--batch", "0"],
     ];
     for words in cases.iter() {
         let came = run_on(&rt, rt.alloc(), words, THREE_FLOWS)?;
@@ -227,11 +235,11 @@ fn faulty_traces_tell_row_and_fault(rt: HostRuntime) -> Result<(), Fail> {
     Ok(())
 }
 
-// A write that fails is the last, whichever it is: before it each took 4 bytes.
+// A write that fails is the last, whichever of the 35 it is: before it each took 4 bytes of the 138.
 #[test]
 fn a_failed_write_leaves_a_front(rt: HostRuntime) -> Result<(), Fail> {
     let alloc = rt.alloc();
-    for call in 0..8u32 {
+    for call in 0..35u32 {
         let mut failing = Vec::new(alloc);
         failing.push(call)?;
         let out = MemSink::new(alloc, 1_000_000, 4, failing)?;

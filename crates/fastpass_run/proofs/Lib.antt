@@ -1,6 +1,7 @@
 pub mod PlainNumbers
 pub mod OutputLemmas
 pub mod TextLemmas
+pub mod RowTexts
 pub mod BatchTexts
 pub mod CoreLemmas
 pub mod FlowLemmas
@@ -13,3 +14,7 @@ pub mod RoundTexts
 pub mod CountLemmas
 pub mod ReplayLoop
 pub mod RunLemmas
+pub mod PlayLemmas
+pub mod SumLemmas
+pub mod MadeLemmas
+pub mod SentLemmas

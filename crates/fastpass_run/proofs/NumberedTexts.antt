@@ -7,7 +7,7 @@ use Rattle.report_text.specs.declared.line.Line.{Line}
 use Rattle.fastpass_run.specs.Text.{text_of}
 use Rattle.fastpass_run.proofs.TextLemmas.{text_of-append}
 
-range-plus : (a m n : ℕ) → range_with_len a (m + n) ≡ range_with_len a m ++ range_with_len (a + m) n
+pub range-plus : (a m n : ℕ) → range_with_len a (m + n) ≡ range_with_len a m ++ range_with_len (a + m) n
 range-plus a zero n = ap (λ (k : ℕ). range_with_len a k) (omega arith) ∙ ap (λ (k : ℕ). range_with_len k n) (omega arith)
 range-plus a (suc m) n =
     let on : suc m + n ≡ suc (m + n) = omega arith in

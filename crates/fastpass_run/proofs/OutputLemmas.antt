@@ -129,3 +129,7 @@ OnOk-always P (Err e) p = tt
 -- before anything was to come
 pub Passed-none : (a : Option (List ℕ)) (f : ℕ) (g : List ℕ) → Passed a a f f g g []
 Passed-none a f g = Passes-gathered {T = Unit {0}} a f g g [] (Ok (tt {0})) (sym (append-nil g)) tt
+
+-- a line put behind what was gathered, once there was room for it
+pub Passes-behind : {T U : Type 0} (a b : Option (List ℕ)) (f f' : ℕ) (g room g' line : List ℕ) (t : T) (u : U) → Passes {T = T} a b f f' g room [] (Ok t) → g' ≡ room ++ line → Passes {T = U} a b f f' g g' line (Ok u)
+Passes-behind {T = T} {U = U} a b f f' g room g' line t u passed is = Passes-then {T = T} {U = U} a b b f f' f' g room g' [] line t (Ok u) passed (Passes-gathered {T = U} b f' room g' line (Ok u) is tt)

@@ -17,8 +17,8 @@ all_digits ds = all_ascii_digits ds ≡ true
 abbrev pub BeginsPlain : List ℕ → Type 0
 BeginsPlain word = (49 ≤ get_or word 0 0) × (get_or word 0 0 ≤ 57)
 
-read_plain : {E : Type 0} (word : List ℕ) (r : Result ℕ E) → BeginsPlain word → ParsesUnsigned 8 10 word r → OkIff r (all_digits word × (0 < length word) × (digits_value 10 word < 2 ^ 8)) (digits_value 10 word)
-read_plain word r plain read = parse_plain (numerals_by_value all_digits tells_all_ascii_digits) 8 word r read (λ e. omega arith)
+read_plain : {E : Type 0} (word : List ℕ) (r : Result ℕ E) → BeginsPlain word → ParsesUnsigned 32 10 word r → OkIff r (all_digits word × (0 < length word) × (digits_value 10 word < 2 ^ 32)) (digits_value 10 word)
+read_plain word r plain read = parse_plain (numerals_by_value all_digits tells_all_ascii_digits) 32 word r read (λ e. omega arith)
 
 abbrev test : ℕ → List ℕ → Bool
 test most word = nat_le 49 (get_or word 0 0) && nat_le (get_or word 0 0) 57 && all_ascii_digits word && nat_le (digits_value 10 word) most
@@ -34,21 +34,21 @@ number_above most n word is gt =
     let fails : test most word ≡ false = and_right _ _ (lt-leb (digits_value 10 word) most (omega arith)) in
     sym (cond-false (test most word) (Some (digits_value 10 word)) None fails)
 
--- what is no number below 256 is no number up to most
-pub no_number : {E : Type 0} (most : ℕ) (word : List ℕ) (e : E) → BeginsPlain word → 0 < length word → most < 2 ^ 8 → ParsesUnsigned 8 10 word (Err e) → None ≡ plain_up_to most word
+-- what is no number of 32 bits is no number up to most
+pub no_number : {E : Type 0} (most : ℕ) (word : List ℕ) (e : E) → BeginsPlain word → 0 < length word → most < 2 ^ 32 → ParsesUnsigned 32 10 word (Err e) → None ≡ plain_up_to most word
 no_number most word e plain some small read =
     let refused = read_plain word (Err e) plain read in
     elim (cases_Bool (test most word)) [
       | inl passes ↦
           let parts = and_parts _ (nat_le (digits_value 10 word) most) passes in
           let digits : all_digits word = (and_parts _ (all_ascii_digits word) parts.0).1 in
-          let below : digits_value 10 word < 2 ^ 8 = omega (arith, leb-true (digits_value 10 word) most parts.1) in
+          let below : digits_value 10 word < 2 ^ 32 = omega (arith, leb-true (digits_value 10 word) most parts.1) in
           absurd (refused (digits, some, below))
       | inr fails ↦ sym (cond-false (test most word) (Some (digits_value 10 word)) None fails)
     ]
 
 -- what is one is the number itself, if it is no more than most
-pub some_number : (most n : ℕ) (word : List ℕ) → BeginsPlain word → ParsesUnsigned {E = ℕ} 8 10 word (Ok n) → then_some (nat_le n most) n ≡ plain_up_to most word
+pub some_number : (most n : ℕ) (word : List ℕ) → BeginsPlain word → ParsesUnsigned {E = ℕ} 32 10 word (Ok n) → then_some (nat_le n most) n ≡ plain_up_to most word
 some_number most n word plain read =
     let is = read_plain {E = ℕ} word (Ok n) plain read in
     elim (cases_Bool (nat_le n most)) [
@@ -65,7 +65,7 @@ begins_above (d ∷ ds) plain =
     let digit : 0 < digit_value d = grind (arith, nat_tests) in
     omega (arith, digit, digits_value-take-le 10 (d ∷ ds) 1 (omega arith))
 
-pub number_bounds : (most n : ℕ) (word : List ℕ) → BeginsPlain word → ParsesUnsigned {E = ℕ} 8 10 word (Ok n) → IfSome (then_some (nat_le n most) n) (λ m. (0 < m) × (m ≤ most))
+pub number_bounds : (most n : ℕ) (word : List ℕ) → BeginsPlain word → ParsesUnsigned {E = ℕ} 32 10 word (Ok n) → IfSome (then_some (nat_le n most) n) (λ m. (0 < m) × (m ≤ most))
 number_bounds most n word plain read =
     let is = read_plain {E = ℕ} word (Ok n) plain read in
     let P : Option ℕ → Type 0 = λ o. IfSome o (λ m. (0 < m) × (m ≤ most)) in

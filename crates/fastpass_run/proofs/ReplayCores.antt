@@ -167,7 +167,7 @@ sum_times k n b = grind arith
 pub places : (first rounds b : ℕ) → first ≤ rounds → first * b + (rounds - first) * b ≡ rounds * b
 places first rounds b le = sum_times first (rounds - first) b ∙ ap (λ (n : ℕ). n * b) (omega arith)
 
-spliced_named : (low size number source : ℕ) (here there : Cores) → AreCores here → AreCores there → IfSome (spliced low size here there number source) (λ core. core < 64)
+pub spliced_named : (low size number source : ℕ) (here there : Cores) → AreCores here → AreCores there → IfSome (spliced low size here there number source) (λ core. core < 64)
 spliced_named low size number source here there small small' =
     let test = nat_lt low number && nat_le number (low + size) in
     let P : CoreOf → Type 0 = λ core_of. IfSome (core_of source) (λ core. core < 64) in

@@ -2,6 +2,9 @@ pub mod Transfer
 pub mod Words
 pub mod Text
 pub mod ReplayText
+pub mod Made
+pub mod Sends
+pub mod Sums
 pub mod Scheduled
 pub mod ReplayScheduled
 pub mod Output

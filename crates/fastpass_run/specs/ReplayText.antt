@@ -58,10 +58,14 @@ steps_of setting trace = (trace.rounds + setting.g - 1) / setting.g + 1
 
 -- ---- counts
 
+-- the slots of a flow that are allocated and neither acknowledged nor lost
+abbrev pub flight_of : Counts → ℕ
+flight_of counts = counts.allocated - counts.acknowledged - counts.lost
+
 -- what became of a flow's demand
 abbrev pub count_line : Flow → Counts → Line
 count_line flow counts =
-    line.Count flow.src flow.dst counts.demanded counts.acknowledged (counts.allocated - counts.acknowledged - counts.lost) counts.pending counts.lost counts.sent counts.missed
+    line.Count flow.src flow.dst counts.demanded counts.acknowledged (flight_of counts) counts.pending counts.lost counts.sent counts.missed
 
 abbrev pub count_lines_of : Flow → Option Counts → List Line
 count_lines_of flow None = []

@@ -15,8 +15,11 @@ use Rattle.replay_rounds.specs.Setting.{Cores, setting_of}
 use Rattle.window_engine.specs.Scheduled.{EverySlotIsScheduled}
 use Rattle.fastpass_run.specs.Text.{plan_text}
 use Rattle.fastpass_run.specs.Transfer.{Takes, AppendsFront}
-use Rattle.fastpass_run.specs.ReplayText.{replay_text}
+use Rattle.fastpass_run.specs.ReplayText.{replay_lines, replay_text}
+use Rattle.fastpass_run.specs.Sends.{SendsAreScheduled}
+use Rattle.fastpass_run.specs.Made.{trace_of_number, made_run, made_sums, made_text, Balances}
 use Rattle.fastpass_run.specs.Words.{Asked, asked_of}
+use Rattle.fastpass_run.specs.declared.words.Input.TheVariants.{Read, Made}
 use Rattle.fastpass_run.specs.declared.outcome.Failure.{Failure}
 use Rattle.fastpass_run.specs.declared.outcome.Failure.TheVariants as failure
 use Rattle.fastpass_run.specs.declared.transfer.TheConstants.{LIMIT}
@@ -30,7 +33,7 @@ pub record Plans (words : List (List ℕ)) (left left' held held' : Option (List
   pub b : ℕ
   pub g : ℕ
   pub trace : TraceContent
-  pub accepted : asked_of words ≡ Some (record { command = Plan; b = b; g = g })
+  pub accepted : asked_of words ≡ Some (record { input = Read Plan; b = b; g = g })
   pub read : IsRead Plan left left' (Ok trace)
   pub cores : Cores
   pub written : Appends held held' (plan_text cores b trace)
@@ -41,7 +44,7 @@ pub record BeginsPlan (words : List (List ℕ)) (left left' held held' : Option 
   pub b : ℕ
   pub g : ℕ
   pub trace : TraceContent
-  pub accepted : asked_of words ≡ Some (record { command = Plan; b = b; g = g })
+  pub accepted : asked_of words ≡ Some (record { input = Read Plan; b = b; g = g })
   pub read : IsRead Plan left left' (Ok trace)
   pub cores : Cores
   pub written : AppendsFront held held' (plan_text cores b trace)
@@ -53,35 +56,64 @@ pub record Replays (words : List (List ℕ)) (left left' held held' : Option (Li
   pub b : ℕ
   pub g : ℕ
   pub trace : TraceContent
-  pub accepted : asked_of words ≡ Some (record { command = Replay; b = b; g = g })
+  pub accepted : asked_of words ≡ Some (record { input = Read Replay; b = b; g = g })
   pub read : IsRead Replay left left' (Ok trace)
   pub cores : Cores
   pub written : Appends held held' (replay_text cores b g trace)
   pub slots : EverySlotIsScheduled b trace.net (replayed (setting_of trace b g cores) trace.rounds).batches cores
   pub shown : IsShown (setting_of trace b g cores) trace.rounds
+  pub sends : SendsAreScheduled (setting_of trace b g cores) trace.rounds (replay_lines cores (setting_of trace b g cores) trace)
 
 pub record BeginsReplay (words : List (List ℕ)) (left left' held held' : Option (List ℕ)) : Type 0 where
   pub b : ℕ
   pub g : ℕ
   pub trace : TraceContent
-  pub accepted : asked_of words ≡ Some (record { command = Replay; b = b; g = g })
+  pub accepted : asked_of words ≡ Some (record { input = Read Replay; b = b; g = g })
   pub read : IsRead Replay left left' (Ok trace)
   pub cores : Cores
   pub written : AppendsFront held held' (replay_text cores b g trace)
   pub slots : EverySlotIsScheduled b trace.net (replayed (setting_of trace b g cores) trace.rounds).batches cores
 
+-- nothing was read, and the sums of the counts of a made trace's replay were written, the whole or a front of the line: they are the
+-- same whichever cores are named, and balance; what the replay shows of the schedule, the sends and the counts
+pub record Makes (words : List (List ℕ)) (left left' held held' : Option (List ℕ)) : Type 0 where
+  pub number : ℕ
+  pub b : ℕ
+  pub g : ℕ
+  pub accepted : asked_of words ≡ Some (record { input = Made number; b = b; g = g })
+  pub unread : left' ≡ left
+  pub written : (cores : Cores) → Appends held held' (made_text number b g cores)
+  pub balanced : (cores : Cores) → Balances (made_sums number b g cores)
+  pub shown : (cores : Cores) → IsShown (made_run number b g cores) (trace_of_number number).rounds
+
+pub record BeginsMade (words : List (List ℕ)) (left left' held held' : Option (List ℕ)) : Type 0 where
+  pub number : ℕ
+  pub b : ℕ
+  pub g : ℕ
+  pub accepted : asked_of words ≡ Some (record { input = Made number; b = b; g = g })
+  pub unread : left' ≡ left
+  pub written : (cores : Cores) → AppendsFront held held' (made_text number b g cores)
+
 -- what the words ask for was done, or a front of it was written
 abbrev pub Performs : List (List ℕ) → Option (List ℕ) → Option (List ℕ) → Option (List ℕ) → Option (List ℕ) → Type 0
-Performs words left left' held held' = Plans words left left' held held' ⊎ Replays words left left' held held'
+Performs words left left' held held' = Plans words left left' held held' ⊎ (Replays words left left' held held' ⊎ Makes words left left' held held')
 
 abbrev pub Begins : List (List ℕ) → Option (List ℕ) → Option (List ℕ) → Option (List ℕ) → Option (List ℕ) → Type 0
-Begins words left left' held held' = BeginsPlan words left left' held held' ⊎ BeginsReplay words left left' held held'
+Begins words left left' held held' = BeginsPlan words left left' held held' ⊎ (BeginsReplay words left left' held held' ⊎ BeginsMade words left left' held held')
+
+-- the words ask for the rows of a trace, read for this command
+abbrev pub AsksToRead : List (List ℕ) → Command → Type 0
+AsksToRead words command = (b : ℕ) × (g : ℕ) × (asked_of words ≡ Some (record { input = Read command; b = b; g = g }))
+
+-- or for the trace that this number makes
+abbrev pub AsksToMake : List (List ℕ) → ℕ → Type 0
+AsksToMake words number = (b : ℕ) × (g : ℕ) × (asked_of words ≡ Some (record { input = Made number; b = b; g = g }))
 
 -- a row of the trace is faulty for what the words ask for, and the first such row is this one
 pub record HasFaultyRow (words : List (List ℕ)) (left left' : Option (List ℕ)) (row : ℕ) (fault : Fault) : Type 0 where
-  pub asked : Asked
-  pub accepted : asked_of words ≡ Some asked
-  pub read : IsRead asked.command left left' (Err (record { row = row; fault = fault }))
+  pub command : Command
+  pub accepted : AsksToRead words command
+  pub read : IsRead command left left' (Err (record { row = row; fault = fault }))
 
 abbrev pub FaultyAtSome : List (List ℕ) → Option (List ℕ) → Option (List ℕ) → Type 0
 FaultyAtSome words left left' = (row : ℕ) × (fault : Fault) × HasFaultyRow words left left' row fault
@@ -144,16 +176,25 @@ ComesTo words left left' sfaults sfaults' held held' ofaults ofaults' (Err failu
 -- accepted words and an accepted trace, and no fault of source or sink: what they ask for is done, or memory is wanting
 abbrev pub Completes : List (List ℕ) → Option (List ℕ) → ℕ → ℕ → ℕ → ℕ → ℕ → Type 0
 Completes words left sfaults sfaults' ofaults ofaults' status =
-    (asked : Asked) (bytes : List ℕ) (trace : TraceContent) → asked_of words ≡ Some asked → left ≡ Some bytes → length bytes ≤ LIMIT → trace_of asked.command bytes ≡ Ok trace
+    (command : Command) (bytes : List ℕ) (trace : TraceContent) → AsksToRead words command → left ≡ Some bytes → length bytes ≤ LIMIT → trace_of command bytes ≡ Ok trace
     → ¬ Rose sfaults sfaults' → ¬ Rose ofaults ofaults' → (status ≡ 0) ⊎ (status ≡ 5)
+
+-- the same of a number that makes the trace, with no fault of the sink
+abbrev pub CompletesMade : List (List ℕ) → ℕ → ℕ → ℕ → Type 0
+CompletesMade words ofaults ofaults' status = (number : ℕ) → AsksToMake words number → ¬ Rose ofaults ofaults' → (status ≡ 0) ⊎ (status ≡ 5)
 
 -- accepted words, a trace whose first faulty row is told, and no fault of the source: so says the status, or memory is wanting
 abbrev pub TellsFaults : List (List ℕ) → Option (List ℕ) → ℕ → ℕ → ℕ → Type 0
 TellsFaults words left sfaults sfaults' status =
-    (asked : Asked) (bytes : List ℕ) (faulty : FaultyRow) → asked_of words ≡ Some asked → left ≡ Some bytes → length bytes ≤ LIMIT → trace_of asked.command bytes ≡ Err faulty
+    (command : Command) (bytes : List ℕ) (faulty : FaultyRow) → AsksToRead words command → left ≡ Some bytes → length bytes ≤ LIMIT → trace_of command bytes ≡ Err faulty
     → ¬ Rose sfaults sfaults' → (status ≡ 2) ⊎ (status ≡ 5)
 
 -- the same of more bytes than the limit
 abbrev pub TellsExcess : List (List ℕ) → Option (List ℕ) → ℕ → ℕ → ℕ → Type 0
 TellsExcess words left sfaults sfaults' status =
-    (asked : Asked) (bytes : List ℕ) → asked_of words ≡ Some asked → left ≡ Some bytes → LIMIT < length bytes → ¬ Rose sfaults sfaults' → (status ≡ 6) ⊎ (status ≡ 5)
+    (command : Command) (bytes : List ℕ) → AsksToRead words command → left ≡ Some bytes → LIMIT < length bytes → ¬ Rose sfaults sfaults' → (status ≡ 6) ⊎ (status ≡ 5)
+
+-- a number makes the trace: nothing is read, and no row or read is faulty
+abbrev pub ReadsNothing : List (List ℕ) → Option (List ℕ) → Option (List ℕ) → ℕ → ℕ → ℕ → Type 0
+ReadsNothing words left left' sfaults sfaults' status =
+    (number : ℕ) → AsksToMake words number → (left' ≡ left) × (sfaults' ≡ sfaults) × ((status ≡ 0) ⊎ ((status ≡ 4) ⊎ (status ≡ 5)))

@@ -4,6 +4,8 @@ use Rattle.std.specs.Str.{bytes_eq, all_ascii_digits}
 use Rattle.std.specs.Str.Parse.{digits_value}
 use Rattle.trace_text.specs.declared.command.Command.{Command}
 use Rattle.trace_text.specs.declared.command.Command.TheVariants.{Plan, Replay}
+use Rattle.fastpass_run.specs.declared.words.Input.{Input}
+use Rattle.fastpass_run.specs.declared.words.Input.TheVariants.{Read, Made}
 use Rattle.fastpass_run.specs.declared.words.Options.{Options}
 use Rattle.fastpass_run.specs.declared.words.Task.{Task}
 
@@ -15,6 +17,10 @@ plain_up_to most word =
 
 abbrev pub is_word : List ℕ → List ℕ → Bool
 is_word name word = bytes_eq word name
+
+-- a number of 32 bits in plain decimal: 0, or one without a leading zero
+abbrev pub any_number : List ℕ → Option ℕ
+any_number word = if is_word (codes "0") word then Some 0 else plain_up_to 4294967295 word
 
 -- one pair of a name and its value more, of a name that was not there before
 abbrev pub with_option : List ℕ → List ℕ → Options → Option Options
@@ -40,25 +46,32 @@ no_options = record { batch = None; window = None; paths = None }
 abbrev pub command_of : List ℕ → Option Command
 command_of word = if is_word (codes "plan") word then Some Plan else (if is_word (codes "replay") word then Some Replay else None)
 
--- what the words ask for: the command, the slots of a batch and the rounds of a window
+-- what the words ask for: where the trace comes from, the slots of a batch and the rounds of a window
 pub record Asked : Type 0 where
-  pub command : Command
+  pub input : Input
   pub b : ℕ
   pub g : ℕ
 
-abbrev pub asked_with : Option Command → Option Options → Option Asked
+abbrev pub asked_with : Option Input → Option Options → Option Asked
 asked_with None options = None
-asked_with (Some command) None = None
-asked_with (Some command) (Some options) = Some (record { command = command; b = unwrap_or options.batch 8; g = unwrap_or options.window 8 })
+asked_with (Some input) None = None
+asked_with (Some input) (Some options) = Some (record { input = input; b = unwrap_or options.batch 8; g = unwrap_or options.window 8 })
 
--- what words ask for, where they are accepted
+-- a number and then pairs
+abbrev pub asked_to_make : List (List ℕ) → Option Asked
+asked_to_make [] = None
+asked_to_make (number ∷ pairs) = asked_with (option_map Made (any_number number)) (options_of pairs no_options)
+
+-- what words ask for, where they are accepted: `plan`, `replay`, or `make` and a number, and then pairs
 abbrev pub asked_of : List (List ℕ) → Option Asked
 asked_of [] = None
-asked_of (command ∷ words) = asked_with (command_of command) (options_of words no_options)
+asked_of (word ∷ words) =
+    if is_word (codes "make") word then asked_to_make words
+    else asked_with (option_map Read (command_of word)) (options_of words no_options)
 
 -- of a task, all but how many path workers there are
 abbrev pub asked_in : Task → Asked
-asked_in task = record { command = task.command; b = task.b; g = task.g }
+asked_in task = record { input = task.input; b = task.b; g = task.g }
 
 -- a task within the limits of its numbers
 pub record IsTask (task : Task) : Type 0 where

@@ -1,34 +1,37 @@
-//! The whole program: words, trace, plan or replay, and text, over any source, sinks and gate.
+//! The whole program: words, a trace that is read or made, plan or replay, and text, over any source, sinks and gate.
 #![tactic(auto)]
 
 ghost use Rattle.std.specs.Prelude.{◌≡◌, ◌≢◌, ◌⊎◌, ◌↔◌, ◌+◌, ◌≤◌, map, None};
 ghost use Rattle.fp_edge.specs.Faults.{Rose};
 ghost use Rattle.fastpass_run.specs.Words.{asked_of};
 ghost use Rattle.fastpass_run.specs.Transfer.{Takes};
-ghost use Rattle.fastpass_run.specs.Run.{ComesTo, Performs, Begins, FaultyAtSome, IsUnwritten, Notes, TellsFaults, TellsExcess, Completes};
+ghost use Rattle.fastpass_run.specs.Run.{ComesTo, Performs, status_of, Begins, FaultyAtSome, IsUnwritten, Notes, TellsFaults, TellsExcess, Completes, CompletesMade, ReadsNothing};
 ghost use Rattle.fastpass_run.specs.declared.transfer.TheConstants.{LIMIT};
 
 mod counts;
 mod flows;
 mod lines;
+mod make;
 mod outcome;
 mod output;
 mod plan;
 mod replay;
 mod rounds;
+mod sums;
 mod transfer;
 mod words;
 
 use crate::outcome::Failure;
+use crate::words::Input;
 use fp_edge::{Gate, Sink, Source};
 use std::alloc::Global;
 use std::sync::Wait;
 use std::thread::Threads;
 use trace_text::{Command, read_trace};
 
-/// Does what the words ask for: reads the whole trace, and then writes the text. The status is 0, or 1 where the words are
-/// refused, 2 where a row is faulty, 3 and 4 where a read or a write failed, 5 for want of memory, and 6 where the trace
-/// has more than 67,108,864 bytes; all but 0 write a line to `notes`, whose own faults are passed over.
+/// Does what the words ask for: reads the whole trace, or makes one, and then writes the text. The status is 0, or 1 where the
+/// words are refused, 2 where a row is faulty, 3 and 4 where a read or a write failed, 5 for want of memory, and 6 where the trace
+/// has more than 67,108,864 bytes; all but 0 write a line to `notes`, whose own faults are passed over. `make` reads nothing.
 pub fn run<R: Threads + Wait + Sync, S: Source, O: Sink, N: Sink, G: Gate + Sync>(
     rt: &R,
     alloc: Global,
@@ -54,7 +57,9 @@ pub fn run<R: Threads + Wait + Sync, S: Source, O: Sink, N: Sink, G: Gate + Sync
     ensures not_big { result ≢ 6 → Takes (S.left src.old) (S.left src.new) (λ n. n ≤ LIMIT) }
     ensures faulty { TellsFaults (map (λ word. word.now) words.now) (S.left src.old) (S.faults src.old) (S.faults src.new) result }
     ensures excess { TellsExcess (map (λ word. word.now) words.now) (S.left src.old) (S.faults src.old) (S.faults src.new) result }
+    ensures made { ReadsNothing (map (λ word. word.now) words.now) (S.left src.old) (S.left src.new) (S.faults src.old) (S.faults src.new) result }
     ensures complete { Completes (map (λ word. word.now) words.now) (S.left src.old) (S.faults src.old) (S.faults src.new) (O.faults out.old) (O.faults out.new) result }
+    ensures complete_made { CompletesMade (map (λ word. word.now) words.now) (O.faults out.old) (O.faults out.new) result }
 
     // The note.
     ensures noted { ¬ Rose (N.faults notes.old) (N.faults notes.new) → Notes (map (λ word. word.now) words.now) result (S.left src.old) (S.left src.new) (N.held notes.old) (N.held notes.new) }
@@ -72,14 +77,20 @@ fn perform<R: Threads + Wait + Sync, S: Source, O: Sink, G: Gate + Sync>(
     src: &mut S,
     out: &mut O,
 ) -> Result<(), Failure>
-    ensures { ComesTo (map (λ word. word.now) words.now) (S.left src.old) (S.left src.new) (S.faults src.old) (S.faults src.new) (O.held out.old) (O.held out.new) (O.faults out.old) (O.faults out.new) result }
+    ensures comes { ComesTo (map (λ word. word.now) words.now) (S.left src.old) (S.left src.new) (S.faults src.old) (S.faults src.new) (O.held out.old) (O.held out.new) (O.faults out.old) (O.faults out.new) result }
+    ensures made { ReadsNothing (map (λ word. word.now) words.now) (S.left src.old) (S.left src.new) (S.faults src.old) (S.faults src.new) (status_of result) }
 {
     let Some(task) = words::read_task(words) else {
         return Err(Failure::Words);
     };
+    let command = match task.input {
+        Input::Made(number) => return Ok(make::make(rt, gate, alloc, number, task, out)?),
+        Input::Read(command) => command,
+    };
     let text = transfer::read_all(alloc, src)?;
-    let trace = read_trace(alloc, &text, task.command)?;
-    match task.command {
+    let trace = read_trace(alloc, &text, command)?;
+    drop(text);
+    match command {
         Command::Plan => Ok(plan::plan(rt, gate, alloc, &trace, task, out)?),
         Command::Replay => Ok(replay::replay(rt, gate, alloc, &trace, task, out)?),
     }

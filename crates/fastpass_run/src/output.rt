@@ -1,13 +1,15 @@
-ghost use Rattle.std.specs.Prelude.{◌≡◌, ◌+◌, [], ◌∷◌, ◌++◌, length, OnOk, IfErr};
+ghost use Rattle.std.specs.Prelude.{◌≡◌, [], ◌∷◌, ◌++◌, OnOk, IfErr};
+ghost use Rattle.report_text.specs.Buffer.{HasRoom};
 ghost use Rattle.report_text.specs.Lines.{line_bytes, HasName};
-ghost use Rattle.fastpass_run.specs.Output.{Passes};
-ghost use Rattle.fastpass_run.specs.declared.output.Stop.TheVariants.{Memory};
+ghost use Rattle.fastpass_run.specs.Output.{Passes, Writes};
+ghost use Rattle.fastpass_run.specs.Text.{text_of};
+ghost use Rattle.fastpass_run.specs.declared.output.Stop.TheVariants.{Memory, Write};
 
 use crate::transfer::write_all;
 use fp_edge::{Failed, Sink};
 use no_memory::NoMemory;
-use report_text::{Line, write_line};
-use std::alloc::AllocError;
+use report_text::{Line, LineBuffer};
+use std::alloc::{AllocError, Global};
 
 /// Why the text ends early.
 #[derive(Clone, Copy, Debug, PartialEq, Eq)]
@@ -32,18 +34,13 @@ impl From<NoMemory> for Stop {
     }
 }
 
-/// The most bytes of a line.
-const LINE: usize = 192;
-
-/// How many bytes are gathered for a piece.
-pub(crate) const GATHERED: usize = 65_536;
-
 /// Gives what was gathered to the sink.
-pub(crate) fn flush<K: Sink>(sink: &mut K, gathered: &mut Vec<u8>) -> Result<(), Stop>
-    ensures passes { Passes (K.held sink.old) (K.held sink.new) (K.faults sink.old) (K.faults sink.new) gathered.old.items gathered.new.items [] result }
-    ensures empty { OnOk result (gathered.new.items ≡ []) }
+pub(crate) fn flush<K: Sink>(sink: &mut K, gathered: &mut LineBuffer) -> Result<(), Stop>
+    ensures passes { Passes (K.held sink.old) (K.held sink.new) (K.faults sink.old) (K.faults sink.new) gathered.old gathered.new [] result }
+    ensures empty { OnOk result (gathered.new ≡ []) }
+    ensures err { IfErr result (λ stop. stop ≡ Write) }
 {
-    match write_all(sink, gathered) {
+    match write_all(sink, gathered.text()) {
         Ok(()) => {
             gathered.clear();
             Ok(())
@@ -52,36 +49,38 @@ pub(crate) fn flush<K: Sink>(sink: &mut K, gathered: &mut Vec<u8>) -> Result<(),
     }
 }
 
-/// Gives all to the sink where a line more would be too much.
-fn make_room<K: Sink>(sink: &mut K, gathered: &mut Vec<u8>) -> Result<(), Stop>
-    ensures { Passes (K.held sink.old) (K.held sink.new) (K.faults sink.old) (K.faults sink.new) gathered.old.items gathered.new.items [] result }
+/// Gives all to the sink where there may be no room for a line more.
+pub(crate) fn make_room<K: Sink>(sink: &mut K, gathered: &mut LineBuffer) -> Result<(), Stop>
+    ensures passes { Passes (K.held sink.old) (K.held sink.new) (K.faults sink.old) (K.faults sink.new) gathered.old gathered.new [] result }
+    ensures room { OnOk result (HasRoom gathered.new) }
+    ensures err { IfErr result (λ stop. stop ≡ Write) }
 {
-    if gathered.len() + LINE > GATHERED {
-        return flush(sink, gathered);
+    if gathered.has_room() {
+        return Ok(());
     }
-    Ok(())
-}
-
-fn gather(gathered: &mut Vec<u8>, line: &Line) -> Result<(), Stop>
-    requires { HasName line.now }
-    ensures ok { OnOk result (gathered.new.items ≡ gathered.old.items ++ (line_bytes line.now ++ 10 ∷ [])) }
-    ensures err { IfErr result (λ stop. stop ≡ Memory) }
-{
-    let mut buf = [0; LINE];
-    let length = write_line(line, &mut buf);
-    gathered.extend_from_slice(&buf[..length])?;
-    Ok(())
+    flush(sink, gathered)
 }
 
 /// Gathers a line, and gives all to the sink before there would be too much.
 pub(crate) fn put_line<K: Sink>(
     sink: &mut K,
-    gathered: &mut Vec<u8>,
+    gathered: &mut LineBuffer,
     line: &Line,
 ) -> Result<(), Stop>
     requires { HasName line.now }
-    ensures { Passes (K.held sink.old) (K.held sink.new) (K.faults sink.old) (K.faults sink.new) gathered.old.items gathered.new.items (line_bytes line.now ++ 10 ∷ []) result }
+    ensures { Passes (K.held sink.old) (K.held sink.new) (K.faults sink.old) (K.faults sink.new) gathered.old gathered.new (line_bytes line.now ++ 10 ∷ []) result }
 {
     make_room(sink, gathered)?;
-    gather(gathered, line)
+    gathered.put_line(line);
+    Ok(())
+}
+
+/// Writes a line that is the whole text.
+pub(crate) fn put_only_line<K: Sink>(alloc: Global, sink: &mut K, line: &Line) -> Result<(), Stop>
+    requires { HasName line.now }
+    ensures { Writes (K.held sink.old) (K.held sink.new) (K.faults sink.old) (K.faults sink.new) (text_of (line.now ∷ [])) result }
+{
+    let mut gathered = LineBuffer::open(alloc)?;
+    put_line(sink, &mut gathered, line)?;
+    flush(sink, &mut gathered)
 }

@@ -12,10 +12,10 @@ ghost use Rattle.fastpass_run.specs.Words.{IsTask};
 
 use crate::flows::put_flows;
 use crate::lines::put_window;
-use crate::output::{GATHERED, Stop, flush, put_line};
+use crate::output::{Stop, flush, put_line};
 use crate::words::Task;
 use fp_edge::{Gate, Sink};
-use report_text::Line;
+use report_text::{Line, LineBuffer};
 use std::alloc::Global;
 use std::sync::Wait;
 use std::thread::Threads;
@@ -36,7 +36,7 @@ fn put_step<R: Threads + Wait + Sync, G: Gate + Sync, K: Sink>(
     engine: &mut Engine,
     b: u8,
     sink: &mut K,
-    gathered: &mut Vec<u8>,
+    gathered: &mut LineBuffer,
 ) -> Result<(), Stop>
     requires accepted { IsTrace trace.now }
     requires stands { Stands trace.now engine.old }
@@ -47,7 +47,7 @@ fn put_step<R: Threads + Wait + Sync, G: Gate + Sync, K: Sink>(
     ensures round { OnOk result (engine.new.collection.rounds ≡ engine.old.collection.rounds + window_of engine.old) }
     ensures rounds { OnOk result (engine.new.rounds ≡ engine.old.rounds) }
     ensures b { OnOk result (engine.new.allocation.b ≡ b) }
-    ensures passes { WithCoresOfWindow b engine.old.collection.rounds (window_of engine.old) trace.now (λ cores. Passes (K.held sink.old) (K.held sink.new) (K.faults sink.old) (K.faults sink.new) gathered.old.items gathered.new.items (text_of (window_lines cores b engine.old.collection.rounds (window_of engine.old) trace.now)) result) }
+    ensures passes { WithCoresOfWindow b engine.old.collection.rounds (window_of engine.old) trace.now (λ cores. Passes (K.held sink.old) (K.held sink.new) (K.faults sink.old) (K.faults sink.new) gathered.old gathered.new (text_of (window_lines cores b engine.old.collection.rounds (window_of engine.old) trace.now)) result) }
 {
     every_plan_has_its_slots();
     let step = engine.step(rt, gate, trace)?;
@@ -62,7 +62,7 @@ fn put_rounds<R: Threads + Wait + Sync, G: Gate + Sync, K: Sink>(
     engine: &mut Engine,
     b: u8,
     sink: &mut K,
-    gathered: &mut Vec<u8>,
+    gathered: &mut LineBuffer,
 ) -> Result<(), Stop>
     requires accepted { IsTrace trace.now }
     requires stands { Stands trace.now engine.old }
@@ -72,7 +72,7 @@ fn put_rounds<R: Threads + Wait + Sync, G: Gate + Sync, K: Sink>(
     ensures stands { OnOk result (Stands trace.now engine.new) }
     ensures done { OnOk result (engine.new.collection.rounds ≡ engine.new.rounds) }
     ensures b { OnOk result (engine.new.allocation.b ≡ b) }
-    ensures passes { WithCores b trace.now (λ cores. Passes (K.held sink.old) (K.held sink.new) (K.faults sink.old) (K.faults sink.new) gathered.old.items gathered.new.items (text_of (rounds_lines cores b trace.now.rounds trace.now)) result) }
+    ensures passes { WithCores b trace.now (λ cores. Passes (K.held sink.old) (K.held sink.new) (K.faults sink.old) (K.faults sink.new) gathered.old gathered.new (text_of (rounds_lines cores b trace.now.rounds trace.now)) result) }
 {
     every_plan_has_its_slots();
     while !engine.done() {
@@ -89,12 +89,12 @@ fn put_lines<R: Threads + Wait + Sync, G: Gate + Sync, K: Sink>(
     trace: &Trace,
     task: Task,
     sink: &mut K,
-    gathered: &mut Vec<u8>,
+    gathered: &mut LineBuffer,
 ) -> Result<(), Stop>
     requires accepted { IsTrace trace.now }
     requires task { IsTask task }
     requires cores { HasCores task.b trace.now.net (plan_batches trace.now) }
-    ensures { WithCores task.b trace.now (λ cores. Passes (K.held sink.old) (K.held sink.new) (K.faults sink.old) (K.faults sink.new) gathered.old.items gathered.new.items (plan_text cores task.b trace.now) result) }
+    ensures { WithCores task.b trace.now (λ cores. Passes (K.held sink.old) (K.held sink.new) (K.faults sink.old) (K.faults sink.new) gathered.old gathered.new (plan_text cores task.b trace.now) result) }
 {
     every_plan_has_its_slots();
     let b = task.b;
@@ -134,7 +134,7 @@ pub(crate) fn plan<R: Threads + Wait + Sync, G: Gate + Sync, K: Sink>(
     every_plan_is_recorded();
     every_record_has_cores();
     every_plan_balances();
-    let mut gathered = Vec::with_capacity(alloc, GATHERED)?;
+    let mut gathered = LineBuffer::open(alloc)?;
     put_lines(rt, gate, alloc, trace, task, sink, &mut gathered)?;
     flush(sink, &mut gathered)
 }

@@ -1,4 +1,4 @@
-ghost use Rattle.std.specs.Prelude.{◌≡◌, ◌≤◌, ◌<◌, ◌+◌, length, IfOk, OnOk, OnErr, IsErrOf, IsErr};
+ghost use Rattle.std.specs.Prelude.{◌≡◌, ◌≤◌, ◌<◌, ◌+◌, [], length, IfOk, OnOk, OnErr, IsErrOf, IsErr};
 ghost use Rattle.std.specs.Io.KnownBytes.{Consumes, Appends, IsAtEnd};
 ghost use Rattle.fp_edge.specs.Faults.{Rose};
 ghost use Rattle.fastpass_run.specs.Transfer.{Takes, AppendsFront};
@@ -41,12 +41,27 @@ pub(crate) fn read_all<S: Source>(alloc: Global, source: &mut S) -> Result<Vec<u
     ensures later { S.faults source.old ≤ S.faults source.new }
 {
     let mut text = Vec::new(alloc);
+    read_into(source, &mut text)?;
+    Ok(text)
+}
+
+/// Reads to the end into an empty `text`. Where a read fails, all that was taken is held; where memory is wanting, more was
+/// taken than is held.
+fn read_into<S: Source>(source: &mut S, text: &mut Vec<u8>) -> Result<(), ReadRefused>
+    requires { text.old.items ≡ [] }
+    ensures read { OnOk result ((length text.new.items ≤ LIMIT) × Consumes (S.left source.old) (S.left source.new) text.new.items × IsAtEnd (S.left source.new)) }
+    ensures failed { IsErrOf result ReadRefused.Failed → Rose (S.faults source.old) (S.faults source.new) }
+    ensures held { IsErrOf result ReadRefused.Failed → (length text.new.items ≤ LIMIT) × Consumes (S.left source.old) (S.left source.new) text.new.items }
+    ensures big { IsErrOf result ReadRefused.Big → Takes (S.left source.old) (S.left source.new) (λ n. n ≡ LIMIT + 1) }
+    ensures memory { IsErrOf result ReadRefused.Memory → Takes (S.left source.old) (S.left source.new) (λ n. (length text.new.items < n) × (n ≤ LIMIT)) }
+    ensures later { S.faults source.old ≤ S.faults source.new }
+{
     let mut piece = [0; PIECE];
-    loop {
+    'reads: loop {
         let room = PIECE.min(LIMIT + 1 - text.len());
         let front = &mut piece[..room];
         match source.read(front) {
-            Ok(0) => return Ok(text),
+            Ok(0) => return Ok(()),
             Ok(n) if n > LIMIT - text.len() => return Err(ReadRefused::Big),
             Ok(n) => text.extend_from_slice(&front[..n])?,
             Err(Failed) => return Err(ReadRefused::Failed),

@@ -1,5 +1,5 @@
-ghost use Rattle.std.specs.Prelude.{◌≡◌, ◌<◌, ◌≤◌, map, IfSome, option_map};
-ghost use Rattle.fastpass_run.specs.Words.{asked_of, asked_in, command_of, options_of, no_options, with_option, plain_up_to, AreWithin, IsTask};
+ghost use Rattle.std.specs.Prelude.{◌≡◌, ◌<◌, ◌≤◌, ◌^◌, Some, map, IfSome, option_map};
+ghost use Rattle.fastpass_run.specs.Words.{asked_of, asked_in, asked_with, command_of, options_of, no_options, with_option, plain_up_to, any_number, AreWithin, IsTask};
 
 use trace_text::Command;
 
@@ -7,24 +7,31 @@ use trace_text::Command;
 const BATCH: u8 = 8;
 
 /// The greatest batch size.
-const MOST_BATCH: u8 = 64;
+const MOST_BATCH: u32 = 64;
 
 /// The rounds of a window where nothing else is asked for.
 const WINDOW: u8 = 8;
 
 /// The most rounds of a window.
-const MOST_WINDOW: u8 = 16;
+const MOST_WINDOW: u32 = 16;
 
 /// How many path workers there are where nothing else is asked for.
 const PATHS: u8 = 2;
 
 /// The most path workers.
-const MOST_PATHS: u8 = 16;
+const MOST_PATHS: u32 = 16;
 
-/// What the words ask for: a command, the slots of a batch, the rounds of a window, and how many path workers there are.
+/// Where the trace comes from: its rows are read for a command, or a number makes it and it is replayed.
+#[derive(Clone, Copy, Debug)]
+pub(crate) enum Input {
+    Read(Command),
+    Made(u32),
+}
+
+/// What the words ask for: an input, the slots of a batch, the rounds of a window, and how many path workers there are.
 #[derive(Clone, Copy, Debug)]
 pub(crate) struct Task {
-    pub(crate) command: Command,
+    pub(crate) input: Input,
     pub(crate) b: u8,
     pub(crate) g: u8,
     pub(crate) paths: u8,
@@ -38,19 +45,32 @@ struct Options {
     paths: Option<u8>,
 }
 
-/// What the words ask for: a command, and then `--batch n`, `--window n` and `--paths n`, in any order and each at most once. None
-/// where they are refused.
+/// What the words ask for: `plan`, `replay`, or `make` and a number, and then `--batch n`, `--window n` and `--paths n`, in any order
+/// and each at most once. None where they are refused.
 pub(crate) fn read_task(words: &[&str]) -> Option<Task>
     ensures asked { option_map asked_in result ≡ asked_of (map (λ word. word.now) words.now) }
     ensures within { IfSome result IsTask }
 {
-    let [word, pairs @ ..] = words else {
+    let [word, rest @ ..] = words else {
         return None;
     };
-    let command = command(word)?;
+    if *word != "make" {
+        return with_options(Input::Read(command(word)?), rest);
+    }
+    let [number, pairs @ ..] = rest else {
+        return None;
+    };
+    with_options(Input::Made(any_number(number)?), pairs)
+}
+
+/// What is asked of an input by the pairs that follow it.
+fn with_options(input: Input, pairs: &[&str]) -> Option<Task>
+    ensures asked { option_map asked_in result ≡ asked_with (Some input) (options_of (map (λ word. word.now) pairs.now) no_options) }
+    ensures within { IfSome result IsTask }
+{
     let options = read_options(pairs)?;
     Some(Task {
-        command,
+        input,
         b: options.batch.unwrap_or(BATCH),
         g: options.window.unwrap_or(WINDOW),
         paths: options.paths.unwrap_or(PATHS),
@@ -94,21 +114,21 @@ fn with_option(name: &str, value: &str, options: Options) -> Option<Options>
     ensures within { IfSome result AreWithin }
 {
     if name == "--batch" && options.batch.is_none() {
-        let batch = plain_number(value, MOST_BATCH)?;
+        let batch = plain_number(value, MOST_BATCH)? as u8;
         return Some(Options {
             batch: Some(batch),
             ..options
         });
     }
     if name == "--window" && options.window.is_none() {
-        let window = plain_number(value, MOST_WINDOW)?;
+        let window = plain_number(value, MOST_WINDOW)? as u8;
         return Some(Options {
             window: Some(window),
             ..options
         });
     }
     if name == "--paths" && options.paths.is_none() {
-        let paths = plain_number(value, MOST_PATHS)?;
+        let paths = plain_number(value, MOST_PATHS)? as u8;
         return Some(Options {
             paths: Some(paths),
             ..options
@@ -118,7 +138,7 @@ fn with_option(name: &str, value: &str, options: Options) -> Option<Options>
 }
 
 /// A number from 1 to `most`, in plain decimal without a leading zero.
-fn plain_number(word: &str, most: u8) -> Option<u8>
+fn plain_number(word: &str, most: u32) -> Option<u32>
     ensures number { result ≡ plain_up_to most word.now }
     ensures within { IfSome result (λ n. (0 < n) × (n ≤ most)) }
 {
@@ -126,8 +146,18 @@ fn plain_number(word: &str, most: u8) -> Option<u8>
     if bytes.is_empty() || bytes[0] < b'1' || bytes[0] > b'9' {
         return None;
     }
-    let Ok(n) = word.parse::<u8>() else {
+    let Ok(n) = word.parse::<u32>() else {
         return None;
     };
     (n <= most).then_some(n)
+}
+
+/// A number of 32 bits in plain decimal: 0, or one without a leading zero.
+fn any_number(word: &str) -> Option<u32>
+    ensures { result ≡ any_number word.now }
+{
+    if word == "0" {
+        return Some(0);
+    }
+    plain_number(word, u32::MAX)
 }

@@ -13,14 +13,14 @@ pub loop-src-preserved : goal.loop-src-preserved
 loop-src-preserved g c = λ cores stands.
     let trace = c.args.trace.now in
     let lines : Flow → List Line = λ flow. count_lines_of flow (replay_counts (run_of trace cores c.args.replay.now) trace.rounds flow) in
-    Passed-step _ _ _ _ _ _ c.args.gathered.now.items c.loop-src.gathered.items c.put_source.new.gathered.items _ _ _ (c.loop-src.invariant cores stands) (c.in_ok-put_source.ensures cores stands)
+    Passed-step _ _ _ _ _ _ c.args.gathered.now c.loop-src.gathered c.put_source.new.gathered _ _ _ (c.loop-src.invariant cores stands) (c.in_ok-put_source.ensures cores stands)
     (source_more lines (endpoints_of trace.net) c.loop-src.src)
 
 pub returns-in_err-put_source : goal.returns-in_err-put_source
 returns-in_err-put_source g c = λ cores stands.
     let trace = c.args.trace.now in
     let lines : Flow → List Line = λ flow. count_lines_of flow (replay_counts (run_of trace cores c.args.replay.now) trace.rounds flow) in
-    Passed-break _ _ _ _ _ _ c.args.gathered.now.items c.loop-src.gathered.items c.put_source.new.gathered.items _ _ _ _ c.in_err-put_source.field-0.0 c.from_residual.result (c.loop-src.invariant cores stands) (c.in_err-put_source.ensures cores stands) c.from_residual.ensures.1
+    Passed-break _ _ _ _ _ _ c.args.gathered.now c.loop-src.gathered c.put_source.new.gathered _ _ _ _ c.in_err-put_source.field-0.0 c.from_residual.result (c.loop-src.invariant cores stands) (c.in_err-put_source.ensures cores stands) c.from_residual.ensures.1
     (sources_whole lines (endpoints_of trace.net) c.loop-src.src (omega (arith, c.endpoints-src-end.ensures.number)))
 
 pub returns : goal.returns
@@ -28,4 +28,4 @@ returns g c = λ cores stands.
     let trace = c.args.trace.now in
     let lines : Flow → List Line = λ flow. count_lines_of flow (replay_counts (run_of trace cores c.args.replay.now) trace.rounds flow) in
     let ended : c.loop-src.src ≡ endpoints_of trace.net = omega (arith, c.endpoints-src-end.ensures.number) in
-    Passes-same _ _ _ _ c.args.gathered.now.items c.loop-src.gathered.items _ _ _ (c.loop-src.invariant cores stands) (ap (λ (n : ℕ). text_of (each_source lines (endpoints_of trace.net) 0 n)) ended)
+    Passes-same _ _ _ _ c.args.gathered.now c.loop-src.gathered _ _ _ (c.loop-src.invariant cores stands) (ap (λ (n : ℕ). text_of (each_source lines (endpoints_of trace.net) 0 n)) ended)

@@ -9,5 +9,5 @@ use Rattle.fastpass_run.proofs.counts.put_counts.Given as goal
 abbrev pub invariant-loop-src : goal.invariant-loop-src
 invariant-loop-src g l =
     (cores : Cores) → StandsForReplay l.trace cores l.replay →
-    Passed (g.K.Sink.held l.initial.sink) (g.K.Sink.held l.sink) (g.K.Sink.faults l.initial.sink) (g.K.Sink.faults l.sink) l.initial.gathered.items l.gathered.items
+    Passed (g.K.Sink.held l.initial.sink) (g.K.Sink.held l.sink) (g.K.Sink.faults l.initial.sink) (g.K.Sink.faults l.sink) l.initial.gathered l.gathered
     (text_of (each_source (λ flow. count_lines_of flow (replay_counts (run_of l.trace cores l.replay) l.trace.rounds flow)) (endpoints_of l.trace.net) 0 l.src))

@@ -25,7 +25,7 @@ loop-dst-preserved g c = λ cores stands.
     let flow : Flow = flow_of c.args.src c.loop-dst.dst in
     let before : List ℕ = text_of (each_destination lines c.args.src 0 c.loop-dst.dst) in
     let told : c.counts.result ≡ replay_counts (run_of trace cores c.args.replay.now) trace.rounds flow = c.counts.ensures trace cores c.requires.accepted stands in
-    Passed-step _ _ _ _ _ _ c.args.gathered.now.items c.loop-dst.gathered.items c.put_count.new.gathered.items before (text_of (count_lines_of flow c.counts.result)) _ (c.loop-dst.invariant cores stands) c.in_ok-put_count.ensures
+    Passed-step _ _ _ _ _ _ c.args.gathered.now c.loop-dst.gathered c.put_count.new.gathered before (text_of (count_lines_of flow c.counts.result)) _ (c.loop-dst.invariant cores stands) c.in_ok-put_count.ensures
     (destination_more lines c.args.src c.loop-dst.dst ∙ ap (λ (o : Option Counts). before ++ text_of (count_lines_of flow o)) (sym told))
 
 pub returns-in_err-put_count : goal.returns-in_err-put_count
@@ -37,7 +37,7 @@ returns-in_err-put_count g c = λ cores stands.
     let before : List ℕ = text_of (each_destination lines c.args.src 0 c.loop-dst.dst) in
     let later : List ℕ = text_of (each_destination lines c.args.src (0 + (c.loop-dst.dst + 1)) (n - (c.loop-dst.dst + 1))) in
     let told : c.counts.result ≡ replay_counts (run_of trace cores c.args.replay.now) trace.rounds flow = c.counts.ensures trace cores c.requires.accepted stands in
-    Passed-break _ _ _ _ _ _ c.args.gathered.now.items c.loop-dst.gathered.items c.put_count.new.gathered.items before (text_of (count_lines_of flow c.counts.result)) later _ c.in_err-put_count.field-0.0 c.from_residual.result
+    Passed-break _ _ _ _ _ _ c.args.gathered.now c.loop-dst.gathered c.put_count.new.gathered before (text_of (count_lines_of flow c.counts.result)) later _ c.in_err-put_count.field-0.0 c.from_residual.result
     (c.loop-dst.invariant cores stands) c.in_err-put_count.ensures c.from_residual.ensures.1
     (destinations_whole lines n c.args.src c.loop-dst.dst (omega (arith, c.endpoints-dst-end.ensures.number)) ∙ ap (λ (o : Option Counts). (before ++ text_of (count_lines_of flow o)) ++ later) (sym told))
 
@@ -46,4 +46,4 @@ returns g c = λ cores stands.
     let trace = c.args.trace.now in
     let lines : Flow → List Line = λ flow. count_lines_of flow (replay_counts (run_of trace cores c.args.replay.now) trace.rounds flow) in
     let ended : c.loop-dst.dst ≡ endpoints_of trace.net = omega (arith, c.endpoints-dst-end.ensures.number) in
-    Passes-same _ _ _ _ c.args.gathered.now.items c.loop-dst.gathered.items _ _ _ (c.loop-dst.invariant cores stands) (ap (λ (n : ℕ). text_of (each_destination lines c.args.src 0 n)) ended)
+    Passes-same _ _ _ _ c.args.gathered.now c.loop-dst.gathered _ _ _ (c.loop-dst.invariant cores stands) (ap (λ (n : ℕ). text_of (each_destination lines c.args.src 0 n)) ended)

@@ -14,7 +14,7 @@ loop-src-preserved g c =
     let trace = c.args.trace.now in
     let b : ℕ = c.args.engine.now.allocation.b in
     let lines : Flow → List Line = λ flow. flow_lines_of flow (counts_of b (plan_batches trace) flow) in
-    Passed-step _ _ _ _ _ _ c.args.gathered.now.items c.loop-src.gathered.items c.put_source.new.gathered.items _ _ _ c.loop-src.invariant c.in_ok-put_source.ensures
+    Passed-step _ _ _ _ _ _ c.args.gathered.now c.loop-src.gathered c.put_source.new.gathered _ _ _ c.loop-src.invariant c.in_ok-put_source.ensures
     (source_more lines (endpoints_of trace.net) c.loop-src.src)
 
 pub returns-in_err-put_source : goal.returns-in_err-put_source
@@ -22,5 +22,5 @@ returns-in_err-put_source g c =
     let trace = c.args.trace.now in
     let b : ℕ = c.args.engine.now.allocation.b in
     let lines : Flow → List Line = λ flow. flow_lines_of flow (counts_of b (plan_batches trace) flow) in
-    Passed-break _ _ _ _ _ _ c.args.gathered.now.items c.loop-src.gathered.items c.put_source.new.gathered.items _ _ _ _ c.in_err-put_source.field-0.0 c.from_residual.result c.loop-src.invariant c.in_err-put_source.ensures c.from_residual.ensures.1
+    Passed-break _ _ _ _ _ _ c.args.gathered.now c.loop-src.gathered c.put_source.new.gathered _ _ _ _ c.in_err-put_source.field-0.0 c.from_residual.result c.loop-src.invariant c.in_err-put_source.ensures c.from_residual.ensures.1
     (sources_whole lines (endpoints_of trace.net) c.loop-src.src (omega (arith, c.endpoints-src-end.ensures.number)))

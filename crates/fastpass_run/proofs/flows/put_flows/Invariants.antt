@@ -7,5 +7,5 @@ use Rattle.fastpass_run.proofs.flows.put_flows.Given as goal
 
 abbrev pub invariant-loop-src : goal.invariant-loop-src
 invariant-loop-src g l =
-    Passed (g.K.Sink.held l.initial.sink) (g.K.Sink.held l.sink) (g.K.Sink.faults l.initial.sink) (g.K.Sink.faults l.sink) l.initial.gathered.items l.gathered.items
+    Passed (g.K.Sink.held l.initial.sink) (g.K.Sink.held l.sink) (g.K.Sink.faults l.initial.sink) (g.K.Sink.faults l.sink) l.initial.gathered l.gathered
     (text_of (each_source (λ flow. flow_lines_of flow (counts_of l.engine.allocation.b (plan_batches l.trace) flow)) (endpoints_of l.trace.net) 0 l.src))

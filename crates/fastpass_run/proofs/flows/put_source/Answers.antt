@@ -18,7 +18,7 @@ loop-dst-preserved g c =
     let flow : Flow = flow_of c.args.src c.loop-dst.dst in
     let before : List ℕ = text_of (each_destination lines c.args.src 0 c.loop-dst.dst) in
     let told : c.counts.result ≡ counts_of b (plan_batches trace) flow = c.counts.ensures trace c.requires.accepted c.requires.stands in
-    Passed-step _ _ _ _ _ _ c.args.gathered.now.items c.loop-dst.gathered.items c.put_flow.new.gathered.items before (text_of (flow_lines_of flow c.counts.result)) _ c.loop-dst.invariant c.in_ok-put_flow.ensures
+    Passed-step _ _ _ _ _ _ c.args.gathered.now c.loop-dst.gathered c.put_flow.new.gathered before (text_of (flow_lines_of flow c.counts.result)) _ c.loop-dst.invariant c.in_ok-put_flow.ensures
     (destination_more lines c.args.src c.loop-dst.dst ∙ ap (λ (o : Option Counts). before ++ text_of (flow_lines_of flow o)) (sym told))
 
 pub returns-in_err-put_flow : goal.returns-in_err-put_flow
@@ -31,6 +31,6 @@ returns-in_err-put_flow g c =
     let before : List ℕ = text_of (each_destination lines c.args.src 0 c.loop-dst.dst) in
     let later : List ℕ = text_of (each_destination lines c.args.src (0 + (c.loop-dst.dst + 1)) (n - (c.loop-dst.dst + 1))) in
     let told : c.counts.result ≡ counts_of b (plan_batches trace) flow = c.counts.ensures trace c.requires.accepted c.requires.stands in
-    Passed-break _ _ _ _ _ _ c.args.gathered.now.items c.loop-dst.gathered.items c.put_flow.new.gathered.items before (text_of (flow_lines_of flow c.counts.result)) later _ c.in_err-put_flow.field-0.0 c.from_residual.result
+    Passed-break _ _ _ _ _ _ c.args.gathered.now c.loop-dst.gathered c.put_flow.new.gathered before (text_of (flow_lines_of flow c.counts.result)) later _ c.in_err-put_flow.field-0.0 c.from_residual.result
     c.loop-dst.invariant c.in_err-put_flow.ensures c.from_residual.ensures.1
     (destinations_whole lines n c.args.src c.loop-dst.dst (omega (arith, c.endpoints-dst-end.ensures.number)) ∙ ap (λ (o : Option Counts). (before ++ text_of (flow_lines_of flow o)) ++ later) (sym told))

@@ -25,7 +25,7 @@ returns-in_err-put_entries g c =
     let number : c.allocated-span.result.first + at ≡ step.window.span.first + at = ap (λ (s : Span). s.first + at) c.allocated-span.ensures in
     let batch : c.index-batches-at.result ≡ get_or step.batches at none =
     c.index-batches-at.is ∙ (ap (λ (bs : List DemandBatch). get_or bs at c.index-batches-at.result) c.batches.ensures ∙ get_or_default step.batches at c.index-batches-at.result none (omega (arith, c.requires.at, c.requires.window.all_allocated))) in
-    Passes-cut _ _ _ _ c.args.gathered.now.items c.put_entries.new.gathered.items (text_of (map (entry_line (c.allocated-span.result.first + at)) c.index-batches-at.result.entries)) _ _
+    Passes-cut _ _ _ _ c.args.gathered.now c.put_entries.new.gathered (text_of (map (entry_line (c.allocated-span.result.first + at)) c.index-batches-at.result.entries)) _ _
     c.in_err-put_entries.field-0.0 c.from_residual.result c.from_residual.ensures.1 c.in_err-put_entries.ensures
     (batch_text b at (c.allocated-span.result.first + at) (first_slot b step.window.span.first) (at * b) step c.index-batches-at.result step.window.slots step.window.cores number batch refl refl refl refl)
 
@@ -43,7 +43,7 @@ returns g c =
     let from : ℕ = at * c.from-count.result in
     let base_is : base ≡ first_slot b step.window.span.first = ap (λ (s : Span). s.first * c.from.result + 1) c.allocated-span.ensures ∙ ap (λ (n : ℕ). step.window.span.first * n + 1) c.from.ensures in
     let from_is : from ≡ at * b = ap (λ (n : ℕ). at * n) c.from-count.ensures in
-    Passes-join _ _ _ _ _ _ c.args.gathered.now.items c.put_entries.new.gathered.items c.put_slots.new.gathered.items
+    Passes-join _ _ _ _ _ _ c.args.gathered.now c.put_entries.new.gathered c.put_slots.new.gathered
     (text_of (map (entry_line (first + at)) c.index-batches-at.result.entries)) (text_of (slots_lines (cores_from base c.cores.result.now) (base + from) (take c.from-count.result (drop from c.slots.result.now.slots)))) _
     c.in_ok-put_entries.field-0 c.put_slots.result c.in_ok-put_entries.ensures c.put_slots.ensures
     (ap (λ (n : ℕ). text_of (map (entry_line (first + at)) c.index-batches-at.result.entries) ++ text_of (slots_lines (cores_from base c.cores.result.now) (base + from) (take n (drop from c.slots.result.now.slots)))) c.from-count.ensures

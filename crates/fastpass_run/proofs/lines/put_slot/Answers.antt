@@ -1,32 +1,34 @@
-use Rattle.std.proofs.Common.{◌≡◌, [], List, map, ap, ◌∙◌, subst, arith}
+use Rattle.std.proofs.Common.{◌≡◌, ◌<◌, ℕ, List, Option, length, map, take, sym, ap, ◌∙◌, subst, arith}
+use Rattle.std.proofs.lemmas.List.{take_all}
 use Rattle.greedy_rules.specs.declared.flows.Flow.{Flow}
 use Rattle.greedy_rules.specs.Schedule.{slot_in}
-use Rattle.greedy_rules.specs.SlotTable.{IsSlotOf}
+use Rattle.greedy_rules.specs.SlotTable.{flows_from}
 use Rattle.path_workers.specs.CoreTable.{core_of}
+use Rattle.report_text.specs.declared.line.Line.{Line}
 use Rattle.fastpass_run.specs.Text.{text_of, slot_line}
-use Rattle.fastpass_run.specs.Flows.{flows_below}
 use Rattle.fastpass_run.specs.Output.{Passed}
 use Rattle.fastpass_run.proofs.OutputLemmas.{Passed-step, Passed-break}
-use Rattle.fastpass_run.proofs.TextLemmas.{sources_more, slot_whole, flows_below-all}
+use Rattle.fastpass_run.proofs.RowTexts.{row_more, row_whole}
 use Rattle.fastpass_run.proofs.lines.put_slot.Goals as goal
 
 pub returns-in_err-put_source : goal.returns-in_err-put_source
 returns-in_err-put_source g c =
-    let slot = slot_in c.args.table.now.slots c.args.place in
-    let is : IsSlotOf c.args.table.now.endpoints slot = c.slots-slots.ensures.each c.args.place [] c.requires.place in
-    let whole = slot_whole c.args.table.now.endpoints c.args.number (core_of c.args.cores.now c.args.place) slot c.loop-src.src is (omega (arith, c.endpoints-src-end.ensures)) in
-    Passed-break _ _ _ _ _ _ c.args.gathered.now.items c.loop-src.gathered.items c.put_source.new.gathered.items _ _ _ _ c.in_err-put_source.field-0.0 c.from_residual.result c.loop-src.invariant c.in_err-put_source.ensures c.from_residual.ensures.1 whole
+    let row : List (Option ℕ) = c.row-row.result.now in
+    let line : Flow → Line = slot_line c.args.number.now (core_of c.args.cores.now c.args.place) in
+    let below : c.loop-src.src < length row = omega (arith, c.row-row.ensures.count, c.endpoints-src-end.ensures) in
+    Passed-break _ _ _ _ _ _ c.args.gathered.now c.loop-src.gathered c.put_source.new.gathered _ _ _ _ c.in_err-put_source.field-0.0 c.from_residual.result c.loop-src.invariant c.in_err-put_source.ensures c.from_residual.ensures.1
+    (ap (λ (fs : List Flow). text_of (map line fs)) (sym c.row-row.ensures.flows) ∙ row_whole line row c.loop-src.src _ below)
 
 pub loop-src-preserved : goal.loop-src-preserved
 loop-src-preserved g c =
-    let slot = slot_in c.args.table.now.slots c.args.place in
-    Passed-step _ _ _ _ _ _ c.args.gathered.now.items c.loop-src.gathered.items c.put_source.new.gathered.items _ _ _ c.loop-src.invariant c.in_ok-put_source.ensures (sources_more c.args.number (core_of c.args.cores.now c.args.place) slot c.loop-src.src)
+    let row : List (Option ℕ) = c.row-row.result.now in
+    let line : Flow → Line = slot_line c.args.number.now (core_of c.args.cores.now c.args.place) in
+    let below : c.loop-src.src < length row = omega (arith, c.row-row.ensures.count, c.endpoints-src-end.ensures) in
+    Passed-step _ _ _ _ _ _ c.args.gathered.now c.loop-src.gathered c.put_source.new.gathered _ _ _ c.loop-src.invariant c.in_ok-put_source.ensures (row_more line row c.loop-src.src _ below)
 
 pub returns : goal.returns
 returns g c =
-    let slot = slot_in c.args.table.now.slots c.args.place in
-    let is : IsSlotOf c.args.table.now.endpoints slot = c.slots-slots.ensures.each c.args.place [] c.requires.place in
-    let ended : c.loop-src.src ≡ c.args.table.now.endpoints = omega (arith, c.endpoints-src-end.ensures) in
-    let all : flows_below slot c.loop-src.src ≡ slot = ap (flows_below slot) ended ∙ flows_below-all c.args.table.now.endpoints slot is in
+    let row : List (Option ℕ) = c.row-row.result.now in
+    let all : flows_from 0 (take c.loop-src.src row) ≡ slot_in c.args.table.now.slots c.args.place = ap (flows_from 0) (take_all c.loop-src.src row (omega (arith, c.row-row.ensures.count, c.endpoints-src-end.ensures))) ∙ c.row-row.ensures.flows in
     subst (λ (fs : List Flow). Passed (g.K.Sink.held c.args.sink.now) (g.K.Sink.held c.loop-src.sink) (g.K.Sink.faults c.args.sink.now) (g.K.Sink.faults c.loop-src.sink)
-    c.args.gathered.now.items c.loop-src.gathered.items (text_of (map (slot_line c.args.number (core_of c.args.cores.now c.args.place)) fs))) all c.loop-src.invariant
+    c.args.gathered.now c.loop-src.gathered (text_of (map (slot_line c.args.number.now (core_of c.args.cores.now c.args.place)) fs))) all c.loop-src.invariant

@@ -12,7 +12,7 @@ returns-in_err-put_batch g c =
     let window = c.requires.window in
     let below : c.loop-at.at < length step.batches = omega (arith, window.all_allocated, ap (λ (s : Span). s.count) c.allocated-span.ensures) in
     let long : length step.window.slots.slots ≡ length step.batches * b = window.slots ∙ ap (λ (n : ℕ). n * b) window.all_allocated in
-    Passed-break _ _ _ _ _ _ c.args.gathered.now.items c.loop-at.gathered.items c.put_batch.new.gathered.items _ _ _ _ c.in_err-put_batch.field-0.0 c.from_residual.result c.loop-at.invariant c.in_err-put_batch.ensures c.from_residual.ensures.1
+    Passed-break _ _ _ _ _ _ c.args.gathered.now c.loop-at.gathered c.put_batch.new.gathered _ _ _ _ c.in_err-put_batch.field-0.0 c.from_residual.result c.loop-at.invariant c.in_err-put_batch.ensures c.from_residual.ensures.1
     (batches_whole (cores_of_step b step) b step.window.span.first c.loop-at.at step.batches step.window.slots.slots below long)
 
 pub loop-at-preserved : goal.loop-at-preserved
@@ -20,5 +20,5 @@ loop-at-preserved g c =
     let step = c.args.step.now in
     let b : ℕ = c.args.b in
     let below : c.loop-at.at < length step.batches = omega (arith, c.requires.window.all_allocated, ap (λ (s : Span). s.count) c.allocated-span.ensures) in
-    Passed-step _ _ _ _ _ _ c.args.gathered.now.items c.loop-at.gathered.items c.put_batch.new.gathered.items _ _ _ c.loop-at.invariant c.in_ok-put_batch.ensures
+    Passed-step _ _ _ _ _ _ c.args.gathered.now c.loop-at.gathered c.put_batch.new.gathered _ _ _ c.loop-at.invariant c.in_ok-put_batch.ensures
     (batches_more (cores_of_step b step) b step.window.span.first c.loop-at.at step.batches step.window.slots.slots below)

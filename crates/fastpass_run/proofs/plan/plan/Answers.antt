@@ -16,10 +16,10 @@ returns-in_err-put_lines-clause-writes g c =
     let text = plan_text cores c.args.task.b c.args.trace.now in (
       cores,
       scheduled,
-      Writes-start _ _ _ _ c.in_ok-gathered.gathered.items c.put_lines.new.gathered.items text c.from_residual-in_err-put_lines.result c.in_ok-gathered.ensures.items
-          (Passes-cut _ _ _ _ c.in_ok-gathered.gathered.items c.put_lines.new.gathered.items text [] text c.in_err-put_lines.field-0.0 c.from_residual-in_err-put_lines.result c.from_residual-in_err-put_lines.ensures.1
+      Writes-start _ _ _ _ c.in_ok-gathered.gathered c.put_lines.new.gathered text c.from_residual-in_err-put_lines.result c.in_ok-gathered.ensures
+          (Passes-cut _ _ _ _ c.in_ok-gathered.gathered c.put_lines.new.gathered text [] text c.in_err-put_lines.field-0.0 c.from_residual-in_err-put_lines.result c.from_residual-in_err-put_lines.ensures.1
           passes (append-nil text))
-          (never_ok (c.put_lines.new.gathered.items ≡ []) c.in_err-put_lines.field-0.0 c.from_residual-in_err-put_lines.result c.from_residual-in_err-put_lines.ensures.1),
+          (never_ok (c.put_lines.new.gathered ≡ []) c.in_err-put_lines.field-0.0 c.from_residual-in_err-put_lines.result c.from_residual-in_err-put_lines.ensures.1),
     )
 
 pub returns-clause-writes : goal.returns-clause-writes
@@ -28,7 +28,7 @@ returns-clause-writes g c =
     let text = plan_text cores c.args.task.b c.args.trace.now in (
       cores,
       scheduled,
-      Writes-start _ _ _ _ c.in_ok-gathered.gathered.items c.flush.new.gathered.items text c.flush.result c.in_ok-gathered.ensures.items
-          (Passes-join _ _ _ _ _ _ c.in_ok-gathered.gathered.items c.put_lines.new.gathered.items c.flush.new.gathered.items text [] text c.in_ok-put_lines.field-0 c.flush.result passes c.flush.ensures.passes (append-nil text))
+      Writes-start _ _ _ _ c.in_ok-gathered.gathered c.flush.new.gathered text c.flush.result c.in_ok-gathered.ensures
+          (Passes-join _ _ _ _ _ _ c.in_ok-gathered.gathered c.put_lines.new.gathered c.flush.new.gathered text [] text c.in_ok-put_lines.field-0 c.flush.result passes c.flush.ensures.passes (append-nil text))
           c.flush.ensures.empty,
     )

@@ -11,7 +11,7 @@ pub returns-in_err-engine : goal.returns-in_err-engine
 returns-in_err-engine g c = (
   c.requires.cores.0,
   c.requires.cores.1,
-  Passes-none (g.K.Sink.held c.args.sink.now) (g.K.Sink.faults c.args.sink.now) c.args.gathered.now.items c.args.gathered.now.items _ c.from_residual.result c.from_residual.ensures.1,
+  Passes-none (g.K.Sink.held c.args.sink.now) (g.K.Sink.faults c.args.sink.now) c.args.gathered.now c.args.gathered.now _ c.from_residual.result c.from_residual.ensures.1,
 )
 
 pub returns-in_err-put_rounds : goal.returns-in_err-put_rounds
@@ -21,7 +21,7 @@ returns-in_err-put_rounds g c =
     let (cores, scheduled, passes) = c.in_err-put_rounds.ensures.passes in (
       cores,
       scheduled,
-      Passes-cut _ _ _ _ c.args.gathered.now.items c.put_rounds.new.gathered.items (text_of (rounds_lines cores b trace.rounds trace)) (text_of (flows_lines b trace) ++ end_text trace) _
+      Passes-cut _ _ _ _ c.args.gathered.now c.put_rounds.new.gathered (text_of (rounds_lines cores b trace.rounds trace)) (text_of (flows_lines b trace) ++ end_text trace) _
           c.in_err-put_rounds.field-0.0 c.from_residual-in_err-put_rounds.result c.from_residual-in_err-put_rounds.ensures.1 passes (plan_parts cores trace b c.requires.accepted c.every_plan_has_its_slots.ensures),
     )
 
@@ -35,9 +35,9 @@ returns-in_err-put_flows g c =
     let (cores, scheduled, passes) = c.in_ok-put_rounds.ensures.passes in (
       cores,
       scheduled,
-      Passes-join _ _ _ _ _ _ c.args.gathered.now.items c.put_rounds.new.gathered.items c.put_flows.new.gathered.items (text_of (rounds_lines cores b trace.rounds trace)) later _
+      Passes-join _ _ _ _ _ _ c.args.gathered.now c.put_rounds.new.gathered c.put_flows.new.gathered (text_of (rounds_lines cores b trace.rounds trace)) later _
           c.in_ok-put_rounds.field-0 c.from_residual-in_err-put_flows.result passes
-          (Passes-cut _ _ _ _ c.put_rounds.new.gathered.items c.put_flows.new.gathered.items told (end_text trace) later
+          (Passes-cut _ _ _ _ c.put_rounds.new.gathered c.put_flows.new.gathered told (end_text trace) later
           c.in_err-put_flows.field-0.0 c.from_residual-in_err-put_flows.result c.from_residual-in_err-put_flows.ensures.1 c.in_err-put_flows.ensures (ap (λ (t : List ℕ). t ++ end_text trace) same))
           (plan_parts cores trace b c.requires.accepted c.every_plan_has_its_slots.ensures),
     )
@@ -54,9 +54,9 @@ returns g c =
     let (cores, scheduled, passes) = c.in_ok-put_rounds.ensures.passes in (
       cores,
       scheduled,
-      Passes-join _ _ _ _ _ _ c.args.gathered.now.items c.put_rounds.new.gathered.items c.put_line.new.gathered.items (text_of (rounds_lines cores b trace.rounds trace)) later _
+      Passes-join _ _ _ _ _ _ c.args.gathered.now c.put_rounds.new.gathered c.put_line.new.gathered (text_of (rounds_lines cores b trace.rounds trace)) later _
           c.in_ok-put_rounds.field-0 c.put_line.result passes
-          (Passes-join _ _ _ _ _ _ c.put_rounds.new.gathered.items c.put_flows.new.gathered.items c.put_line.new.gathered.items told ended later
+          (Passes-join _ _ _ _ _ _ c.put_rounds.new.gathered c.put_flows.new.gathered c.put_line.new.gathered told ended later
           c.in_ok-put_flows.field-0 c.put_line.result c.in_ok-put_flows.ensures c.put_line.ensures
           (ap (λ (t : List ℕ). t ++ ended) same ∙ ap (λ (t : List ℕ). text_of (flows_lines b trace) ++ t) last))
           (plan_parts cores trace b c.requires.accepted c.every_plan_has_its_slots.ensures),

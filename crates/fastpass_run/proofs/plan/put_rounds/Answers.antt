@@ -21,7 +21,7 @@ loop-engine-preserved g c =
       passed = (
         cores,
         scheduled_spliced b old.collection.rounds n trace here there scheduled clean,
-        Passed-step _ _ _ _ _ _ c.args.gathered.now.items c.loop-engine.gathered.items c.put_step.new.gathered.items _ _ _ passed passes
+        Passed-step _ _ _ _ _ _ c.args.gathered.now c.loop-engine.gathered c.put_step.new.gathered _ _ _ passed passes
             (rounds_step b trace old c.put_step.new.engine.collection.rounds here there c.requires.accepted c.loop-engine.invariant.stands c.every_plan_has_its_slots.ensures c.in_ok-put_step.ensures.round),
       );
     }
@@ -37,6 +37,6 @@ returns-in_err-put_step-clause-passes g c =
     let cores : Cores = spliced (old.collection.rounds * b) (n * b) here there in (
       cores,
       scheduled_spliced b old.collection.rounds n trace here there scheduled clean,
-      Passed-break _ _ _ _ _ _ c.args.gathered.now.items c.loop-engine.gathered.items c.put_step.new.gathered.items _ _ _ _ c.in_err-put_step.field-0.0 c.from_residual.result passed passes c.from_residual.ensures.1
+      Passed-break _ _ _ _ _ _ c.args.gathered.now c.loop-engine.gathered c.put_step.new.gathered _ _ _ _ c.in_err-put_step.field-0.0 c.from_residual.result passed passes c.from_residual.ensures.1
           (rounds_stop b trace old here there c.requires.accepted c.loop-engine.invariant.stands c.every_plan_has_its_slots.ensures),
     )

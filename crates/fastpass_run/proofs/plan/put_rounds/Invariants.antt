@@ -11,7 +11,7 @@ invariant-loop-engine g l = record {
   stands : Stands l.trace l.engine;
   size : l.engine.allocation.b ≡ l.b;
   passed : WithCores l.b l.trace (λ cores.
-      Passed (g.K.Sink.held l.initial.sink) (g.K.Sink.held l.sink) (g.K.Sink.faults l.initial.sink) (g.K.Sink.faults l.sink) l.initial.gathered.items l.gathered.items
+      Passed (g.K.Sink.held l.initial.sink) (g.K.Sink.held l.sink) (g.K.Sink.faults l.initial.sink) (g.K.Sink.faults l.sink) l.initial.gathered l.gathered
       (text_of (rounds_lines cores l.b l.engine.collection.rounds l.trace)));
 }
 

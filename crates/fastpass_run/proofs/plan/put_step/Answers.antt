@@ -12,7 +12,7 @@ returns-in_err-step-clause-passes g c =
     let engine = c.args.engine.now in (
       c.requires.cores.0,
       clean_in_window c.args.b engine.collection.rounds (window_of engine) trace c.requires.cores.0 c.requires.cores.1,
-      Passes-none (g.K.Sink.held c.args.sink.now) (g.K.Sink.faults c.args.sink.now) c.args.gathered.now.items c.args.gathered.now.items _ c.from_residual.result c.from_residual.ensures.1,
+      Passes-none (g.K.Sink.held c.args.sink.now) (g.K.Sink.faults c.args.sink.now) c.args.gathered.now c.args.gathered.now _ c.from_residual.result c.from_residual.ensures.1,
     )
 
 pub put_window-requires-clause-window : goal.put_window-requires-clause-window
@@ -28,5 +28,5 @@ returns-clause-passes g c =
     let planned = c.in_ok-step.ensures.planned in (
       cores_of_step b step,
       step_clean b trace engine step c.requires.b planned,
-      Passes-same _ _ _ _ c.args.gathered.now.items c.put_window.new.gathered.items _ _ c.put_window.result c.put_window.ensures (step_text b trace engine step c.requires.b planned),
+      Passes-same _ _ _ _ c.args.gathered.now c.put_window.new.gathered _ _ c.put_window.result c.put_window.ensures (step_text b trace engine step c.requires.b planned),
     )

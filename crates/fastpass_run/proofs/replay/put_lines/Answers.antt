@@ -16,7 +16,7 @@ pub returns-in_err-replay : goal.returns-in_err-replay
 returns-in_err-replay g c = (
   c.requires.cores.0,
   c.requires.cores.1,
-  Passes-none (g.K.Sink.held c.args.sink.now) (g.K.Sink.faults c.args.sink.now) c.args.gathered.now.items c.args.gathered.now.items _ c.from_residual.result c.from_residual.ensures.1,
+  Passes-none (g.K.Sink.held c.args.sink.now) (g.K.Sink.faults c.args.sink.now) c.args.gathered.now c.args.gathered.now _ c.from_residual.result c.from_residual.ensures.1,
 )
 
 pub put_steps-requires-clause-cores : goal.put_steps-requires-clause-cores
@@ -34,7 +34,7 @@ returns-in_err-put_steps g c =
     let later : List ℕ = text_of (counts_lines (setting c.args.task.g) trace) ++ end_text trace in (
       cores,
       subst (λ (n : ℕ). AreReplayCores b n trace cores) window makes,
-      Passes-cut _ _ _ _ c.args.gathered.now.items c.put_steps.new.gathered.items (text_of (steps_lines cores (setting c.in_ok-replay.replay.lanes.g) trace (steps_of (setting c.in_ok-replay.replay.lanes.g) trace))) later _
+      Passes-cut _ _ _ _ c.args.gathered.now c.put_steps.new.gathered (text_of (steps_lines cores (setting c.in_ok-replay.replay.lanes.g) trace (steps_of (setting c.in_ok-replay.replay.lanes.g) trace))) later _
           c.in_err-put_steps.field-0.0 c.from_residual-in_err-put_steps.result c.from_residual-in_err-put_steps.ensures.1 got.1
           (ap (λ (n : ℕ). text_of (steps_lines cores (setting n) trace (steps_of (setting n) trace)) ++ later) window
           ∙ parts_with_end (steps_lines cores (setting c.args.task.g) trace (steps_of (setting c.args.task.g) trace)) (counts_lines (setting c.args.task.g) trace) trace),
@@ -56,9 +56,9 @@ returns-in_err-put_counts g c =
     let later : List ℕ = text_of (counts_lines (setting c.args.task.g) trace) ++ end_text trace in (
       cores,
       subst (λ (n : ℕ). AreReplayCores b n trace cores) window makes,
-      Passes-join _ _ _ _ _ _ c.args.gathered.now.items c.put_steps.new.gathered.items c.put_counts.new.gathered.items (text_of (steps_lines cores (setting c.in_ok-replay.replay.lanes.g) trace (steps_of (setting c.in_ok-replay.replay.lanes.g) trace))) later _
+      Passes-join _ _ _ _ _ _ c.args.gathered.now c.put_steps.new.gathered c.put_counts.new.gathered (text_of (steps_lines cores (setting c.in_ok-replay.replay.lanes.g) trace (steps_of (setting c.in_ok-replay.replay.lanes.g) trace))) later _
           c.in_ok-put_steps.field-0 c.from_residual-in_err-put_counts.result got.1
-          (Passes-cut _ _ _ _ c.put_steps.new.gathered.items c.put_counts.new.gathered.items (text_of (counts_lines own trace)) (end_text trace) later
+          (Passes-cut _ _ _ _ c.put_steps.new.gathered c.put_counts.new.gathered (text_of (counts_lines own trace)) (end_text trace) later
           c.in_err-put_counts.field-0.0 c.from_residual-in_err-put_counts.result c.from_residual-in_err-put_counts.ensures.1 (c.in_err-put_counts.ensures cores got.0) (ap (λ (s : Setting). text_of (counts_lines s trace) ++ end_text trace) same))
           (ap (λ (n : ℕ). text_of (steps_lines cores (setting n) trace (steps_of (setting n) trace)) ++ later) window
           ∙ parts_with_end (steps_lines cores (setting c.args.task.g) trace (steps_of (setting c.args.task.g) trace)) (counts_lines (setting c.args.task.g) trace) trace),
@@ -78,9 +78,9 @@ returns g c =
     let later : List ℕ = text_of (counts_lines (setting c.args.task.g) trace) ++ end_text trace in (
       cores,
       subst (λ (n : ℕ). AreReplayCores b n trace cores) window makes,
-      Passes-join _ _ _ _ _ _ c.args.gathered.now.items c.put_steps.new.gathered.items c.put_line.new.gathered.items (text_of (steps_lines cores (setting c.in_ok-replay.replay.lanes.g) trace (steps_of (setting c.in_ok-replay.replay.lanes.g) trace))) later _
+      Passes-join _ _ _ _ _ _ c.args.gathered.now c.put_steps.new.gathered c.put_line.new.gathered (text_of (steps_lines cores (setting c.in_ok-replay.replay.lanes.g) trace (steps_of (setting c.in_ok-replay.replay.lanes.g) trace))) later _
           c.in_ok-put_steps.field-0 c.put_line.result got.1
-          (Passes-join _ _ _ _ _ _ c.put_steps.new.gathered.items c.put_counts.new.gathered.items c.put_line.new.gathered.items (text_of (counts_lines own trace)) ended later
+          (Passes-join _ _ _ _ _ _ c.put_steps.new.gathered c.put_counts.new.gathered c.put_line.new.gathered (text_of (counts_lines own trace)) ended later
           c.in_ok-put_counts.field-0 c.put_line.result (c.in_ok-put_counts.ensures cores got.0) c.put_line.ensures
           (ap (λ (s : Setting). text_of (counts_lines s trace) ++ ended) same ∙ ap (λ (t : List ℕ). text_of (counts_lines (setting c.args.task.g) trace) ++ t) last))
           (ap (λ (n : ℕ). text_of (steps_lines cores (setting n) trace (steps_of (setting n) trace)) ++ later) window

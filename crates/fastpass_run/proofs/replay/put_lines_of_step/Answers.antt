@@ -24,7 +24,7 @@ returns-in_err-put_played g c =
     let b : ℕ = c.args.b in
     let base : ℕ = first_slot b step.window.span.first in
     let count : ℕ = step.window.span.count * b in
-    Passes-cut _ _ _ _ c.args.gathered.now.items c.put_played.new.gathered.items (text_of (played_lines c.first.result c.played.result.now (length c.played.result.now.batches))) (text_of (slots_lines (cores_from base step.window.cores) (base + 0) (take count (drop 0 step.window.slots.slots)))) _
+    Passes-cut _ _ _ _ c.args.gathered.now c.put_played.new.gathered (text_of (played_lines c.first.result c.played.result.now (length c.played.result.now.batches))) (text_of (slots_lines (cores_from base step.window.cores) (base + 0) (take count (drop 0 step.window.slots.slots)))) _
     c.in_err-put_played.field-0.0 c.from_residual.result c.from_residual.ensures.1 c.in_err-put_played.ensures
     (step_parts b c.first.result base count c.played.result.now step.window.slots step.window.cores step c.requires.slots c.first.ensures c.played.ensures refl refl refl refl)
 
@@ -36,7 +36,7 @@ returns g c =
     let count : ℕ = c.allocated-span.result.count * c.from.result in
     let base_is : base ≡ first_slot b step.window.span.first = ap (λ (s : Span). s.first * c.from-2.result + 1) c.allocated-span.ensures ∙ ap (λ (n : ℕ). step.window.span.first * n + 1) c.from-2.ensures in
     let count_is : count ≡ step.window.span.count * b = ap (λ (s : Span). s.count * c.from.result) c.allocated-span.ensures ∙ ap (λ (n : ℕ). step.window.span.count * n) c.from.ensures in
-    Passes-join _ _ _ _ _ _ c.args.gathered.now.items c.put_played.new.gathered.items c.put_slots.new.gathered.items
+    Passes-join _ _ _ _ _ _ c.args.gathered.now c.put_played.new.gathered c.put_slots.new.gathered
     (text_of (played_lines c.first.result c.played.result.now (length c.played.result.now.batches))) (text_of (slots_lines (cores_from base c.cores.result.now) (base + 0) (take count (drop 0 c.slots.result.now.slots)))) _
     c.in_ok-put_played.field-0 c.put_slots.result c.in_ok-put_played.ensures c.put_slots.ensures
     (step_parts b c.first.result base count c.played.result.now c.slots.result.now c.cores.result.now step c.requires.slots c.first.ensures c.played.ensures c.slots.ensures c.cores.ensures base_is count_is)

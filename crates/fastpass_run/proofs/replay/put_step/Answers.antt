@@ -21,7 +21,7 @@ returns-in_err-step-clause-passes g c = λ there makes stands.
       makes.named,
       clean_between trace c.args.b old.lanes.g old.lanes.published old.lanes.collected there c.runs_go_on.ensures.begins c.runs_go_on.ensures.batches c.schedules_go_on.ensures.front c.schedules_go_on.ensures.count stands.windows.within makes,
       λ cores stands' agree.
-          (never_ok _ _ c.from_residual.result c.from_residual.ensures.1, Passes-none (g.K.Sink.held c.args.sink.now) (g.K.Sink.faults c.args.sink.now) c.args.gathered.now.items c.args.gathered.now.items _ c.from_residual.result c.from_residual.ensures.1),
+          (never_ok _ _ c.from_residual.result c.from_residual.ensures.1, Passes-none (g.K.Sink.held c.args.sink.now) (g.K.Sink.faults c.args.sink.now) c.args.gathered.now c.args.gathered.now _ c.from_residual.result c.from_residual.ensures.1),
     )
 
 pub put_lines_of_step-requires-clause-b : goal.put_lines_of_step-requires-clause-b
@@ -56,7 +56,7 @@ returns-clause-passes g c =
     let few = c.requires.accepted.net.most_cores in
     let given : ℕ → Cores → Cores → Type 0 = λ b here cores.
     StandsForReplay trace cores old → AgreeAbove (first * b) ((rounds - first) * b) cores here → OnOk c.put_lines_of_step.result (StandsForReplay trace cores c.step.new.self)
-    × Passes (g.K.Sink.held c.args.sink.now) (g.K.Sink.held c.put_lines_of_step.new.sink) (g.K.Sink.faults c.args.sink.now) (g.K.Sink.faults c.put_lines_of_step.new.sink) c.args.gathered.now.items c.put_lines_of_step.new.gathered.items (text_of (next_lines cores trace old)) c.put_lines_of_step.result in
+    × Passes (g.K.Sink.held c.args.sink.now) (g.K.Sink.held c.put_lines_of_step.new.sink) (g.K.Sink.faults c.args.sink.now) (g.K.Sink.faults c.put_lines_of_step.new.sink) c.args.gathered.now c.put_lines_of_step.new.gathered (text_of (next_lines cores trace old)) c.put_lines_of_step.result in
     let Gives : ℕ → Type 0 = λ b. (there : Cores) → AreReplayCores b old.lanes.g trace there → StandsForReplay trace there old → WithCoresBetween b old.lanes.g trace there first rounds (λ here. (cores : Cores) → given b here cores) in
     subst Gives c.requires.b (λ there makes stands.
     let here : Cores = limited (cores_of_replay_step own step) in
@@ -69,7 +69,7 @@ returns-clause-passes g c =
           let window' = c.in_ok-step.ensures.window cores stands' in
           let long : length (slots_between (run_of trace cores old) first rounds) ≡ (rounds - first) * own = window'.number ∙ ap (λ (n : ℕ). n * own) count in (
             OnOk-always (StandsForReplay trace cores c.step.new.self) c.put_lines_of_step.result (c.in_ok-step.ensures.stands cores stands' (has_cores_of trace.net own first ((rounds - first) * own) (slots_between (run_of trace cores old) first rounds) step cores few start window' long agree)),
-            Passes-same _ _ _ _ c.args.gathered.now.items c.put_lines_of_step.new.gathered.items _ _ c.put_lines_of_step.result c.put_lines_of_step.ensures
+            Passes-same _ _ _ _ c.args.gathered.now c.put_lines_of_step.new.gathered _ _ c.put_lines_of_step.result c.put_lines_of_step.ensures
                 (ap (λ (n : ℕ). text_of (step_text_lines n step)) (sym c.requires.b)
                 ∙ ap text_of (next_text trace cores old step ((rounds - first) * own) c.requires.accepted c.in_ok-step.ensures.first (c.in_ok-step.ensures.played cores stands') start window' long agree)),
           ),

@@ -24,7 +24,7 @@ loop-replay-init g c =
       passed = (
         0,
         no_step c.args.trace.now c.args.replay.now c.requires.collected c.requires.published,
-        (there, makes, λ cores named agree. (c.requires.stands cores named, Passed-none _ _ c.args.gathered.now.items)),
+        (there, makes, λ cores named agree. (c.requires.stands cores named, Passed-none _ _ c.args.gathered.now)),
       );
     }
 
@@ -62,7 +62,7 @@ loop-replay-preserved g c =
               let (stands', passed') = passed other named' (agree_before (first * b) ((rounds - first) * b) all other here there (omega arith) agree) in
               let (next, text) = gives other stands' (agree_in (first * b) ((rounds - first) * b) all other here there (omega arith) agree) in (
                 next,
-                Passed-step _ _ _ _ _ _ c.args.gathered.now.items c.loop-replay.gathered.items c.put_step.new.gathered.items _ _ _ passed' text
+                Passed-step _ _ _ _ _ _ c.args.gathered.now c.loop-replay.gathered c.put_step.new.gathered _ _ _ passed' text
                     (steps_more trace other old b w steps after stands.rounds inv.size inv.window),
               ),
         ),
@@ -96,7 +96,7 @@ returns-in_err-put_step-clause-passes g c =
       makes_all,
       (
         never_ok _ _ c.from_residual.result c.from_residual.ensures.1,
-        Passed-break _ _ _ _ _ _ c.args.gathered.now.items c.loop-replay.gathered.items c.put_step.new.gathered.items _ _ _ _ c.in_err-put_step.field-0.0 c.from_residual.result passed' text c.from_residual.ensures.1
+        Passed-break _ _ _ _ _ _ c.args.gathered.now c.loop-replay.gathered c.put_step.new.gathered _ _ _ _ c.in_err-put_step.field-0.0 c.from_residual.result passed' text c.from_residual.ensures.1
             (steps_stop trace cores old b w steps c.every_replay_takes_its_steps.ensures some c.requires.accepted.some_round after stands.rounds inv.size inv.window more),
       ),
     )
@@ -130,4 +130,4 @@ returns-clause-passes g c =
     let some : 0 < w = subst (λ (n : ℕ). 0 < n) inv.window stands.lanes.rounds.0 in
     let setting : Setting = setting_of trace b w there in
     let all : steps ≡ steps_of setting trace = all_steps w trace.rounds steps last c.every_replay_takes_its_steps.ensures some c.requires.accepted.some_round after (done ∙ stands.rounds) in
-    (there, makes, (stands, Passes-same _ _ _ _ c.args.gathered.now.items c.loop-replay.gathered.items _ _ _ text (ap (λ (n : ℕ). text_of (steps_lines there setting trace n)) all)))
+    (there, makes, (stands, Passes-same _ _ _ _ c.args.gathered.now c.loop-replay.gathered _ _ _ text (ap (λ (n : ℕ). text_of (steps_lines there setting trace n)) all)))

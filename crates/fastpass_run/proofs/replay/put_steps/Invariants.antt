@@ -16,7 +16,7 @@ invariant-loop-replay g l = record {
   passed : (steps : ℕ) × IsAfter l.initial.replay.lanes.g l.trace.rounds steps l.replay × WithReplayCores l.b l.initial.replay.lanes.g l.trace (λ there.
       (cores : Cores) → AreCores cores → AgreeAbove 0 (l.replay.lanes.published * l.b) cores there →
       StandsForReplay l.trace cores l.replay
-      × Passed (g.K.Sink.held l.initial.sink) (g.K.Sink.held l.sink) (g.K.Sink.faults l.initial.sink) (g.K.Sink.faults l.sink) l.initial.gathered.items l.gathered.items
+      × Passed (g.K.Sink.held l.initial.sink) (g.K.Sink.held l.sink) (g.K.Sink.faults l.initial.sink) (g.K.Sink.faults l.sink) l.initial.gathered l.gathered
       (text_of (steps_lines cores (setting_of l.trace l.b l.initial.replay.lanes.g cores) l.trace steps)));
 }
 

@@ -20,7 +20,7 @@ returns-in_err-put_entries g c =
     c.index-batches-place.is ∙ (ap (λ (bs : List DemandBatch). get_or bs at c.index-batches-place.result) c.batches.ensures ∙ get_or_default played.batches at c.index-batches-place.result none c.requires.at) in
     let answers : List (Option ℕ) = get_or played.answers at [] in
     let departures : List Departure = get_or played.departures at [] in
-    Passes-cut _ _ _ _ c.args.gathered.now.items c.put_entries.new.gathered.items (text_of (map (entry_line round) c.index-batches-place.result.entries)) (text_of (flat_map (refused_line round) answers) ++ text_of (map sent_line departures)) _
+    Passes-cut _ _ _ _ c.args.gathered.now c.put_entries.new.gathered (text_of (map (entry_line round) c.index-batches-place.result.entries)) (text_of (flat_map (refused_line round) answers) ++ text_of (map sent_line departures)) _
     c.in_err-put_entries.field-0.0 c.from_residual.result c.from_residual.ensures.1 c.in_err-put_entries.ensures
     (round_text c.args.first at played c.index-batches-place.result answers departures batch (slice_get-get_or played.answers at [] (omega (arith, c.requires.at, c.requires.played.answers))) (slice_get-get_or played.departures at [] (omega (arith, c.requires.at, c.requires.played.departures))))
 
@@ -34,10 +34,10 @@ returns-in_err-put_answers g c =
     c.index-batches-place.is ∙ (ap (λ (bs : List DemandBatch). get_or bs at c.index-batches-place.result) c.batches.ensures ∙ get_or_default played.batches at c.index-batches-place.result none c.requires.at) in
     let answers : List (Option ℕ) = c.answers.result.now in
     let departures : List Departure = get_or played.departures at [] in
-    Passes-join _ _ _ _ _ _ c.args.gathered.now.items c.put_entries.new.gathered.items c.put_answers.new.gathered.items
+    Passes-join _ _ _ _ _ _ c.args.gathered.now c.put_entries.new.gathered c.put_answers.new.gathered
     (text_of (map (entry_line round) c.index-batches-place.result.entries)) (text_of (flat_map (refused_line round) answers) ++ text_of (map sent_line departures)) _
     c.in_ok-put_entries.field-0 c.from_residual-in_err-put_answers.result c.in_ok-put_entries.ensures
-    (Passes-cut _ _ _ _ c.put_entries.new.gathered.items c.put_answers.new.gathered.items (text_of (flat_map (refused_line round) answers)) (text_of (map sent_line departures)) _ c.in_err-put_answers.field-0.0 c.from_residual-in_err-put_answers.result c.from_residual-in_err-put_answers.ensures.1 c.in_err-put_answers.ensures refl)
+    (Passes-cut _ _ _ _ c.put_entries.new.gathered c.put_answers.new.gathered (text_of (flat_map (refused_line round) answers)) (text_of (map sent_line departures)) _ c.in_err-put_answers.field-0.0 c.from_residual-in_err-put_answers.result c.from_residual-in_err-put_answers.ensures.1 c.in_err-put_answers.ensures refl)
     (round_text c.args.first at played c.index-batches-place.result answers departures batch c.answers.ensures (slice_get-get_or played.departures at [] (omega (arith, c.requires.at, c.requires.played.departures))))
 
 pub returns : goal.returns
@@ -50,9 +50,9 @@ returns g c =
     c.index-batches-place.is ∙ (ap (λ (bs : List DemandBatch). get_or bs at c.index-batches-place.result) c.batches.ensures ∙ get_or_default played.batches at c.index-batches-place.result none c.requires.at) in
     let answers : List (Option ℕ) = c.answers.result.now in
     let departures : List Departure = c.departures.result.now in
-    Passes-join _ _ _ _ _ _ c.args.gathered.now.items c.put_entries.new.gathered.items c.put_departures.new.gathered.items
+    Passes-join _ _ _ _ _ _ c.args.gathered.now c.put_entries.new.gathered c.put_departures.new.gathered
     (text_of (map (entry_line round) c.index-batches-place.result.entries)) (text_of (flat_map (refused_line round) answers) ++ text_of (map sent_line departures)) _
     c.in_ok-put_entries.field-0 c.put_departures.result c.in_ok-put_entries.ensures
-    (Passes-join _ _ _ _ _ _ c.put_entries.new.gathered.items c.put_answers.new.gathered.items c.put_departures.new.gathered.items (text_of (flat_map (refused_line round) answers)) (text_of (map sent_line departures)) _
+    (Passes-join _ _ _ _ _ _ c.put_entries.new.gathered c.put_answers.new.gathered c.put_departures.new.gathered (text_of (flat_map (refused_line round) answers)) (text_of (map sent_line departures)) _
     c.in_ok-put_answers.field-0 c.put_departures.result c.in_ok-put_answers.ensures c.put_departures.ensures refl)
     (round_text c.args.first at played c.index-batches-place.result answers departures batch c.answers.ensures c.departures.ensures)

@@ -1,0 +1,13 @@
+use Rattle.std.proofs.Common.{[], ◌∷◌, ◌++◌}
+use Rattle.report_text.specs.Lines.{line_bytes}
+use Rattle.fastpass_run.specs.Text.{entry_line}
+use Rattle.fastpass_run.proofs.OutputLemmas.{Passes-stop, Passes-behind}
+use Rattle.fastpass_run.proofs.lines.put_entry.Goals as goal
+
+pub returns-in_err-make_room : goal.returns-in_err-make_room
+returns-in_err-make_room g c =
+    Passes-stop _ _ _ _ c.args.gathered.now c.make_room.new.gathered [] (line_bytes (entry_line c.args.round.now c.args.entry) ++ 10 ∷ []) c.in_err-make_room.field-0.0 c.from_residual.result c.from_residual.ensures.1 c.in_err-make_room.ensures.passes
+
+pub returns : goal.returns
+returns g c =
+    Passes-behind _ _ _ _ c.args.gathered.now c.make_room.new.gathered c.put_batch.new.self (line_bytes (entry_line c.args.round.now c.args.entry) ++ 10 ∷ []) c.in_ok-make_room.field-0 (tt {0}) c.in_ok-make_room.ensures.passes c.put_batch.ensures

@@ -1,0 +1,14 @@
+use Rattle.std.proofs.Common.{ℕ, [], ◌∷◌, ◌++◌, ap, ◌∙◌}
+use Rattle.report_text.specs.declared.line.Line.TheVariants as line
+use Rattle.report_text.specs.Lines.{line_bytes}
+use Rattle.fastpass_run.specs.ReplayText.{sent_line}
+use Rattle.fastpass_run.proofs.OutputLemmas.{Passes-stop, Passes-behind}
+use Rattle.fastpass_run.proofs.rounds.put_departure.Goals as goal
+
+pub returns-in_err-make_room : goal.returns-in_err-make_room
+returns-in_err-make_room g c =
+    Passes-stop _ _ _ _ c.args.gathered.now c.make_room.new.gathered [] (line_bytes (sent_line c.args.departure) ++ 10 ∷ []) c.in_err-make_room.field-0.0 c.from_residual.result c.from_residual.ensures.1 c.in_err-make_room.ensures.passes
+
+pub returns : goal.returns
+returns g c =
+    Passes-behind _ _ _ _ c.args.gathered.now c.make_room.new.gathered c.put_sent.new.self (line_bytes (sent_line c.args.departure) ++ 10 ∷ []) c.in_ok-make_room.field-0 (tt {0}) c.in_ok-make_room.ensures.passes (c.put_sent.ensures ∙ ap (λ (n : ℕ). c.make_room.new.gathered ++ (line_bytes (line.Sent n c.args.departure.src c.args.departure.dst) ++ 10 ∷ [])) c.set.ensures)
