@@ -1,6 +1,7 @@
 mod CountLemmas
 mod WordLemmas
 mod LowestLemmas
+mod NamingLemmas
 mod MapLemmas
 mod LinkLemmas
 mod RackLemmas

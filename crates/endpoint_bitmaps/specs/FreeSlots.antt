@@ -1,7 +1,7 @@
 -- What contracts see of the maps of a batch: the slots in which each endpoint may still send a packet, and those in which it
 -- may still receive one; and how many packets each slot has between racks (this project's own way to the greedy slots of the
 -- SIGCOMM 2014 Fastpass paper).
-use Rattle.std.specs.Prelude.{◌≡◌, ◌<◌, ℕ, ◌+◌, List, Bool, not, ◌==◌, ◌&&◌, ◌||◌, nat_lt, if◌then◌else◌}
+use Rattle.std.specs.Prelude.{◌≡◌, ◌<◌, ℕ, ◌+◌, List, Bool, false, not, ◌==◌, ◌&&◌, ◌||◌, nat_lt, if◌then◌else◌}
 use Rattle.std.specs.List.{slice_index_or}
 use Rattle.greedy_rules.specs.declared.limits.Limits.{Limits}
 use Rattle.greedy_rules.specs.Limits.{rack_of, is_outward}
@@ -23,6 +23,10 @@ may_send maps src slot = has_slot (slice_index_or maps.to_send src 0) slot
 
 abbrev pub may_receive : FreeSlots → ℕ → ℕ → Bool
 may_receive maps dst slot = has_slot (slice_index_or maps.to_receive dst 0) slot
+
+-- no endpoint may send in any slot
+abbrev pub NoneMaySend : FreeSlots → Type 0
+NoneMaySend maps = (src slot : ℕ) → may_send maps src slot ≡ false
 
 -- how many of the flows taken in the slot go from this rack to others, and how many come to it from others
 abbrev pub leaving_in : FreeSlots → ℕ → ℕ → ℕ

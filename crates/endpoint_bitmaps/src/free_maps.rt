@@ -1,10 +1,10 @@
-ghost use Rattle.std.specs.Prelude.{◌≡◌, ◌<◌, ◌≤◌, ℕ, IfOk, min, count_ones, nat_lt, length, vec_len, true, false, ◌==◌, ◌&&◌, not};
+ghost use Rattle.std.specs.Prelude.{◌≡◌, ◌≢◌, ◌<◌, ◌≤◌, ◌↔◌, ℕ, IfOk, IsTrue, min, count_ones, nat_lt, length, vec_len, true, false, ◌==◌, ◌&&◌, not};
 ghost use Rattle.std.specs.List.{slice_index_or};
 ghost use Rattle.greedy_rules.specs.Limits.{AreLimits};
 ghost use Rattle.endpoint_bitmaps.specs.Slots.{has_slot, count_below, is_among_lowest, NoneFrom};
 ghost use Rattle.endpoint_bitmaps.specs.Links.{HasTakenLinks, ShowsLeft};
-ghost use Rattle.endpoint_bitmaps.specs.Fit.{AreRacks};
-ghost use Rattle.endpoint_bitmaps.specs.FreeSlots.{IsFreeBelow, HasNoneBetween, is_common, HasTaken};
+ghost use Rattle.endpoint_bitmaps.specs.Fit.{AreRacks, naming};
+ghost use Rattle.endpoint_bitmaps.specs.FreeSlots.{may_send, may_receive, IsFreeBelow, HasNoneBetween, is_common, NoneMaySend, HasTaken};
 
 use crate::rack_links::RackLinks;
 use greedy_rules::Limits;
@@ -13,27 +13,29 @@ use std::alloc::Global;
 use std::marker::Model;
 
 /// Which endpoints are free in which slots of a batch of at most 64: for each endpoint a map of the slots in which it may
-/// still send, and one of those in which it may still receive. Bit i of a map is the batch's slot i, counted from 0.
+/// still send, and one of those in which it may still receive. Bit i of a map is the batch's slot i, counted from 0. How
+/// many endpoints may still send in some slot is counted.
 #[derive(Debug, Drop)]
 pub struct FreeMaps {
     limits: Limits,
     senders: Vec<u64>,
     receivers: Vec<u64>,
+    sending: usize,
     racks: Vec<u16>,
     leaving: RackLinks,
     entering: RackLinks,
 }
 
 impl Model for FreeMaps {
-    ghost use Rattle.std.specs.Prelude.{vec_len};
-    ghost use Rattle.endpoint_bitmaps.specs.Fit.{Fit};
+    ghost use Rattle.std.specs.Prelude.{◌≡◌, vec_len};
+    ghost use Rattle.endpoint_bitmaps.specs.Fit.{Fit, naming};
     ghost use Rattle.endpoint_bitmaps.specs.FreeSlots.{FreeSlots};
 
     ghost Value = { FreeSlots };
 
     ghost view = { λ m. record { endpoints = vec_len m.senders; limits = m.limits; to_send = m.senders.items; to_receive = m.receivers.items; leaving = m.leaving.taken.items; entering = m.entering.taken.items } };
 
-    ghost invariant = { λ m. Fit m.limits m.senders.items m.receivers.items m.racks.items m.leaving.taken.items m.leaving.left.items m.entering.taken.items m.entering.left.items };
+    ghost invariant = { λ m. Fit m.limits m.senders.items m.receivers.items m.racks.items m.leaving.taken.items m.leaving.left.items m.entering.taken.items m.entering.left.items × (m.sending ≡ naming m.senders.items) };
 }
 
 impl FreeMaps {
@@ -49,6 +51,7 @@ impl FreeMaps {
             },
             senders: vec![in alloc; 0; endpoints as usize]?,
             receivers: vec![in alloc; 0; endpoints as usize]?,
+            sending: 0,
             racks: vec![in alloc; 0; endpoints as usize]?,
             leaving: RackLinks::open(alloc, endpoints)?,
             entering: RackLinks::open(alloc, endpoints)?,
@@ -72,6 +75,24 @@ impl FreeMaps {
         let free = first_slots(b);
         self.senders.fill(free);
         self.receivers.fill(free);
+        self.sending = self.senders.len() * usize::from(free != 0);
+    }
+
+    /// Whether no endpoint may send in any slot any more.
+    pub fn none_may_send(&self) -> bool
+        ensures { IsTrue result ↔ NoneMaySend self.now }
+    {
+        self.sending == 0
+    }
+
+    /// The slots in which the source may send and the destination may receive, whatever their racks may: all that they have
+    /// in common are among these.
+    pub fn may_share(&self, src: u16, dst: u16) -> u64
+        requires src_in_range { src < self.now.endpoints }
+        requires dst_in_range { dst < self.now.endpoints }
+        ensures { (slot : ℕ) → has_slot result slot ≡ (may_send self.now src slot && may_receive self.now dst slot) }
+    {
+        self.senders[src as usize] & self.receivers[dst as usize]
     }
 
     /// The slots in which the source may send and the destination may receive; where they are in different racks, only
@@ -81,7 +102,7 @@ impl FreeMaps {
         requires dst_in_range { dst < self.now.endpoints }
         ensures { (slot : ℕ) → has_slot result slot ≡ is_common self.now src dst slot }
     {
-        let free = self.senders[src as usize] & self.receivers[dst as usize];
+        let free = self.may_share(src, dst);
         if free == 0 {
             return 0;
         }
@@ -107,7 +128,7 @@ impl FreeMaps {
         if taken == 0 {
             return taken;
         }
-        self.senders[src as usize] &= !taken;
+        take_slots(&mut self.senders, &mut self.sending, src, taken);
         self.receivers[dst as usize] &= !taken;
         let from = self.racks[src as usize];
         let to = self.racks[dst as usize];
@@ -121,6 +142,20 @@ impl FreeMaps {
         );
         taken
     }
+}
+
+/// Takes these slots from the endpoint's word, and counts the endpoint out where it has none left.
+fn take_slots(words: &mut [u64], count: &mut usize, endpoint: u16, slots: u64)
+    requires endpoint { endpoint < length words.old }
+    requires some { slice_index_or words.old endpoint 0 ≢ 0 }
+    requires count { count.old ≡ naming words.old }
+    ensures length { length words.new ≡ length words.old }
+    ensures words { (at slot : ℕ) → has_slot (slice_index_or words.new at 0) slot ≡ (has_slot (slice_index_or words.old at 0) slot && not ((at == endpoint) && has_slot slots slot)) }
+    ensures count { count.new ≡ naming words.new }
+{
+    let word = &mut words[endpoint as usize];
+    *word &= !slots;
+    *count -= usize::from(*word == 0);
 }
 
 /// Takes the links of a flow from one rack to another; within a rack it has none.

@@ -23,3 +23,4 @@ pub mod StandsLemmas
 pub mod MarkLemmas
 pub mod IdleLemmas
 pub mod RestLemmas
+pub mod DoubtLemmas

@@ -1,5 +1,5 @@
 -- The parts of a batch as the code keeps them (this project's own profile).
-use Rattle.std.specs.Prelude.{◌≡◌, ◌≤◌, ℕ, ◌*◌, length, vec_capacity}
+use Rattle.std.specs.Prelude.{◌≡◌, ◌≤◌, ℕ, ◌*◌, List, length, vec_capacity}
 use Rattle.greedy_rules.specs.declared.limits.Limits.{Limits}
 use Rattle.slot_batches.specs.declared.filling.Filling.{Filling}
 use Rattle.slot_batches.specs.Filled.{Fill}
@@ -24,6 +24,11 @@ pub record HasRoom (filling : Filling) : Type 0 where
   pub count : length filling.slots.slots ≡ filling.b
   pub pairs : filling.endpoints * filling.endpoints ≤ vec_capacity filling.waiting
   pub places : filling.b * filling.endpoints ≤ vec_capacity filling.served
+
+-- and two words of marks for each of 256 endpoints
+pub record IsWhole (filling : Filling) (marks : List ℕ) : Type 0 where
+  pub room : HasRoom filling
+  pub words : length marks ≡ 512
 
 pub record IsSameBatch (limits : Limits) (endpoints b first_slot : ℕ) (filling : Filling) : Type 0 where
   pub same_limits : filling.maps.limits ≡ limits

@@ -1,17 +1,17 @@
-ghost use Rattle.std.specs.Prelude.{◌≡◌, ◌<◌, ◌≤◌, List, length, take, true, All, not, ◌==◌, ◌&&◌};
+ghost use Rattle.std.specs.Prelude.{◌≡◌, ◌<◌, ◌≤◌, ℕ, List, length, take, true, false, All};
 ghost use Rattle.greedy_rules.specs.declared.flows.Entry.{Entry};
 ghost use Rattle.greedy_rules.specs.Demands.{AreBelow};
-ghost use Rattle.slot_batches.specs.Feeding.{was_served};
 ghost use Rattle.slot_batches.specs.Marks.{AreMarked};
-ghost use Rattle.slot_batches.specs.Rests.{Rests};
+ghost use Rattle.slot_batches.specs.Parts.{IsWhole};
+ghost use Rattle.slot_batches.specs.Rests.{opens_before, Rests};
 
 use crate::filling::Filling;
-use crate::marks::is_marked;
-use greedy_rules::Item;
+use crate::marks::{common_marks, is_marked};
+use greedy_rules::{Batch, Item};
 
 /// Whether flows may open before the item.
 fn opens_first(unopened: usize, item: &Item) -> bool
-    ensures { result ≡ (was_served item.now && not (unopened == 0)) }
+    ensures { result ≡ opens_before unopened item.now }
 {
     item.last > 0 && unopened > 0
 }
@@ -31,8 +31,56 @@ fn rests(filling: &Filling, marks: &[u64], unopened: usize, item: &Item) -> bool
     filling.must_wait(item)
 }
 
-/// How many items at the front wait as they are.
-pub(crate) fn resting(filling: &Filling, marks: &[u64], unopened: usize, items: &[Item]) -> usize
+/// What speaks against the item waiting as it is, where no flow opens before it: 0 only where nothing does. It may speak
+/// against one that waits.
+fn doubt(filling: &Filling, marks: &[u64], item: &Item) -> u64
+    requires whole { IsWhole filling.now marks.now }
+    requires src { item.now.flow.src < filling.now.maps.endpoints }
+    requires dst { item.now.flow.dst < filling.now.maps.endpoints }
+    ensures { (entries : List Entry) → (unopened : ℕ) → AreMarked entries marks.now → result ≡ 0 → opens_before unopened item.now ≡ false → Rests entries unopened filling.now.maps item.now }
+{
+    let slots = filling.maps.may_share(item.flow.src, item.flow.dst);
+    slots.min(u64::from(item.need)) | common_marks(marks, item.flow)
+}
+
+/// Whether no flow may open before any of four items.
+fn none_opens(unopened: usize, four: &[Item]) -> bool
+    requires { length four.now ≡ 4 }
+    ensures { result ≡ true → All (λ item. opens_before unopened item ≡ false) four.now }
+{
+    unopened == 0 || four[0].last | four[1].last | four[2].last | four[3].last == 0
+}
+
+/// Whether nothing speaks against any of four items waiting as they are.
+fn four_rest(filling: &Filling, marks: &[u64], unopened: usize, four: &[Item]) -> bool
+    requires whole { IsWhole filling.now marks.now }
+    requires below { AreBelow filling.now.maps.endpoints four.now }
+    requires four { length four.now ≡ 4 }
+    ensures { (entries : List Entry) → AreMarked entries marks.now → result ≡ true → All (Rests entries unopened filling.now.maps) four.now }
+{
+    let first = doubt(filling, marks, &four[0]);
+    let second = doubt(filling, marks, &four[1]);
+    let third = doubt(filling, marks, &four[2]);
+    let fourth = doubt(filling, marks, &four[3]);
+    first | second | third | fourth == 0 && none_opens(unopened, four)
+}
+
+/// How many items at the front wait as they are, at least, going on by fours.
+fn resting_fours(filling: &Filling, marks: &[u64], unopened: usize, items: &[Item]) -> usize
+    requires whole { IsWhole filling.now marks.now }
+    requires below { AreBelow filling.now.maps.endpoints items.now }
+    ensures within { result ≤ length items.now }
+    ensures rest { (entries : List Entry) → AreMarked entries marks.now → All (Rests entries unopened filling.now.maps) (take result items.now) }
+{
+    let mut at = 0;
+    while items.len() - at >= 4 && four_rest(filling, marks, unopened, &items[at..at + 4]) {
+        at += 4;
+    }
+    at
+}
+
+/// How many items at the front wait as they are, going on one by one.
+fn resting_ones(filling: &Filling, marks: &[u64], unopened: usize, items: &[Item]) -> usize
     requires { AreBelow filling.now.maps.endpoints items.now }
     ensures within { result ≤ length items.now }
     ensures rest { (entries : List Entry) → AreMarked entries marks.now → All (Rests entries unopened filling.now.maps) (take result items.now) }
@@ -43,4 +91,50 @@ pub(crate) fn resting(filling: &Filling, marks: &[u64], unopened: usize, items: 
         }
     }
     items.len()
+}
+
+/// How many items at the front wait as they are, going on by fours where it can.
+fn resting_front(filling: &Filling, marks: &[u64], unopened: usize, items: &[Item]) -> usize
+    requires whole { IsWhole filling.now marks.now }
+    requires below { AreBelow filling.now.maps.endpoints items.now }
+    ensures within { result ≤ length items.now }
+    ensures rest { (entries : List Entry) → AreMarked entries marks.now → All (Rests entries unopened filling.now.maps) (take result items.now) }
+{
+    let mut at = 0;
+    while at < items.len() {
+        at += resting_fours(filling, marks, unopened, &items[at..]);
+        let few = (items.len() - at).min(4);
+        let more = resting_ones(filling, marks, unopened, &items[at..at + few]);
+        at += more;
+        if more < few {
+            return at;
+        }
+    }
+    at
+}
+
+/// Whether every item waits as it is, whichever it be: no endpoint may send any more, and the batch has no entry.
+fn all_rest(filling: &Filling, unopened: usize, batch: &Batch) -> bool
+    ensures { result ≡ true → (item : Item) → Rests batch.now.entries unopened filling.now.maps item }
+{
+    unopened == 0 && batch.is_empty() && filling.maps.none_may_send()
+}
+
+/// How many items at the front wait as they are.
+pub(crate) fn resting(
+    filling: &Filling,
+    marks: &[u64],
+    unopened: usize,
+    batch: &Batch,
+    items: &[Item],
+) -> usize
+    requires whole { IsWhole filling.now marks.now }
+    requires below { AreBelow filling.now.maps.endpoints items.now }
+    ensures within { result ≤ length items.now }
+    ensures rest { AreMarked batch.now.entries marks.now → All (Rests batch.now.entries unopened filling.now.maps) (take result items.now) }
+{
+    if all_rest(filling, unopened, batch) {
+        return items.len();
+    }
+    resting_front(filling, marks, unopened, items)
 }

@@ -28,14 +28,14 @@ pub struct Stage {
 }
 
 impl Model for Stage {
-    ghost use Rattle.slot_batches.specs.Parts.{fill_of, HasRoom};
+    ghost use Rattle.slot_batches.specs.Parts.{fill_of, IsWhole};
     ghost use Rattle.slot_batches.specs.Stands.{StageState};
 
     ghost Value = { StageState };
 
     ghost view = { λ s. record { number = s.number; fill = fill_of s.filling; marks = s.marks.items; unopened = s.unopened; given = s.given; ends = s.ends } };
 
-    ghost invariant = { λ s. HasRoom s.filling };
+    ghost invariant = { λ s. IsWhole s.filling s.marks.items };
 }
 
 impl Stage {
@@ -48,7 +48,7 @@ impl Stage {
     {
         Ok(Stage {
             filling: Filling::open(alloc, endpoints, b)?,
-            marks: vec![in alloc; 0; endpoints as usize * 4]?,
+            marks: vec![in alloc; 0; 512]?,
             number: 0,
             unopened: 0,
             given: 0,
@@ -98,7 +98,7 @@ impl Stage {
     {
         let mut from = 0;
         while from < items.len() {
-            from += self.keep_resting(&items[from..]);
+            from += self.keep_resting(batch, &items[from..]);
             if from < items.len() {
                 self.feed(batch, items[from]);
                 from += 1;
@@ -107,16 +107,16 @@ impl Stage {
     }
 
     /// Feeds the items at the front that wait as they are, and answers how many these are.
-    fn keep_resting(&mut self, items: &[Item]) -> usize
-        requires may { (batch : DemandBatch) × (fed : List Item) × (given : ℕ) × Stands batch fed false given self.old × MayBeFed batch.entries (endpoints_of self.old) (first_slot_of self.old) (fed ++ items.now) }
+    fn keep_resting(&mut self, batch: &Batch, items: &[Item]) -> usize
+        requires may { (fed : List Item) × (given : ℕ) × Stands batch.now fed false given self.old × MayBeFed batch.now.entries (endpoints_of self.old) (first_slot_of self.old) (fed ++ items.now) }
         ensures within { result ≤ length items.now }
         ensures work { IsSameWork (endpoints_of self.old) (batch_size_of self.old) (number_of self.old) (first_slot_of self.old) self.new }
-        ensures stands { (batch : DemandBatch) → (fed : List Item) → (given : ℕ) →
-            Stands batch fed false given self.old →
-            MayBeFed batch.entries (endpoints_of self.old) (first_slot_of self.old) (fed ++ items.now) →
-            Stands batch (fed ++ take result items.now) false given self.new }
+        ensures stands { (fed : List Item) → (given : ℕ) →
+            Stands batch.now fed false given self.old →
+            MayBeFed batch.now.entries (endpoints_of self.old) (first_slot_of self.old) (fed ++ items.now) →
+            Stands batch.now (fed ++ take result items.now) false given self.new }
     {
-        let count = resting(&self.filling, &self.marks, self.unopened, items);
+        let count = resting(&self.filling, &self.marks, self.unopened, batch, items);
         self.filling.keep(&items[..count]);
         count
     }

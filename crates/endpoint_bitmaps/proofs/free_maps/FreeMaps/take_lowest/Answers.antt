@@ -1,10 +1,14 @@
-use Rattle.std.proofs.Common.{◌≡◌, ◌<◌, ◌^◌, ◌+◌, cond, length, ap, sym, ◌∙◌, arith, rules, not, ◌&&◌, ◌==◌}
+use Rattle.std.proofs.Common.{◌≡◌, ◌<◌, ◌^◌, ◌+◌, ℕ, List, cond, length, get_or, take, drop, ◌++◌, true, ap, sym, ◌∙◌, arith, rules, not, nat_lt, ◌&&◌, ◌||◌, ◌==◌, w64}
+use Rattle.std.specs.Int.{trailing_zeros}
+use Rattle.std.proofs.lemmas.Bool.{and_parts}
+use Rattle.std.proofs.lemmas.List.{take_at}
 use Rattle.std.specs.Prelude.{vec_len}
 use Rattle.greedy_rules.specs.Limits.{rack_of}
-use Rattle.endpoint_bitmaps.specs.Slots.{has_slot}
-use Rattle.endpoint_bitmaps.specs.FreeSlots.{FreeSlots, is_common, may_send, may_receive, leaving_in, entering_in, rack_in, is_between}
+use Rattle.endpoint_bitmaps.specs.Slots.{has_slot, count_below}
+use Rattle.endpoint_bitmaps.specs.FreeSlots.{FreeSlots, is_common, may_send, may_receive, has_links, leaving_in, entering_in, rack_in, is_between}
 use Rattle.endpoint_bitmaps.proofs.CountLemmas.{is_among_lowest-same}
-use Rattle.endpoint_bitmaps.proofs.WordLemmas.{has_slot-above}
+use Rattle.endpoint_bitmaps.proofs.WordLemmas.{has_slot-above, lowest_is}
+use Rattle.endpoint_bitmaps.proofs.NamingLemmas.{names_some}
 use Rattle.endpoint_bitmaps.proofs.LowestLemmas.{count_is}
 use Rattle.endpoint_bitmaps.proofs.MapLemmas.{without_taken}
 use Rattle.endpoint_bitmaps.proofs.MapLemmas.{none_taken}
@@ -14,7 +18,7 @@ use Rattle.endpoint_bitmaps.proofs.free_maps.FreeMaps.take_lowest.Goals as goal
 pub take_links-requires-clause-leaving_left : goal.take_links-requires-clause-leaving_left
 take_links-requires-clause-leaving_left c = λ apart slot here.
     let m = c.self.inside in
-    let fit = c.self.invariant in
+    let fit = c.self.invariant.0 in
     let count : vec_len m.senders ≡ length m.senders.items = omega (arith, m.senders.ok) in
     let from_is = seen_rack (vec_len m.senders) m.limits m.senders.items m.receivers.items m.racks.items m.leaving.taken.items m.leaving.left.items m.entering.taken.items m.entering.left.items fit c.args.self.now c.self.view_is count c.args.src c.requires.src_in_range c.index-from.result.now c.index-from.ensures in
     let to_is = seen_rack (vec_len m.senders) m.limits m.senders.items m.receivers.items m.racks.items m.leaving.taken.items m.leaving.left.items m.entering.taken.items m.entering.left.items fit c.args.self.now c.self.view_is count c.args.dst c.requires.dst_in_range c.index-to.result.now c.index-to.ensures in
@@ -27,7 +31,7 @@ take_links-requires-clause-leaving_left c = λ apart slot here.
 pub take_links-requires-clause-entering_left : goal.take_links-requires-clause-entering_left
 take_links-requires-clause-entering_left c = λ apart slot here.
     let m = c.self.inside in
-    let fit = c.self.invariant in
+    let fit = c.self.invariant.0 in
     let count : vec_len m.senders ≡ length m.senders.items = omega (arith, m.senders.ok) in
     let from_is = seen_rack (vec_len m.senders) m.limits m.senders.items m.receivers.items m.racks.items m.leaving.taken.items m.leaving.left.items m.entering.taken.items m.entering.left.items fit c.args.self.now c.self.view_is count c.args.src c.requires.src_in_range c.index-from.result.now c.index-from.ensures in
     let to_is = seen_rack (vec_len m.senders) m.limits m.senders.items m.receivers.items m.racks.items m.leaving.taken.items m.leaving.left.items m.entering.taken.items m.entering.left.items fit c.args.self.now c.self.view_is count c.args.dst c.requires.dst_in_range c.index-to.result.now c.index-to.ensures in
@@ -36,6 +40,19 @@ take_links-requires-clause-entering_left c = λ apart slot here.
     (λ k. c.common.ensures k ∙ ap (λ (v : FreeSlots). is_common v c.args.src c.args.dst k) (sym c.self.view_is)) c.lowest-taken.ensures here in
     down_left (vec_len m.senders) m.limits m.senders.items m.receivers.items m.racks.items m.leaving.taken.items m.leaving.left.items m.entering.taken.items m.entering.left.items
     fit c.args.src c.args.dst c.index-to.result.now slot (seen_below (vec_len m.senders) m.limits m.senders.items m.receivers.items m.racks.items m.leaving.taken.items m.leaving.left.items m.entering.taken.items m.entering.left.items fit c.args.self.now c.self.view_is count c.args.dst c.requires.dst_in_range) left.0 to_is left.1
+
+pub take_slots-requires-clause-some : goal.take_slots-requires-clause-some
+take_slots-requires-clause-some c =
+    let maps = c.args.self.now in
+    let taken : ℕ = c.lowest-taken.result in
+    let common : ℕ = c.common.result in
+    let slot : ℕ = trailing_zeros w64 taken in
+    let here : has_slot taken slot ≡ true = lowest_is taken (search rules) c.if-taken-eq0.false in
+    let in_common : has_slot common slot ≡ true = (and_parts (has_slot common slot) (nat_lt (count_below (has_slot common) slot) c.args.need) (sym (c.lowest-taken.ensures slot) ∙ here)).0 in
+    let both = (and_parts (may_send maps c.args.src slot && may_receive maps c.args.dst slot) (not (is_between maps c.args.src c.args.dst) || has_links maps c.args.src c.args.dst slot) (sym (c.common.ensures slot) ∙ in_common)).0 in
+    names_some (get_or c.deref_mut.result.now c.args.src 0) slot
+    (ap (λ (words : List ℕ). has_slot (get_or words c.args.src 0) slot) c.deref_mut.ensures.value
+    ∙ ap (λ (v : FreeSlots). may_send v c.args.src slot) c.self.view_is ∙ (and_parts (may_send maps c.args.src slot) (may_receive maps c.args.dst slot) both).0)
 
 pub returns-clause-lowest : goal.returns-clause-lowest
 returns-clause-lowest c = λ slot.
@@ -64,7 +81,7 @@ returns-then-taken-eq0-clause-count c = λ b none.
 pub returns-clause-taken : goal.returns-clause-taken
 returns-clause-taken c =
     let m = c.self.inside in
-    let fit = c.self.invariant in
+    let fit = c.self.invariant.0 in
     let count : vec_len m.senders ≡ length m.senders.items = omega (arith, m.senders.ok) in
     let now = c.args.self.now in
     let view_is = c.self.view_is in
@@ -75,17 +92,21 @@ returns-clause-taken c =
     let dst_below : dst < length m.receivers.items = omega (arith, seen_below (vec_len m.senders) m.limits m.senders.items m.receivers.items m.racks.items m.leaving.taken.items m.leaving.left.items m.entering.taken.items m.entering.left.items fit now view_is count dst c.requires.dst_in_range, fit.receivers_count) in
     let from_is = seen_rack (vec_len m.senders) m.limits m.senders.items m.receivers.items m.racks.items m.leaving.taken.items m.leaving.left.items m.entering.taken.items m.entering.left.items fit now view_is count src c.requires.src_in_range c.index-from.result.now c.index-from.ensures in
     let to_is = seen_rack (vec_len m.senders) m.limits m.senders.items m.receivers.items m.racks.items m.leaving.taken.items m.leaving.left.items m.entering.taken.items m.entering.left.items fit now view_is count dst c.requires.dst_in_range c.index-to.result.now c.index-to.ensures in
-    let sender_fits : c.index_mut.result.now < 2 ^ 64 = search rules in
-    let receiver_fits : c.index_mut-2.result.now < 2 ^ 64 = search rules in
+    let receiver_fits : c.index_mut.result.now < 2 ^ 64 = search rules in
     let taken_fits : taken < 2 ^ 64 = search rules in
+    let left = c.take_slots.new.words in
+    let all_left : take m.senders.len (left ++ drop (length left) m.senders.items) ≡ left =
+    take_at left (drop (length left) m.senders.items) m.senders.len (omega (arith, m.senders.ok, c.take_slots.ensures.length, ap length c.deref_mut.ensures.value)) in
     record {
       endpoints = ap (λ (v : FreeSlots). v.endpoints) view_is;
       limits = ap (λ (v : FreeSlots). v.limits) view_is;
       senders = λ endpoint slot.
-          without_taken m.senders.items src c.index_mut.result.now taken endpoint slot src_below sender_fits taken_fits c.index_mut.ensures.value
+          ap (λ (words : List ℕ). has_slot (get_or words endpoint 0) slot) all_left
+          ∙ c.take_slots.ensures.words endpoint slot
+          ∙ ap (λ (words : List ℕ). has_slot (get_or words endpoint 0) slot && not ((endpoint == src) && has_slot taken slot)) c.deref_mut.ensures.value
           ∙ ap (λ (v : FreeSlots). may_send v endpoint slot && not ((endpoint == src) && has_slot taken slot)) view_is;
       receivers = λ endpoint slot.
-          without_taken m.receivers.items dst c.index_mut-2.result.now taken endpoint slot dst_below receiver_fits taken_fits c.index_mut-2.ensures.value
+          without_taken m.receivers.items dst c.index_mut.result.now taken endpoint slot dst_below receiver_fits taken_fits c.index_mut.ensures.value
           ∙ ap (λ (v : FreeSlots). may_receive v endpoint slot && not ((endpoint == dst) && has_slot taken slot)) view_is;
       leaving = λ rack slot below.
           links_taken m.limits.hosts src dst c.index-from.result.now c.index-from.result.now c.index-to.result.now (rack_of m.limits.hosts src) slot (has_slot taken) m.leaving.taken.items

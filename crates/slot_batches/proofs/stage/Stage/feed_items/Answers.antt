@@ -26,7 +26,6 @@ keep_resting-from-requires c =
     let may = c.requires.may in
     record {
       may = (
-        c.args.batch.now,
         may.0 ++ take c.loop-from.from items,
         may.1,
         so_far.stands may.0 may.1 may.2 may.3,
@@ -50,7 +49,7 @@ feed-requires-clause-may c =
       may.0 ++ take (from + count) items,
       may.1,
       subst (λ (xs : List Item). Stands batch xs false may.1 c.keep_resting-from.new.self) (part_on may.0 items from count)
-          (c.keep_resting-from.ensures.stands batch (may.0 ++ take from items) may.1 (so_far.stands may.0 may.1 may.2 may.3) rest),
+          (c.keep_resting-from.ensures.stands (may.0 ++ take from items) may.1 (so_far.stands may.0 may.1 may.2 may.3) rest),
       may_next batch.entries (endpoints_of was) (first_slot_of was) (endpoints_of c.keep_resting-from.new.self) (first_slot_of c.keep_resting-from.new.self) may.0 items (from + count) nothing
           c.if-from-items.true may.3 work.same_endpoints work.same_first,
     )
@@ -73,7 +72,7 @@ loop-from-preserved-then-from-items c =
           subst (λ (xs : List Item). Stands batch xs false given c.feed.new.self) (sym (one_more_fed fed items (from + count) nothing c.if-from-items.true))
           (c.feed.ensures.stands (fed ++ take (from + count) items) given
           (subst (λ (xs : List Item). Stands batch xs false given mid) (part_on fed items from count)
-          (c.keep_resting-from.ensures.stands batch (fed ++ take from items) given (so_far.stands fed given stands may) rest))
+          (c.keep_resting-from.ensures.stands (fed ++ take from items) given (so_far.stands fed given stands may) rest))
           (may_next batch.entries (endpoints_of was) (first_slot_of was) (endpoints_of mid) (first_slot_of mid) fed items (from + count) nothing c.if-from-items.true may work.same_endpoints work.same_first));
       work = same_on was mid c.feed.new.self work c.feed.ensures.work;
     }
@@ -93,7 +92,7 @@ loop-from-preserved c =
           let rest = may_feed_rest batch.entries (endpoints_of was) (first_slot_of was) (endpoints_of c.loop-from.self) (first_slot_of c.loop-from.self) fed items from may
           so_far.work.same_endpoints so_far.work.same_first in
           subst (λ (xs : List Item). Stands batch xs false given mid) (part_on fed items from count)
-          (c.keep_resting-from.ensures.stands batch (fed ++ take from items) given (so_far.stands fed given stands may) rest);
+          (c.keep_resting-from.ensures.stands (fed ++ take from items) given (so_far.stands fed given stands may) rest);
       work = same_on was c.loop-from.self mid so_far.work c.keep_resting-from.ensures.work;
     }
 

@@ -11,39 +11,40 @@ use Rattle.slot_batches.proofs.RestLemmas.{all_back, may_keep, fed_run}
 use Rattle.slot_batches.proofs.StandsLemmas.{stands_for_run}
 use Rattle.slot_batches.proofs.stage.Stage.keep_resting.Goals as goal
 
-pub resting-count-requires : goal.resting-count-requires
-resting-count-requires c =
+pub resting-count-requires-clause-below : goal.resting-count-requires-clause-below
+resting-count-requires-clause-below c =
     let items = c.args.items.now in
     let inside = c.self.inside in
     let below : AreBelow inside.filling.endpoints items =
     subst (λ (s : StageState). AreBelow (endpoints_of s) items) (sym c.self.view_is)
-    (all_back (λ item. (item.flow.src < endpoints_of c.args.self.now) × (item.flow.dst < endpoints_of c.args.self.now)) c.requires.may.1 items c.requires.may.4.in_range) in
-    subst (λ n. AreBelow n items) (sym c.self.invariant.maps) below
+    (all_back (λ item. (item.flow.src < endpoints_of c.args.self.now) × (item.flow.dst < endpoints_of c.args.self.now)) c.requires.may.0 items c.requires.may.3.in_range) in
+    subst (λ n. AreBelow n items) (sym c.self.invariant.room.maps) below
 
 pub keep-requires-clause-may : goal.keep-requires-clause-may
 keep-requires-clause-may c =
-    let batch = c.requires.may.0 in
-    let fed = c.requires.may.1 in
+    let batch = c.args.batch.now in
+    let fed = c.requires.may.0 in
     let run = take c.resting-count.result c.args.items.now in
     let inside = c.self.inside in
     let old = fill_of inside.filling in
-    let so_far : HasBeenFed batch fed old inside.unopened = subst (λ (s : StageState). HasBeenFed batch fed s.fill s.unopened) (sym c.self.view_is) (c.requires.may.3.feeding refl) in
+    let so_far : HasBeenFed batch fed old inside.unopened = subst (λ (s : StageState). HasBeenFed batch fed s.fill s.unopened) (sym c.self.view_is) (c.requires.may.2.feeding refl) in
     let may : MayBeFed batch.entries old.endpoints old.first_slot (fed ++ run) =
     subst (λ (s : StageState). MayBeFed batch.entries (endpoints_of s) (first_slot_of s) (fed ++ run)) (sym c.self.view_is)
-    (may_feed_part batch.entries (endpoints_of c.args.self.now) (first_slot_of c.args.self.now) fed c.args.items.now c.resting-count.result c.requires.may.4) in
-    let marked : AreMarked batch.entries c.deref.result.now = subst (AreMarked batch.entries) (ap (λ (s : StageState). s.marks) (sym c.self.view_is) ∙ sym c.deref.ensures.value) c.requires.may.3.marked in
-    (taken_up batch.entries fed false, so_far.taken, may_keep batch fed run old inside.unopened so_far may (c.resting-count.ensures.rest batch.entries marked))
+    (may_feed_part batch.entries (endpoints_of c.args.self.now) (first_slot_of c.args.self.now) fed c.args.items.now c.resting-count.result c.requires.may.3) in
+    let marked : AreMarked batch.entries c.deref.result.now = subst (AreMarked batch.entries) (ap (λ (s : StageState). s.marks) (sym c.self.view_is) ∙ sym c.deref.ensures.value) c.requires.may.2.marked in
+    (taken_up batch.entries fed false, so_far.taken, may_keep batch fed run old inside.unopened so_far may (c.resting-count.ensures.rest marked))
 
 pub keep-requires-clause-none : goal.keep-requires-clause-none
 keep-requires-clause-none c =
-    let batch = c.requires.may.0 in
+    let batch = c.args.batch.now in
     let inside = c.self.inside in
-    let marked : AreMarked batch.entries c.deref.result.now = subst (AreMarked batch.entries) (ap (λ (s : StageState). s.marks) (sym c.self.view_is) ∙ sym c.deref.ensures.value) c.requires.may.3.marked in
+    let marked : AreMarked batch.entries c.deref.result.now = subst (AreMarked batch.entries) (ap (λ (s : StageState). s.marks) (sym c.self.view_is) ∙ sym c.deref.ensures.value) c.requires.may.2.marked in
     All-weaker (Rests batch.entries inside.unopened inside.filling.maps) (TakesNone inside.filling.maps) (λ item rests. rests.takes_none) (take c.resting-count.result c.args.items.now)
-    (c.resting-count.ensures.rest batch.entries marked)
+    (c.resting-count.ensures.rest marked)
 
 pub returns-clause-stands : goal.returns-clause-stands
-returns-clause-stands c = λ batch fed given stands may_now.
+returns-clause-stands c = λ fed given stands may_now.
+    let batch = c.args.batch.now in
     let run = take c.resting-count.result c.args.items.now in
     let inside = c.self.inside in
     let view_is = c.self.view_is in
@@ -55,7 +56,7 @@ returns-clause-stands c = λ batch fed given stands may_now.
     subst (λ (s : StageState). MayBeFed batch.entries (endpoints_of s) (first_slot_of s) (fed ++ run)) (sym view_is)
     (may_feed_part batch.entries (endpoints_of c.args.self.now) (first_slot_of c.args.self.now) fed c.args.items.now c.resting-count.result may_now) in
     let marked : AreMarked batch.entries c.deref.result.now = subst (AreMarked batch.entries) (ap (λ (s : StageState). s.marks) (sym view_is) ∙ sym c.deref.ensures.value) stands.marked in
-    let rests = c.resting-count.ensures.rest batch.entries marked in
+    let rests = c.resting-count.ensures.rest marked in
     stands_for_run batch fed run given c.args.self.now _ stands
     (fed_run batch fed run old new inside.unopened so_far may rests (c.keep.ensures.taken_up (taken_up batch.entries fed false) so_far.taken (may_keep batch fed run old inside.unopened so_far may rests))
     same.same_limits same.same_endpoints same.same_first)
