@@ -45,7 +45,7 @@ pub struct SendWindow<T> {
 const MOST_UNRESOLVED: usize = 129;
 
 impl<T> Model for SendWindow<T> {
-    ghost use Rattle.std.specs.Prelude.{◌≤◌};
+    ghost use Rattle.std.specs.Prelude.{◌≡◌};
     ghost use Rattle.std.specs.VecDeque.{deque_capacity};
     ghost use Rattle.ack_window.specs.Kept.{IsKept};
     ghost use Rattle.ack_window.specs.Versions.{reorder_of, span_of};
@@ -60,7 +60,7 @@ impl<T> Model for SendWindow<T> {
 
     ghost invariant = { λ window.
         IsKept (reorder_of window.version) (span_of window.version) window.newest window.unresolved.items
-        × (129 ≤ deque_capacity window.unresolved) };
+        × (deque_capacity window.unresolved ≡ 129) };
 }
 
 impl<T> SendWindow<T> {

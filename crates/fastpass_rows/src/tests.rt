@@ -1,3 +1,5 @@
+ghost use Rattle.std.specs.Prelude.{◌≤◌};
+
 use fastpass_run::run;
 use fp_edge::{MemSink, MemSource, OpenGate};
 use std::alloc::{AllocError, Global};
@@ -39,6 +41,22 @@ fn sink(alloc: Global) -> Result<MemSink, Fail> {
 
 fn source(alloc: Global, trace: &[u8]) -> Result<MemSource, AllocError> {
     Ok(MemSource::new(copied(alloc, trace)?, PIECE, Vec::new(alloc)))
+}
+
+/// A source that gives at most ten bytes a read, and whose read of this number fails.
+fn failing_source(alloc: Global, trace: &[u8], call: u32) -> Result<MemSource, AllocError> {
+    let mut failing = Vec::new(alloc);
+    failing.push(call)?;
+    Ok(MemSource::new(copied(alloc, trace)?, 10, failing))
+}
+
+/// A sink that takes at most this many bytes a write, and whose write of this number fails.
+fn failing_sink(alloc: Global, most: usize, call: u32) -> Result<MemSink, Fail>
+    requires { 1 ≤ most }
+{
+    let mut failing = Vec::new(alloc);
+    failing.push(call)?;
+    Ok(MemSink::new(alloc, 1_000_000, most, failing)?)
 }
 
 fn run_with<R: Threads + Wait + Sync>(
@@ -240,16 +258,13 @@ fn faulty_traces_tell_row_and_fault(rt: HostRuntime) -> Result<(), Fail> {
 fn a_failed_write_leaves_a_front(rt: HostRuntime) -> Result<(), Fail> {
     let alloc = rt.alloc();
     for call in 0..35u32 {
-        let mut failing = Vec::new(alloc);
-        failing.push(call)?;
-        let out = MemSink::new(alloc, 1_000_000, 4, failing)?;
         let words = ["plan", "--batch", "2"];
         let came = run_with(
             &rt,
             alloc,
             &words,
             source(alloc, THREE_FLOWS)?,
-            out,
+            failing_sink(alloc, 4, call)?,
             sink(alloc)?,
         );
         assert_eq!(rt; came.status, 4);
@@ -260,14 +275,48 @@ fn a_failed_write_leaves_a_front(rt: HostRuntime) -> Result<(), Fail> {
     Ok(())
 }
 
+// Texts of more than three pieces, each given away where no line more fits: a write that fails is the last here too.
+#[test]
+fn a_failed_write_amid_a_text_leaves_a_front(rt: HostRuntime) -> Result<(), Fail> {
+    let alloc = rt.alloc();
+    let cases: [(&str, &[u8]); 2] = [
+        (
+            "plan",
+            b"net,1,4,1\nask,0,0,1,4000\nask,0,1,0,4000\nask,0,2,3,4000\nask,0,3,2,4000\nend,63\n",
+        ),
+        (
+            "replay",
+            b"net,1,4,1\nask,0,0,1,2000\nask,0,1,0,2000\nask,0,2,3,2000\nask,0,3,2,2000\nend,63\n",
+        ),
+    ];
+    for (command, trace) in cases.iter() {
+        let words = [*command, "--batch", "64"];
+        let whole = run_on(&rt, alloc, &words, trace)?;
+        assert_eq!(rt; whole.status, 0);
+        for call in 0..3u32 {
+            let came = run_with(
+                &rt,
+                alloc,
+                &words,
+                source(alloc, trace)?,
+                failing_sink(alloc, PIECE, call)?,
+                sink(alloc)?,
+            );
+            assert_eq!(rt; came.status, 4);
+            assert!(rt; came.notes.held() == b"write\n".as_slice());
+            assert_eq!(rt; came.out.held().len().div_ceil(PIECE), call as usize);
+            assert!(rt; whole.out.held().starts_with(came.out.held()));
+        }
+    }
+    Ok(())
+}
+
 // The trace has 52 bytes: six reads of at most 10, and the one that finds its end.
 #[test]
 fn a_failed_read_writes_nothing(rt: HostRuntime) -> Result<(), Fail> {
     let alloc = rt.alloc();
     for call in 0..7u32 {
-        let mut failing = Vec::new(alloc);
-        failing.push(call)?;
-        let src = MemSource::new(copied(alloc, THREE_FLOWS)?, 10, failing);
+        let src = failing_source(alloc, THREE_FLOWS, call)?;
         let words = ["plan", "--batch", "2"];
         let came = run_with(&rt, alloc, &words, src, sink(alloc)?, sink(alloc)?);
         assert_eq!(rt; came.status, 3);
@@ -293,23 +342,25 @@ fn an_input_above_the_limit_is_refused(rt: HostRuntime) -> Result<(), Fail> {
     Ok(())
 }
 
+// A write of a note that fails is the last, whichever it is, and changes no status: before it each took a byte.
 #[test]
 fn a_fault_of_the_notes_changes_no_status(rt: HostRuntime) -> Result<(), Fail> {
     let alloc = rt.alloc();
-    let mut failing = Vec::new(alloc);
-    for call in 0..8 {
-        failing.push(call)?;
+    let cases: [(&[&str], u8, &[u8]); 2] = [(&[], 1, b"words\n"), (&["plan"], 2, b"row,1,1\n")];
+    for (words, status, note) in cases.iter() {
+        for call in 0..6u32 {
+            let came = run_with(
+                &rt,
+                alloc,
+                words,
+                source(alloc, b"")?,
+                sink(alloc)?,
+                failing_sink(alloc, 1, call)?,
+            );
+            assert_eq!(rt; came.status, *status);
+            assert_eq!(rt; came.notes.held().len(), call as usize);
+            assert!(rt; note.starts_with(came.notes.held()));
+        }
     }
-    let notes = MemSink::new(alloc, 1_000_000, PIECE, failing)?;
-    let came = run_with(
-        &rt,
-        alloc,
-        &[],
-        source(alloc, THREE_FLOWS)?,
-        sink(alloc)?,
-        notes,
-    );
-    assert_eq!(rt; came.status, 1);
-    assert!(rt; came.notes.held().is_empty());
     Ok(())
 }

@@ -15,6 +15,7 @@ use greedy_rules::SlotTable;
 use no_memory::NoMemory;
 use path_workers::CoreTable;
 use std::alloc::Global;
+use std::boxed::BoxedSlice;
 use std::marker::Model;
 
 /// The core of a told slot that has none.
@@ -35,11 +36,12 @@ pub struct Publisher {
     b: u8,
     first_batch: u32,
     count: u16,
-    hops: Vec<Option<Hop>>,
+    hops: BoxedSlice<Option<Hop>>,
 }
 
 impl Model for Publisher {
-    ghost use Rattle.std.specs.Prelude.{◌≡◌, ◌<◌, ◌≤◌, ◌*◌, vec_len, All};
+    ghost use Rattle.std.specs.Prelude.{◌≡◌, ◌<◌, ◌≤◌, ◌*◌, All};
+    ghost use Rattle.std.specs.Box.{boxed_slice_items, boxed_slice_len};
     ghost use Rattle.slot_publisher.specs.Window.{Window};
     ghost use Rattle.slot_publisher.specs.Places.{slots_of_places, IsHop};
 
@@ -51,12 +53,12 @@ impl Model for Publisher {
       b = p.b;
       first_batch = p.first_batch;
       count = p.count;
-      slots = slots_of_places p.endpoints (p.batches * p.b) (p.count * p.b) p.hops.items;
+      slots = slots_of_places p.endpoints (p.batches * p.b) (p.count * p.b) (boxed_slice_items p.hops);
     } };
 
     ghost invariant = { λ p.
         (0 < p.b) × (p.b ≤ 64) × (p.count ≤ p.batches)
-        × (vec_len p.hops ≡ p.endpoints * (p.batches * p.b)) × All (IsHop p.endpoints) p.hops.items };
+        × (boxed_slice_len p.hops ≡ p.endpoints * (p.batches * p.b)) × All (IsHop p.endpoints) (boxed_slice_items p.hops) };
 }
 
 impl Publisher {
@@ -78,7 +80,7 @@ impl Publisher {
             b,
             first_batch: 0,
             count: 0,
-            hops: vec![in alloc; None; endpoints as usize * room]?,
+            hops: vec![in alloc; None; endpoints as usize * room]?.into_boxed_slice(),
         })
     }
 

@@ -1,5 +1,4 @@
-use super::{run_on, run_with, sink, source};
-use fp_edge::{MemSink, MemSource};
+use super::{failing_sink, failing_source, run_on, run_with, sink, source};
 use report_text::{Line, read_line};
 use std::test::Fail;
 
@@ -59,9 +58,7 @@ fn made_replays_are_summed(rt: HostRuntime) -> Result<(), Fail> {
 #[test]
 fn a_made_replay_reads_nothing(rt: HostRuntime) -> Result<(), Fail> {
     let alloc = rt.alloc();
-    let mut failing = Vec::new(alloc);
-    failing.push(0)?;
-    let src = MemSource::new(super::copied(alloc, b"net,1\n")?, 10, failing);
+    let src = failing_source(alloc, b"net,1\n", 0)?;
     let came = run_with(&rt, alloc, &["make", "7"], src, sink(alloc)?, sink(alloc)?);
     assert_eq!(rt; came.status, 0);
     assert!(rt; came.out.held() == SEVENTH);
@@ -73,15 +70,12 @@ fn a_made_replay_reads_nothing(rt: HostRuntime) -> Result<(), Fail> {
 fn a_fault_ends_a_made_replay(rt: HostRuntime) -> Result<(), Fail> {
     let alloc = rt.alloc();
     for call in 0..3u32 {
-        let mut failing = Vec::new(alloc);
-        failing.push(call)?;
-        let out = MemSink::new(alloc, 1_000_000, 16, failing)?;
         let came = run_with(
             &rt,
             alloc,
             &["make", "7"],
             source(alloc, b"")?,
-            out,
+            failing_sink(alloc, 16, call)?,
             sink(alloc)?,
         );
         assert_eq!(rt; came.status, 4);

@@ -1,5 +1,4 @@
-use super::{copied, run_on, run_with, run_with_any_paths, sink, source};
-use fp_edge::{MemSink, MemSource};
+use super::{failing_sink, failing_source, run_on, run_with, run_with_any_paths, sink, source};
 use std::test::Fail;
 
 const ONE_BY_ONE: &[&str] = &["replay", "--batch", "1", "--window", "1"];
@@ -103,24 +102,19 @@ fn a_replay_takes_rows_that_a_plan_refuses(rt: HostRuntime) -> Result<(), Fail> 
 fn a_fault_ends_a_replay(rt: HostRuntime) -> Result<(), Fail> {
     let alloc = rt.alloc();
     for call in 0..4u32 {
-        let mut failing = Vec::new(alloc);
-        failing.push(call)?;
-        let src = MemSource::new(copied(alloc, ONE_ASK)?, 10, failing);
+        let src = failing_source(alloc, ONE_ASK, call)?;
         let came = run_with(&rt, alloc, ONE_BY_ONE, src, sink(alloc)?, sink(alloc)?);
         assert_eq!(rt; came.status, 3);
         assert!(rt; came.notes.held() == b"read\n".as_slice());
         assert!(rt; came.out.held().is_empty());
     }
     for call in 0..10u32 {
-        let mut failing = Vec::new(alloc);
-        failing.push(call)?;
-        let out = MemSink::new(alloc, 1_000_000, 7, failing)?;
         let came = run_with(
             &rt,
             alloc,
             ONE_BY_ONE,
             source(alloc, ONE_ASK)?,
-            out,
+            failing_sink(alloc, 7, call)?,
             sink(alloc)?,
         );
         assert_eq!(rt; came.status, 4);

@@ -1,4 +1,5 @@
 use Rattle.std.proofs.Common.{◌≡◌, ◌≢◌, ◌<◌, ◌≤◌, ◌+◌, ◌-◌, ◌*◌, ℕ, List, Option, length, map, take, drop, All, Contains, refl, sym, ap, ◌∙◌, subst, arith}
+use Rattle.std.specs.Box.{boxed_slice_items}
 use Rattle.std.specs.Option.{option_map}
 use Rattle.std.specs.List.Sorted.{IsStrictlyIncreasing}
 use Rattle.std.proofs.lemmas.List.{length-take, length-drop, length-map}
@@ -18,7 +19,7 @@ abbrev from : goal.After-tell → ℕ
 from c = c.args.endpoint * (c.self.inside.batches * c.self.inside.b) + (c.args.batch - c.self.inside.first_batch) * c.self.inside.b
 
 abbrev row : goal.After-tell → List (Option Hop)
-row c = take (from c + c.self.inside.b - from c) (drop (from c) c.self.inside.hops.items)
+row c = take (from c + c.self.inside.b - from c) (drop (from c) (boxed_slice_items c.self.inside.hops))
 
 told : (c : goal.After-tell) (endpoint : ℕ) → c.tell.new.into.items ≡ told_from 0 (map (option_map (packet_by endpoint)) (row c))
 told c endpoint =
@@ -27,8 +28,8 @@ told c endpoint =
 
 hops_of_row : (c : goal.After-tell) → All (IsHop c.self.inside.endpoints) (row c)
 hops_of_row c =
-    All-take (IsHop c.self.inside.endpoints) (from c + c.self.inside.b - from c) (drop (from c) c.self.inside.hops.items)
-    (All-drop (IsHop c.self.inside.endpoints) (from c) c.self.inside.hops.items c.self.invariant.4)
+    All-take (IsHop c.self.inside.endpoints) (from c + c.self.inside.b - from c) (drop (from c) (boxed_slice_items c.self.inside.hops))
+    (All-drop (IsHop c.self.inside.endpoints) (from c) (boxed_slice_items c.self.inside.hops) c.self.invariant.4)
 
 packets : (c : goal.After-tell)
     → (map (packet_from c.args.endpoint) (slots_of_batch c.args.self.now c.args.batch) ≡ map (option_map (packet_by c.args.endpoint)) (row c)) × (length (row c) ≡ c.self.inside.b)
@@ -42,12 +43,12 @@ packets c =
     let below : c.args.endpoint < inside.endpoints = omega (arith, c.requires.endpoint) in
     let held : s < inside.count = omega (arith, c.requires.first, c.requires.last) in
     let fit = places_fit c.args.endpoint inside.endpoints s inside.count inside.batches inside.b below held c.self.invariant.2 in
-    let within : from c + inside.b ≤ length inside.hops.items = omega (arith, fit.1, c.self.invariant.3, inside.hops.ok.0) in
+    let within : from c + inside.b ≤ length (boxed_slice_items inside.hops) = omega (arith, fit.1, c.self.invariant.3, inside.hops.items.ok.0) in
     let same =
-    packets_of_row inside.endpoints room (inside.count * inside.b) inside.hops.items c.args.endpoint (s * inside.b) inside.b (from c) (from c + inside.b - from c)
+    packets_of_row inside.endpoints room (inside.count * inside.b) (boxed_slice_items inside.hops) c.args.endpoint (s * inside.b) inside.b (from c) (from c + inside.b - from c)
     below fit.0 refl (omega arith) within in (
       rw (← c.self.view_is) same,
-      omega (arith, within, length-take (from c + inside.b - from c) (drop (from c) inside.hops.items), length-drop (from c) inside.hops.items),
+      omega (arith, within, length-take (from c + inside.b - from c) (drop (from c) (boxed_slice_items inside.hops)), length-drop (from c) (boxed_slice_items inside.hops)),
     )
 
 pub returns-clause-told : goal.returns-clause-told
@@ -75,7 +76,7 @@ pub returns-clause-offsets : goal.returns-clause-offsets
 returns-clause-offsets c =
     let b : c.self.inside.b ≡ c.args.self.now.b = ap (λ (w : Window). w.b) c.self.view_is in
     subst (All (λ (told : Told). told.offset < c.args.self.now.b)) (sym (told c 0))
-    (told_offsets c.args.self.now.b 0 (row c) (omega (arith, length-take (from c + c.self.inside.b - from c) (drop (from c) c.self.inside.hops.items))))
+    (told_offsets c.args.self.now.b 0 (row c) (omega (arith, length-take (from c + c.self.inside.b - from c) (drop (from c) (boxed_slice_items c.self.inside.hops)))))
 
 pub returns-clause-destinations : goal.returns-clause-destinations
 returns-clause-destinations c =
