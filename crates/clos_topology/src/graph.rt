@@ -58,10 +58,11 @@ impl RackGraph {
         ensures room { self.new.room ≡ self.old.room }
     {
         prove!(slot < slots.slots());
+        prove!(net.endpoints() <= self.room);
         self.edges.clear();
-        for source in 0..net.endpoints().min(slots.endpoints()) {
-            if let Some(destination) = slots.to(slot, source) {
-                add(&mut self.edges, net, source, destination);
+        for (source, destination) in slots.row(slot).iter().enumerate() {
+            if let Some(destination) = destination {
+                add(&mut self.edges, net, source as u16, *destination);
             }
         }
     }

@@ -56,6 +56,14 @@ impl Table {
     {
         self.cores[src as usize]
     }
+
+    /// The core of each source's packet, at the source's place, as `core` tells it.
+    pub fn cores(&self) -> &[Option<u16>]
+        ensures cores { result.now ≡ self.now.cores }
+        ensures count { length result.now ≡ endpoints_of self.now.net }
+    {
+        &self.cores
+    }
 }
 
 /// Gives every edge of the graph one of so many cores, so that no two edges of a rack on a side share one (König's theorem,

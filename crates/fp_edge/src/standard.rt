@@ -13,6 +13,8 @@ const PIECE: usize = 65_536;
 #[derive(Drop)]
 pub struct StdSource<T> {
     inner: T,
+    // What a reader does to the rest of its buffer is not known, so it gets this one.
+    piece: [u8; PIECE],
     faults: u64,
     ghost counted: { faults ≤ 2 ^ 64 - 1 },
 }
@@ -23,7 +25,11 @@ impl<T: Read> StdSource<T> {
         ensures told { ⟦<StdSource<T> as Source>⟧.left result ≡ T.remaining inner }
         ensures count { ⟦<StdSource<T> as Source>⟧.faults result ≡ 0 }
     {
-        StdSource { inner, faults: 0 }
+        StdSource {
+            inner,
+            piece: [0; PIECE],
+            faults: 0,
+        }
     }
 }
 
@@ -39,14 +45,13 @@ impl<T: Read> Source for StdSource<T> {
         ensures cause { HasCause (⟦<StdSource<T> as Source>⟧.faults self.old) (⟦<StdSource<T> as Source>⟧.faults self.new) result }
         ensures counted { CountsErrors (⟦<StdSource<T> as Source>⟧.faults self.old) (⟦<StdSource<T> as Source>⟧.faults self.new) result }
     {
-        // What a reader does to the rest of its buffer is not known, so it gets one of its own.
-        let mut piece = [0; PIECE];
         let room = buf.len().min(PIECE);
+        let piece = &mut self.piece[..];
         let front = &mut piece[..room];
         match self.inner.read(front) {
             Ok(n) => {
                 let taken = &mut buf[..n];
-                taken.copy_from_slice(&piece[..n]);
+                taken.copy_from_slice(&front[..n]);
                 Ok(n)
             }
             Err(_) => {

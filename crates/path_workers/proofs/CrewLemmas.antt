@@ -1,5 +1,5 @@
 -- The path workers before and after a call.
-use Rattle.std.proofs.Common.{◌≡◌, ◌<◌, ◌≤◌, ℕ, List, [], ◌∷◌, ◌==◌, Some, All, inl, inr, Vec, vec_len, length, get_or, sym, ap, ◌∙◌, subst, arith}
+use Rattle.std.proofs.Common.{◌≡◌, ◌<◌, ◌≤◌, ℕ, List, [], ◌∷◌, ◌==◌, Some, All, inl, inr, Vec, length, get_or, sym, ap, ◌∙◌, subst, arith}
 use Rattle.std.specs.Vec.{with_items}
 use Rattle.std.proofs.lemmas.List.{with_items_is}
 use Rattle.greedy_rules.specs.declared.flows.Flow.{Flow}

@@ -1,7 +1,7 @@
+pub mod SlotRows
 pub mod QueueLemmas
 pub mod PainterLemmas
 pub mod PlayLemmas
 pub mod CrewLemmas
 pub mod RowLemmas
 pub mod TestLemmas
-pub mod EqualSlots

@@ -1,26 +1,23 @@
 -- A painter's rows: which have the cores of a slot, and what changes where one is written.
-use Rattle.std.proofs.Common.{◌≡◌, ◌≢◌, ◌<◌, ◌≤◌, ◌+◌, ◌-◌, ◌*◌, ℕ, List, [], ◌++◌, length, get_or, set, take, drop, replicate, true, false, Option, Some, None, All, AllPairs, IsTrue, Vec, vec_len, refl, sym, ap, ◌∙◌, subst, arith, inl, inr}
+use Rattle.std.proofs.Common.{◌≡◌, ◌≢◌, ◌<◌, ◌≤◌, ◌+◌, ◌-◌, ◌*◌, ℕ, List, [], ◌++◌, length, get_or, set, take, drop, replicate, Option, Some, None, Vec, vec_len, sym, ap, ◌∙◌, subst, arith, inl, inr}
 use borrow.Rule.Slice.PartMut.{put_mid, same_len_mid}
 use Rattle.std.specs.Vec.{with_items}
-use Rattle.std.specs.Option.{is_some}
 use Rattle.std.proofs.Math.Path.{fun_ext}
 use Rattle.std.proofs.lemmas.Bool.{cases_eq, cases_lt}
-use Rattle.std.proofs.lemmas.List.{get_or-take, get_or_past, get_or_default, get_or-replicate, get_or-set_same, get_or-set_other, get_or-append_right, get_or_append_left, get_or-drop, drop-replicate, length-replicate, length-take, length-drop, length-append, with_items_is}
-use Rattle.std.proofs.lemmas.List.Elements.{All-nil}
+use Rattle.std.proofs.lemmas.List.{get_or-take, get_or_past, get_or_default, get_or-replicate, get_or-set_same, get_or-set_other, get_or-append_right, get_or_append_left, get_or-drop, drop-replicate, length-replicate, length-take, length-drop, with_items_is}
 use Rattle.std.proofs.lemmas.Nat.{row_fits}
 use Rattle.greedy_rules.specs.declared.flows.Flow.{Flow}
 use Rattle.greedy_rules.specs.Schedule.{slot_in}
-use Rattle.clos_topology.specs.declared.graph.Edge.{Edge}
 use Rattle.clos_topology.specs.Network.{Network, endpoints_of}
 use Rattle.clos_topology.specs.Links.{CoreOf}
 use Rattle.clos_topology.specs.RackGraph.{rack_edges}
-use Rattle.edge_colouring.specs.Colouring.{IsColouring, AreApart, EveryColouringMakesAMatchingClean}
+use Rattle.edge_colouring.specs.Colouring.{IsColouring, EveryColouringMakesAMatchingClean}
 use Rattle.edge_colouring.specs.Cores.{core_in}
 use Rattle.path_workers.specs.declared.painter.Painter.{Painter}
 use Rattle.path_workers.specs.CoreTable.{row_of, NamesNone}
 use Rattle.path_workers.specs.Coloured.{HasItsCores}
 use Rattle.path_workers.proofs.RowLemmas.{row_same, row_other}
-use Rattle.path_workers.specs.Painters.{AreColourable, place_of, has_row, row_at, IsPainter, HasRow, HasPainted, MayPaint}
+use Rattle.path_workers.specs.Painters.{AreColourable, place_of, row_at, IsPainter, HasRow, HasPainted, MayPaint}
 
 -- no place of a list of Nones has another
 pub none_at : (n at : ℕ) → core_in (replicate n None) at ≡ None
@@ -85,6 +82,10 @@ idle_row net room slots painter slot place last clean sized colourable below idl
         others = λ source apart. nothing source;
       };
     }
+
+-- rows that name no core are alike
+pub both_none : (one other : CoreOf) → NamesNone one → NamesNone other → one ≡ other
+both_none one other a b = fun_ext (λ source. a source ∙ sym (b source))
 
 -- as long as before
 length_put : (from k : ℕ) (cores row : List (Option ℕ)) → length row ≡ k → from + k ≤ length cores → length (put_mid from k cores row) ≡ length cores

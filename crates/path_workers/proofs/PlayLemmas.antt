@@ -1,10 +1,10 @@
 -- What workers have done together: the jobs that were taken, and the rows of the slots that they name.
-use Rattle.std.proofs.Common.{◌≡◌, ◌<◌, ◌≤◌, ◌+◌, ◌-◌, ℕ, zero, suc, List, [], ◌∷◌, ◌++◌, length, get_or, set, Bool, true, false, ◌==◌, ◌||◌, All, IsTrue, Option, vec_len, refl, sym, ap, ◌∙◌, subst, arith, inl, inr}
+use Rattle.std.proofs.Common.{◌≡◌, ◌<◌, ◌+◌, ◌-◌, ℕ, zero, suc, List, [], ◌∷◌, ◌++◌, length, get_or, set, Bool, true, false, ◌==◌, ◌||◌, All, IsTrue, vec_len, refl, sym, ap, ◌∙◌, subst, arith, inl, inr}
 use Rattle.std.specs.List.{list_any}
-use Rattle.std.proofs.lemmas.Bool.{cases_eq, cases_lt, cond-true, eq-eqb, or_cases}
-use Rattle.std.proofs.lemmas.List.{append-nil, append_assoc, length_push, length-append, get_or_push, get_or_append_left}
-use Rattle.std.proofs.lemmas.List.Elements.{All-append, All-push, All-cons, All-nil}
-use Rattle.std.proofs.lemmas.List.Folds.{list_any-append, list_any_at}
+use Rattle.std.proofs.lemmas.Bool.{cases_lt, cond-true, eq-eqb, or_cases}
+use Rattle.std.proofs.lemmas.List.{append-nil, length_push, length-append, get_or_push, get_or_append_left}
+use Rattle.std.proofs.lemmas.List.Elements.{All-push}
+use Rattle.std.proofs.lemmas.List.Folds.{list_any-append}
 use Rattle.crossbeam_queue.specs.Passes.{view}
 use Rattle.greedy_rules.specs.declared.flows.Flow.{Flow}
 use Rattle.clos_topology.specs.Network.{Network}
@@ -14,10 +14,10 @@ use Rattle.path_workers.specs.declared.jobs.Hand.{Hand}
 use Rattle.path_workers.specs.declared.painter.Painter.{Painter}
 use Rattle.path_workers.specs.declared.seats.Seat.{Seat}
 use Rattle.path_workers.specs.Jobs.{hand, weigh, IsAtRest, is_slot, slot_jobs, end_jobs}
-use Rattle.path_workers.specs.Painters.{has_row, HasPainted, MayPaint, HasRowsOf, HaveRowsOf, HaveRows, AreColourable}
-use Rattle.path_workers.specs.Seats.{MayPlay, HasPlayed, StayPainted, HaveAllPlayed}
+use Rattle.path_workers.specs.Painters.{has_row, HasPainted, MayPaint, HasRowsOf, HaveRows}
+use Rattle.path_workers.specs.Seats.{MayPlay, HasPlayed, HaveAllPlayed}
 use Rattle.path_workers.proofs.QueueLemmas.{weigh-append}
-use Rattle.path_workers.proofs.PainterLemmas.{resized, may_paint}
+use Rattle.path_workers.proofs.PainterLemmas.{resized}
 
 -- a job that is taken, and a worker that keeps its rows and has one for the slot that the job names
 pub rows_more : (count : ℕ) (old taken : List Job) (job : Job) (p q : Painter) → HasRowsOf count old taken p → ((slot : ℕ) → IsTrue (has_row slot p) → IsTrue (has_row slot q)) → ((slot : ℕ) → slot < count → 0 < is_slot slot job → IsTrue (has_row slot q))

@@ -1,8 +1,7 @@
 -- From the table of one slot to its row, and from rows to the whole table.
-use Rattle.std.proofs.Common.{◌≡◌, ◌≢◌, ◌<◌, ◌≤◌, ◌+◌, ◌-◌, ◌*◌, ℕ, List, length, get_or, take, drop, true, false, Option, None, All, Result, Ok, Err, IfErr, OnOk, sym, ap, ◌∙◌, subst, arith, inl, inr}
+use Rattle.std.proofs.Common.{◌≡◌, ◌≢◌, ◌≤◌, ◌+◌, ◌-◌, ◌*◌, ℕ, List, length, take, drop, true, false, Option, All, Result, Ok, Err, IfErr, OnOk, sym, ap, ◌∙◌, subst, arith, inl, inr}
 use Rattle.std.specs.Result.{is_ok}
-use Rattle.std.proofs.Math.Path.{fun_ext}
-use Rattle.std.proofs.lemmas.Bool.{cases_lt, cases_order}
+use Rattle.std.proofs.lemmas.Bool.{cases_order}
 use Rattle.std.proofs.lemmas.List.{drop-take, length-take, length-drop}
 use Rattle.std.proofs.lemmas.Nat.{row_fits}
 use Rattle.std.proofs.lemmas.Slice.{take-put_mid_below, drop-put_mid, between-put_mid}
@@ -10,9 +9,9 @@ use borrow.Rule.Slice.PartMut.{put_mid}
 use Rattle.greedy_rules.specs.declared.flows.Flow.{Flow}
 use Rattle.greedy_rules.specs.Matching.{IsMatching}
 use Rattle.clos_topology.specs.declared.graph.Edge.{Edge}
-use Rattle.clos_topology.specs.Network.{Network, endpoints_of}
+use Rattle.clos_topology.specs.Network.{Network}
 use Rattle.clos_topology.specs.Links.{CoreOf}
-use Rattle.clos_topology.specs.RackGraph.{rack_edges, IsEdgeOf, IsGraphOf}
+use Rattle.clos_topology.specs.RackGraph.{rack_edges}
 use Rattle.edge_colouring.specs.declared.degrees.Degree.{Degree}
 use Rattle.edge_colouring.specs.Degrees.{degree_on, HasDegreesWithin, IsFirstExcess}
 use Rattle.edge_colouring.specs.Colouring.{IsColouring, MakesClean}
@@ -29,17 +28,6 @@ no_excess (Err degree) most edges fails within excess =
 pub at_ok : {X E : Type 0} (result : Result X E) (P : Type 0) → is_ok result ≡ true → OnOk result P → P
 at_ok (Ok x) P ok holds = holds
 at_ok (Err e) P ok holds = absurd (cc)
-
--- a row that has the table's cores below the endpoints, and none past them, names what the table names
-pub row-table : (net : Network) (edges : List Edge) (colours endpoints : ℕ) (table row : CoreOf) → IsGraphOf net edges → IsColouring colours edges table → endpoints ≡ endpoints_of net
-    → ((source : ℕ) → source < endpoints → row source ≡ table source) → ((source : ℕ) → endpoints ≤ source → row source ≡ None) → table ≡ row
-row-table net edges colours endpoints table row graph colouring all below above = fun_ext (λ source.
-    elim (cases_lt source endpoints) [
-      | inl inside ↦ sym (below source inside)
-      | inr outside ↦
-          colouring.others source (λ k d within same. let edge : IsEdgeOf net (get_or edges k d) = graph.each k d within in omega (arith, edge.source, same, all, outside))
-          ∙ sym (above source outside)
-    ])
 
 pub row_coloured : (net : Network) (slot : List Flow) (edges : List Edge) (table row : CoreOf) → IsMatching slot → edges ≡ rack_edges net.hosts slot → IsColouring net.cores edges table
     → MakesClean net.hosts net.cores edges table → table ≡ row → HasItsCores net slot row

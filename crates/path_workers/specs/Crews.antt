@@ -1,5 +1,5 @@
 -- What holds of path workers between two calls (this project's own profile).
-use Rattle.std.specs.Prelude.{◌≡◌, ◌≤◌, List, All, vec_len}
+use Rattle.std.specs.Prelude.{◌≤◌, All, vec_len}
 use Rattle.crossbeam_queue.specs.Passes.{view, IsPassOf}
 use Rattle.path_workers.specs.declared.paths.Paths.TheInside.{Inside}
 use Rattle.path_workers.specs.Jobs.{IsAtRest}

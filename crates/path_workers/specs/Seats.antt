@@ -1,9 +1,8 @@
 -- A path worker with its pass, and what it and all workers have done once they have played (this project's own profile).
-use Rattle.std.specs.Prelude.{◌≡◌, ◌<◌, ◌≤◌, ◌++◌, ℕ, List, [], length, All, vec_len}
-use Rattle.crossbeam_queue.specs.Passes.{Pass, view}
+use Rattle.std.specs.Prelude.{◌≡◌, ◌<◌, ◌++◌, ℕ, List, [], length, All, vec_len}
+use Rattle.crossbeam_queue.specs.Passes.{view}
 use Rattle.greedy_rules.specs.declared.flows.Flow.{Flow}
 use Rattle.clos_topology.specs.Network.{Network}
-use Rattle.path_workers.specs.declared.jobs.Job.{Job}
 use Rattle.path_workers.specs.declared.jobs.Hand.{Hand}
 use Rattle.path_workers.specs.declared.painter.Painter.{Painter}
 use Rattle.path_workers.specs.declared.seats.Seat.{Seat}

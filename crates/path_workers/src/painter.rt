@@ -9,6 +9,7 @@ ghost use Rattle.path_workers.specs.Coloured.{HasItsCores};
 ghost use Rattle.path_workers.specs.Jobs.{is_slot};
 ghost use Rattle.path_workers.specs.Painters.{IsPainter, HasPainted, HasRow, MayPaint, has_row};
 
+use crate::idle::is_idle;
 use crate::jobs::Job;
 use clos_topology::{Net, RackGraph};
 use edge_colouring::{Table, colour, every_colouring_makes_a_matching_clean, limits_are_degrees};
@@ -119,20 +120,31 @@ impl Painter {
     {
         every_colouring_makes_a_matching_clean();
         limits_are_degrees();
+        if is_idle(slots, slot) {
+            return self.idle_place();
+        }
         if let Some(place) = self.last_row(slots, slot) {
             return place;
         }
         self.graph.load(&self.net, slots, slot);
         if self.graph.is_empty() {
-            return self.places.len() as u16;
+            return self.idle_place();
         }
         let coloured = colour(&self.graph, self.net.cores(), &mut self.table).is_ok();
         prove!(coloured);
         let endpoints = self.net.endpoints();
         let from = slot as usize * endpoints as usize;
         let row = &mut self.rows[from..from + endpoints as usize];
-        copy_cores(&self.table, endpoints, row);
+        row.copy_from_slice(self.table.cores());
         slot
+    }
+
+    /// Where the row stands that names no core.
+    fn idle_place(&self) -> u16
+        requires { vec_len self.now.places ≤ 1024 }
+        ensures { result ≡ vec_len self.now.places }
+    {
+        self.places.len() as u16
     }
 
     /// Writes the slot's cores into a row that names none, where this worker has coloured it. Answers whether it has.
@@ -147,6 +159,9 @@ impl Painter {
         let Some(place) = self.places[slot as usize] else {
             return false;
         };
+        if place == self.idle_place() {
+            return true;
+        }
         let endpoints = self.net.endpoints() as usize;
         let from = place as usize * endpoints;
         let to = &mut row[..endpoints];
@@ -161,22 +176,5 @@ fn are_equal(slots: &SlotTable, one: u16, other: u16) -> bool
     requires other { other < length slots.now.slots }
     ensures { IsTrue result → slot_in slots.now.slots one ≡ slot_in slots.now.slots other }
 {
-    prove!(one < slots.slots());
-    for source in 0..slots.endpoints() {
-        if slots.to(one, source) != slots.to(other, source) {
-            return false;
-        }
-    }
-    true
-}
-
-/// Writes the core of each source.
-fn copy_cores(table: &Table, endpoints: u16, row: &mut [Option<u16>])
-    requires endpoints { endpoints ≡ endpoints_of table.now.net }
-    requires room { length row.old ≡ endpoints }
-    ensures { (source : ℕ) → source < endpoints → core_in row.new source ≡ core_in table.now.cores source }
-{
-    for source in 0..endpoints {
-        row[source as usize] = table.core(source);
-    }
+    slots.row(one) == slots.row(other)
 }

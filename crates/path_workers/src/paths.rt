@@ -11,6 +11,7 @@ ghost use Rattle.path_workers.specs.Coloured.{IsFlowOf, IsWithinCores, NamesNoOt
 ghost use Rattle.path_workers.specs.Painters.{IsPainter, HasPainted, MayPaint, HaveRows, has_row};
 
 use crate::core_table::CoreTable;
+use crate::idle::is_idle;
 use crate::jobs;
 use crate::jobs::{JobPass, JobQueue};
 use crate::painter::Painter;
@@ -146,6 +147,9 @@ fn between_racks(net: &Net, slots: &SlotTable, slot: u16) -> u16
     requires slot { slot < length slots.now.slots }
     requires flows { All (IsFlowOf net.now) (slot_in slots.now.slots slot) }
 {
+    if is_idle(slots, slot) {
+        return 0;
+    }
     let mut packets = 0u16;
     for source in 0..net.endpoints().min(slots.endpoints()) {
         if let Some(destination) = slots.to(slot, source) {

@@ -1,6 +1,5 @@
-use Rattle.std.proofs.Common.{[], arith}
-use Rattle.path_workers.proofs.EqualSlots.{equal_slots}
+use Rattle.path_workers.proofs.SlotRows.{equal_rows}
 use Rattle.path_workers.proofs.painter.are_equal.Goals as goal
 
 pub returns : goal.returns
-returns c same = equal_slots c.args.slots.now.endpoints _ _ (c.slots.ensures.each c.args.one [] c.requires.one) (c.slots.ensures.each c.args.other [] c.requires.other) (λ source below. c.loop-source.invariant source (omega (arith, below, c.endpoints-source-end.ensures, c.loop-source-test.false)))
+returns c same = equal_rows c.row.result.now c.row-2.result.now _ _ c.eq.result c.row.ensures.flows c.row-2.ensures.flows c.eq.ensures same

@@ -1,4 +1,4 @@
-use Rattle.std.proofs.Common.{◌≡◌, ◌<◌, ℕ, List, length, get_or, All, IsTrue, sym, ◌∙◌, subst, arith}
+use Rattle.std.proofs.Common.{◌<◌, List, length, All, IsTrue, sym, ◌∙◌, subst, arith}
 use Rattle.std.proofs.lemmas.List.{get_or_default}
 use Rattle.std.proofs.lemmas.List.Elements.{All-set}
 use Rattle.crossbeam_queue.specs.Passes.{view}

@@ -1,13 +1,25 @@
 use Rattle.std.proofs.Common.{◌≡◌, ◌+◌, ◌-◌, ◌*◌, ◌≤◌, ℕ, List, Option, Some, vec_len, drop, ◌++◌, sym, ap, ◌∙◌, subst, arith}
 use Rattle.greedy_rules.specs.Schedule.{slot_in}
-use Rattle.clos_topology.specs.Links.{CoreOf}
 use Rattle.clos_topology.specs.Network.{endpoints_of}
 use Rattle.edge_colouring.specs.Cores.{core_in}
-use Rattle.path_workers.specs.CoreTable.{row_of}
+use Rattle.path_workers.specs.CoreTable.{row_of, NamesNone}
 use Rattle.path_workers.specs.Coloured.{HasItsCores}
 use Rattle.path_workers.specs.Painters.{place_of, row_at}
-use Rattle.path_workers.proofs.PainterLemmas.{named_place, place_fits, slice_is_row, row_over_none}
+use Rattle.path_workers.proofs.PainterLemmas.{both_none, named_place, place_fits, slice_is_row, row_over_none}
 use Rattle.path_workers.proofs.painter.Painter.copy_row.Goals as goal
+
+pub idle_place-requires : goal.idle_place-requires
+idle_place-requires c = c.requires.painted.1.painted.sized.few
+
+pub returns-then-place-idle_place-clause-cores : goal.returns-then-place-idle_place-clause-cores
+returns-then-place-idle_place-clause-cores c is slots may below =
+    let painter = c.args.self.now in
+    let place : ℕ = c.in-Some.place in
+    let named : place_of painter c.args.slot ≡ Some place = named_place slots painter c.args.slot place c.index.result.now may below c.index.ensures c.in-Some.is in
+    let last : place ≡ vec_len painter.places = omega (arith, c.if-place-idle_place.true, c.idle_place.ensures) in
+    let none : NamesNone (row_at painter place) = subst (λ (k : ℕ). NamesNone (row_at painter k)) (sym last) may.painted.sized.idle in
+    subst (HasItsCores painter.net (slot_in slots c.args.slot)) (both_none (row_at painter place) (core_in c.args.row.now) none c.requires.none)
+    (may.painted.rows c.args.slot place below named).cores
 
 pub slice_bounds-copy_from_slice-end : goal.slice_bounds-copy_from_slice-end
 slice_bounds-copy_from_slice-end c =

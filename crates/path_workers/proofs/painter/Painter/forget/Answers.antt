@@ -1,5 +1,4 @@
 use Rattle.std.proofs.Common.{◌≡◌, ℕ, List, Option, None, get_or, replicate, vec_len, rules, refl, ap, ◌∙◌}
-use Rattle.edge_colouring.specs.Cores.{core_in}
 use Rattle.path_workers.proofs.PainterLemmas.{forgotten, none_at}
 use Rattle.path_workers.proofs.painter.Painter.forget.Goals as goal
 

@@ -1,4 +1,4 @@
-use Rattle.std.proofs.Common.{List, All, sym, ◌∙◌, subst, arith}
+use Rattle.std.proofs.Common.{All, sym, ◌∙◌, subst, arith}
 use Rattle.std.proofs.lemmas.List.Elements.{All-push}
 use Rattle.path_workers.specs.declared.painter.Painter.{Painter}
 use Rattle.path_workers.specs.Painters.{IsPainter}

@@ -1,0 +1,48 @@
+-- A row of destinations, place by place: the flow of a place, and the edges of the places that are left.
+use Rattle.std.proofs.Common.{◌≡◌, ◌<◌, ◌≤◌, ◌+◌, ℕ, zero, suc, List, [], ◌∷◌, ◌++◌, length, get_or, drop, Option, Some, None, All, refl, sym, ap, ◌∙◌, subst, arith}
+use Rattle.std.proofs.lemmas.Option.{same_Some, none-some}
+use Rattle.std.proofs.lemmas.List.{drop_more, drop_all, append_assoc, append-nil}
+use Rattle.std.proofs.lemmas.List.Elements.{All-head, All-tail}
+use Rattle.greedy_rules.specs.declared.flows.Flow.{Flow}
+use Rattle.greedy_rules.specs.SlotTable.{flows_from}
+use Rattle.clos_topology.specs.declared.graph.Edge.{Edge}
+use Rattle.clos_topology.specs.RackGraph.{rack_edges}
+use Rattle.greedy_rules.proofs.Facts.{sent}
+use Rattle.clos_topology.proofs.GraphLemmas.{rack_edges-append}
+
+-- the flows from a place on: what its source sends, and the flows of the places after it
+first_place : (src : ℕ) (to : Option ℕ) (row : List (Option ℕ)) → flows_from src (to ∷ row) ≡ sent src to ++ flows_from (src + 1) row
+first_place src None row = refl
+first_place src (Some dst) row = refl
+
+-- one place more
+pub place_more : (hosts at : ℕ) (to : Option ℕ) (row : List (Option ℕ)) (edges : List Edge) → at < length row → get_or row at None ≡ to
+    → (edges ++ rack_edges hosts (sent at to)) ++ rack_edges hosts (flows_from (at + 1) (drop (at + 1) row)) ≡ edges ++ rack_edges hosts (flows_from at (drop at row))
+place_more hosts at to row edges below is =
+    let rest : List (Option ℕ) = drop (at + 1) row in
+    let from : flows_from at (drop at row) ≡ sent at to ++ flows_from (at + 1) rest =
+    ap (flows_from at) (drop_more row at None below ∙ ap (λ (o : Option ℕ). o ∷ rest) is) ∙ first_place at to rest in
+    append_assoc edges (rack_edges hosts (sent at to)) (rack_edges hosts (flows_from (at + 1) rest))
+    ∙ ap (λ (es : List Edge). edges ++ es) (sym (ap (rack_edges hosts) from ∙ rack_edges-append hosts (sent at to) (flows_from (at + 1) rest)))
+
+-- what holds of each flow holds of that of a place, where the row begins with a source
+flow_of_place : (P : Flow → Type 0) (src at dst : ℕ) (row : List (Option ℕ)) → All P (flows_from src row) → at < length row → get_or row at None ≡ Some dst → P (record { src = src + at; dst = dst })
+flow_of_place P src at dst [] all below is = absurd (omega (arith, below))
+flow_of_place P src zero dst (None ∷ row) all below is = absurd (none-some dst is)
+flow_of_place P src zero dst (Some to ∷ row) all below is =
+    let here : P (record { src = src; dst = to }) = All-head P (record { src = src; dst = to }) (flows_from (src + 1) row) all in
+    subst (λ (n : ℕ). P (record { src = src + 0; dst = n })) (same_Some to dst is) (subst (λ (n : ℕ). P (record { src = n; dst = to })) (omega arith) here)
+flow_of_place P src (suc at) dst (None ∷ row) all below is =
+    subst (λ (n : ℕ). P (record { src = n; dst = dst })) (omega arith) (flow_of_place P (src + 1) at dst row all (omega (arith, below)) is)
+flow_of_place P src (suc at) dst (Some to ∷ row) all below is =
+    let rest : All P (flows_from (src + 1) row) = All-tail P (record { src = src; dst = to }) (flows_from (src + 1) row) all in
+    subst (λ (n : ℕ). P (record { src = n; dst = dst })) (omega arith) (flow_of_place P (src + 1) at dst row rest (omega (arith, below)) is)
+
+-- the packet of a place is one of the slot's
+pub packet_of_place : (P : Flow → Type 0) (at dst : ℕ) (row : List (Option ℕ)) (slot : List Flow) → flows_from 0 row ≡ slot → All P slot → at < length row → get_or row at None ≡ Some dst → P (record { src = at; dst = dst })
+packet_of_place P at dst row slot is all below sends =
+    subst (λ (n : ℕ). P (record { src = n; dst = dst })) (omega arith) (flow_of_place P 0 at dst row (subst (All P) (sym is) all) below sends)
+
+-- at the end
+pub place_last : (hosts at : ℕ) (row : List (Option ℕ)) (edges : List Edge) → length row ≤ at → edges ≡ edges ++ rack_edges hosts (flows_from at (drop at row))
+place_last hosts at row edges ended = sym (append-nil edges) ∙ ap (λ (cells : List (Option ℕ)). edges ++ rack_edges hosts (flows_from at cells)) (sym (drop_all at row ended))
