@@ -11,10 +11,13 @@ use Rattle.ack_window.specs.Versions.{reorder_of, span_of}
 use Rattle.ack_window.specs.Windows.{Sender, HasDone}
 use Rattle.endpoint_history.specs.Packets.{Telling, slots_to}
 use Rattle.endpoint_history.specs.Lane.{LaneHistory, version_of, numbers}
+use Rattle.endpoint_history.specs.CountLaws.{CountsAddUp}
+use Rattle.endpoint_history.specs.Counts.{Allocation}
 use Rattle.endpoint_history.specs.Counts as counts
 use Rattle.arbiter_lane.specs.declared.line.Line.{Line}
 use Rattle.arbiter_lane.specs.Lines.{Become}
-use Rattle.arbiter_lane.specs.State.{open_to}
+use Rattle.arbiter_lane.specs.Standing.{StandsFor, ToldIsOwed}
+use Rattle.arbiter_lane.specs.State.{LaneState, IsSound, open_to}
 use Rattle.arbiter_lane.proofs.Changes.{line_between}
 
 -- ---- what is told under numbers
@@ -52,6 +55,25 @@ newest-counted (Reads ack ∷ events) content is = newest-counted events content
 pub open_to-is : (g : ℕ) (sent : Sender Telling) (history : LaneHistory) (dst : ℕ) → sent.version ≡ version_of history → HasDone sent (numbers g history) → open_to dst sent ≡ counts.open_to g history dst
 open_to-is g sent history dst version done =
     ap (sum_by (λ (s : Unresolved Telling). slots_to dst s.content.told)) (done.unresolved ∙ ap (λ v. open_numbers (reorder_of v) (span_of v) (numbers g history)) version)
+
+-- what is told is allocated, and that is owed
+pub told-is-owed : CountsAddUp → (lane : LaneState) → IsSound lane → (history : LaneHistory) (allocations : List Allocation) (dst : ℕ) (line : Line) → slice_get lane.lines dst ≡ Some line →
+    StandsFor lane history allocations → ToldIsOwed lane.g history allocations dst
+told-is-owed sums lane sound history allocations dst line here stands =
+    let three = sums.three lane.g history dst in
+    let open_slots = open_to-is lane.g lane.sent history dst stands.sent_version stands.sent in
+    let in_flight = (sound.flows dst line here).open_slots in
+    let flow = stands.flows dst line here in
+    let demanded = flow.demanded in
+    let allocated = flow.allocated in
+    let acknowledged = flow.acknowledged in
+    let lost = flow.lost in
+    let once = line.count.decided_once in
+    let on_demand = line.count.allocated_on_demand in
+    record {
+      counted = omega (arith, three, open_slots, in_flight, allocated, acknowledged, lost, once);
+      owed = omega (arith, demanded, allocated, lost, on_demand);
+    }
 
 -- ---- lines
 

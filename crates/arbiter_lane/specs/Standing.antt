@@ -1,11 +1,11 @@
 -- When a lane stands for the calls that were made of it, with the slots that were counted as allocated (this project's own profile).
-use Rattle.std.specs.Prelude.{◌≡◌, ◌<◌, ℕ, List, All, Some, slice_get}
+use Rattle.std.specs.Prelude.{◌≡◌, ◌<◌, ◌≤◌, ℕ, List, All, Some, slice_get}
 use Rattle.ack_window.specs.declared.send_window.Unresolved.{Unresolved}
 use Rattle.ack_window.specs.Sends.{numbers_sent}
 use Rattle.ack_window.specs.Windows.{HasHeard, HasDone}
 use Rattle.endpoint_history.specs.Packets.{Telling}
 use Rattle.endpoint_history.specs.Lane.{LaneHistory, epoch_of, version_of, last_reset, arrived, numbers}
-use Rattle.endpoint_history.specs.Counts.{Allocation, recorded, acknowledged, lost, owed, allocated}
+use Rattle.endpoint_history.specs.Counts.{Allocation, recorded, acknowledged, lost, told, owed, allocated}
 use Rattle.endpoint_history.specs.Entries.{rounds_recorded, counted_from, is_reset, had}
 use Rattle.arbiter_lane.specs.declared.line.Line.{Line}
 use Rattle.arbiter_lane.specs.State.{LaneState, AreSlots}
@@ -37,3 +37,8 @@ TellsSlots lane history = All (λ (number : Unresolved Telling). AreSlots lane.e
 -- there are calls for which it stands
 abbrev pub HasHistory : LaneState → Type 0
 HasHistory lane = (history : LaneHistory) × (allocations : List Allocation) × StandsFor lane history allocations × TellsSlots lane history
+
+-- the slots of a flow that were told were counted as allocated, each once, and no more of them than are owed
+pub record ToldIsOwed (g : ℕ) (history : LaneHistory) (allocations : List Allocation) (dst : ℕ) : Type 0 where
+  pub counted : told g history dst ≤ allocated history allocations dst
+  pub owed : allocated history allocations dst ≤ owed g history dst

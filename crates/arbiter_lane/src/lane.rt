@@ -18,7 +18,7 @@ ghost use Rattle.endpoint_history.specs.Lane.{LaneHistory, MakesDown, TakesUp, R
 ghost use Rattle.endpoint_history.specs.Counts.{Allocation, recorded, acknowledged, lost, allocated};
 ghost use Rattle.endpoint_history.specs.Entries.{had, entry_of};
 ghost use Rattle.arbiter_lane.specs.State.{AreSlots, AreAllocated, AreInFlight, open_to};
-ghost use Rattle.arbiter_lane.specs.Standing.{StandsFor};
+ghost use Rattle.arbiter_lane.specs.Standing.{StandsFor, ToldIsOwed};
 ghost use Rattle.arbiter_lane.specs.Refusals.{refusal_of, IsOwn};
 ghost use Rattle.arbiter_lane.specs.declared.line.Line.{Line as LineOf};
 ghost use Rattle.arbiter_lane.specs.Lines.{Become, LosesSlots, DecidesSlots, HasStartedAgain, slots_shown, slots_lost};
@@ -322,7 +322,11 @@ impl Lane {
             StandsFor self.now history allocations →
             (count.demanded ≡ recorded history dst) × (count.allocated ≡ allocated history allocations dst)
             × (count.acknowledged ≡ acknowledged self.now.g history dst) × (count.lost ≡ lost self.now.g history dst)) }
+        ensures told { (history : LaneHistory) (allocations : List Allocation) →
+            StandsFor self.now history allocations →
+            ToldIsOwed self.now.g history allocations dst }
     {
+        lanes_count_slots();
         let line = &self.lines[dst as usize];
         if line.opened { Some(line.count) } else { None }
     }

@@ -15,6 +15,3 @@ pub use line::Line;
 pub use no_memory::NoMemory;
 pub use refusal::UpRefused;
 pub use telling::Telling;
-
-#[cfg(test)]
-mod tests;

@@ -1,1 +1,3 @@
+mod Hearing
 mod Playing
+mod Serving

@@ -1,22 +1,21 @@
 -- A round keeps what the caller of an endpoint's rounds keeps.
-use Rattle.std.proofs.Common.{◌≡◌, ◌≢◌, ℕ, suc, ◌+◌, ◌-◌, ◌*◌, ◌<◌, ◌≤◌, ◌^◌, Bool, true, false, cond, ◌==◌, ◌&&◌, List, [], ◌∷◌, length, replicate, sym, ◌∙◌, ap, subst, refl, inl, inr, arith}
-use Rattle.std.specs.Prelude.{All, sum_by, map, slice_get, Some, OnOk, Ok, Err}
+use Rattle.std.proofs.Common.{◌≡◌, ◌≢◌, ℕ, ◌+◌, ◌-◌, ◌*◌, ◌<◌, ◌≤◌, ◌^◌, Bool, true, false, cond, ◌==◌, ◌&&◌, List, [], ◌∷◌, length, replicate, sym, ◌∙◌, ap, subst, refl, inl, inr, arith}
+use Rattle.std.specs.Prelude.{slice_get, Some, OnOk, Ok, Err}
 use Rattle.std.specs.declared.result.Result.{Result}
 use Rattle.no_memory.specs.declared.NoMemory.{NoMemory}
-use Rattle.std.specs.List.Sorted.{IsStrictlyIncreasing}
-use Rattle.std.proofs.lemmas.Bool.{cases_Bool, ne_eqb, eq-eqb, cases_eq}
+use Rattle.std.proofs.lemmas.Bool.{ne_eqb, eq-eqb, cases_eq}
 use Rattle.std.proofs.lemmas.List.{length-replicate}
 use Rattle.std.proofs.lemmas.List.Elements.{All-nil}
 use Rattle.std.proofs.lemmas.List.Sums.{sum_by-cons}
 use Rattle.fcp_framing.specs.declared.packet.Told.{Told}
 use Rattle.fcp_framing.specs.Spelling.{IsCore}
 use Rattle.endpoint_history.specs.Packets.{DownPacket, UpPacket, slots_to}
-use Rattle.endpoint_history.specs.Agent.{AgentEvent, AgentHistory, Boots, Asks, TakesDown, MakesUp, SendsDue, epoch_of, asked}
-use Rattle.endpoint_history.specs.Lane.{LaneEvent, MakesDown, TakesUp, Records, last_reset}
+use Rattle.endpoint_history.specs.Agent.{AgentEvent, AgentHistory, Boots, Asks, TakesDown, MakesUp, epoch_of, asked}
+use Rattle.endpoint_history.specs.Lane.{MakesDown, TakesUp, Records}
 use Rattle.endpoint_history.specs.Counts.{Allocation, allocated, owed}
 use Rattle.endpoint_history.specs.Conditions.{LaneCall, Happens, Allocates, history_of, allocations_of, allocated_in, MeetsConditions}
 use Rattle.endpoint_history.specs.Entries.{rounds_recorded}
-use Rattle.endpoint_history.specs.Rounds.{Round, Played, arriving, then_each, begun, posted_down, heard, posted_up, read, recorded, after_round, played}
+use Rattle.endpoint_history.specs.Rounds.{Round, Played, arriving, then_each, begun, posted_down, heard, posted_up, read, after_round, played}
 use Rattle.endpoint_history.specs.Steps.{Step, OfAgent, OfLane, agent_of, lane_of, rounds_begun}
 use Rattle.endpoint_agent.specs.Standing as agents
 use Rattle.arbiter_lane.specs.Laws.{ConditionsSuffice}
@@ -46,7 +45,7 @@ told-few dst other n true few = elim (cases_eq dst other) [
   | inr apart ↦ omega (arith, told-to dst other true, ap (λ (b : Bool). cond {A = ℕ} b 1 0) (ne_eqb dst other apart))
 ]
 
-told-slots : (endpoints b endpoint dst : ℕ) (one : Bool) → 1 ≤ b → dst < endpoints → dst ≢ endpoint → AreSlots endpoints b endpoint (told_of dst one)
+pub told-slots : (endpoints b endpoint dst : ℕ) (one : Bool) → 1 ≤ b → dst < endpoints → dst ≢ endpoint → AreSlots endpoints b endpoint (told_of dst one)
 told-slots endpoints b endpoint dst false some within other = record {
   rising = λ k past. absurd (omega (arith, past));
   offsets = All-nil (λ (t : Told). t.offset < b);
@@ -295,6 +294,18 @@ round-played state new dst number asks n before last events is asks_are boots sa
 
 -- ---- the slot of a batch
 
+abbrev counted : ℕ → ℕ → Allocation → ℕ
+counted dst batch x = cond {A = ℕ} (x.dst == dst && x.batch == batch) x.slots 0
+
+pub counted-more : (dst batch : ℕ) (a : Allocation) (before : List Allocation) → 1 ≤ allocated_in batch before dst → 1 ≤ allocated_in batch (a ∷ before) dst
+counted-more dst batch a before one = omega (arith, sum_by-cons (counted dst batch) a before, one)
+
+pub counted-one : (dst batch : ℕ) (before : List Allocation) → 1 ≤ allocated_in batch (record { dst = dst; batch = batch; slots = 1 } ∷ before) dst
+counted-one dst batch before =
+    let a : Allocation = record { dst = dst; batch = batch; slots = 1 } in
+    let one : counted dst batch a ≡ 1 = rw (eq-eqb dst dst refl, eq-eqb batch batch refl) refl in
+    omega (arith, sum_by-cons (counted dst batch) a before, one)
+
 -- the flow is owed one
 abbrev pub IsOwed : RoundsState → ℕ → Type 0
 IsOwed state dst =
@@ -317,11 +328,7 @@ pub slot-allocated : (state new : RoundsState) (dst number asks : ℕ) (before :
 slot-allocated state new dst number asks before is owes frame stands =
     let a : Allocation = record { dst = dst; batch = number; slots = 1 } in
     let A = allocations_of is.calls in
-    let counted : ℕ → Allocation → ℕ = λ batch x. cond {A = ℕ} (x.dst == dst && x.batch == batch) x.slots 0 in
-    let more = λ (batch : ℕ). sum_by-cons (counted batch) a A in
-    let one : cond {A = ℕ} (dst == dst && number + 1 - 1 == number + 1 - 1) 1 0 ≡ 1 = rw (eq-eqb dst dst refl, eq-eqb (number + 1 - 1) (number + 1 - 1) refl) refl in
     let back : number + 1 - 1 ≡ number = omega arith in
-    let last_one : cond {A = ℕ} (dst == dst && number == number + 1 - 1) 1 0 ≡ 1 = subst (λ (k : ℕ). cond {A = ℕ} (dst == dst && k == number + 1 - 1) 1 0 ≡ 1) back one in
     record {
       whole = ap (λ (s : RoundsState). s.is_whole) frame ∙ is.whole;
       endpoints = ap (λ (s : RoundsState). s.lane.endpoints) frame ∙ is.endpoints;
@@ -343,8 +350,8 @@ slot-allocated state new dst number asks before is owes frame stands =
       begun = is.begun;
       boots = subst (λ (s : RoundsState). epoch_of (agent_of (played_by s is.rounds).steps) ≤ number + 1 + 1) (sym frame) is.boots;
       asked = subst (λ (s : RoundsState). asked (agent_of (played_by s is.rounds).steps) dst ≤ asks) (sym frame) is.asked;
-      counted_before = λ on. omega (arith, more (number + 1 - 2), is.counted_before on);
-      counted_last = λ on. omega (arith, more (number + 1 - 1), last_one);
+      counted_before = λ on. counted-more dst (number + 1 - 2) a A (is.counted_before on);
+      counted_last = λ on. subst (λ (k : ℕ). 1 ≤ allocated_in k (a ∷ A) dst) (sym back) (counted-one dst number A);
     }
 
 -- ---- what a round asks

@@ -1,10 +1,17 @@
--- What the caller of an endpoint's rounds keeps of them, for an endpoint of two with batches of one slot (this project's own profile).
-use Rattle.std.specs.Prelude.{◌≡◌, ◌≢◌, ◌<◌, ◌≤◌, ℕ, ◌+◌, ◌-◌, Bool, true, List, [], ◌∷◌, length, if◌then◌else◌}
+-- What the callers of an endpoint's rounds, of an agent alone and of a lane alone keep of them, for an endpoint of two with batches
+-- of one slot and windows of one round (this project's own profile).
+use Rattle.std.specs.Prelude.{◌≡◌, ◌≢◌, ◌<◌, ◌≤◌, ◌⊎◌, ℕ, ◌+◌, ◌-◌, Bool, true, false, List, [], ◌∷◌, length, if◌then◌else◌}
+use Rattle.fcp_framing.specs.declared.packet.Down.{Down}
 use Rattle.fcp_framing.specs.declared.packet.Told.{Told}
-use Rattle.endpoint_history.specs.Agent.{epoch_of, asked}
+use Rattle.endpoint_history.specs.Agent.{AgentHistory, TakenDown, epoch_of, asked, taken, missed}
 use Rattle.endpoint_history.specs.Conditions.{LaneCall, history_of, allocations_of, allocated_in, MeetsConditions}
 use Rattle.endpoint_history.specs.Rounds.{Round}
 use Rattle.endpoint_history.specs.Steps.{agent_of, lane_of, rounds_begun}
+use Rattle.endpoint_history.specs.Tellings.{Among}
+use Rattle.endpoint_agent.specs.State.{AgentState}
+use Rattle.endpoint_agent.specs.Standing as agents
+use Rattle.arbiter_lane.specs.State.{LaneState}
+use Rattle.arbiter_lane.specs.Standing as lanes
 use Rattle.lane_rounds.specs.State.{RoundsState}
 use Rattle.lane_rounds.specs.Standing.{StandsFor, played_by}
 
@@ -31,5 +38,51 @@ pub record IsPlayed (state : RoundsState) (dst number asks : ℕ) (before last :
   pub begun : rounds_begun (history_of calls) ≡ number
   pub boots : epoch_of (agent_of (played_by state rounds).steps) ≤ number + 1
   pub asked : asked (agent_of (played_by state rounds).steps) dst ≤ asks
+  pub counted_before : before ≡ true → 1 ≤ allocated_in (number - 2) (allocations_of calls) dst
+  pub counted_last : last ≡ true → 1 ≤ allocated_in (number - 1) (allocations_of calls) dst
+
+-- ---- an agent alone
+
+-- so many packets were heard, and those of this boot that told slots are of earlier batches than the last one, or it
+pub record IsHeard (agent : AgentState) (round boots asks heard batch number : ℕ) : Type 0 where
+  pub me : agent.me ≡ 0
+  pub endpoints : agent.endpoints ≡ 2
+  pub b : agent.b ≡ 1
+  pub g : agent.g ≡ 1
+  pub at : agent.round ≡ round
+  pub not_made : agent.is_made ≡ false
+  pub epoch : agent.epoch ≡ boots
+  pub calls : AgentHistory
+  pub stands : agents.StandsFor agent calls
+  pub asked : asked calls 1 ≤ asks
+  pub missed : (dst : ℕ) → missed 1 calls dst ≤ heard
+  pub told : (t : TakenDown) → Among t (taken calls) → t.packet.content.told ≢ [] →
+      (t.packet.content.batch < batch) ⊎ ((t.packet.content.batch ≡ batch) × (t.packet.seq ≡ number))
+
+-- an allocation tells at most one slot, two rounds after its batch or later, and of a later batch than the last one, or it is that one
+pub record MayHear (round heard batch number : ℕ) (down : Down) : Type 0 where
+  pub destination : down.dst ≡ 0
+  pub few : length down.told.items ≤ 1
+  pub late : down.told.items ≢ [] → down.batch + 2 ≤ round
+  pub next : down.told.items ≢ [] → (batch < down.batch) ⊎ ((down.batch ≡ batch) × (down.seq ≡ number))
+  pub rounds : round < 99999
+  pub most : heard < 100000
+
+-- ---- a lane alone
+
+-- so many rounds were recorded, the packet of so many was made beyond them, and the slots of the last two batches are counted as
+-- allocated
+pub record IsServed (lane : LaneState) (dst number made : ℕ) (before last : Bool) : Type 0 where
+  pub endpoints : lane.endpoints ≡ 2
+  pub b : lane.b ≡ 1
+  pub g : lane.g ≡ 1
+  pub at : lane.round ≡ number
+  pub not_made : made ≡ 0 → lane.is_made ≡ false
+  pub within : dst < 2
+  pub other : dst ≢ lane.endpoint
+  pub calls : List LaneCall
+  pub stands : lanes.StandsFor lane (history_of calls) (allocations_of calls)
+  pub meets : MeetsConditions 1 calls
+  pub begun : rounds_begun (history_of calls) ≡ number + made
   pub counted_before : before ≡ true → 1 ≤ allocated_in (number - 2) (allocations_of calls) dst
   pub counted_last : last ≡ true → 1 ≤ allocated_in (number - 1) (allocations_of calls) dst

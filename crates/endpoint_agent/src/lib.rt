@@ -11,6 +11,3 @@ pub use laws::timely_allocations_may_be_taken;
 pub use lines::{FlowLine, Sent};
 pub use no_memory::NoMemory;
 pub use refusal::DownRefused;
-
-#[cfg(test)]
-mod tests;

@@ -8,14 +8,13 @@ ghost use Rattle.endpoint_history.specs.Steps.{lane_of};
 ghost use Rattle.lane_rounds.specs.Standing.{StandsFor, played_by};
 ghost use Rattle.both_ends_rows.specs.Callers.{IsPlayed, told_of};
 
-use super::{Outside, QUIET, REFUSED, ROWS, Row, TAKEN, what_comes};
+use super::{Outside, QUIET, REFUSED, ROWS, Row, Shown, TAKEN, told, what_comes};
 use arbiter_lane::conditions_suffice;
 use arrayvec::ArrayVec;
-use fcp_framing::Told;
 use greedy_rules::{Batch, Entry, Flow, Limits};
 use lane_rounds::{AskList, Events, LaneRounds, NoMemory, RawList, RefusedList, Sent};
 use loss_world::Fate;
-use std::alloc::{AllocError, Global};
+use std::alloc::Global;
 use std::process::Abort;
 use std::test::Fail;
 
@@ -38,21 +37,6 @@ struct Caller {
     asked: u32,
     before: bool,
     last: bool,
-}
-
-/// The slot of a batch, where it has one.
-fn told(dst: u16, one: bool) -> ArrayVec<Told, 64>
-    ensures { result.items ≡ told_of dst one }
-{
-    let mut told = ArrayVec::new();
-    if one {
-        told.push(Told {
-            offset: 0,
-            core: 0,
-            dst,
-        });
-    }
-    told
 }
 
 /// Whether the flow is owed a slot.
@@ -181,54 +165,18 @@ impl Caller {
     }
 }
 
-/// What a row has shown so far.
-#[derive(Drop)]
-struct Shown {
-    entries: Vec<(u32, bool, bool, u32)>,
-    slots: Vec<u32>,
-    sent: Vec<(u32, u32)>,
-}
-
-impl Shown {
-    fn new(alloc: Global) -> Shown {
-        Shown {
-            entries: Vec::new(alloc),
-            slots: Vec::new(alloc),
-            sent: Vec::new(alloc),
-        }
-    }
-
-    /// Adds what a round wrote, and whether its batch has a slot.
-    fn add(&mut self, round: u32, written: &Written, has_slot: bool) -> Result<(), AllocError> {
-        if let Some(entry) = written.batch.find(Flow { src: 0, dst: 1 }) {
-            self.entries
-                .push((round, entry.opens, entry.clear, entry.add))?;
-        }
-        if has_slot {
-            self.slots.push(round.saturating_add(1))?;
-        }
-        for now in written.sent.iter() {
-            self.sent.push((round, now.slot))?;
-        }
-        Ok(())
-    }
-
-    fn is_of(&self, row: &Row) -> bool {
-        self.entries.as_slice() == row.entries
-            && self.slots.as_slice() == row.slots
-            && self.sent.as_slice() == row.sent
-    }
-}
-
 /// Plays a row, and looks at all that it shows.
 fn play_row(rt: &impl Abort, alloc: Global, row: &Row) -> Result<(), Fail> {
     let mut caller = Caller::open(alloc, 0)?;
     let mut shown = Shown::new(alloc);
     for round in 0..row.rounds {
         let written = caller.play(rt, what_comes(row.comes, round), RawList::new(alloc))?;
-        shown.add(round, &written, caller.last)?;
+        shown.add_batch(round, &written.batch, caller.last)?;
+        shown.add_sent(round, &written.sent)?;
     }
-    assert!(rt; shown.is_of(row));
+    assert_eq!(rt; shown.entries.as_slice(), row.entries);
+    assert_eq!(rt; shown.slots.as_slice(), row.slots);
+    assert_eq!(rt; shown.sent.as_slice(), row.sent);
     assert_eq!(rt; caller.counts(), row.counts);
     Ok(())
 }
@@ -246,7 +194,7 @@ fn rows_are_played(rt: HostRuntime) -> Result<(), Fail> {
 fn forged(alloc: Global) -> Result<RawList, NoMemory> {
     let mut raw = RawList::new(alloc);
     let mut place: u32 = 0;
-    for bytes in REFUSED.iter() {
+    for (bytes, _) in REFUSED.iter() {
         raw.push(place, bytes)?;
         place = place.saturating_add(1);
     }
@@ -254,13 +202,14 @@ fn forged(alloc: Global) -> Result<RawList, NoMemory> {
     Ok(raw)
 }
 
-/// Whether these places were refused, each with this number.
-fn are_refused(refused: &RefusedList, numbers: &[(u32, u8)]) -> bool {
-    if refused.len() != numbers.len() {
+/// Whether these packets were refused, each with its number.
+fn are_refused(refused: &RefusedList, packets: &[(&[u8], u8)]) -> bool {
+    if refused.len() != packets.len() {
         return false;
     }
-    for (at, number) in numbers.iter().enumerate() {
-        if refused.get(at) != *number {
+    for (at, (_, number)) in packets.iter().enumerate() {
+        let (place, found) = refused.get(at);
+        if place as usize != at || found != *number {
             return false;
         }
     }
@@ -291,7 +240,7 @@ fn forged_packets_are_told_or_taken(rt: HostRuntime) -> Result<(), Fail> {
     let mut caller = Caller::open(alloc, 1)?;
     play_quietly(&rt, alloc, &mut caller, 2)?;
     let written = caller.play(&rt, QUIET, forged(alloc)?)?;
-    assert!(rt; are_refused(&written.refused, &NUMBERS));
+    assert!(rt; are_refused(&written.refused, &REFUSED));
     let entry = written.batch.find(Flow { src: 1, dst: 0 });
     assert!(rt;
         matches!(
@@ -309,19 +258,6 @@ fn forged_packets_are_told_or_taken(rt: HostRuntime) -> Result<(), Fail> {
     assert_eq!(rt; caller.counts(), [200_000_000, 3, 2, 199_999_995, 0, 0, 0]);
     Ok(())
 }
-
-/// The places of the forged packets, each with the number of its refusal.
-const NUMBERS: [(u32, u8); 9] = [
-    (0, 1),
-    (1, 26),
-    (2, 3),
-    (3, 4),
-    (4, 10),
-    (5, 11),
-    (6, 21),
-    (7, 8),
-    (8, 9),
-];
 
 const LONG: u32 = 10_000;
 

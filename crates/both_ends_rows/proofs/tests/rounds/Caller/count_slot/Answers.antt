@@ -1,5 +1,4 @@
 use Rattle.std.proofs.Common.{◌≡◌, ℕ, ◌+◌, ◌-◌, false, true, sym, subst, arith}
-use Rattle.lane_rounds.specs.State.{RoundsState}
 use Rattle.both_ends_rows.specs.Callers.{IsPlayed}
 use Rattle.both_ends_rows.proofs.Playing.{may-allocate, slot-allocated}
 use Rattle.both_ends_rows.proofs.tests.rounds.Caller.count_slot.Goals as goal

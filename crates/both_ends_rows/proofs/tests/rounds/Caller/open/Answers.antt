@@ -1,4 +1,4 @@
-use Rattle.std.proofs.Common.{◌≡◌, ◌<◌, ◌-◌, [], arith}
+use Rattle.std.proofs.Common.{◌-◌, arith}
 use Rattle.both_ends_rows.proofs.Playing.{opened}
 use Rattle.both_ends_rows.proofs.tests.rounds.Caller.open.Goals as goal
 

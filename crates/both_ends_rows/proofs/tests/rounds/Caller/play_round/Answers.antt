@@ -1,4 +1,4 @@
-use Rattle.std.proofs.Common.{◌≡◌, List, ◌∷◌, OnOk, subst, sym}
+use Rattle.std.proofs.Common.{List, ◌∷◌, OnOk, subst, sym}
 use Rattle.fcp_framing.specs.declared.packet.Told.{Told}
 use Rattle.endpoint_history.specs.Counts.{Allocation}
 use Rattle.endpoint_history.specs.Rounds.{Round}

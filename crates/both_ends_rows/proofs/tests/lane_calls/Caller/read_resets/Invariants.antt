@@ -1,0 +1,7 @@
+use Rattle.both_ends_rows.specs.Callers.{IsServed}
+use Rattle.both_ends_rows.proofs.tests.lane_calls.Caller.read_resets.Given as goal
+
+abbrev pub invariant-loop-round : goal.invariant-loop-round
+invariant-loop-round g l = record {
+  served : IsServed l.self.lane l.self.dst l.self.round 1 l.self.before l.self.last;
+}

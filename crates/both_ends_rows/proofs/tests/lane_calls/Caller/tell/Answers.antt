@@ -1,0 +1,22 @@
+use Rattle.std.proofs.Common.{List, ◌∷◌, sym, subst}
+use Rattle.fcp_framing.specs.declared.packet.Told.{Told}
+use Rattle.endpoint_history.specs.Conditions.{history_of, allocations_of}
+use Rattle.endpoint_history.specs.Lane.{MakesDown}
+use Rattle.arbiter_lane.specs.Standing.{StandsFor}
+use Rattle.arbiter_lane.specs.State.{AreAllocated}
+use Rattle.both_ends_rows.proofs.Serving.{slot-allocated, served-told}
+use Rattle.both_ends_rows.proofs.tests.lane_calls.Caller.tell.Goals as goal
+
+pub make_down-requires-clause-allocated : goal.make_down-requires-clause-allocated
+make_down-requires-clause-allocated g c =
+    let it = c.args.self.now in
+    subst (λ (told : List Told). AreAllocated it.lane it.round told) (sym c.told-told.ensures)
+    (slot-allocated it.lane it.dst it.round it.before it.last c.conditions_suffice.ensures c.requires)
+
+pub returns-clause-served : goal.returns-clause-served
+returns-clause-served g c =
+    let it = c.args.self.now in
+    let is = c.requires in
+    served-told it.lane it.dst it.round it.before it.last c.make_down.new.self is c.make_down.ensures.frame
+    (subst (λ (told : List Told). StandsFor c.make_down.new.self (MakesDown it.round told ∷ history_of is.calls) (allocations_of is.calls)) c.told-told.ensures
+    (c.make_down.ensures.stands (history_of is.calls) (allocations_of is.calls) is.stands))
