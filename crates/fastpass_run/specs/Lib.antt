@@ -1,15 +1,5 @@
+pub mod Outside
 pub mod Transfer
 pub mod Words
-pub mod Text
-pub mod ReplayText
-pub mod Made
-pub mod Sends
-pub mod Sums
-pub mod Scheduled
-pub mod ReplayScheduled
-pub mod Output
-pub mod Flows
-pub mod Progress
-pub mod ReplayProgress
 pub mod Run
 pub mod Failures

@@ -1,5 +1,6 @@
 -- Which words are accepted, and what they set (this project's own profile).
-use Rattle.std.specs.Prelude.{◌<◌, ◌≤◌, ℕ, Bool, ◌&&◌, nat_le, List, [], ◌∷◌, Option, Some, None, IfSome, is_none, option_map, unwrap_or, if◌then◌else◌, slice_index, codes}
+use Rattle.std.specs.Prelude.{◌<◌, ◌≤◌, ℕ, Bool, ◌&&◌, nat_le, List, [], ◌∷◌, Option, Some, None, IfSome, is_none, option_map, unwrap_or, if◌then◌else◌, slice_index, codes, map}
+use Rattle.std.specs.Borrow.{Bor}
 use Rattle.std.specs.Str.{bytes_eq, all_ascii_digits}
 use Rattle.std.specs.Str.Parse.{digits_value}
 use Rattle.trace_text.specs.declared.command.Command.{Command}
@@ -8,6 +9,10 @@ use Rattle.fastpass_run.specs.declared.words.Input.{Input}
 use Rattle.fastpass_run.specs.declared.words.Input.TheVariants.{Read, Made}
 use Rattle.fastpass_run.specs.declared.words.Options.{Options}
 use Rattle.fastpass_run.specs.declared.words.Task.{Task}
+
+-- words as lists of bytes
+abbrev pub texts : List (Bor (List ℕ)) → List (List ℕ)
+texts words = map (λ word. word.now) words
 
 -- a number from 1 to most, in plain decimal without a leading zero
 abbrev pub plain_up_to : ℕ → List ℕ → Option ℕ
@@ -71,13 +76,7 @@ asked_of (word ∷ words) =
 
 -- of a task, all but how many path workers there are
 abbrev pub asked_in : Task → Asked
-asked_in task = record { input = task.input; b = task.b; g = task.g }
-
--- a task within the limits of its numbers
-pub record IsTask (task : Task) : Type 0 where
-  pub b : (0 < task.b) × (task.b ≤ 64)
-  pub g : (0 < task.g) × (task.g ≤ 16)
-  pub paths : (0 < task.paths) × (task.paths ≤ 16)
+asked_in task = record { input = task.input; b = task.sizes.b; g = task.sizes.g }
 
 -- the options that are named are within their limits
 pub record AreWithin (options : Options) : Type 0 where

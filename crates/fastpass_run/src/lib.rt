@@ -1,29 +1,22 @@
 //! The whole program: words, a trace that is read or made, plan or replay, and text, over any source, sinks and gate.
 #![tactic(auto)]
 
-ghost use Rattle.std.specs.Prelude.{◌≡◌, ◌≢◌, ◌⊎◌, ◌↔◌, ◌+◌, ◌≤◌, map, None};
+ghost use Rattle.std.specs.Prelude.{◌≡◌, ◌≢◌, ◌↔◌, ◌+◌, ◌≤◌, None};
 ghost use Rattle.fp_edge.specs.Faults.{Rose};
-ghost use Rattle.fastpass_run.specs.Words.{asked_of};
+ghost use Rattle.fastpass_run.specs.Outside.{outside};
+ghost use Rattle.fastpass_run.specs.Words.{texts, asked_of};
 ghost use Rattle.fastpass_run.specs.Transfer.{Takes};
-ghost use Rattle.fastpass_run.specs.Run.{ComesTo, Performs, status_of, Begins, FaultyAtSome, IsUnwritten, Notes, TellsFaults, TellsExcess, Completes, CompletesMade, ReadsNothing};
+ghost use Rattle.fastpass_run.specs.Run.{ComesTo, Performs, status_of, Begins, BeginsAtMost, FaultyAtSome, IsUnread, IsUnwritten, Notes, TellsFaults, TellsExcess, Completes, CompletesMade, ReadsNothing};
 ghost use Rattle.fastpass_run.specs.declared.transfer.TheConstants.{LIMIT};
 
-mod counts;
-mod flows;
-mod lines;
-mod make;
 mod outcome;
-mod output;
-mod plan;
-mod replay;
-mod rounds;
-mod sums;
 mod transfer;
 mod words;
 
 use crate::outcome::Failure;
 use crate::words::Input;
 use fp_edge::{Gate, Sink, Source};
+use run_text::{write_made, write_plan, write_replay};
 use std::alloc::Global;
 use std::sync::Wait;
 use std::thread::Threads;
@@ -42,27 +35,38 @@ pub fn run<R: Threads + Wait + Sync, S: Source, O: Sink, N: Sink, G: Gate + Sync
     gate: &G,
 ) -> u8
     // What is written.
-    ensures written { result ≡ 0 → Performs (map (λ word. word.now) words.now) (S.left src.old) (S.left src.new) (O.held out.old) (O.held out.new) }
-    ensures unwritten { result ≢ 0 → result ≢ 4 → result ≢ 5 → IsUnwritten (O.held out.old) (O.held out.new) (O.faults out.old) (O.faults out.new) }
+    ensures written { result ≡ 0 →
+        Performs (texts words.now) (outside S.Source O.Sink src.old out.old) (outside S.Source O.Sink src.new out.new) }
+    ensures unwritten { result ≢ 0 → result ≢ 4 → result ≢ 5 →
+        IsUnwritten (outside S.Source O.Sink src.old out.old) (outside S.Source O.Sink src.new out.new) }
 
     // When each status comes.
     ensures statuses { result ≤ 6 }
-    ensures words { (result ≡ 1) ↔ (asked_of (map (λ word. word.now) words.now) ≡ None) }
-    ensures unread { result ≡ 1 → (S.left src.new ≡ S.left src.old) × (S.faults src.new ≡ S.faults src.old) }
-    ensures row { result ≡ 2 → FaultyAtSome (map (λ word. word.now) words.now) (S.left src.old) (S.left src.new) }
+    ensures words { (result ≡ 1) ↔ (asked_of (texts words.now) ≡ None) }
+    ensures unread { result ≡ 1 → IsUnread (outside S.Source O.Sink src.old out.old) (outside S.Source O.Sink src.new out.new) }
+    ensures row { result ≡ 2 →
+        FaultyAtSome (texts words.now) (outside S.Source O.Sink src.old out.old) (outside S.Source O.Sink src.new out.new) }
     ensures read { result ≡ 3 → Rose (S.faults src.old) (S.faults src.new) }
-    ensures write { result ≡ 4 → Begins (map (λ word. word.now) words.now) (S.left src.old) (S.left src.new) (O.held out.old) (O.held out.new) × Rose (O.faults out.old) (O.faults out.new) }
-    ensures memory { result ≡ 5 → IsUnwritten (O.held out.old) (O.held out.new) (O.faults out.old) (O.faults out.new) ⊎ Begins (map (λ word. word.now) words.now) (S.left src.old) (S.left src.new) (O.held out.old) (O.held out.new) }
+    ensures write { result ≡ 4 → Rose (O.faults out.old) (O.faults out.new) ×
+        Begins (texts words.now) (outside S.Source O.Sink src.old out.old) (outside S.Source O.Sink src.new out.new) }
+    ensures memory { result ≡ 5 →
+        BeginsAtMost (texts words.now) (outside S.Source O.Sink src.old out.old) (outside S.Source O.Sink src.new out.new) }
     ensures big { result ≡ 6 → Takes (S.left src.old) (S.left src.new) (λ n. n ≡ LIMIT + 1) }
     ensures not_big { result ≢ 6 → Takes (S.left src.old) (S.left src.new) (λ n. n ≤ LIMIT) }
-    ensures faulty { TellsFaults (map (λ word. word.now) words.now) (S.left src.old) (S.faults src.old) (S.faults src.new) result }
-    ensures excess { TellsExcess (map (λ word. word.now) words.now) (S.left src.old) (S.faults src.old) (S.faults src.new) result }
-    ensures made { ReadsNothing (map (λ word. word.now) words.now) (S.left src.old) (S.left src.new) (S.faults src.old) (S.faults src.new) result }
-    ensures complete { Completes (map (λ word. word.now) words.now) (S.left src.old) (S.faults src.old) (S.faults src.new) (O.faults out.old) (O.faults out.new) result }
-    ensures complete_made { CompletesMade (map (λ word. word.now) words.now) (O.faults out.old) (O.faults out.new) result }
+    ensures faulty { TellsFaults (texts words.now)
+        (outside S.Source O.Sink src.old out.old) (outside S.Source O.Sink src.new out.new) result }
+    ensures excess { TellsExcess (texts words.now)
+        (outside S.Source O.Sink src.old out.old) (outside S.Source O.Sink src.new out.new) result }
+    ensures made { ReadsNothing (texts words.now)
+        (outside S.Source O.Sink src.old out.old) (outside S.Source O.Sink src.new out.new) result }
+    ensures complete { Completes (texts words.now)
+        (outside S.Source O.Sink src.old out.old) (outside S.Source O.Sink src.new out.new) result }
+    ensures complete_made { CompletesMade (texts words.now)
+        (outside S.Source O.Sink src.old out.old) (outside S.Source O.Sink src.new out.new) result }
 
     // The note.
-    ensures noted { ¬ Rose (N.faults notes.old) (N.faults notes.new) → Notes (map (λ word. word.now) words.now) result (S.left src.old) (S.left src.new) (N.held notes.old) (N.held notes.new) }
+    ensures noted { ¬ Rose (N.faults notes.old) (N.faults notes.new) → Notes (texts words.now) result
+        (outside S.Source O.Sink src.old out.old) (outside S.Source O.Sink src.new out.new) (N.held notes.old) (N.held notes.new) }
 {
     let outcome = perform(rt, gate, alloc, words, src, out);
     let _ = outcome::note(notes, outcome);
@@ -77,21 +81,23 @@ fn perform<R: Threads + Wait + Sync, S: Source, O: Sink, G: Gate + Sync>(
     src: &mut S,
     out: &mut O,
 ) -> Result<(), Failure>
-    ensures comes { ComesTo (map (λ word. word.now) words.now) (S.left src.old) (S.left src.new) (S.faults src.old) (S.faults src.new) (O.held out.old) (O.held out.new) (O.faults out.old) (O.faults out.new) result }
-    ensures made { ReadsNothing (map (λ word. word.now) words.now) (S.left src.old) (S.left src.new) (S.faults src.old) (S.faults src.new) (status_of result) }
+    ensures comes { ComesTo (texts words.now)
+        (outside S.Source O.Sink src.old out.old) (outside S.Source O.Sink src.new out.new) result }
+    ensures made { ReadsNothing (texts words.now)
+        (outside S.Source O.Sink src.old out.old) (outside S.Source O.Sink src.new out.new) (status_of result) }
 {
     let Some(task) = words::read_task(words) else {
         return Err(Failure::Words);
     };
     let command = match task.input {
-        Input::Made(number) => return Ok(make::make(rt, gate, alloc, number, task, out)?),
+        Input::Made(number) => return Ok(write_made(rt, gate, alloc, number, task.sizes, out)?),
         Input::Read(command) => command,
     };
     let text = transfer::read_all(alloc, src)?;
     let trace = read_trace(alloc, &text, command)?;
     drop(text);
     match command {
-        Command::Plan => Ok(plan::plan(rt, gate, alloc, &trace, task, out)?),
-        Command::Replay => Ok(replay::replay(rt, gate, alloc, &trace, task, out)?),
+        Command::Plan => Ok(write_plan(rt, gate, alloc, &trace, task.sizes, out)?),
+        Command::Replay => Ok(write_replay(rt, gate, alloc, &trace, task.sizes, out)?),
     }
 }

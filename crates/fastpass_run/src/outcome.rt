@@ -6,10 +6,10 @@ ghost use Rattle.trace_text.specs.FaultNumbers.{fault_number};
 ghost use Rattle.fastpass_run.specs.Failures.{failure_of_read, failure_of_trace, failure_of_stop};
 ghost use Rattle.fastpass_run.specs.Run.{status_of, note_of, row_note};
 
-use crate::output::Stop;
-use crate::transfer::{ReadRefused, write_all};
+use crate::transfer::ReadRefused;
 use fp_edge::{Failed, Sink};
 use itoa::Buffer;
+use run_lines::{Stop, write_all};
 use trace_text::{Fault, TraceRefused};
 
 /// Why a run ends without its whole text.

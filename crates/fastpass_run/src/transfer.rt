@@ -1,11 +1,11 @@
-ghost use Rattle.std.specs.Prelude.{◌≡◌, ◌≤◌, ◌<◌, ◌+◌, [], length, IfOk, OnOk, OnErr, IsErrOf, IsErr};
-ghost use Rattle.std.specs.Io.KnownBytes.{Consumes, Appends, IsAtEnd};
+ghost use Rattle.std.specs.Prelude.{◌≡◌, ◌≤◌, ◌<◌, ◌+◌, [], length, IfOk, OnOk, IsErrOf, IsErr};
+ghost use Rattle.std.specs.Io.KnownBytes.{Consumes, IsAtEnd};
 ghost use Rattle.fp_edge.specs.Faults.{Rose};
-ghost use Rattle.fastpass_run.specs.Transfer.{Takes, AppendsFront};
+ghost use Rattle.fastpass_run.specs.Transfer.{Takes};
 ghost use Rattle.fastpass_run.specs.declared.transfer.TheConstants.{LIMIT};
 ghost use Rattle.fastpass_run.specs.declared.transfer.ReadRefused.TheVariants.{Memory};
 
-use fp_edge::{Failed, Sink, Source};
+use fp_edge::{Failed, Source};
 use std::alloc::{AllocError, Global};
 
 /// The most bytes that an input may have.
@@ -67,19 +67,4 @@ fn read_into<S: Source>(source: &mut S, text: &mut Vec<u8>) -> Result<(), ReadRe
             Err(Failed) => return Err(ReadRefused::Failed),
         }
     }
-}
-
-/// Writes the whole piece; where the sink fails, its front is written.
-pub(crate) fn write_all<K: Sink>(sink: &mut K, piece: &[u8]) -> Result<(), Failed>
-    ensures written { OnOk result (Appends (K.held sink.old) (K.held sink.new) piece.now) }
-    ensures front { OnErr result (AppendsFront (K.held sink.old) (K.held sink.new) piece.now) }
-    ensures failed { OnErr result (Rose (K.faults sink.old) (K.faults sink.new)) }
-    ensures later { K.faults sink.old ≤ K.faults sink.new }
-{
-    let mut rest = piece;
-    while !rest.is_empty() {
-        let n = sink.write(rest)?;
-        rest = &rest[n..];
-    }
-    Ok(())
 }

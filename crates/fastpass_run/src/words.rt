@@ -1,6 +1,8 @@
-ghost use Rattle.std.specs.Prelude.{◌≡◌, ◌<◌, ◌≤◌, ◌^◌, Some, map, IfSome, option_map};
-ghost use Rattle.fastpass_run.specs.Words.{asked_of, asked_in, asked_with, command_of, options_of, no_options, with_option, plain_up_to, any_number, AreWithin, IsTask};
+ghost use Rattle.std.specs.Prelude.{◌≡◌, ◌<◌, ◌≤◌, ◌^◌, Some, IfSome, option_map};
+ghost use Rattle.run_text.specs.Sizes.{AreSizes};
+ghost use Rattle.fastpass_run.specs.Words.{texts, asked_of, asked_in, asked_with, command_of, options_of, no_options, with_option, plain_up_to, any_number, AreWithin};
 
+use run_text::Sizes;
 use trace_text::Command;
 
 /// The slots of a batch where nothing else is asked for.
@@ -28,13 +30,11 @@ pub(crate) enum Input {
     Made(u32),
 }
 
-/// What the words ask for: an input, the slots of a batch, the rounds of a window, and how many path workers there are.
+/// What the words ask for: an input, and the sizes of the run.
 #[derive(Clone, Copy, Debug)]
 pub(crate) struct Task {
     pub(crate) input: Input,
-    pub(crate) b: u8,
-    pub(crate) g: u8,
-    pub(crate) paths: u8,
+    pub(crate) sizes: Sizes,
 }
 
 /// The options that were named so far.
@@ -48,8 +48,8 @@ struct Options {
 /// What the words ask for: `plan`, `replay`, or `make` and a number, and then `--batch n`, `--window n` and `--paths n`, in any order
 /// and each at most once. None where they are refused.
 pub(crate) fn read_task(words: &[&str]) -> Option<Task>
-    ensures asked { option_map asked_in result ≡ asked_of (map (λ word. word.now) words.now) }
-    ensures within { IfSome result IsTask }
+    ensures asked { option_map asked_in result ≡ asked_of (texts words.now) }
+    ensures within { IfSome result (λ task. AreSizes task.sizes) }
 {
     let [word, rest @ ..] = words else {
         return None;
@@ -65,15 +65,17 @@ pub(crate) fn read_task(words: &[&str]) -> Option<Task>
 
 /// What is asked of an input by the pairs that follow it.
 fn with_options(input: Input, pairs: &[&str]) -> Option<Task>
-    ensures asked { option_map asked_in result ≡ asked_with (Some input) (options_of (map (λ word. word.now) pairs.now) no_options) }
-    ensures within { IfSome result IsTask }
+    ensures asked { option_map asked_in result ≡ asked_with (Some input) (options_of (texts pairs.now) no_options) }
+    ensures within { IfSome result (λ task. AreSizes task.sizes) }
 {
     let options = read_options(pairs)?;
     Some(Task {
         input,
-        b: options.batch.unwrap_or(BATCH),
-        g: options.window.unwrap_or(WINDOW),
-        paths: options.paths.unwrap_or(PATHS),
+        sizes: Sizes {
+            b: options.batch.unwrap_or(BATCH),
+            g: options.window.unwrap_or(WINDOW),
+            paths: options.paths.unwrap_or(PATHS),
+        },
     })
 }
 
@@ -88,7 +90,7 @@ fn command(word: &str) -> Option<Command>
 }
 
 fn read_options(pairs: &[&str]) -> Option<Options>
-    ensures options { result ≡ options_of (map (λ word. word.now) pairs.now) no_options }
+    ensures options { result ≡ options_of (texts pairs.now) no_options }
     ensures within { IfSome result AreWithin }
 {
     let mut options = Options {

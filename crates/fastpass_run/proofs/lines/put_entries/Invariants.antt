@@ -1,9 +1,0 @@
-use Rattle.std.proofs.Common.{map, take}
-use Rattle.fastpass_run.specs.Text.{text_of, entry_line}
-use Rattle.fastpass_run.specs.Output.{Passed}
-use Rattle.fastpass_run.proofs.lines.put_entries.Given as goal
-
-abbrev pub invariant-loop-at : goal.invariant-loop-at
-invariant-loop-at g l =
-    Passed (g.K.Sink.held l.initial.sink) (g.K.Sink.held l.sink) (g.K.Sink.faults l.initial.sink) (g.K.Sink.faults l.sink) l.initial.gathered l.gathered
-    (text_of (map (entry_line l.round) (take l.at l.batch.entries)))

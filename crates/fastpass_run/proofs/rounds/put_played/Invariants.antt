@@ -1,9 +1,0 @@
-use Rattle.fastpass_run.specs.Text.{text_of}
-use Rattle.fastpass_run.specs.ReplayProgress.{played_lines}
-use Rattle.fastpass_run.specs.Output.{Passed}
-use Rattle.fastpass_run.proofs.rounds.put_played.Given as goal
-
-abbrev pub invariant-loop-at : goal.invariant-loop-at
-invariant-loop-at g l =
-    Passed (g.K.Sink.held l.initial.sink) (g.K.Sink.held l.sink) (g.K.Sink.faults l.initial.sink) (g.K.Sink.faults l.sink) l.initial.gathered l.gathered
-    (text_of (played_lines l.first l.played l.at))

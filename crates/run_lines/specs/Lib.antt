@@ -1,0 +1,6 @@
+pub mod Content
+pub mod Transfer
+pub mod Output
+pub mod Text
+pub mod Steps
+pub mod Laws

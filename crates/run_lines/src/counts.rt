@@ -1,0 +1,89 @@
+// The lines of what became of each flow's demand, at the end of a replay.
+ghost use Rattle.std.specs.Prelude.{◌≡◌, ◌<◌, ◌≤◌, ◌+◌, IfSome};
+ghost use Rattle.clos_topology.specs.Network.{endpoints_of};
+ghost use Rattle.trace_text.specs.Valid.{IsTrace};
+ghost use Rattle.replay_rounds.specs.Setting.{Cores};
+ghost use Rattle.window_engine.specs.Replay.{StandsForReplay, run_of};
+ghost use Rattle.run_lines.specs.Output.{Passes};
+ghost use Rattle.run_lines.specs.Text.{text_of, flight_of, count_lines_of, counts_of_source, counts_lines};
+
+use crate::laws::every_count_has_a_flight;
+use crate::output::{Output, Stop};
+use fp_edge::Sink;
+use greedy_rules::Flow;
+use report_text::Line;
+use trace_text::Trace;
+use window_engine::{Counts, Replay};
+
+/// The slots of a flow that are allocated and neither acknowledged nor lost.
+pub fn flight(counts: Counts) -> u32
+    requires { counts.acknowledged + counts.lost ≤ counts.allocated }
+    ensures { result ≡ flight_of counts }
+{
+    counts.allocated - counts.acknowledged - counts.lost
+}
+
+/// What became of one flow's demand, if there was any.
+fn put_count<K: Sink>(
+    output: &mut Output<'_, K>,
+    flow: Flow,
+    counts: Option<Counts>,
+) -> Result<(), Stop>
+    requires { IfSome counts (λ c. c.acknowledged + c.lost ≤ c.allocated) }
+    ensures { Passes output.old output.new (text_of (count_lines_of flow counts)) result }
+{
+    let Some(counts) = counts else {
+        return Ok(());
+    };
+    output.put_line(&Line::Count {
+        src: flow.src,
+        dst: flow.dst,
+        demanded: counts.demanded,
+        acknowledged: counts.acknowledged,
+        flight: flight(counts),
+        pending: counts.pending,
+        lost: counts.lost,
+        sent: counts.sent,
+        missed: counts.missed,
+    })
+}
+
+/// What became of the demand of one source's flows.
+fn put_source<K: Sink>(
+    output: &mut Output<'_, K>,
+    trace: &Trace,
+    replay: &Replay,
+    src: u16,
+) -> Result<(), Stop>
+    requires accepted { IsTrace trace.now }
+    requires stands { (cores : Cores) × StandsForReplay trace.now cores replay.now }
+    requires done { replay.now.lanes.published ≡ replay.now.rounds }
+    requires src { src < endpoints_of trace.now.net }
+    ensures { (cores : Cores) → StandsForReplay trace.now cores replay.now →
+        Passes output.old output.new (text_of (counts_of_source (run_of trace.now cores replay.now) trace.now src)) result }
+{
+    every_count_has_a_flight();
+    for dst in 0..trace.endpoints() {
+        let flow = Flow { src, dst };
+        put_count(output, flow, replay.counts(flow))?;
+    }
+    Ok(())
+}
+
+/// What became of each flow's demand, by source and then destination.
+pub fn put_counts<K: Sink>(
+    output: &mut Output<'_, K>,
+    trace: &Trace,
+    replay: &Replay,
+) -> Result<(), Stop>
+    requires accepted { IsTrace trace.now }
+    requires stands { (cores : Cores) × StandsForReplay trace.now cores replay.now }
+    requires done { replay.now.lanes.published ≡ replay.now.rounds }
+    ensures { (cores : Cores) → StandsForReplay trace.now cores replay.now →
+        Passes output.old output.new (text_of (counts_lines (run_of trace.now cores replay.now) trace.now)) result }
+{
+    for src in 0..trace.endpoints() {
+        put_source(output, trace, replay, src)?;
+    }
+    Ok(())
+}

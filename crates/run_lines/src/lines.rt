@@ -1,0 +1,116 @@
+// The lines of batches and of slots.
+ghost use Rattle.std.specs.Prelude.{◌≡◌, ◌<◌, ◌≤◌, ◌+◌, ◌^◌, length, map, take, drop};
+ghost use Rattle.greedy_rules.specs.Schedule.{slot_in};
+ghost use Rattle.path_workers.specs.CoreTable.{core_of};
+ghost use Rattle.window_engine.specs.Scheduled.{cores_from};
+ghost use Rattle.run_lines.specs.Output.{Passes};
+ghost use Rattle.run_lines.specs.Steps.{IsWindow, batch_of_step, flow_list};
+ghost use Rattle.run_lines.specs.Text.{text_of, entry_line, slot_line, slots_lines};
+
+use crate::output::{Output, Stop};
+use fp_edge::Sink;
+use greedy_rules::{Batch, SlotTable};
+use path_workers::CoreTable;
+use report_text::Numeral;
+use window_engine::Step;
+
+/// A line for each entry of a round's batch.
+pub(crate) fn put_entries<K: Sink>(
+    output: &mut Output<'_, K>,
+    round: u32,
+    batch: &Batch,
+) -> Result<(), Stop>
+    ensures { Passes output.old output.new (text_of (map (entry_line round) batch.now.entries)) result }
+{
+    let number = Numeral::new(round);
+    for at in 0..batch.len() {
+        output.put_entry(&number, batch.entry(at))?;
+    }
+    Ok(())
+}
+
+/// The packet of a source in the slot of this number, if it sends one.
+fn put_source<K: Sink>(
+    output: &mut Output<'_, K>,
+    cores: &CoreTable,
+    place: u16,
+    number: &Numeral,
+    src: u16,
+    to: Option<u16>,
+) -> Result<(), Stop>
+    requires core_place { place < cores.now.slots }
+    requires core_src { src < cores.now.endpoints }
+    ensures { Passes output.old output.new
+        (text_of (map (slot_line number.now (core_of cores.now place)) (flow_list src to))) result }
+{
+    match to {
+        Some(dst) => output.put_slot(number, src, dst, cores.core(place, src)),
+        None => Ok(()),
+    }
+}
+
+/// The packets of one slot, by source.
+fn put_slot<K: Sink>(
+    output: &mut Output<'_, K>,
+    table: &SlotTable,
+    cores: &CoreTable,
+    place: u16,
+    number: &Numeral,
+) -> Result<(), Stop>
+    requires place { place < length table.now.slots }
+    requires core_place { place < cores.now.slots }
+    requires core_endpoints { table.now.endpoints ≤ cores.now.endpoints }
+    ensures { Passes output.old output.new
+        (text_of (map (slot_line number.now (core_of cores.now place)) (slot_in table.now.slots place))) result }
+{
+    let row = table.row(place);
+    for src in 0..table.endpoints() {
+        put_source(output, cores, place, number, src, row[src as usize])?;
+    }
+    Ok(())
+}
+
+/// The packets of so many slots of the tables from this place on; the slot at place 0 has the number `base`.
+pub fn put_slots<K: Sink>(
+    output: &mut Output<'_, K>,
+    table: &SlotTable,
+    cores: &CoreTable,
+    from: u16,
+    count: u16,
+    base: u32,
+) -> Result<(), Stop>
+    requires count { from + count ≤ length table.now.slots }
+    requires places { from + count < 2 ^ 16 }
+    requires numbers { base + (from + count) ≤ 2 ^ 32 }
+    requires core_slots { from + count ≤ cores.now.slots }
+    requires core_endpoints { table.now.endpoints ≤ cores.now.endpoints }
+    ensures { Passes output.old output.new
+        (text_of (slots_lines (cores_from base cores.now) (base + from) (take count (drop from table.now.slots)))) result }
+{
+    for place in from..from + count {
+        let number = Numeral::new(base + u32::from(place));
+        put_slot(output, table, cores, place, &number)?;
+    }
+    Ok(())
+}
+
+/// One batch of a step of a plan, counted from 0, with its slots.
+pub fn put_batch<K: Sink>(
+    output: &mut Output<'_, K>,
+    step: &Step,
+    b: u8,
+    at: u32,
+) -> Result<(), Stop>
+    requires b { (0 < b) × (b ≤ 64) }
+    requires window { IsWindow b step.now }
+    requires at { at < step.now.window.span.count }
+    ensures { Passes output.old output.new (text_of (batch_of_step b step.now at)) result }
+{
+    let span = step.allocated();
+    let number = span.first + at;
+    put_entries(output, number, &step.batches()[at as usize])?;
+    let count = u16::from(b);
+    let from = at as u16 * count;
+    let base = span.first * u32::from(b) + 1;
+    put_slots(output, step.slots(), step.cores(), from, count, base)
+}

@@ -1,0 +1,13 @@
+pub mod OutputLemmas
+pub mod NumberedTexts
+pub mod BatchTexts
+pub mod CoreLemmas
+pub mod PlanLemmas
+pub mod StepLemmas
+pub mod ReplayCores
+pub mod ReplaySteps
+pub mod ReplayLoop
+pub mod PlayLemmas
+pub mod SumLemmas
+pub mod MadeLemmas
+pub mod SentLemmas

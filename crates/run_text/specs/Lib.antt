@@ -1,0 +1,10 @@
+pub mod Sizes
+pub mod PlanText
+pub mod ReplayText
+pub mod Made
+pub mod Sends
+pub mod Sums
+pub mod Scheduled
+pub mod ReplayScheduled
+pub mod Progress
+pub mod ReplayProgress

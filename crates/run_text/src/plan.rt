@@ -1,0 +1,156 @@
+ghost use Rattle.std.specs.Prelude.{◌≡◌, ◌≢◌, ◌<◌, ◌≤◌, ◌+◌, OnOk};
+ghost use Rattle.trace_text.specs.Valid.{IsTrace};
+ghost use Rattle.window_engine.specs.Batches.{plan_batches};
+ghost use Rattle.window_engine.specs.Counts.{AllIsAllocatedOrPending};
+ghost use Rattle.window_engine.specs.Scheduled.{HasCores};
+ghost use Rattle.window_engine.specs.Standing.{Stands, window_of};
+ghost use Rattle.run_lines.specs.Content.{sink_content};
+ghost use Rattle.run_lines.specs.Output.{Passes, Ends, Writes};
+ghost use Rattle.run_lines.specs.Steps.{IsWindow};
+ghost use Rattle.run_lines.specs.Text.{text_of};
+ghost use Rattle.run_text.specs.PlanText.{plan_text};
+ghost use Rattle.run_text.specs.Progress.{lines_of_step, next_lines, rounds_lines};
+ghost use Rattle.run_text.specs.Scheduled.{WithCores, WithCoresOfNext};
+ghost use Rattle.run_text.specs.Sizes.{AreSizes};
+
+use crate::sizes::Sizes;
+use fp_edge::{Gate, Sink};
+use report_text::{Line, LineBuffer};
+use run_lines::{Output, Stop, put_batch, put_flows, texts_follow};
+use std::alloc::Global;
+use std::sync::Wait;
+use std::thread::Threads;
+use trace_text::Trace;
+use window_engine::{
+    Engine, Setting, Step, every_plan_balances, every_plan_has_its_slots, every_plan_is_recorded,
+    every_record_has_cores,
+};
+
+/// How many workers there are.
+pub(crate) const WORKERS: u16 = 4;
+
+/// The batches of a step, each with its slots.
+fn put_window<K: Sink>(output: &mut Output<'_, K>, step: &Step, b: u8) -> Result<(), Stop>
+    requires b { (0 < b) × (b ≤ 64) }
+    requires window { IsWindow b step.now }
+    ensures { Passes output.old output.new (text_of (lines_of_step b step.now)) result }
+{
+    texts_follow();
+    let span = step.allocated();
+    for at in 0..span.count {
+        put_batch(output, step, b, at)?;
+    }
+    Ok(())
+}
+
+/// Plans the next window of rounds, and gives out its batches and slots.
+fn put_step<R: Threads + Wait + Sync, G: Gate + Sync, K: Sink>(
+    rt: &R,
+    gate: &G,
+    trace: &Trace,
+    engine: &mut Engine,
+    b: u8,
+    output: &mut Output<'_, K>,
+) -> Result<(), Stop>
+    requires accepted { IsTrace trace.now }
+    requires stands { Stands trace.now engine.old }
+    requires more { engine.old.collection.rounds ≢ engine.old.rounds }
+    requires b { engine.old.allocation.b ≡ b }
+    requires cores { HasCores b trace.now.net (plan_batches trace.now) }
+    ensures stands { OnOk result (Stands trace.now engine.new) }
+    ensures round { OnOk result (engine.new.collection.rounds ≡ engine.old.collection.rounds + window_of engine.old) }
+    ensures rounds { OnOk result (engine.new.rounds ≡ engine.old.rounds) }
+    ensures b { OnOk result (engine.new.allocation.b ≡ b) }
+    ensures passes { WithCoresOfNext b trace.now engine.old (λ cores.
+        Passes output.old output.new (text_of (next_lines cores b trace.now engine.old)) result) }
+{
+    texts_follow();
+    every_plan_has_its_slots();
+    let step = engine.step(rt, gate, trace)?;
+    put_window(output, &step, b)
+}
+
+/// Plans all rounds.
+fn put_rounds<R: Threads + Wait + Sync, G: Gate + Sync, K: Sink>(
+    rt: &R,
+    gate: &G,
+    trace: &Trace,
+    engine: &mut Engine,
+    b: u8,
+    output: &mut Output<'_, K>,
+) -> Result<(), Stop>
+    requires accepted { IsTrace trace.now }
+    requires stands { Stands trace.now engine.old }
+    requires start { engine.old.collection.rounds ≡ 0 }
+    requires b { engine.old.allocation.b ≡ b }
+    requires cores { HasCores b trace.now.net (plan_batches trace.now) }
+    ensures stands { OnOk result (Stands trace.now engine.new) }
+    ensures done { OnOk result (engine.new.collection.rounds ≡ engine.new.rounds) }
+    ensures b { OnOk result (engine.new.allocation.b ≡ b) }
+    ensures passes { WithCores b trace.now (λ cores.
+        Passes output.old output.new (text_of (rounds_lines cores b trace.now.rounds trace.now)) result) }
+{
+    texts_follow();
+    every_plan_has_its_slots();
+    while !engine.done() {
+        put_step(rt, gate, trace, engine, b, output)?;
+    }
+    Ok(())
+}
+
+/// The text of a plan: the batches with their slots, what became of each flow's demand, and the end.
+fn put_lines<R: Threads + Wait + Sync, G: Gate + Sync, K: Sink>(
+    rt: &R,
+    gate: &G,
+    alloc: Global,
+    trace: &Trace,
+    sizes: Sizes,
+    output: &mut Output<'_, K>,
+) -> Result<(), Stop>
+    requires accepted { IsTrace trace.now }
+    requires sizes { AreSizes sizes }
+    requires cores { HasCores sizes.b trace.now.net (plan_batches trace.now) }
+    ensures { WithCores sizes.b trace.now (λ cores. Ends output.old output.new (plan_text cores sizes.b trace.now) result) }
+{
+    texts_follow();
+    every_plan_has_its_slots();
+    let setting = Setting {
+        replay: false,
+        workers: WORKERS,
+        paths: u16::from(sizes.paths),
+        b: sizes.b,
+        g: sizes.g,
+    };
+    let mut engine = Engine::open(alloc, trace, setting)?;
+    put_rounds(rt, gate, trace, &mut engine, sizes.b, output)?;
+    put_flows(output, trace, &engine)?;
+    output.put_last_line(&Line::End {
+        rounds: trace.rounds(),
+    })
+}
+
+/// Plans a trace and writes the text.
+pub fn write_plan<R: Threads + Wait + Sync, G: Gate + Sync, K: Sink>(
+    rt: &R,
+    gate: &G,
+    alloc: Global,
+    trace: &Trace,
+    sizes: Sizes,
+    sink: &mut K,
+) -> Result<(), Stop>
+    requires accepted { IsTrace trace.now }
+    requires sizes { AreSizes sizes }
+    ensures writes { WithCores sizes.b trace.now (λ cores.
+        Writes (sink_content K.Sink sink.old) (sink_content K.Sink sink.new) (plan_text cores sizes.b trace.now) result) }
+    ensures ledger { OnOk result (AllIsAllocatedOrPending sizes.b (plan_batches trace.now)) }
+{
+    texts_follow();
+    every_plan_is_recorded();
+    every_record_has_cores();
+    every_plan_balances();
+    let gathered = LineBuffer::open(alloc)?;
+    let mut output = Output::new(sink, gathered);
+    let written = put_lines(rt, gate, alloc, trace, sizes, &mut output);
+    let _sink = output.into_sink();
+    written
+}

@@ -1,0 +1,196 @@
+ghost use Rattle.std.specs.Prelude.{◌≡◌, ◌≢◌, ◌<◌, ◌≤◌, ◌+◌, IfOk, OnOk, ⊤, length};
+ghost use Rattle.trace_text.specs.Valid.{IsTrace};
+ghost use Rattle.trace_run.specs.Shown.{IsShown};
+ghost use Rattle.replay_rounds.specs.Setting.{Cores, AreCores, setting_of};
+ghost use Rattle.window_engine.specs.Replay.{StandsForReplay};
+ghost use Rattle.run_lines.specs.Content.{sink_content};
+ghost use Rattle.run_lines.specs.Output.{Passes, Ends, Writes};
+ghost use Rattle.run_lines.specs.Steps.{ArePlayed};
+ghost use Rattle.run_lines.specs.Text.{text_of};
+ghost use Rattle.run_text.specs.ReplayProgress.{HasSlots, played_lines, step_text_lines, next_rounds, GivesStep, GivesSteps};
+ghost use Rattle.run_text.specs.ReplayScheduled.{WithReplayCores};
+ghost use Rattle.run_text.specs.ReplayText.{replay_lines, replay_text};
+ghost use Rattle.run_text.specs.Sends.{SendsAreScheduled};
+ghost use Rattle.run_text.specs.Sizes.{AreSizes};
+
+use crate::plan::WORKERS;
+use crate::sizes::Sizes;
+use fp_edge::{Gate, Sink};
+use greedy_rules::schedules_go_on;
+use no_memory::NoMemory;
+use replay_rounds::{Played, every_refusal_has_a_number};
+use report_text::{Line, LineBuffer};
+use run_lines::{Output, Stop, put_counts, put_round, put_slots, texts_follow};
+use std::alloc::Global;
+use std::sync::Wait;
+use std::thread::Threads;
+use trace_run::{cores_decide_nothing, every_replay_shows, every_send_is_scheduled, runs_go_on};
+use trace_text::Trace;
+use window_engine::{
+    Replay, ReplayStep, Setting, every_replay_has_cores, every_replay_takes_its_steps,
+};
+
+/// The replay of a trace, before its first round.
+pub(crate) fn open_replay(alloc: Global, trace: &Trace, sizes: Sizes) -> Result<Replay, NoMemory>
+    requires { AreSizes sizes }
+    ensures stands { IfOk result (λ replay. (cores : Cores) → AreCores cores → StandsForReplay trace.now cores replay) }
+    ensures b { IfOk result (λ replay. replay.lanes.b ≡ sizes.b) }
+    ensures g { IfOk result (λ replay. replay.lanes.g ≡ sizes.g) }
+    ensures collected { IfOk result (λ replay. replay.lanes.collected ≡ 0) }
+    ensures published { IfOk result (λ replay. replay.lanes.published ≡ 0) }
+{
+    let setting = Setting {
+        replay: true,
+        workers: WORKERS,
+        paths: u16::from(sizes.paths),
+        b: sizes.b,
+        g: sizes.g,
+    };
+    Replay::open(alloc, trace, setting)
+}
+
+/// Rounds that were played, from this one on.
+fn put_played<K: Sink>(output: &mut Output<'_, K>, played: &Played, first: u32) -> Result<(), Stop>
+    requires { ArePlayed first played.now }
+    ensures { Passes output.old output.new (text_of (played_lines first played.now (length played.now.batches))) result }
+{
+    texts_follow();
+    let count = played.batches().len() as u32;
+    for at in 0..count {
+        put_round(output, played, first, at)?;
+    }
+    Ok(())
+}
+
+/// The rounds that a step played, and then the slots of the batches that it allocated.
+fn put_lines_of_step<K: Sink>(
+    output: &mut Output<'_, K>,
+    step: &ReplayStep,
+    b: u8,
+) -> Result<(), Stop>
+    requires b { (0 < b) × (b ≤ 64) }
+    requires played { ArePlayed step.now.first step.now.played }
+    requires slots { HasSlots b step.now }
+    ensures { Passes output.old output.new (text_of (step_text_lines b step.now)) result }
+{
+    texts_follow();
+    put_played(output, step.played(), step.first())?;
+    let span = step.allocated();
+    let count = span.count as u16 * u16::from(b);
+    let base = span.first * u32::from(b) + 1;
+    put_slots(output, step.slots(), step.cores(), 0, count, base)
+}
+
+/// Plays the next window of rounds and allocates the one before, and gives both out.
+fn put_step<R: Threads + Wait + Sync, G: Gate + Sync, K: Sink>(
+    rt: &R,
+    gate: &G,
+    trace: &Trace,
+    replay: &mut Replay,
+    b: u8,
+    output: &mut Output<'_, K>,
+) -> Result<(), Stop>
+    requires accepted { IsTrace trace.now }
+    requires stands { (cores : Cores) × StandsForReplay trace.now cores replay.old }
+    requires more { replay.old.lanes.published ≢ replay.old.rounds }
+    requires b { replay.old.lanes.b ≡ b }
+    ensures rounds { OnOk result (replay.new.rounds ≡ replay.old.rounds) }
+    ensures b { OnOk result (replay.new.lanes.b ≡ b) }
+    ensures g { OnOk result (replay.new.lanes.g ≡ replay.old.lanes.g) }
+    ensures collected { OnOk result (replay.new.lanes.collected ≡ replay.old.lanes.collected + next_rounds replay.old) }
+    ensures published { OnOk result (replay.new.lanes.published ≡ replay.old.lanes.collected) }
+    ensures passes { GivesStep b trace.now replay.old replay.new output.old output.new result }
+{
+    texts_follow();
+    every_refusal_has_a_number();
+    runs_go_on();
+    schedules_go_on();
+    let step = replay.step(rt, gate, trace)?;
+    put_lines_of_step(output, &step, b)
+}
+
+/// Replays all rounds.
+fn put_steps<R: Threads + Wait + Sync, G: Gate + Sync, K: Sink>(
+    rt: &R,
+    gate: &G,
+    trace: &Trace,
+    replay: &mut Replay,
+    b: u8,
+    output: &mut Output<'_, K>,
+) -> Result<(), Stop>
+    requires accepted { IsTrace trace.now }
+    requires stands { (cores : Cores) → AreCores cores → StandsForReplay trace.now cores replay.old }
+    requires collected { replay.old.lanes.collected ≡ 0 }
+    requires published { replay.old.lanes.published ≡ 0 }
+    requires b { replay.old.lanes.b ≡ b }
+    requires cores { WithReplayCores b replay.old.lanes.g trace.now (λ cores. ⊤) }
+    ensures rounds { OnOk result (replay.new.rounds ≡ replay.old.rounds) }
+    ensures b { OnOk result (replay.new.lanes.b ≡ b) }
+    ensures g { OnOk result (replay.new.lanes.g ≡ replay.old.lanes.g) }
+    ensures done { OnOk result (replay.new.lanes.published ≡ replay.new.rounds) }
+    ensures passes { WithReplayCores b replay.old.lanes.g trace.now
+        (GivesSteps b replay.old.lanes.g trace.now replay.new output.old output.new result) }
+{
+    texts_follow();
+    cores_decide_nothing();
+    runs_go_on();
+    schedules_go_on();
+    every_replay_takes_its_steps();
+    while !replay.done() {
+        put_step(rt, gate, trace, replay, b, output)?;
+    }
+    Ok(())
+}
+
+/// The text of a replay: its steps, what became of each flow's demand, and the end.
+fn put_lines<R: Threads + Wait + Sync, G: Gate + Sync, K: Sink>(
+    rt: &R,
+    gate: &G,
+    alloc: Global,
+    trace: &Trace,
+    sizes: Sizes,
+    output: &mut Output<'_, K>,
+) -> Result<(), Stop>
+    requires accepted { IsTrace trace.now }
+    requires sizes { AreSizes sizes }
+    requires cores { WithReplayCores sizes.b sizes.g trace.now (λ cores. ⊤) }
+    ensures { WithReplayCores sizes.b sizes.g trace.now (λ cores.
+        Ends output.old output.new (replay_text cores sizes.b sizes.g trace.now) result) }
+{
+    texts_follow();
+    let mut replay = open_replay(alloc, trace, sizes)?;
+    put_steps(rt, gate, trace, &mut replay, sizes.b, output)?;
+    put_counts(output, trace, &replay)?;
+    output.put_last_line(&Line::End {
+        rounds: trace.rounds(),
+    })
+}
+
+/// Replays a trace and writes the text.
+pub fn write_replay<R: Threads + Wait + Sync, G: Gate + Sync, K: Sink>(
+    rt: &R,
+    gate: &G,
+    alloc: Global,
+    trace: &Trace,
+    sizes: Sizes,
+    sink: &mut K,
+) -> Result<(), Stop>
+    requires accepted { IsTrace trace.now }
+    requires sizes { AreSizes sizes }
+    ensures writes { WithReplayCores sizes.b sizes.g trace.now (λ cores.
+        Writes (sink_content K.Sink sink.old) (sink_content K.Sink sink.new) (replay_text cores sizes.b sizes.g trace.now) result) }
+    ensures shown { (cores : Cores) → IsShown (setting_of trace.now sizes.b sizes.g cores) trace.now.rounds }
+    ensures sends { (cores : Cores) → let setting = setting_of trace.now sizes.b sizes.g cores in
+        SendsAreScheduled setting trace.now.rounds (replay_lines cores setting trace.now) }
+{
+    texts_follow();
+    cores_decide_nothing();
+    every_replay_has_cores();
+    every_replay_shows();
+    every_send_is_scheduled();
+    let gathered = LineBuffer::open(alloc)?;
+    let mut output = Output::new(sink, gathered);
+    let written = put_lines(rt, gate, alloc, trace, sizes, &mut output);
+    let _sink = output.into_sink();
+    written
+}
