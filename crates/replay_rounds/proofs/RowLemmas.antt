@@ -1,11 +1,13 @@
--- The raw packets of a round, each at its place, and whom they name.
-use Rattle.std.proofs.Common.{◌≡◌, ℕ, zero, suc, ◌+◌, Bool, true, false, not, ◌&&◌, ◌==◌, nat_eq, cond, List, [], ◌∷◌, length, Option, Some, None, is_none, slice_get, refl, ap, ◌∙◌, arith}
+-- The raw packets of a round, each at its place, and whom they name; and its asks.
+use Rattle.std.proofs.Common.{◌≡◌, ℕ, zero, suc, ◌+◌, Bool, true, false, not, ◌&&◌, ◌==◌, nat_eq, cond, List, [], ◌∷◌, length, map, Option, Some, None, is_none, slice_get, refl, ap, ◌∙◌, arith}
 use Rattle.std.specs.Option.{option_eq}
 use Rattle.std.proofs.lemmas.Option.{slice_get_within}
 use Rattle.fcp_framing.specs.Fields.{up_of}
 use Rattle.fcp_framing.specs.Refusals.{first_refusal, refuses_up}
 use Rattle.lane_rounds.specs.Outside.{names}
 use Rattle.lane_rounds.specs.Raw.{Raw}
+use Rattle.trace_text.specs.Asks.{ask_for}
+use Rattle.trace_text.specs.declared.ask.Ask.{Ask}
 use Rattle.replay_rounds.specs.Setting.{rows_from}
 use Rattle.replay_rounds.specs.Collecting.{source_of}
 
@@ -52,3 +54,13 @@ pub row_got : (raw : List (List ℕ)) (i : ℕ) (bytes : List ℕ) → slice_get
 row_got raw i bytes is =
     let same : 0 + i ≡ i = omega arith in
     rows_got 0 raw i bytes is ∙ ap (λ (k : ℕ). row_at k bytes) same
+
+-- ---- asks
+
+-- what an ask is for, and how much
+abbrev pub asked_of : Ask → ℕ × ℕ
+asked_of ask = (ask.dst, ask.slots)
+
+pub asked_back : (round src : ℕ) (asked : List (ℕ × ℕ)) → map asked_of (map (ask_for round src) asked) ≡ asked
+asked_back round src [] = refl
+asked_back round src (one ∷ asked) = ap (λ (rest : List (ℕ × ℕ)). one ∷ rest) (asked_back round src asked)

@@ -42,9 +42,8 @@ fn fill_asks(asks: &mut AskList, trace: &Trace, round: u32, endpoint: u16) -> Re
     ensures { OnOk result (asks.new ≡ asked_at trace.now round endpoint) }
 {
     asks.clear();
-    for at in 0..trace.ask_count(round, endpoint) {
-        let (dst, n) = trace.ask(round, endpoint, at);
-        asks.push(dst, n)?;
+    for ask in trace.asks_by(round, endpoint) {
+        asks.push(ask.dst, ask.slots)?;
     }
     Ok(())
 }

@@ -1,16 +1,15 @@
 -- Asks that rise by their ranks, and the part of them that one source asks for in one round.
-use Rattle.std.proofs.Common.{◌≡◌, ℕ, zero, suc, ◌+◌, ◌-◌, ◌*◌, ◌<◌, ◌≤◌, List, [], ◌∷◌, ◌++◌, length, get_or, take, drop, map, Bool, true, false, cond, All, refl, sym, ap, subst, ◌∙◌, arith, length-append}
+use Rattle.std.proofs.Common.{◌≡◌, ℕ, zero, suc, ◌+◌, ◌-◌, ◌*◌, ◌<◌, ◌≤◌, List, [], ◌∷◌, ◌++◌, length, get_or, map, Bool, true, false, cond, All, refl, sym, ap, subst, ◌∙◌, arith, length-append}
 use Rattle.std.proofs.Math.Seq.{get_or-append_seam}
 use Rattle.std.specs.Prelude.{◌==◌, ◌&&◌, nat_lt, filter, sum_by}
 use Rattle.std.specs.List.{range_with_len}
 use Rattle.std.specs.List.Sorted.{IsNonDecreasingBy}
 use Rattle.std.proofs.lemmas.Bool.Decides.{nat_tests}
 use Rattle.std.proofs.lemmas.List.Sums.{sum_by-cons}
-use Rattle.trace_text.specs.Asks.{rank_of, slots_asked, is_asked_by, IsAmong, IsRisingFrom, IsKept}
+use Rattle.trace_text.specs.Asks.{rank_of, slots_asked, is_asked_by, IsAmong, IsRisingFrom}
 use Rattle.trace_text.specs.Ranks.{has_rank_in}
 use Rattle.trace_text.specs.Trace.{some_below}
 use Rattle.trace_text.specs.declared.ask.Ask.{Ask}
-use Rattle.trace_text.proofs.RankFacts.{filter-part}
 
 -- one more, above the last
 pub rising-more : (low : ℕ) (asks : List Ask) (last next : Ask) → IsRisingFrom low (asks ++ last ∷ []) → rank_of last < rank_of next → IsRisingFrom low ((asks ++ last ∷ []) ++ next ∷ [])
@@ -201,11 +200,3 @@ pub asked-pairs : (endpoints round src : ℕ) (asks : List Ask) → IsRisingFrom
 asked-pairs endpoints round src asks rising among =
     pairs-all endpoints 0 endpoints (map pair_of (filter (is_asked_by round src) asks)) (λ dst. sum_by (slots_asked round src dst) asks) (omega arith)
     (pairs-rise endpoints round src 0 0 asks (omega arith) rising among) (λ d le. sym (pairs-amount asks round src d))
-
--- the asks of one round
-pub round-part : (endpoints rounds : ℕ) (asks : List Ask) (starts : List ℕ) (round start end : ℕ) → IsKept endpoints rounds asks starts → round < rounds
-    → start ≡ get_or starts round 0 → end ≡ get_or starts (round + 1) 0
-    → (start ≤ end) × (take (end - start) (drop start asks) ≡ filter (has_rank_in rank_of (round * 65536) ((round + 1) * 65536)) asks)
-round-part endpoints rounds asks starts round start end kept low at at2 =
-    rw (at, at2) (filter-part rank_of asks (round * 65536) ((round + 1) * 65536) (get_or starts round 0) (get_or starts (round + 1) 0) (omega arith)
-    (kept.begin round (omega arith)) (kept.begin (round + 1) (omega arith)))

@@ -71,6 +71,12 @@ fate-rank round endpoint up given low low2 = by up given.up refl (given.round ==
     by false true v false e b f = rw v (grind (arith, nat_tests))
     by false false v false e b f = rw v (grind (arith, nat_tests))
 
+-- and one of those of its round
+pub fate-within : (round endpoint : ℕ) (up : Bool) → endpoint < 256
+    → (round * 512 ≤ (round * 256 + endpoint) * 2 + way_number up) × ((round * 256 + endpoint) * 2 + way_number up + 1 ≤ (round + 1) * 512)
+fate-within round endpoint true low = (omega arith, omega arith)
+fate-within round endpoint false low = (omega arith, omega arith)
+
 pub fates-of : (n : ℕ) (fates : List GivenFate) (round endpoint : ℕ) (up : Bool) → n ≤ 256 → endpoint < n → All (IsFateAmong n) fates
     → filter (has_rank_in fate_rank ((round * 256 + endpoint) * 2 + way_number up) ((round * 256 + endpoint) * 2 + way_number up + 1)) fates ≡ filter (is_fate_of round endpoint up) fates
 fates-of n fates round endpoint up few low among =

@@ -1,5 +1,5 @@
 -- The asks of a round as they are kept: source by source.
-use Rattle.std.proofs.Common.{◌≡◌, ℕ, zero, suc, ◌+◌, ◌-◌, ◌*◌, ◌<◌, ◌≤◌, List, [], ◌∷◌, ◌++◌, get_or, take, drop, map, Bool, true, false, cond, All, refl, sym, ap, ◌∙◌, arith}
+use Rattle.std.proofs.Common.{◌≡◌, ℕ, zero, suc, ◌+◌, ◌*◌, ◌<◌, ◌≤◌, List, [], ◌∷◌, ◌++◌, get_or, map, Bool, true, false, cond, All, refl, sym, ap, ◌∙◌, arith}
 use Rattle.std.specs.Prelude.{◌==◌, filter, sum_by}
 use Rattle.std.specs.List.{flat_map, range_with_len}
 use Rattle.std.proofs.lemmas.Bool.Decides.{nat_tests}
@@ -8,8 +8,8 @@ use Rattle.trace_text.specs.Asks.{rank_of, slots_asked, is_asked_by, ask_for, as
 use Rattle.trace_text.specs.Ranks.{has_rank_in}
 use Rattle.trace_text.specs.Trace.{Events, asked_at, content_by}
 use Rattle.trace_text.specs.declared.ask.Ask.{Ask}
-use Rattle.trace_text.proofs.RankFacts.{filter_no, filter-filter}
-use Rattle.trace_text.proofs.AskFacts.{among-more, asked-pairs, filter-block, pair_of, round-part}
+use Rattle.trace_text.proofs.RankFacts.{filter_no, within-round}
+use Rattle.trace_text.proofs.AskFacts.{among-more, asked-pairs, filter-block, pair_of}
 use Rattle.trace_text.proofs.ContentFacts.{asked_at-content_by}
 use Rattle.trace_text.proofs.EventFacts.{filter-same}
 use Rattle.trace_text.proofs.MadeFacts.{flat_map-more}
@@ -96,27 +96,26 @@ flat-same : {X : Type 0} (f g : ℕ → List X) (low n : ℕ) → ((i : ℕ) →
 flat-same f g low zero same = refl
 flat-same f g low (suc n) same = ap (λ l. l ++ flat_map f (range_with_len (low + 1) n)) (same low (omega arith)) ∙ ap (λ l. g low ++ l) (flat-same f g (low + 1) n (λ i lt. same i (omega arith)))
 
-pub round-asks : (net : Network) (rounds : ℕ) (events : Events) (asks : List Ask) (starts : List ℕ) (round start end : ℕ) → IsKept (endpoints_of net) rounds asks starts → round < rounds
-    → start ≡ get_or starts round 0 → end ≡ get_or starts (round + 1) 0
-    → take (end - start) (drop start asks) ≡ asks_in (content_by net rounds (λ r s d. sum_by (slots_asked r s d) asks) events) round
-round-asks net rounds events asks starts round start end kept low at at2 =
+pub round-asks : (net : Network) (rounds : ℕ) (events : Events) (asks own : List Ask) (starts : List ℕ) (round : ℕ) → IsKept (endpoints_of net) rounds asks starts → round < rounds
+    → own ≡ filter (has_rank_in rank_of (round * 65536) ((round + 1) * 65536)) asks
+    → own ≡ asks_in (content_by net rounds (λ r s d. sum_by (slots_asked r s d) asks) events) round
+round-asks net rounds events asks own starts round kept low is =
     let n = endpoints_of net in
-    (round-part n rounds asks starts round start end kept low at at2).1
+    is
     ∙ filter-same _ (has_rank_in rank_of (round * 65536) (round * 65536 + n * 256)) asks (λ k d lt. whole-round n round (get_or asks k d) kept.few (kept.among k d lt))
     ∙ sources-of asks round n kept.rising (among-more n 256 asks kept.few kept.among) kept.few
     ∙ flat-same (λ src. filter (is_asked_by round src) asks) _ 0 n (λ src lt. sym (asks-back asks round src)
     ∙ ap (map (ask_for round src)) (asked-pairs n round src asks kept.rising kept.among ∙ sym (asked_at-content_by net rounds (λ r s d. sum_by (slots_asked r s d) asks) events round src low (omega arith))))
 
 -- what one source asks for in one round, found in the asks of the round
-pub source-asks : (net : Network) (rounds : ℕ) (events : Events) (asks : List Ask) (starts : List ℕ) (round src start end : ℕ) → IsKept (endpoints_of net) rounds asks starts → round < rounds
-    → src < endpoints_of net → start ≡ get_or starts round 0 → end ≡ get_or starts (round + 1) 0
-    → filter (has_rank_in rank_of ((round * 256 + src) * 256) ((round * 256 + src) * 256 + 256)) (take (end - start) (drop start asks))
+pub source-asks : (net : Network) (rounds : ℕ) (events : Events) (asks own : List Ask) (starts : List ℕ) (round src : ℕ) → IsKept (endpoints_of net) rounds asks starts → round < rounds
+    → src < endpoints_of net → own ≡ filter (has_rank_in rank_of (round * 65536) ((round + 1) * 65536)) asks
+    → filter (has_rank_in rank_of ((round * 256 + src) * 256) ((round * 256 + src) * 256 + 256)) own
     ≡ map (ask_for round src) (asked_at (content_by net rounds (λ r s d. sum_by (slots_asked r s d) asks) events) round src)
-source-asks net rounds events asks starts round src start end kept low low2 at at2 =
+source-asks net rounds events asks own starts round src kept low low2 is =
     let n = endpoints_of net in
     let few = kept.few in
-    ap (filter (has_rank_in rank_of ((round * 256 + src) * 256) ((round * 256 + src) * 256 + 256))) (round-part n rounds asks starts round start end kept low at at2).1
-    ∙ filter-filter rank_of asks ((round * 256 + src) * 256) ((round * 256 + src) * 256 + 256) (round * 65536) ((round + 1) * 65536) (omega arith) (omega arith)
+    within-round rank_of asks own 65536 round ((round * 256 + src) * 256) ((round * 256 + src) * 256 + 256) is (omega arith) (omega arith)
     ∙ filter-block asks round src (omega arith) (among-more n 256 asks kept.few kept.among)
     ∙ sym (asks-back asks round src)
     ∙ ap (map (ask_for round src)) (asked-pairs n round src asks kept.rising kept.among ∙ sym (asked_at-content_by net rounds (λ r s d. sum_by (slots_asked r s d) asks) events round src low low2))

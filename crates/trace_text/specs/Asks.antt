@@ -1,8 +1,8 @@
 -- The asks that are kept of a trace, and their order: by round, then source, then destination.
-use Rattle.std.specs.Prelude.{◌≢◌, ℕ, ◌+◌, ◌*◌, ◌<◌, ◌≤◌, ◌==◌, ◌&&◌, List, [], ◌∷◌, Bool, ⊤, ◌≡◌, length, map, slice_index, if◌then◌else◌, All}
+use Rattle.std.specs.Prelude.{◌≢◌, ℕ, ◌+◌, ◌*◌, ◌<◌, ◌≤◌, ◌==◌, ◌&&◌, List, [], ◌∷◌, Bool, ⊤, map, if◌then◌else◌, All}
 use Rattle.std.specs.List.{flat_map, range_with_len}
 use Rattle.clos_topology.specs.Network.{endpoints_of}
-use Rattle.trace_text.specs.Ranks.{BeginsAt}
+use Rattle.trace_text.specs.Ranks.{AreStarts}
 use Rattle.trace_text.specs.Trace.{TraceContent, asked_at}
 use Rattle.trace_text.specs.declared.ask.Ask.{Ask}
 
@@ -46,5 +46,4 @@ pub record IsKept (endpoints rounds : ℕ) (asks : List Ask) (starts : List ℕ)
   pub few : endpoints ≤ 256
   pub rising : IsRisingFrom 0 asks
   pub among : All (IsAmong endpoints) asks
-  pub each : length starts ≡ rounds + 1
-  pub begin : (round : ℕ) → round ≤ rounds → BeginsAt rank_of asks (round * 65536) (slice_index starts round)
+  pub begin : AreStarts rank_of 65536 rounds asks starts

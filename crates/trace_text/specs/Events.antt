@@ -5,6 +5,7 @@ use Rattle.std.specs.List.Sorted.{IsNonDecreasingBy}
 use Rattle.trace_text.specs.Rows.{Row}
 use Rattle.trace_text.specs.Earlier.{is_same_way, fate_in, boot_in, packet_in}
 use Rattle.trace_text.specs.Faults.{is_fate}
+use Rattle.trace_text.specs.Ranks.{AreStarts}
 use Rattle.trace_text.specs.Trace.{Events}
 use Rattle.trace_text.specs.declared.events.GivenFate.{GivenFate}
 use Rattle.trace_text.specs.declared.events.Boot.{Boot}
@@ -63,11 +64,14 @@ pub record AreAmong (endpoints : ℕ) (fates : List GivenFate) (boots : List Boo
   pub each_boot : All (IsBootAmong endpoints) boots
   pub each_raw : All (IsWithin (length bytes)) raws
 
--- what a trace keeps, in the order of ranks; it has no more boots than its text has bytes
-pub record AreKept (endpoints : ℕ) (fates : List GivenFate) (boots : List Boot) (raws : List RawPacket) (bytes : List ℕ) : Type 0 where
+-- what a trace keeps, in the order of ranks, and where the fates and the boots of each round begin; it has no more boots than its
+-- text has bytes
+pub record AreKept (endpoints rounds : ℕ) (fates : List GivenFate) (fate_starts : List ℕ) (boots : List Boot) (boot_starts : List ℕ) (raws : List RawPacket) (bytes : List ℕ) : Type 0 where
   pub among : AreAmong endpoints fates boots raws bytes
   pub fates_rise : IsNonDecreasingBy fate_rank fates
+  pub fates_begin : AreStarts fate_rank 512 rounds fates fate_starts
   pub boots_rise : IsNonDecreasingBy boot_rank boots
+  pub boots_begin : AreStarts boot_rank 256 rounds boots boot_starts
   pub raws_rise : IsNonDecreasingBy raw_rank raws
   pub few : length boots ≤ 67108864
 

@@ -12,12 +12,19 @@ use crate::events::{
     Boot, EventRows, GivenFate, RawPacket, boot_rank, bytes_are_below_256, fate_rank, packet_of,
     raws_of,
 };
-use crate::order::{Ranked, between, gather, sort, starts_of};
+use crate::order::{Ranked, between, first_of, gather, of_round, sort, starts_of};
 use clos_topology::Net;
 use loss_world::Fate;
 use no_memory::NoMemory;
 use std::alloc::{AllocError, Global};
 use std::marker::Model;
+
+// How many ranks a round has of asks, of fates and of boots.
+const ASK_RANKS: u64 = 65_536;
+
+const FATE_RANKS: u64 = 512;
+
+const BOOT_RANKS: u64 = 256;
 
 /// A trace without faulty row.
 #[derive(Drop)]
@@ -27,11 +34,15 @@ pub struct Trace {
     // One a round and flow, by round, then source, then destination.
     asks: Vec<Ask>,
     // Where those of each round begin, and where the last end.
-    starts: Vec<usize>,
+    ask_starts: Vec<usize>,
     // By round, then endpoint, then way.
     fates: Vec<GivenFate>,
+    // The same of fates.
+    fate_starts: Vec<usize>,
     // By round, then endpoint; those of one in the order of rows.
     boots: Vec<Boot>,
+    // And of boots.
+    boot_starts: Vec<usize>,
     // By round; those of one in the order of rows.
     raws: Vec<RawPacket>,
     // The bytes of all raw packets.
@@ -51,8 +62,8 @@ impl Model for Trace {
     ghost view = { λ t. content_by t.net t.rounds (λ round src dst. sum_by (slots_asked round src dst) t.asks.items) (events_kept t.fates.items t.boots.items t.raws.items t.bytes.items) };
 
     ghost invariant = { λ t.
-        IsKept (endpoints_of t.net) t.rounds t.asks.items t.starts.items
-        × AreKept (endpoints_of t.net) t.fates.items t.boots.items t.raws.items t.bytes.items
+        IsKept (endpoints_of t.net) t.rounds t.asks.items t.ask_starts.items
+        × AreKept (endpoints_of t.net) t.rounds t.fates.items t.fate_starts.items t.boots.items t.boot_starts.items t.raws.items t.bytes.items
         × IsTrace (content_by t.net t.rounds (λ round src dst. sum_by (slots_asked round src dst) t.asks.items) (events_kept t.fates.items t.boots.items t.raws.items t.bytes.items)) };
 }
 
@@ -83,18 +94,22 @@ impl Trace {
         } = events;
         asks.sort_unstable_by_key(|ask| ask.rank());
         let asks = gather(alloc, &asks)?;
-        let starts = starts_of(alloc, rounds, &asks)?;
+        let ask_starts = starts_of(alloc, rounds, ASK_RANKS, &asks)?;
         sort(&mut fates)?;
+        let fate_starts = starts_of(alloc, rounds, FATE_RANKS, &fates)?;
         sort(&mut boots)?;
+        let boot_starts = starts_of(alloc, rounds, BOOT_RANKS, &boots)?;
         sort(&mut raws)?;
         bytes_are_below_256(&bytes);
         Ok(Trace {
             net,
             rounds,
             asks,
-            starts,
+            ask_starts,
             fates,
+            fate_starts,
             boots,
+            boot_starts,
             raws,
             bytes,
         })
@@ -129,29 +144,7 @@ impl Trace {
         requires { round < self.now.rounds }
         ensures { result.now ≡ asks_in self.now round }
     {
-        let start = self.starts[round as usize];
-        let end = self.starts[round as usize + 1];
-        &self.asks[start..end]
-    }
-
-    /// How many destinations the source asks for in the round.
-    pub fn ask_count(&self, round: u32, src: u16) -> usize
-        requires round { round < self.now.rounds }
-        requires src { src < endpoints_of self.now.net }
-        ensures { result ≡ length (asked_at self.now round src) }
-    {
-        self.asks_by(round, src).len()
-    }
-
-    /// One of these destinations, counted from 0 as they rise, and the sum of the asks for it in the round.
-    pub fn ask(&self, round: u32, src: u16, at: usize) -> (u16, u32)
-        requires round { round < self.now.rounds }
-        requires src { src < endpoints_of self.now.net }
-        requires at { at < length (asked_at self.now round src) }
-        ensures { slice_get (asked_at self.now round src) at ≡ Some result }
-    {
-        let ask = self.asks_by(round, src)[at];
-        (ask.dst, ask.slots)
+        of_round(&self.asks, &self.ask_starts, round)
     }
 
     /// The asks of the source in the round, one a destination, rising by destination.
@@ -160,10 +153,9 @@ impl Trace {
         requires src { src < endpoints_of self.now.net }
         ensures { result.now ≡ map (ask_for round src) (asked_at self.now round src) }
     {
-        let start = self.starts[round as usize];
-        let end = self.starts[round as usize + 1];
+        let asks = of_round(&self.asks, &self.ask_starts, round);
         let low = (u64::from(round) * 256 + u64::from(src)) * 256;
-        between(&self.asks[start..end], low, low + 256)
+        between(asks, low, low + 256)
     }
 
     /// What befalls the packet that goes up from the endpoint in the round, or down to it; None where no row names it.
@@ -173,7 +165,8 @@ impl Trace {
         ensures { result ≡ fate_at self.now round endpoint up }
     {
         let rank = fate_rank(round, endpoint, up);
-        match between(&self.fates, rank, rank + 1).first() {
+        let fates = of_round(&self.fates, &self.fate_starts, round);
+        match first_of(fates, rank) {
             Some(given) => Some(given.fate),
             None => None,
         }
@@ -207,7 +200,8 @@ impl Trace {
         ensures few { length result.now ≤ 67108864 }
     {
         let rank = boot_rank(round, endpoint);
-        between(&self.boots, rank, rank + 1)
+        let boots = of_round(&self.boots, &self.boot_starts, round);
+        between(boots, rank, rank + 1)
     }
 
     /// How many raw packets the round has.

@@ -1,20 +1,19 @@
 -- What is asked for, flow by flow: the sums of the tallies, and the entries of a batch.
-use Rattle.std.proofs.Common.{◌≡◌, ◌<◌, ◌≤◌, ◌+◌, ℕ, zero, suc, List, [], ◌∷◌, ◌++◌, length, get_or, map, take, Bool, true, false, not, ◌==◌, ◌&&◌, ◌||◌, cond, Some, IsTrue, All, slice_get, refl, sym, ap, ◌∙◌, arith, inl, inr}
+use Rattle.std.proofs.Common.{◌≡◌, ◌<◌, ◌+◌, ℕ, zero, suc, List, [], ◌∷◌, length, get_or, take, Bool, true, false, not, ◌==◌, ◌&&◌, ◌||◌, cond, Some, IsTrue, All, slice_get, refl, sym, ap, ◌∙◌, arith, inl, inr}
 use Rattle.std.specs.List.{list_any}
 use Rattle.std.proofs.lemmas.Bool.{cond-true, cond-false, cases_Bool, ne_eqb}
 use Rattle.std.proofs.lemmas.Bool.Decides.{nat_tests}
-use Rattle.std.proofs.lemmas.List.{take_more, map_more, append_assoc, append-nil, get_or-take, length-take}
 use Rattle.std.proofs.lemmas.List.Sums.{sum_by-cons}
-use Rattle.std.proofs.lemmas.List.Elements.{All-nil, All-head, All-tail, All-append, All-map, All-weaker, All-take}
+use Rattle.std.proofs.lemmas.List.Elements.{All-head, All-tail, All-take}
 use Rattle.greedy_rules.specs.declared.flows.Flow.{Flow}
 use Rattle.greedy_rules.specs.declared.flows.Entry.{Entry}
 use Rattle.greedy_rules.specs.Flows.{flow_below}
 use Rattle.greedy_rules.specs.Batches.{IsAboveLast}
 use Rattle.clos_topology.specs.Network.{endpoints_of}
-use Rattle.trace_text.specs.Trace.{TraceContent, asked_at}
+use Rattle.trace_text.specs.Trace.{TraceContent}
 use Rattle.trace_text.specs.Valid.{amount_for, total_asked, IsAskList, IsTrace}
 use Rattle.window_engine.specs.Tallies.{Tallies, place_of}
-use Rattle.window_engine.specs.Batches.{Round, asks_for, is_asked, entry_for, entries_from}
+use Rattle.window_engine.specs.Batches.{Round, asks_for, is_asked}
 
 -- a row of a round is a list of asks, also past the last source
 pub row_of : (endpoints : ℕ) (round : Round) (src : ℕ) → All (IsAskList endpoints) round → IsAskList endpoints (get_or round src [])
@@ -65,76 +64,10 @@ above_last [] flow all = tt
 above_last (e ∷ []) flow all = All-head (λ (x : Entry). IsTrue (flow_below x.flow flow)) e [] all
 above_last (e ∷ (next ∷ batch)) flow all = above_last (next ∷ batch) flow (All-tail (λ (x : Entry). IsTrue (flow_below x.flow flow)) e (next ∷ batch) all)
 
-below_by_source : (e : Entry) (flow : Flow) → e.flow.src < flow.src → IsTrue (flow_below e.flow flow)
-below_by_source e flow lt = grind (arith, nat_tests)
-
-below_by_destination : (f g : Flow) → f.src ≡ g.src → f.dst < g.dst → IsTrue (flow_below f g)
-below_by_destination f g same lt = grind (arith, nat_tests)
-
 pub read_at : {X : Type 0} (xs : List X) (at : ℕ) (x d : X) → at < length xs → slice_get xs at ≡ Some x → get_or xs at d ≡ x
 read_at [] at x d below is = absurd (omega arith)
 read_at (y ∷ ys) zero x d below is = cc
 read_at (y ∷ ys) (suc at) x d below is = read_at ys at x d (omega arith) is
-
--- the next entry of a source is above the entries of earlier sources, and those of its own so far
-pub next_above : (endpoints : ℕ) (before : List Round) (src : ℕ) (earlier : List Entry) (asks : List (ℕ × ℕ)) (at : ℕ) (ask : ℕ × ℕ)
-    → All (λ e. e.flow.src < src) earlier → IsAskList endpoints asks → at < length asks → slice_get asks at ≡ Some ask
-    → IsAboveLast (earlier ++ map (entry_for before src) (take at asks)) (record { src = src; dst = ask.0 })
-next_above endpoints before src earlier asks at ask lower list below is =
-    let flow : Flow = record { src = src; dst = ask.0 } in
-    above_last (earlier ++ map (entry_for before src) (take at asks)) flow
-    (All-append (λ (e : Entry). IsTrue (flow_below e.flow flow)) earlier (map (entry_for before src) (take at asks))
-    (All-weaker (λ (e : Entry). e.flow.src < src) (λ e. IsTrue (flow_below e.flow flow)) (λ e lt. below_by_source e flow lt) earlier lower)
-    (All-map (λ (e : Entry). IsTrue (flow_below e.flow flow)) (entry_for before src) (take at asks)
-    (λ k d within.
-    let under : k < at = omega (arith, length-take at asks) in
-    let rises : (get_or asks k d).0 < (get_or asks at d).0 = list.rising k at d under below in
-    let this : (get_or asks at d).0 ≡ ask.0 = ap (λ (p : ℕ × ℕ). p.0) (read_at asks at ask d below is) in
-    let that : (get_or (take at asks) k d).0 ≡ (get_or asks k d).0 = ap (λ (p : ℕ × ℕ). p.0) (get_or-take at asks k d under) in
-    below_by_destination (record { src = src; dst = (get_or (take at asks) k d).0 }) flow refl (omega arith))))
-
--- one entry more of a source
-pub entries_more : (before : List Round) (src : ℕ) (earlier : List Entry) (asks : List (ℕ × ℕ)) (at : ℕ) (ask : ℕ × ℕ) → at < length asks → slice_get asks at ≡ Some ask
-    → (earlier ++ map (entry_for before src) (take at asks)) ++ entry_for before src ask ∷ [] ≡ earlier ++ map (entry_for before src) (take (at + 1) asks)
-entries_more before src earlier asks at ask below is =
-    append_assoc earlier (map (entry_for before src) (take at asks)) (entry_for before src ask ∷ [])
-    ∙ ap (λ (es : List Entry). earlier ++ es)
-    (ap (λ (p : ℕ × ℕ). map (entry_for before src) (take at asks) ++ entry_for before src p ∷ []) (sym (read_at asks at ask ask below is))
-    ∙ sym (map_more (entry_for before src) asks at ask below))
-
-entries_from-append : (before : List Round) (src : ℕ) (xs ys : Round) → entries_from before src (xs ++ ys) ≡ entries_from before src xs ++ entries_from before (src + length xs) ys
-entries_from-append before src [] ys = ap (λ (n : ℕ). entries_from before n ys) (omega arith)
-entries_from-append before src (x ∷ xs) ys =
-    let on : src + 1 + length xs ≡ src + suc (length xs) = omega arith in
-    ap (λ (es : List Entry). map (entry_for before src) x ++ es) (entries_from-append before (src + 1) xs ys ∙ ap (λ (n : ℕ). entries_from before (src + 1) xs ++ entries_from before n ys) on)
-    ∙ sym (append_assoc (map (entry_for before src) x) (entries_from before (src + 1) xs) (entries_from before (src + suc (length xs)) ys))
-
--- one source more of a round
-pub sources_more : (before : List Round) (round : Round) (src : ℕ) → src < length round
-    → entries_from before 0 (take (src + 1) round) ≡ entries_from before 0 (take src round) ++ map (entry_for before src) (get_or round src [])
-sources_more before round src below =
-    let none : List (ℕ × ℕ) = [] in
-    let place : 0 + length (take src round) ≡ src = omega (arith, length-take src round) in
-    ap (entries_from before 0) (take_more round src none below)
-    ∙ (entries_from-append before 0 (take src round) (get_or round src none ∷ [])
-    ∙ (ap (λ (n : ℕ). entries_from before 0 (take src round) ++ entries_from before n (get_or round src none ∷ [])) place
-    ∙ ap (λ (es : List Entry). entries_from before 0 (take src round) ++ es) (append-nil (map (entry_for before src) (get_or round src none)))))
-
-entries_lower : (before : List Round) (bound src : ℕ) (sources : Round) → src + length sources ≤ bound → All (λ e. e.flow.src < bound) (entries_from before src sources)
-entries_lower before bound src [] within = All-nil (λ (e : Entry). e.flow.src < bound)
-entries_lower before bound src (asks ∷ sources) within =
-    All-append (λ (e : Entry). e.flow.src < bound) (map (entry_for before src) asks) (entries_from before (src + 1) sources)
-    (All-map (λ (e : Entry). e.flow.src < bound) (entry_for before src) asks (λ k d below. omega arith))
-    (entries_lower before bound (src + 1) sources (omega arith))
-
-pub sources_lower : (before : List Round) (round : Round) (src : ℕ) → All (λ e. e.flow.src < src) (entries_from before 0 (take src round))
-sources_lower before round src = entries_lower before src 0 (take src round) (omega (arith, length-take src round))
-
--- what an accepted trace asks for in a round, by a source
-pub row_at : (trace : TraceContent) (round src : ℕ) → IsTrace trace → round < trace.rounds → IsAskList (endpoints_of trace.net) (asked_at trace round src)
-row_at trace round src sound below =
-    let within : round < length trace.asked = omega (arith, sound.rounds) in
-    row_of (endpoints_of trace.net) (get_or trace.asked round []) src (sound.asks round [] within)
 
 -- a table's 0 tells that the flow opens
 pub opens_is : (trace : TraceContent) (round src dst : ℕ) (table : List ℕ) (d : ℕ) → IsTrace trace → src < endpoints_of trace.net → dst < endpoints_of trace.net → Tallies (endpoints_of trace.net) (take round trace.asked) table

@@ -1,4 +1,5 @@
 pub mod AskLemmas
+pub mod RoundAsks
 pub mod EntryLemmas
 pub mod TallyLemmas
 pub mod PlanBatches

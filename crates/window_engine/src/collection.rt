@@ -1,10 +1,9 @@
-ghost use Rattle.std.specs.Prelude.{◌≡◌, ◌<◌, ◌≤◌, ◌+◌, ◌*◌, ◌^◌, ℕ, [], ◌++◌, length, map, take, drop, slice_index, IfOk, OnOk, All};
+ghost use Rattle.std.specs.Prelude.{◌≡◌, ◌<◌, ◌≤◌, ◌+◌, ◌*◌, ◌^◌, ℕ, [], length, take, drop, slice_index, IfOk, OnOk};
 ghost use Rattle.std.specs.List.{slice_index_or};
 ghost use Rattle.greedy_rules.specs.Matching.{AreAmong};
 ghost use Rattle.clos_topology.specs.Network.{endpoints_of};
-ghost use Rattle.trace_text.specs.Trace.{asked_at};
 ghost use Rattle.replay_rounds.specs.Setting.{limits_of};
-ghost use Rattle.window_engine.specs.Batches.{batch_after, entry_for, plan_batches};
+ghost use Rattle.window_engine.specs.Batches.{batch_after, plan_batches};
 ghost use Rattle.window_engine.specs.Standing.{HasCollected};
 ghost use Rattle.window_engine.specs.Tallies.{Tallies, place_of, added_in, Adds};
 
@@ -111,39 +110,20 @@ fn batch_of(alloc: Global, trace: &Trace, round: u32, asked: &[u32]) -> Result<B
     ensures { IfOk result (λ batch. batch ≡ batch_after (limits_of trace.now.net) (take round trace.now.asked) (slice_index_or trace.now.asked round [])) }
 {
     let mut batch = Batch::with_limits(alloc, limits(trace.net()));
-    for src in 0..trace.endpoints() {
-        add_source(&mut batch, trace, round, src, asked)?;
-    }
-    Ok(batch)
-}
-
-/// Appends the entries of a source, which are above those of all sources before it.
-fn add_source(
-    batch: &mut Batch,
-    trace: &Trace,
-    round: u32,
-    src: u16,
-    asked: &[u32],
-) -> Result<(), NoMemory>
-    requires round { round < trace.now.rounds }
-    requires src { src < endpoints_of trace.now.net }
-    requires tallies { Tallies (endpoints_of trace.now.net) (take round trace.now.asked) asked.now }
-    requires earlier { All (λ entry. entry.flow.src < src) batch.old.entries }
-    ensures entries { OnOk result (batch.new.entries ≡ batch.old.entries ++ map (entry_for (take round trace.now.asked) src) (asked_at trace.now round src)) }
-    ensures limits { batch.new.limits ≡ batch.old.limits }
-{
     let endpoints = trace.endpoints();
-    for at in 0..trace.ask_count(round, src) {
-        let (dst, slots) = trace.ask(round, src, at);
-        let flow = Flow { src, dst };
+    for ask in trace.asks_in(round) {
+        let flow = Flow {
+            src: ask.src,
+            dst: ask.dst,
+        };
         batch.push(Entry {
             flow,
             opens: asked[place(endpoints, flow)] == 0,
             clear: false,
-            add: slots,
+            add: ask.slots,
         })?;
     }
-    Ok(())
+    Ok(batch)
 }
 
 /// Adds the slots of the batch's entries to the table.

@@ -1,12 +1,21 @@
-use Rattle.std.proofs.Common.{ℕ, List, [], ◌∷◌, ◌++◌, sym, ap, ◌∙◌}
+use Rattle.std.proofs.Common.{ℕ, List, [], ◌∷◌, ◌++◌, map, sym, ap, ◌∙◌}
+use Rattle.std.specs.List.{slice_index_or}
+use Rattle.std.proofs.lemmas.List.{map_more, take_all}
 use Rattle.trace_text.specs.Trace.{asked_at}
-use Rattle.replay_rounds.proofs.LoopLemmas.{take_got}
+use Rattle.trace_text.specs.declared.ask.Ask.{Ask}
+use Rattle.replay_rounds.proofs.RowLemmas.{asked_of, asked_back}
 use Rattle.replay_rounds.proofs.handed.fill_asks.Goals as goal
 
-pub loop-at-preserved : goal.loop-at-preserved
-loop-at-preserved c =
-    let asked = asked_at c.args.trace.now c.args.round c.args.endpoint in
-    let ask : ℕ × ℕ = c.ask-dst.result in
+pub loop-ask-preserved : goal.loop-ask-preserved
+loop-ask-preserved c =
+    let asks : List Ask = c.asks_by-ask-items.result.now in
+    let none : Ask = record { round = 0; src = 0; dst = 0; slots = 0 } in
     c.in_ok-push.ensures.ok
-    ∙ (ap (λ (asks : List (ℕ × ℕ)). asks ++ ask ∷ []) c.loop-at.invariant
-    ∙ sym (take_got asked c.loop-at.at ask c.ask-dst.ensures))
+    ∙ (ap (λ (asked : List (ℕ × ℕ)). asked ++ asked_of (slice_index_or asks c.loop-ask.ask-index none) ∷ []) c.loop-ask.invariant
+    ∙ sym (map_more asked_of asks c.loop-ask.ask-index none c.loop-ask-test.true))
+
+pub returns : goal.returns
+returns c =
+    c.loop-ask.invariant
+    ∙ (ap (map asked_of) (take_all c.loop-ask.ask-index c.asks_by-ask-items.result.now c.loop-ask-test.false ∙ c.asks_by-ask-items.ensures)
+    ∙ asked_back c.args.round c.args.endpoint (asked_at c.args.trace.now c.args.round c.args.endpoint))

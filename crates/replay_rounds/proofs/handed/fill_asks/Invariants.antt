@@ -1,6 +1,6 @@
-use Rattle.std.proofs.Common.{◌≡◌, take}
-use Rattle.trace_text.specs.Trace.{asked_at}
+use Rattle.std.proofs.Common.{◌≡◌, map, take}
+use Rattle.replay_rounds.proofs.RowLemmas.{asked_of}
 use Rattle.replay_rounds.proofs.handed.fill_asks.Given as goal
 
-abbrev pub invariant-loop-at : goal.invariant-loop-at
-invariant-loop-at l = l.asks ≡ take l.at (asked_at l.trace l.round l.endpoint)
+abbrev pub invariant-loop-ask : goal.invariant-loop-ask
+invariant-loop-ask l = l.asks ≡ map asked_of (take l.ask-index l.ask-items)

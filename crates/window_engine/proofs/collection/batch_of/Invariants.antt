@@ -1,10 +1,10 @@
-use Rattle.std.proofs.Common.{◌≡◌, [], take, get_or}
+use Rattle.std.proofs.Common.{◌≡◌, map, take}
 use Rattle.replay_rounds.specs.Setting.{limits_of}
-use Rattle.window_engine.specs.Batches.{entries_from}
+use Rattle.window_engine.proofs.RoundAsks.{entry_by}
 use Rattle.window_engine.proofs.collection.batch_of.Given as goal
 
-abbrev pub invariant-loop-src : goal.invariant-loop-src
-invariant-loop-src l = record {
-  entries : l.batch.entries ≡ entries_from (take l.round l.trace.asked) 0 (take l.src (get_or l.trace.asked l.round []));
+abbrev pub invariant-loop-ask : goal.invariant-loop-ask
+invariant-loop-ask l = record {
+  entries : l.batch.entries ≡ map (entry_by (take l.round l.trace.asked)) (take l.ask-index l.ask-items);
   limits : l.batch.limits ≡ limits_of l.trace.net;
 }

@@ -1,38 +1,25 @@
-use Rattle.std.proofs.Common.{◌≡◌, ◌<◌, ◌+◌, get_or, arith}
-use Rattle.std.proofs.lemmas.Grind.{common_steps}
-use Rattle.std.proofs.lemmas.List.Sorted.{IsNonDecreasingBy-drop, IsNonDecreasingBy-take}
+use Rattle.std.proofs.Common.{◌<◌}
 use Rattle.clos_topology.specs.Network.{endpoints_of}
-use Rattle.trace_text.specs.Asks.{rank_of}
 use Rattle.trace_text.specs.Events.{events_kept}
-use Rattle.trace_text.proofs.AskFacts.{rising-sorted, round-part}
+use Rattle.trace_text.proofs.AskFacts.{rising-sorted}
 use Rattle.trace_text.proofs.RoundFacts.{source-asks}
 use Rattle.trace_text.proofs.trace.Trace.asks_by.Goals as goal
 
-pub slice_bounds-between-count : goal.slice_bounds-between-count
-slice_bounds-between-count c =
-    let low : c.args.round < c.self.inside.rounds = rw (← c.self.view_is) at c.requires.round in
-    let start : c.index-start.result.now ≡ get_or c.self.inside.starts.items c.args.round 0 = grind (arith, common_steps) in
-    let end : c.index-end.result.now ≡ get_or c.self.inside.starts.items (c.args.round + 1) 0 = grind (arith, common_steps) in
-    (round-part (endpoints_of c.self.inside.net) c.self.inside.rounds c.self.inside.asks.items c.self.inside.starts.items c.args.round _ _ c.self.invariant.0 low start end).0
+pub of_round-asks-requires-clause-sorted : goal.of_round-asks-requires-clause-sorted
+of_round-asks-requires-clause-sorted c = rw c.deref.ensures.value (rising-sorted 0 c.self.inside.asks.items c.self.invariant.0.rising)
 
-pub slice_bounds-between-start : goal.slice_bounds-between-start
-slice_bounds-between-start c =
-    let low : c.args.round < c.self.inside.rounds = rw (← c.self.view_is) at c.requires.round in
-    let start : c.index-start.result.now ≡ get_or c.self.inside.starts.items c.args.round 0 = grind (arith, common_steps) in
-    let end : c.index-end.result.now ≡ get_or c.self.inside.starts.items (c.args.round + 1) 0 = grind (arith, common_steps) in
-    (round-part (endpoints_of c.self.inside.net) c.self.inside.rounds c.self.inside.asks.items c.self.inside.starts.items c.args.round _ _ c.self.invariant.0 low start end).0
-
-pub between-requires-clause-sorted : goal.between-requires-clause-sorted
-between-requires-clause-sorted c =
-    rw c.deref.ensures.value
-    (IsNonDecreasingBy-take rank_of _ _ (IsNonDecreasingBy-drop rank_of c.index-start.result.now _ (rising-sorted 0 c.self.inside.asks.items c.self.invariant.0.rising)))
+pub of_round-asks-requires-clause-starts : goal.of_round-asks-requires-clause-starts
+of_round-asks-requires-clause-starts c =
+    let t = c.self.inside in
+    let low : c.args.round < t.rounds = rw (← c.self.view_is) at c.requires.round in
+    rw (c.deref.ensures.value, c.deref-2.ensures.value) (65536, t.rounds, c.self.invariant.0.begin, low)
 
 pub returns : goal.returns
 returns c =
-    let low : c.args.round < c.self.inside.rounds = rw (← c.self.view_is) at c.requires.round in
-    let low2 : c.args.src < endpoints_of c.self.inside.net = rw (← c.self.view_is) at c.requires.src in
-    let start : c.index-start.result.now ≡ get_or c.self.inside.starts.items c.args.round 0 = grind (arith, common_steps) in
-    let end : c.index-end.result.now ≡ get_or c.self.inside.starts.items (c.args.round + 1) 0 = grind (arith, common_steps) in
-    rw (← c.self.view_is, c.between.ensures, c.deref.ensures.value, c.from.ensures, c.from-2.ensures)
-    (source-asks c.self.inside.net c.self.inside.rounds (events_kept c.self.inside.fates.items c.self.inside.boots.items c.self.inside.raws.items c.self.inside.bytes.items) c.self.inside.asks.items
-    c.self.inside.starts.items c.args.round c.args.src _ _ c.self.invariant.0 low low2 start end)
+    let t = c.self.inside in
+    let low : c.args.round < t.rounds = rw (← c.self.view_is) at c.requires.round in
+    let low2 : c.args.src < endpoints_of t.net = rw (← c.self.view_is) at c.requires.src in
+    let part = rw (c.deref.ensures.value, c.deref-2.ensures.value) at c.of_round-asks.ensures.part in
+    rw (← c.self.view_is, c.between.ensures, c.from.ensures, c.from-2.ensures)
+    (source-asks t.net t.rounds (events_kept t.fates.items t.boots.items t.raws.items t.bytes.items) t.asks.items _ t.ask_starts.items c.args.round c.args.src c.self.invariant.0 low low2
+    (part 65536 t.rounds c.self.invariant.0.begin low))

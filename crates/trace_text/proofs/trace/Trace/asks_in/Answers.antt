@@ -1,32 +1,23 @@
-use Rattle.std.proofs.Common.{◌≡◌, ◌<◌, ◌+◌, get_or, arith}
-use Rattle.std.proofs.lemmas.Grind.{common_steps}
-use Rattle.clos_topology.specs.Network.{endpoints_of}
+use Rattle.std.proofs.Common.{◌<◌}
 use Rattle.trace_text.specs.Events.{events_kept}
-use Rattle.trace_text.proofs.AskFacts.{round-part}
+use Rattle.trace_text.proofs.AskFacts.{rising-sorted}
 use Rattle.trace_text.proofs.RoundFacts.{round-asks}
 use Rattle.trace_text.proofs.trace.Trace.asks_in.Goals as goal
 
-pub slice_bounds-result-count : goal.slice_bounds-result-count
-slice_bounds-result-count c =
-    let t = c.self.inside in
-    let low : c.args.round < t.rounds = rw (← c.self.view_is) at c.requires in
-    let start : c.index-start.result.now ≡ get_or t.starts.items c.args.round 0 = grind (arith, common_steps) in
-    let end : c.index-end.result.now ≡ get_or t.starts.items (c.args.round + 1) 0 = grind (arith, common_steps) in
-    (round-part (endpoints_of t.net) t.rounds t.asks.items t.starts.items c.args.round _ _ c.self.invariant.0 low start end).0
+pub of_round-requires-clause-sorted : goal.of_round-requires-clause-sorted
+of_round-requires-clause-sorted c = rw c.deref.ensures.value (rising-sorted 0 c.self.inside.asks.items c.self.invariant.0.rising)
 
-pub slice_bounds-result-start : goal.slice_bounds-result-start
-slice_bounds-result-start c =
+pub of_round-requires-clause-starts : goal.of_round-requires-clause-starts
+of_round-requires-clause-starts c =
     let t = c.self.inside in
     let low : c.args.round < t.rounds = rw (← c.self.view_is) at c.requires in
-    let start : c.index-start.result.now ≡ get_or t.starts.items c.args.round 0 = grind (arith, common_steps) in
-    let end : c.index-end.result.now ≡ get_or t.starts.items (c.args.round + 1) 0 = grind (arith, common_steps) in
-    (round-part (endpoints_of t.net) t.rounds t.asks.items t.starts.items c.args.round _ _ c.self.invariant.0 low start end).0
+    rw (c.deref.ensures.value, c.deref-2.ensures.value) (65536, t.rounds, c.self.invariant.0.begin, low)
 
 pub returns : goal.returns
 returns c =
     let t = c.self.inside in
     let low : c.args.round < t.rounds = rw (← c.self.view_is) at c.requires in
-    let start : c.index-start.result.now ≡ get_or t.starts.items c.args.round 0 = grind (arith, common_steps) in
-    let end : c.index-end.result.now ≡ get_or t.starts.items (c.args.round + 1) 0 = grind (arith, common_steps) in
-    rw (← c.self.view_is, c.deref.ensures.value)
-    (round-asks t.net t.rounds (events_kept t.fates.items t.boots.items t.raws.items t.bytes.items) t.asks.items t.starts.items c.args.round _ _ c.self.invariant.0 low start end)
+    let part = rw (c.deref.ensures.value, c.deref-2.ensures.value) at c.of_round.ensures.part in
+    rw (← c.self.view_is)
+    (round-asks t.net t.rounds (events_kept t.fates.items t.boots.items t.raws.items t.bytes.items) t.asks.items _ t.ask_starts.items c.args.round c.self.invariant.0 low
+    (part 65536 t.rounds c.self.invariant.0.begin low))

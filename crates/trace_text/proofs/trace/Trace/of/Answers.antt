@@ -24,8 +24,11 @@ gather-requires-clause-bounded c = λ round src dst.
     rw (c.deref.ensures.value, sum_by-IsPermutation (slots_asked round src dst) _ _ c.sort_unstable_by_key.ensures.permutation)
     (omega (arith, asked-le round src dst c.args.asks.items, c.requires.bounded src dst))
 
-pub starts_of-requires : goal.starts_of-requires
-starts_of-requires c = rw c.deref-2.ensures.value (rising-sorted 0 c.in_ok-asks.asks.items c.in_ok-asks.ensures.rising)
+pub starts_of-requires-clause-sorted : goal.starts_of-requires-clause-sorted
+starts_of-requires-clause-sorted c = rw c.deref-2.ensures.value (rising-sorted 0 c.in_ok-asks.asks.items c.in_ok-asks.ensures.rising)
+
+pub starts_of-requires-2-clause-sorted : goal.starts_of-requires-2-clause-sorted
+starts_of-requires-2-clause-sorted c = rw c.deref-3.ensures.value c.in_ok-sort.ensures.sorted
 
 pub returns-clause-content : goal.returns-clause-content
 returns-clause-content c =
@@ -41,7 +44,7 @@ returns-clause-sound c =
     let events = c.args.events in
     subst IsTrace (sym (returns-clause-content c))
     (content_by-sound c.args.net c.args.rounds c.args.asks.items events.fates.items events.boots.items events.raws.items events.bytes.items c.requires.net c.requires.some c.requires.few c.requires.among
-    c.requires.bounded c.requires.events c.requires.boots (rw (← c.deref-3.ensures.value) c.bytes_are_below_256.ensures))
+    c.requires.bounded c.requires.events c.requires.boots (rw (← c.deref-5.ensures.value) c.bytes_are_below_256.ensures))
 
 pub invariant_of-result : goal.invariant_of-result
 invariant_of-result c =
@@ -53,14 +56,15 @@ invariant_of-result c =
         rising = c.in_ok-asks.ensures.rising;
         among = c.in_ok-asks.ensures.among (endpoints_of c.args.net)
             (rw c.deref.ensures.value (All-permutation (IsAmong (endpoints_of c.args.net)) _ _ c.sort_unstable_by_key.ensures.permutation c.requires.among));
-        each = c.in_ok-starts.ensures.each;
-        begin = rw c.deref-2.ensures.value at c.in_ok-starts.ensures.begin;
+        begin = rw c.deref-2.ensures.value at c.in_ok-ask_starts.ensures;
       },
       record {
         among = among-permuted (endpoints_of c.args.net) events.fates.items c.sort.new.items.items events.boots.items c.sort-2.new.items.items events.raws.items c.sort-3.new.items.items events.bytes.items
             c.sort.ensures.same c.sort-2.ensures.same c.sort-3.ensures.same c.requires.events;
         fates_rise = c.in_ok-sort.ensures.sorted;
+        fates_begin = rw c.deref-3.ensures.value at c.in_ok-fate_starts.ensures;
         boots_rise = c.in_ok-sort-2.ensures.sorted;
+        boots_begin = rw c.deref-4.ensures.value at c.in_ok-boot_starts.ensures;
         raws_rise = c.in_ok-sort-3.ensures.sorted;
         few = omega (arith, boots, c.requires.boots);
       },
@@ -72,5 +76,5 @@ invariant_of-result c =
           (events-ordered events.fates.items c.sort.new.items.items events.boots.items c.sort-2.new.items.items events.raws.items c.sort-3.new.items.items events.bytes.items
           c.in_ok-sort.ensures.stable c.in_ok-sort-2.ensures.stable c.in_ok-sort-3.ensures.stable)))
           (content_by-sound c.args.net c.args.rounds c.args.asks.items events.fates.items events.boots.items events.raws.items events.bytes.items c.requires.net c.requires.some c.requires.few
-          c.requires.among c.requires.bounded c.requires.events c.requires.boots (rw (← c.deref-3.ensures.value) c.bytes_are_below_256.ensures)),
+          c.requires.among c.requires.bounded c.requires.events c.requires.boots (rw (← c.deref-5.ensures.value) c.bytes_are_below_256.ensures)),
     )
