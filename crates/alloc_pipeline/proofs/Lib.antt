@@ -1,2 +1,2 @@
-pub mod WholeLists
-pub mod RingLemmas
+mod IdleLemmas
+mod RunLemmas

@@ -1,2 +1,2 @@
 pub mod Ring
-pub mod Stages
+pub mod Idle

@@ -2,9 +2,8 @@
 //! list that the batch before it left.
 #![tactic(auto)]
 
-mod batches;
+mod idle;
 mod ring;
-mod stages;
 
 pub use no_memory::NoMemory;
 pub use ring::Ring;

@@ -2,7 +2,7 @@
 use Rattle.std.proofs.Common.{◌≡◌, ◌<◌, ◌≤◌, ◌+◌, ◌-◌, ◌*◌, ◌/◌, ◌%◌, ◌^◌, ℕ, zero, suc, List, [], ◌∷◌, ◌++◌, length, map, take, drop, replicate, Some, slice_get, refl, sym, ap, ◌∙◌, arith}
 use Rattle.std.specs.List.{range_with_len}
 use Rattle.std.proofs.lemmas.Nat.{div-add-mod'}
-use Rattle.std.proofs.lemmas.List.{append-nil, append_assoc, length-append, length-replicate, take_all, take_at, drop_all, drop-replicate}
+use Rattle.std.proofs.lemmas.List.{append-nil, append_assoc, length-append, length-replicate, length-take-le, take-append-drop, take_all, take_at, drop_all, drop-replicate}
 use Rattle.greedy_rules.specs.declared.flows.Flow.{Flow}
 use Rattle.greedy_rules.specs.declared.flows.Item.{Item}
 use Rattle.greedy_rules.specs.Batches.{DemandBatch}
@@ -93,21 +93,42 @@ ended_at batches core playing finished stage w below is =
 abbrev pub scheduled : List DemandBatch → RingState → ℕ → List (List Flow)
 scheduled batches core count = schedule_from core.b core.first_batch core.list (take count batches)
 
--- one stage's slots copied
-pub stage_copied : (batches : List DemandBatch) (core : RingState) (stage : ℕ) (slots old new : List (List Flow)) (to total : ℕ) → stage < length batches → slots ≡ slots_in (window_in batches core) stage → length slots ≡ core.b
-    → to ≡ stage * core.b → (stage + 1) * core.b ≤ total → old ≡ scheduled batches core stage ++ replicate (total - stage * core.b) [] → length (scheduled batches core stage) ≡ stage * core.b
-    → new ≡ take to old ++ slots ++ drop (to + length slots) old
-    → (new ≡ scheduled batches core (stage + 1) ++ replicate (total - (stage + 1) * core.b) []) × (length (scheduled batches core (stage + 1)) ≡ (stage + 1) * core.b) × (length new ≡ total)
-stage_copied batches core stage slots old new to total below slots_are count to_is fits old_is long new_is =
+-- behind the slots of the batches that came before
+abbrev pub scheduled_behind : List (List Flow) → List DemandBatch → RingState → ℕ → List (List Flow)
+scheduled_behind front batches core count = front ++ scheduled batches core count
+
+-- before the first stage
+pub none_copied : (passed : ℕ) (batches : List DemandBatch) (core : RingState) (slots : List (List Flow)) → passed * core.b ≤ length slots → drop (passed * core.b) slots ≡ replicate (length slots - passed * core.b) []
+    → (slots ≡ scheduled_behind (take (passed * core.b) slots) batches core 0 ++ replicate (length slots - (passed + 0) * core.b) []) × (length (scheduled_behind (take (passed * core.b) slots) batches core 0) ≡ (passed + 0) * core.b)
+none_copied passed batches core slots fits empty =
     let none : List Flow = [] in
-    let was : List (List Flow) = scheduled batches core stage in
-    let more : scheduled batches core (stage + 1) ≡ was ++ slots = slots_more (window_in batches core) stage below ∙ ap (λ (xs : List (List Flow)). was ++ xs) (sym slots_are) in
-    let on : (stage + 1) * core.b ≡ stage * core.b + core.b = row_on stage core.b in
-    let left : total - stage * core.b - length slots ≡ total - (stage + 1) * core.b = omega (arith, on, count) in
-    let here : new ≡ scheduled batches core (stage + 1) ++ replicate (total - (stage + 1) * core.b) none =
-    new_is ∙ (copied_on was slots old to (total - stage * core.b) old_is (long ∙ sym to_is) ∙ (λ i. sym more i ++ replicate (left i) none)) in
-    let all : length (scheduled batches core (stage + 1)) ≡ (stage + 1) * core.b = omega (arith, ap length more, length-append was slots, long, count, on) in
-    (here, all, omega (arith, ap length here, length-append (scheduled batches core (stage + 1)) (replicate (total - (stage + 1) * core.b) none), length-replicate (total - (stage + 1) * core.b) none, all, fits))
+    let front : List (List Flow) = take (passed * core.b) slots in
+    let here : passed * core.b ≡ (passed + 0) * core.b = ap (λ (n : ℕ). n * core.b) (let q : passed ≡ passed + 0 = omega arith in q) in
+    let behind : drop (passed * core.b) slots ≡ replicate (length slots - (passed + 0) * core.b) none = empty ∙ ap (λ (n : ℕ). replicate (length slots - n) none) here in (
+      sym (take-append-drop (passed * core.b) slots) ∙ (λ i. sym (append-nil front) i ++ behind i),
+      ap length (append-nil front) ∙ (length-take-le (passed * core.b) slots fits ∙ here),
+    )
+
+-- one stage's slots copied
+pub stage_copied : (front : List (List Flow)) (passed : ℕ) (batches : List DemandBatch) (core : RingState) (stage : ℕ) (slots old new : List (List Flow)) (to total : ℕ) → stage < length batches → slots ≡ slots_in (window_in batches core) stage → length slots ≡ core.b
+    → to ≡ (passed + stage) * core.b → (passed + stage + 1) * core.b ≤ total → old ≡ scheduled_behind front batches core stage ++ replicate (total - (passed + stage) * core.b) []
+    → length (scheduled_behind front batches core stage) ≡ (passed + stage) * core.b → new ≡ take to old ++ slots ++ drop (to + length slots) old
+    → (new ≡ scheduled_behind front batches core (stage + 1) ++ replicate (total - (passed + (stage + 1)) * core.b) []) × (length (scheduled_behind front batches core (stage + 1)) ≡ (passed + (stage + 1)) * core.b) × (length new ≡ total)
+stage_copied front passed batches core stage slots old new to total below slots_are count to_is fits old_is long new_is =
+    let none : List Flow = [] in
+    let was : List (List Flow) = scheduled_behind front batches core stage in
+    let more : scheduled_behind front batches core (stage + 1) ≡ was ++ slots =
+    ap (λ (xs : List (List Flow)). front ++ xs) (slots_more (window_in batches core) stage below ∙ ap (λ (xs : List (List Flow)). scheduled batches core stage ++ xs) (sym slots_are))
+    ∙ sym (append_assoc front (scheduled batches core stage) slots) in
+    let place : passed + (stage + 1) ≡ passed + stage + 1 = omega arith in
+    let on : (passed + (stage + 1)) * core.b ≡ (passed + stage) * core.b + core.b = ap (λ (n : ℕ). n * core.b) place ∙ row_on (passed + stage) core.b in
+    let left : total - (passed + stage) * core.b - length slots ≡ total - (passed + (stage + 1)) * core.b = omega (arith, on, count) in
+    let here : new ≡ scheduled_behind front batches core (stage + 1) ++ replicate (total - (passed + (stage + 1)) * core.b) none =
+    new_is ∙ (copied_on was slots old to (total - (passed + stage) * core.b) old_is (long ∙ sym to_is) ∙ (λ i. sym more i ++ replicate (left i) none)) in
+    let all : length (scheduled_behind front batches core (stage + 1)) ≡ (passed + (stage + 1)) * core.b = omega (arith, ap length more, length-append was slots, long, count, on) in
+    let rest : List (List Flow) = replicate (total - (passed + (stage + 1)) * core.b) none in
+    let within : (passed + (stage + 1)) * core.b ≤ total = omega (arith, fits, ap (λ (n : ℕ). n * core.b) place) in
+    (here, all, omega (arith, ap length here, length-append (scheduled_behind front batches core (stage + 1)) rest, length-replicate (total - (passed + (stage + 1)) * core.b) none, all, within))
 
 -- where all stages have ended, the edge into the worker of the last list holds its items
 pub last_items : (batches : List DemandBatch) (core : RingState) → IsPlaying batches core → IsFinished core → (edge : EdgeState) → slice_get core.edges (length batches % core.workers) ≡ Some edge

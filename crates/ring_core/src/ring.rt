@@ -1,4 +1,4 @@
-ghost use Rattle.std.specs.Prelude.{◌≡◌, ◌<◌, ◌≤◌, ◌+◌, ◌-◌, ◌*◌, ◌^◌, ◌↔◌, ℕ, List, [], ◌++◌, length, replicate, IsTrue, true, IfOk, All, Some, slice_get, ◌==◌, nat_le, if◌then◌else◌};
+ghost use Rattle.std.specs.Prelude.{◌≡◌, ◌<◌, ◌≤◌, ◌+◌, ◌-◌, ◌*◌, ◌^◌, ◌↔◌, ℕ, List, [], ◌++◌, length, take, drop, replicate, IsTrue, true, IfOk, All, Some, slice_get, ◌==◌, nat_le, if◌then◌else◌};
 ghost use Rattle.greedy_rules.specs.Batches.{DemandBatch};
 ghost use Rattle.greedy_rules.specs.Recorded.{MayBeApplied};
 ghost use Rattle.greedy_rules.specs.Schedule.{first_slot, schedule_from, rest_from};
@@ -210,29 +210,51 @@ impl RingCore {
         ensures empty { (number : ℕ) (edge : EdgeState) → slice_get self.new.edges number ≡ Some edge → edge.pieces ≡ [] }
     {
         out.clear();
-        self.copy_slots(out);
+        self.take_behind(0, list, out);
+    }
+
+    /// As `take`, but behind the slots of so many batches that came before, which stay as they are: slot i of stage s stands at
+    /// place `(passed + s) * b + i`. The places behind theirs are empty.
+    pub fn take_behind(&mut self, passed: u16, list: &mut DemandList, out: &mut SlotTable)
+        requires finished { IsFinished self.old }
+        requires room { (batches : List DemandBatch) × IsPlaying batches self.old × (length (rest_from self.old.b self.old.first_batch self.old.list batches) ≤ length list.old.items + list.old.spare) }
+        requires places { (passed + self.old.stages) * self.old.b ≤ length out.old.slots }
+        requires empty { drop (passed * self.old.b) out.old.slots ≡ replicate (length out.old.slots - passed * self.old.b) [] }
+        requires serves { out.old.endpoints ≡ self.old.endpoints }
+        ensures list { (batches : List DemandBatch) → IsPlaying batches self.old → list.new.items ≡ rest_from self.old.b self.old.first_batch self.old.list batches }
+        ensures spare { length list.new.items + list.new.spare ≡ length list.old.items + list.old.spare }
+        ensures slots { (batches : List DemandBatch) →
+            IsPlaying batches self.old →
+            out.new.slots ≡ (take (passed * self.old.b) out.old.slots ++ schedule_from self.old.b self.old.first_batch self.old.list batches) ++ replicate (length out.old.slots - (passed + self.old.stages) * self.old.b) [] }
+        ensures endpoints { out.new.endpoints ≡ out.old.endpoints }
+        ensures ring { IsRing self.new }
+        ensures same { IsSameRing self.old self.new }
+        ensures empty { (number : ℕ) (edge : EdgeState) → slice_get self.new.edges number ≡ Some edge → edge.pieces ≡ [] }
+    {
+        self.copy_slots(passed, out);
         list.clear();
         let last = self.stages % self.edges.len();
         take_list(&mut self.edges[last], list);
         empty_edges(&mut self.edges);
     }
 
-    /// Copies the slots of every stage into a table of empty slots.
-    fn copy_slots(&self, out: &mut SlotTable)
+    /// Copies the slots of every stage behind those of so many batches, into places that are empty.
+    fn copy_slots(&self, passed: u16, out: &mut SlotTable)
         requires finished { IsFinished self.now }
         requires playing { (batches : List DemandBatch) × IsPlaying batches self.now }
-        requires empty { out.old.slots ≡ replicate (length out.old.slots) [] }
-        requires places { self.now.stages * self.now.b ≤ length out.old.slots }
+        requires empty { drop (passed * self.now.b) out.old.slots ≡ replicate (length out.old.slots - passed * self.now.b) [] }
+        requires places { (passed + self.now.stages) * self.now.b ≤ length out.old.slots }
         requires serves { out.old.endpoints ≡ self.now.endpoints }
         ensures slots { (batches : List DemandBatch) →
             IsPlaying batches self.now →
-            out.new.slots ≡ schedule_from self.now.b self.now.first_batch self.now.list batches ++ replicate (length out.old.slots - self.now.stages * self.now.b) [] }
+            out.new.slots ≡ (take (passed * self.now.b) out.old.slots ++ schedule_from self.now.b self.now.first_batch self.now.list batches) ++ replicate (length out.old.slots - (passed + self.now.stages) * self.now.b) [] }
         ensures endpoints { out.new.endpoints ≡ out.old.endpoints }
     {
         let _places = out.slots();
         for stage in 0..self.stages {
             let worker = &self.crew[stage % self.crew.len()];
-            out.copy(worker.slots(stage as u32), (stage * self.b as usize) as u16);
+            let place = (passed as usize + stage) * self.b as usize;
+            out.copy(worker.slots(stage as u32), place as u16);
         }
     }
 }

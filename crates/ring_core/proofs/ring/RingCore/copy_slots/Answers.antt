@@ -1,11 +1,11 @@
-use Rattle.std.proofs.Common.{◌≡◌, ◌<◌, ◌≤◌, ◌+◌, ◌*◌, ◌%◌, ℕ, List, length, get_or, Some, slice_get, sym, ap, ◌∙◌, arith}
+use Rattle.std.proofs.Common.{◌≡◌, ◌<◌, ◌≤◌, ◌+◌, ◌*◌, ◌%◌, ℕ, List, length, get_or, take, Some, slice_get, refl, sym, ap, ◌∙◌, arith}
 use Rattle.std.proofs.lemmas.Nat.{mod_below, mul-le}
 use Rattle.std.proofs.lemmas.Option.{slice_get_read}
 use Rattle.greedy_rules.specs.Batches.{DemandBatch}
 use Rattle.ring_core.specs.States.{RingState, WorkerState}
 use Rattle.ring_core.specs.Cores.{IsRing, IsPlaying, ends_in}
 use Rattle.ring_core.proofs.StreamLemmas.{row_on}
-use Rattle.ring_core.proofs.TakeLemmas.{ended_at, stage_copied}
+use Rattle.ring_core.proofs.TakeLemmas.{ended_at, none_copied, stage_copied}
 use Rattle.ring_core.proofs.ring.RingCore.copy_slots.Goals as goal
 
 -- the worker that the code reads
@@ -48,10 +48,24 @@ copy-requires-clause-places c =
     let len : c.len.result ≡ core.workers = omega (arith, c.len.ensures, c.self.inside.crew.ok.0, ap length crew, ring.worker_count) in
     let here = worker_here core c.self.inside.crew.items c.len.result stage w ring crew len c.index-worker.ensures in
     let below : stage < core.stages = omega (arith, c.loop-stage-test.true, c.loop-stage.auto.stage-end, ap (λ (v : RingState). v.stages) c.self.view_is) in
-    let to = ap (λ (v : RingState). stage * v.b) c.self.view_is in
+    let place : ℕ = c.args.passed + stage in
+    let to = ap (λ (v : RingState). place * v.b) c.self.view_is in
     let size = (ring.each (stage % core.workers) w here).b_is in
-    let all = mul-le (stage + 1) core.b core.stages core.b (omega (arith, below)) (omega arith) in
-    omega (arith, to, c.slots.ensures.count, size, row_on stage core.b, all, c.requires.places, c.loop-stage.invariant.places)
+    let all = mul-le (place + 1) core.b (c.args.passed + core.stages) core.b (omega (arith, below)) (omega arith) in
+    omega (arith, to, c.slots.ensures.count, size, row_on place core.b, all, c.requires.places, c.loop-stage.invariant.places)
+
+pub loop-stage-init : goal.loop-stage-init
+loop-stage-init c =
+    let core : RingState = c.args.self.now in
+    let passed : ℕ = c.args.passed in
+    let fits : passed * core.b ≤ length c.args.out.now.slots = omega (arith, mul-le passed core.b (passed + core.stages) core.b (omega arith) (omega arith), c.requires.places) in
+    let none = λ (batches : List DemandBatch). none_copied passed batches core c.args.out.now.slots fits c.requires.empty in
+    record {
+      slots = λ batches playing. (none batches).0;
+      count = λ batches playing. (none batches).1;
+      places = refl;
+      endpoints = refl;
+    }
 
 pub loop-stage-preserved : goal.loop-stage-preserved
 loop-stage-preserved c =
@@ -64,11 +78,12 @@ loop-stage-preserved c =
     let len : c.len.result ≡ core.workers = omega (arith, c.len.ensures, c.self.inside.crew.ok.0, ap length crew, ring.worker_count) in
     let here = worker_here core c.self.inside.crew.items c.len.result stage w ring crew len c.index-worker.ensures in
     let below : stage < core.stages = omega (arith, c.loop-stage-test.true, c.loop-stage.auto.stage-end, ap (λ (v : RingState). v.stages) c.self.view_is) in
-    let to : stage * c.self.inside.b ≡ stage * core.b = ap (λ (v : RingState). stage * v.b) c.self.view_is in
+    let passed : ℕ = c.args.passed in
+    let to : (passed + stage) * c.self.inside.b ≡ (passed + stage) * core.b = ap (λ (v : RingState). (passed + stage) * v.b) c.self.view_is in
     let size = c.slots.ensures.count ∙ (ring.each (stage % core.workers) w here).b_is in
-    let fits : (stage + 1) * core.b ≤ length c.args.out.now.slots = omega (arith, mul-le (stage + 1) core.b core.stages core.b (omega (arith, below)) (omega arith), c.requires.places) in
+    let fits : (passed + stage + 1) * core.b ≤ length c.args.out.now.slots = omega (arith, mul-le (passed + stage + 1) core.b (passed + core.stages) core.b (omega (arith, below)) (omega arith), c.requires.places) in
     let copied = λ (batches : List DemandBatch) (playing : IsPlaying batches core).
-    stage_copied batches core stage c.slots.result.now.slots c.loop-stage.out.slots c.copy.new.self.slots (stage * c.self.inside.b) (length c.args.out.now.slots) (omega (arith, below, playing.stages))
+    stage_copied (take (passed * core.b) c.args.out.now.slots) passed batches core stage c.slots.result.now.slots c.loop-stage.out.slots c.copy.new.self.slots ((passed + stage) * c.self.inside.b) (length c.args.out.now.slots) (omega (arith, below, playing.stages))
     (c.slots.ensures.slots batches (ends_in batches core (stage % core.workers)) (playing.plays (stage % core.workers) w here)) size to fits (was.slots batches playing) (was.count batches playing) c.copy.ensures.slots in
     record {
       slots = λ batches playing. (copied batches playing).0;

@@ -1,0 +1,57 @@
+//! Where a window's batches are parted: those that change nothing, and runs of others.
+ghost use Rattle.std.specs.Prelude.{◌≡◌, ◌<◌, ◌≤◌, [], length, take, true, All};
+ghost use Rattle.alloc_pipeline.specs.Idle.{AreIdle};
+
+use greedy_rules::{Batch, Item};
+
+/// How many batches at the front change nothing: they have no entries, and no item needs a slot.
+pub(crate) fn count_idle(items: &[Item], batches: &[Batch]) -> usize
+    ensures count { result ≤ length batches.now }
+    ensures idle { AreIdle items.now (take result batches.now) }
+{
+    let count = count_empty(batches);
+    if count > 0 && needs_none(items) {
+        count
+    } else {
+        0
+    }
+}
+
+/// How many batches at the front have no entries.
+fn count_empty(batches: &[Batch]) -> usize
+    ensures count { result ≤ length batches.now }
+    ensures empty { All (λ batch. batch.entries ≡ []) (take result batches.now) }
+{
+    for count in 0..batches.len() {
+        if !batches[count].is_empty() {
+            return count;
+        }
+    }
+    batches.len()
+}
+
+/// Whether no item needs a slot.
+fn needs_none(items: &[Item]) -> bool
+    ensures { result ≡ true → All (λ item. item.need ≡ 0) items.now }
+{
+    for item in items {
+        if item.need > 0 {
+            return false;
+        }
+    }
+    true
+}
+
+/// How many batches are played at once: all up to the first without entries that comes behind one with entries.
+pub(crate) fn count_run(batches: &[Batch]) -> usize
+    requires { 0 < length batches.now }
+    ensures some { 0 < result }
+    ensures count { result ≤ length batches.now }
+{
+    for count in 1..batches.len() {
+        if batches[count].is_empty() && !batches[count - 1].is_empty() {
+            return count;
+        }
+    }
+    batches.len()
+}
