@@ -91,10 +91,8 @@ impl Allocation {
         requires count { length batches.now ≤ self.old.ring.batches }
         requires few { self.old.ring.batches ≤ 16 }
         requires numbers { first_slot self.old.b (self.old.batches + length batches.now) ≤ 2 ^ 32 }
-        ensures stands { OnOk result ((earlier : List DemandBatch) →
-            HasAllocated self.old.paths.net self.old.ring.batches earlier self.old →
-            AreOfNet self.old.paths.net (earlier ++ batches.now) →
-            HasAllocated self.old.paths.net self.old.ring.batches (earlier ++ batches.now) self.new) }
+        ensures stands { OnOk result ((earlier : List DemandBatch) → HasAllocated self.old.paths.net self.old.ring.batches earlier self.old →
+            AreOfNet self.old.paths.net (earlier ++ batches.now) → HasAllocated self.old.paths.net self.old.ring.batches (earlier ++ batches.now) self.new) }
         ensures b { OnOk result (self.new.b ≡ self.old.b) }
         ensures jobs { OnOk result (self.new.paths.jobs ≡ self.old.paths.jobs + length batches.now * self.old.b + self.old.paths.paths) }
         ensures span { IfOk result (λ window. window.span ≡ record { first = self.old.batches; count = length batches.now }) }
@@ -126,10 +124,8 @@ impl Allocation {
         requires count { length batches.now ≤ self.old.ring.batches }
         requires few { self.old.ring.batches ≤ 16 }
         requires numbers { first_slot self.old.b (self.old.batches + length batches.now) ≤ 2 ^ 32 }
-        ensures stands { OnOk result ((earlier : List DemandBatch) →
-            HasAllocated self.old.paths.net self.old.ring.batches earlier self.old →
-            AreOfNet self.old.paths.net (earlier ++ batches.now) →
-            HasAllocated self.old.paths.net self.old.ring.batches (earlier ++ batches.now) self.new) }
+        ensures stands { OnOk result ((earlier : List DemandBatch) → HasAllocated self.old.paths.net self.old.ring.batches earlier self.old →
+            AreOfNet self.old.paths.net (earlier ++ batches.now) → HasAllocated self.old.paths.net self.old.ring.batches (earlier ++ batches.now) self.new) }
         ensures b { OnOk result (self.new.b ≡ self.old.b) }
         ensures jobs { OnOk result (self.new.paths.jobs ≡ self.old.paths.jobs + jobs_for (length batches.now) self.old.b self.old.paths.paths) }
         ensures span { IfOk result (λ window. window.span ≡ record { first = self.old.batches; count = length batches.now }) }

@@ -191,19 +191,15 @@ impl Replay {
         ensures collected { OnOk result (self.new.lanes.collected ≡ self.old.lanes.collected + min self.old.lanes.g (self.old.rounds - self.old.lanes.collected)) }
         ensures published { OnOk result (self.new.lanes.published ≡ self.old.lanes.collected) }
         ensures first { IfOk result (λ step. step.first ≡ self.old.lanes.collected) }
-        ensures played { IfOk result (λ step. (cores : Cores) →
-            StandsForReplay trace.now cores self.old →
+        ensures played { IfOk result (λ step. (cores : Cores) → StandsForReplay trace.now cores self.old →
             step.played ≡ rounds_played (run_of trace.now cores self.old) trace.now self.old.lanes.collected (min self.old.lanes.g (self.old.rounds - self.old.lanes.collected))) }
         ensures span { IfOk result (λ step. step.window.span ≡ record { first = self.old.lanes.published; count = self.old.lanes.collected - self.old.lanes.published }) }
-        ensures window { IfOk result (λ step. (cores : Cores) →
-            StandsForReplay trace.now cores self.old →
+        ensures window { IfOk result (λ step. (cores : Cores) → StandsForReplay trace.now cores self.old →
             IsWindowOf trace.now.net self.old.lanes.b (slots_between (run_of trace.now cores self.old) self.old.lanes.published self.old.lanes.collected) step.window) }
         ensures jobs { OnOk result (self.new.allocation.paths.jobs ≡ self.old.allocation.paths.jobs + jobs_for (self.old.lanes.collected - self.old.lanes.published) self.old.lanes.b self.old.allocation.paths.paths) }
         // It goes on standing for all cores that are, for these slots, the ones given.
-        ensures stands { IfOk result (λ step. (cores : Cores) →
-            StandsForReplay trace.now cores self.old →
-            HasCoresOf self.old.lanes.b step cores →
-            StandsForReplay trace.now cores self.new) }
+        ensures stands { IfOk result (λ step. (cores : Cores) → StandsForReplay trace.now cores self.old →
+            HasCoresOf self.old.lanes.b step cores → StandsForReplay trace.now cores self.new) }
     {
         replays_hold();
         let _rounds = trace.rounds();
