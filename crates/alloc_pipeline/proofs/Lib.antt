@@ -1,2 +1,2 @@
-mod IdleLemmas
-mod RunLemmas
+pub mod WholeLists
+pub mod RingLemmas

@@ -1,2 +1,2 @@
 pub mod Ring
-pub mod Idle
+pub mod Stages

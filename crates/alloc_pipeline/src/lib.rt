@@ -2,8 +2,9 @@
 //! list that the batch before it left.
 #![tactic(auto)]
 
-mod idle;
+mod batches;
 mod ring;
+mod stages;
 
 pub use no_memory::NoMemory;
 pub use ring::Ring;

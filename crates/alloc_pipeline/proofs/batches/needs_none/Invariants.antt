@@ -1,5 +1,5 @@
 use Rattle.std.proofs.Common.{◌≡◌, take, All}
-use Rattle.alloc_pipeline.proofs.idle.needs_none.Given as goal
+use Rattle.alloc_pipeline.proofs.batches.needs_none.Given as goal
 
 abbrev pub invariant-loop-item : goal.invariant-loop-item
 invariant-loop-item l = All (λ item. item.need ≡ 0) (take l.item-index l.items)

@@ -1,0 +1,22 @@
+-- Two stages that take turns with the batches of a window (this project's own profile).
+use Rattle.std.specs.Prelude.{◌≡◌, ℕ, List, Bool, true, if◌then◌else◌}
+use Rattle.greedy_rules.specs.declared.flows.Item.{Item}
+use Rattle.greedy_rules.specs.Batches.{DemandBatch}
+use Rattle.greedy_rules.specs.Demands.{Demands}
+use Rattle.slot_batches.specs.Stands.{StageState, Stands, endpoints_of, batch_size_of}
+use Rattle.alloc_pipeline.specs.declared.stages.Stages.{Stages}
+
+-- both are for as many endpoints, and for batches of as many slots
+pub record AreFor (endpoints b : ℕ) (stages : Stages) : Type 0 where
+  pub front_endpoints : endpoints_of stages.front ≡ endpoints
+  pub back_endpoints : endpoints_of stages.back ≡ endpoints
+  pub front_size : batch_size_of stages.front ≡ b
+  pub back_size : batch_size_of stages.back ≡ b
+
+-- where the front one has the list, it has ended its batch
+abbrev pub HasEnded : Bool → StageState → Type 0
+HasEnded holds stage = holds ≡ true → (batch : DemandBatch) × (fed : List Item) × Stands batch fed true 0 stage
+
+-- the demand list as it stands: what the front one left, or the list that the window finds
+abbrev pub held : Bool → StageState → Demands → List Item
+held holds stage list = if holds then stage.fill.waiting else list.items

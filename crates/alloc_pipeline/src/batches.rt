@@ -1,0 +1,68 @@
+ghost use Rattle.std.specs.Prelude.{◌≡◌, ◌<◌, ◌≤◌, ◌+◌, ◌-◌, ◌^◌, List, [], ◌++◌, length, take, drop, true, false, replicate, All};
+ghost use Rattle.greedy_rules.specs.declared.flows.Item.{Item};
+ghost use Rattle.greedy_rules.specs.Batches.{DemandBatch, entry_of};
+ghost use Rattle.greedy_rules.specs.Limits.{is_barred};
+ghost use Rattle.greedy_rules.specs.Schedule.{slot_in};
+ghost use Rattle.greedy_rules.specs.SlotTable.{IsSlotOf};
+ghost use Rattle.greedy_rules.specs.Demands.{need_with, AreBelow, OpensNewFlows, opened, after_batch};
+ghost use Rattle.greedy_rules.specs.Allocation.{batch_slots, list_after_slots};
+ghost use Rattle.slot_batches.specs.NextList.{IsListBefore};
+ghost use Rattle.slot_batches.specs.Stands.{endpoints_of, batch_size_of, first_slot_of, number_of, IsSameWork, Stands};
+ghost use Rattle.slot_batches.specs.Settled.{settled};
+
+use greedy_rules::{Batch, DemandList, Item, SlotTable};
+use slot_batches::{Stage, lists_may_be_fed};
+
+/// Appends the items, for which there is room.
+pub(crate) fn append_items(list: &mut DemandList, items: &[Item])
+    requires { length items.now ≤ list.old.spare }
+    ensures items { list.new.items ≡ list.old.items ++ items.now }
+    ensures spare { length list.new.items + list.new.spare ≡ length list.old.items + list.old.spare }
+{
+    for item in items {
+        list.push(*item);
+    }
+}
+
+/// Whether no item needs a slot.
+pub(crate) fn needs_none(items: &[Item]) -> bool
+    ensures { result ≡ true → All (λ item. item.need ≡ 0) items.now }
+{
+    for item in items {
+        if item.need > 0 {
+            return false;
+        }
+    }
+    true
+}
+
+/// Lets the stage, which is fed these items, fill the slots of a batch, and copies them.
+pub(crate) fn serve_batch(
+    stage: &mut Stage,
+    items: &[Item],
+    batch: &Batch,
+    number: u32,
+    first_slot: u32,
+    from: u16,
+    out: &mut SlotTable,
+)
+    requires endpoints { endpoints_of stage.old ≡ out.old.endpoints }
+    requires first { 1 ≤ first_slot }
+    requires numbers { first_slot + batch_size_of stage.old ≤ 2 ^ 32 }
+    requires before { IsListBefore first_slot items.now }
+    requires opens { OpensNewFlows batch.now.entries items.now }
+    requires in_range { AreBelow (endpoints_of stage.old) (items.now ++ opened batch.now.entries) }
+    requires needs { All (λ item. need_with (entry_of batch.now.entries item.flow) item.need < 2 ^ 32) items.now }
+    requires places { from + batch_size_of stage.old ≤ length out.old.slots }
+    requires empty { drop from out.old.slots ≡ replicate (length out.old.slots - from) [] }
+    ensures work { IsSameWork (endpoints_of stage.old) (batch_size_of stage.old) number first_slot stage.new }
+    ensures stands { Stands batch.now items.now true 0 stage.new }
+    ensures slots { out.new.slots ≡ (take from out.old.slots ++ batch_slots (is_barred batch.now.limits) first_slot (batch_size_of stage.old) (after_batch batch.now.entries items.now)) ++ replicate (length out.old.slots - (from + batch_size_of stage.old)) [] }
+    ensures endpoints { out.new.endpoints ≡ out.old.endpoints }
+{
+    lists_may_be_fed();
+    stage.begin(batch, number, first_slot);
+    stage.feed_items(batch, items);
+    stage.finish(batch);
+    out.copy(stage.slots(), from);
+}
