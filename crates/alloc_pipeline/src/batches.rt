@@ -24,12 +24,23 @@ pub(crate) fn append_items(list: &mut DemandList, items: &[Item])
     }
 }
 
+/// The bits of all that the items need: none only where no item needs a slot.
+fn needs_of(items: &[Item]) -> u32
+    ensures { result ≡ 0 → All (λ item. item.need ≡ 0) items.now }
+{
+    let mut needs = 0;
+    for item in items {
+        needs |= item.need;
+    }
+    needs
+}
+
 /// Whether no item needs a slot.
 pub(crate) fn needs_none(items: &[Item]) -> bool
     ensures { result ≡ true → All (λ item. item.need ≡ 0) items.now }
 {
-    for item in items {
-        if item.need > 0 {
+    for few in items.chunks(64) {
+        if needs_of(few) > 0 {
             return false;
         }
     }

@@ -32,7 +32,7 @@ impl Model for Ring {
 
     ghost view = { λ r. record { endpoints = r.endpoints; batches = r.batches; b = r.b } };
 
-    ghost invariant = { λ r. AreFor r.endpoints r.b r.stages × (r.stages.holds ≡ false) × ((0 < r.b) × (r.b ≤ 64)) × (r.batches ≤ 16) };
+    ghost invariant = { λ r. AreFor r.endpoints r.b r.stages × (r.stages.holds ≡ false) × (r.stages.idle ≡ false) × ((0 < r.b) × (r.b ≤ 64)) × (r.batches ≤ 16) };
 }
 
 impl Ring {
@@ -102,6 +102,7 @@ fn allocate_batches(
     requires count { length batches.now ≤ 16 }
     requires sizes { AreFor out.old.endpoints b stages.old }
     requires none { stages.old.holds ≡ false }
+    requires unknown { stages.old.idle ≡ false }
     requires may { MayBeApplied out.old.endpoints b first_batch list.old.items batches.now }
     requires before { IsListBefore (first_slot b first_batch) list.old.items }
     requires numbers { first_slot b (first_batch + length batches.now) ≤ 2 ^ 32 }
@@ -109,6 +110,7 @@ fn allocate_batches(
     requires places { length batches.now * b ≤ length out.old.slots }
     ensures sizes { AreFor out.old.endpoints b stages.new }
     ensures none { stages.new.holds ≡ false }
+    ensures unknown { stages.new.idle ≡ false }
     ensures list { list.new.items ≡ rest_from b first_batch list.old.items batches.now }
     ensures spare { length list.new.items + list.new.spare ≡ length list.old.items + list.old.spare }
     ensures next { IsListBefore (first_slot b (first_batch + length batches.now)) list.new.items }

@@ -16,7 +16,7 @@ use Rattle.endpoint_history.specs.Counts.{Allocation}
 use Rattle.endpoint_history.specs.Counts as counts
 use Rattle.arbiter_lane.specs.declared.line.Line.{Line}
 use Rattle.arbiter_lane.specs.Lines.{Become}
-use Rattle.arbiter_lane.specs.Standing.{StandsFor, ToldIsOwed}
+use Rattle.arbiter_lane.specs.Standing.{StandsFor, FlowIsWithinLedger}
 use Rattle.arbiter_lane.specs.State.{LaneState, IsSound, open_to}
 use Rattle.arbiter_lane.proofs.Changes.{line_between}
 
@@ -58,7 +58,7 @@ open_to-is g sent history dst version done =
 
 -- what is told is allocated, and that is owed
 pub told-is-owed : CountsAddUp → (lane : LaneState) → IsSound lane → (history : LaneHistory) (allocations : List Allocation) (dst : ℕ) (line : Line) → slice_get lane.lines dst ≡ Some line →
-    StandsFor lane history allocations → ToldIsOwed lane.g history allocations dst
+    StandsFor lane history allocations → FlowIsWithinLedger lane.g history allocations dst
 told-is-owed sums lane sound history allocations dst line here stands =
     let three = sums.three lane.g history dst in
     let open_slots = open_to-is lane.g lane.sent history dst stands.sent_version stands.sent in

@@ -38,7 +38,7 @@ TellsSlots lane history = All (λ (number : Unresolved Telling). AreSlots lane.e
 abbrev pub HasHistory : LaneState → Type 0
 HasHistory lane = (history : LaneHistory) × (allocations : List Allocation) × StandsFor lane history allocations × TellsSlots lane history
 
--- the slots of a flow that were told were counted as allocated, each once, and no more of them than are owed
-pub record ToldIsOwed (g : ℕ) (history : LaneHistory) (allocations : List Allocation) (dst : ℕ) : Type 0 where
+-- of a flow no more slots are told than were counted as allocated, and no more are counted so than are owed
+pub record FlowIsWithinLedger (g : ℕ) (history : LaneHistory) (allocations : List Allocation) (dst : ℕ) : Type 0 where
   pub counted : told g history dst ≤ allocated history allocations dst
   pub owed : allocated history allocations dst ≤ owed g history dst

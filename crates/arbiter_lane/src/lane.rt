@@ -18,7 +18,7 @@ ghost use Rattle.endpoint_history.specs.Lane.{LaneHistory, MakesDown, TakesUp, R
 ghost use Rattle.endpoint_history.specs.Counts.{Allocation, recorded, acknowledged, lost, allocated};
 ghost use Rattle.endpoint_history.specs.Entries.{had, entry_of};
 ghost use Rattle.arbiter_lane.specs.State.{AreSlots, AreAllocated, AreInFlight, open_to};
-ghost use Rattle.arbiter_lane.specs.Standing.{StandsFor, ToldIsOwed};
+ghost use Rattle.arbiter_lane.specs.Standing.{StandsFor, FlowIsWithinLedger};
 ghost use Rattle.arbiter_lane.specs.Refusals.{refusal_of, IsOwn};
 ghost use Rattle.arbiter_lane.specs.declared.line.Line.{Line as LineOf};
 ghost use Rattle.arbiter_lane.specs.Lines.{Become, LosesSlots, DecidesSlots, HasStartedAgain, slots_shown, slots_lost};
@@ -324,7 +324,7 @@ impl Lane {
             × (count.acknowledged ≡ acknowledged self.now.g history dst) × (count.lost ≡ lost self.now.g history dst)) }
         ensures told { (history : LaneHistory) (allocations : List Allocation) →
             StandsFor self.now history allocations →
-            ToldIsOwed self.now.g history allocations dst }
+            FlowIsWithinLedger self.now.g history allocations dst }
     {
         lanes_count_slots();
         let line = &self.lines[dst as usize];

@@ -7,6 +7,7 @@ mod KeptLemmas
 mod ScheduleLemmas
 mod RowLemmas
 mod TableLemmas
+mod EmptyCells
 mod WalkLemmas
 mod FillLemmas
 mod ApplyLemmas

@@ -1,11 +1,8 @@
 -- Recorded batches may be applied one after the other, and what their slots are.
-use Rattle.std.proofs.Common.{◌≡◌, ◌≢◌, ◌<◌, ◌≤◌, ◌+◌, ◌-◌, ◌*◌, ◌^◌, ℕ, zero, suc, List, [], ◌∷◌, ◌++◌, length, get_or, map, filter, replicate, Bool, true, false, not, ◌||◌, cond, Option, Some, None, IsTrue, All, is_some, refl, sym, ap, ◌∙◌, subst, arith, inl, inr}
-use Rattle.std.specs.Option.{IfSome}
-use Rattle.std.specs.List.{list_any}
+use Rattle.std.proofs.Common.{◌≡◌, ◌≢◌, ◌<◌, ◌≤◌, ◌+◌, ◌-◌, ◌*◌, ℕ, zero, suc, List, [], ◌∷◌, ◌++◌, length, get_or, filter, replicate, Bool, true, false, not, ◌||◌, Option, Some, None, All, is_some, refl, sym, ap, ◌∙◌, subst, arith, inl, inr}
 use Rattle.std.proofs.lemmas.Bool.{cond-true, cond-false, cases_Bool}
 use Rattle.std.proofs.lemmas.List.{append-nil, append_assoc, length-append, length-replicate}
 use Rattle.std.proofs.lemmas.List.Folds.{list_any-append}
-use Rattle.std.proofs.lemmas.List.Sums.{sum_by-append, sum_by-cons}
 use Rattle.std.proofs.lemmas.List.Elements.{All-nil, All-cons, All-head, All-tail, All-append, All-map, All-filter, All-weaker, All-replicate}
 use Rattle.greedy_rules.specs.declared.flows.Flow.{Flow}
 use Rattle.greedy_rules.specs.declared.flows.Item.{Item}
@@ -13,15 +10,12 @@ use Rattle.greedy_rules.specs.declared.flows.Entry.{Entry}
 use Rattle.greedy_rules.specs.declared.limits.Limits.{Limits}
 use Rattle.greedy_rules.specs.Flows.{same_flow}
 use Rattle.greedy_rules.specs.Batches.{DemandBatch, entry_of}
-use Rattle.greedy_rules.specs.Demands.{HasEachFlowOnce, AreBelow, OpensNewFlows, is_listed, item_of, need_in, need_with, opened}
-use Rattle.greedy_rules.specs.Limits.{is_barred, KeepsLimits}
-use Rattle.greedy_rules.specs.SlotTable.{IsSlotOf}
-use Rattle.greedy_rules.specs.Slot.{has_flow}
-use Rattle.greedy_rules.specs.Allocation.{slots_of}
-use Rattle.greedy_rules.specs.Schedule.{first_slot, slots_then, list_then, schedule_from, rest_from, slot_limits, schedule, rest, slot_at, need_before, limits_at}
+use Rattle.greedy_rules.specs.Demands.{HasEachFlowOnce, is_listed, item_of, need_in, need_with, opened}
+use Rattle.greedy_rules.specs.Limits.{KeepsLimits}
+use Rattle.greedy_rules.specs.Schedule.{first_slot, list_then, rest_from, slot_limits, schedule, rest, slot_at, need_before, limits_at}
 use Rattle.greedy_rules.specs.Balance.{is_recorded, AreInOrder}
 use Rattle.greedy_rules.specs.Matching.{AreAmong, IsMaximalMatching}
-use Rattle.greedy_rules.specs.Recorded.{demand_through, demand_of, IsRecordedAfter, AreRecordedAfter, AreRecorded, Applies, MayBeApplied, IsLeftBy, RecordedBatchesMayBeApplied, EveryFrontIsRecorded, LaterBatchesMayBeApplied, IsRecordedSlot, EveryRecordedSlot}
+use Rattle.greedy_rules.specs.Recorded.{demand_through, demand_of, IsRecordedAfter, AreRecordedAfter, AreRecorded, Applies, MayBeApplied, IsLeftBy, RecordedBatchesMayBeApplied, EveryFrontIsRecorded, LaterBatchesMayBeApplied, EveryRecordedSlot}
 use Rattle.greedy_rules.proofs.FlowOrder.{same_flow-refl, same_flow-true}
 use Rattle.greedy_rules.proofs.NeedLemmas.{every_batch}
 use Rattle.greedy_rules.proofs.ScheduleLemmas.{every_slot, every_slot_keeps_its_limits}

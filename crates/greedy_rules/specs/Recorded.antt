@@ -7,7 +7,7 @@ use Rattle.greedy_rules.specs.Batches.{DemandBatch, IsBatch, entry_of}
 use Rattle.greedy_rules.specs.Demands.{HasEachFlowOnce, AreBelow, OpensNewFlows, is_listed, item_of, need_in, need_with, opened}
 use Rattle.greedy_rules.specs.Limits.{is_barred, KeepsLimits}
 use Rattle.greedy_rules.specs.SlotTable.{IsSlotOf}
-use Rattle.greedy_rules.specs.Schedule.{rest_from, list_then, schedule, rest, slot_at, need_before}
+use Rattle.greedy_rules.specs.Schedule.{list_then, schedule, rest, slot_at, need_before}
 use Rattle.greedy_rules.specs.Balance.{is_recorded, AreInOrder}
 use Rattle.greedy_rules.specs.Matching.{AreAmong, IsMatching, IsMaximal}
 

@@ -1,5 +1,5 @@
 -- What contracts see of a slot table: its slots, each the list of its flows rising by source, and how many endpoints it serves.
-use Rattle.std.specs.Prelude.{◌<◌, ℕ, zero, suc, ◌+◌, List, [], ◌∷◌, take, drop, Option, Some, None, All, AllPairs, IfSome, find, option_map, ◌==◌}
+use Rattle.std.specs.Prelude.{◌≡◌, ◌<◌, ℕ, zero, suc, ◌+◌, List, [], ◌∷◌, take, drop, Option, Some, None, All, AllPairs, IfSome, find, option_map, ◌==◌}
 use Rattle.greedy_rules.specs.declared.flows.Flow.{Flow}
 
 pub record Slots : Type 0 where
@@ -29,3 +29,7 @@ pub record IsSlotOf (endpoints : ℕ) (slot : List Flow) : Type 0 where
 -- the destinations in these places are below this number
 abbrev pub AreCells : ℕ → List (Option ℕ) → Type 0
 AreCells endpoints cells = All (λ cell. IfSome cell (λ dst. dst < endpoints)) cells
+
+-- nobody sends in these places
+abbrev pub AreEmpty : List (Option ℕ) → Type 0
+AreEmpty cells = All (λ cell. cell ≡ None) cells

@@ -1,4 +1,5 @@
-ghost use Rattle.std.specs.Prelude.{◌≡◌, ◌<◌, ◌≤◌, ◌+◌, ◌*◌, List, [], ◌++◌, length, take, drop, replicate, None, IfOk, All, slice_set};
+ghost use Rattle.std.specs.Prelude.{◌≡◌, ◌<◌, ◌≤◌, ◌+◌, ◌*◌, ◌↔◌, ◌||◌, List, [], ◌++◌, length, take, drop, replicate, None, IfOk, IsTrue, false, is_some, All, slice_set};
+ghost use Rattle.std.specs.List.{fold};
 ghost use Rattle.greedy_rules.specs.Slot.{slot_with};
 ghost use Rattle.greedy_rules.specs.Schedule.{slot_in};
 ghost use Rattle.greedy_rules.specs.SlotTable.{destination_of, flows_from, IsSlotOf};
@@ -13,17 +14,19 @@ pub struct SlotTable {
     pub(crate) cells: Vec<Option<u16>>,
     slots: u16,
     pub(crate) endpoints: u16,
+    // From this cell on nothing has been written since the table was cleared.
+    pub(crate) written: usize,
 }
 
 impl Model for SlotTable {
-    ghost use Rattle.std.specs.Prelude.{◌≡◌, ◌*◌, vec_len};
-    ghost use Rattle.greedy_rules.specs.SlotTable.{Slots, AreCells, table_slots};
+    ghost use Rattle.std.specs.Prelude.{◌≡◌, ◌≤◌, ◌*◌, drop, vec_len};
+    ghost use Rattle.greedy_rules.specs.SlotTable.{Slots, AreCells, AreEmpty, table_slots};
 
     ghost Value = { Slots };
 
     ghost view = { λ t. record { slots = table_slots t.endpoints t.slots t.cells.items; endpoints = t.endpoints } };
 
-    ghost invariant = { λ t. (vec_len t.cells ≡ t.slots * t.endpoints) × AreCells t.endpoints t.cells.items };
+    ghost invariant = { λ t. (vec_len t.cells ≡ t.slots * t.endpoints) × AreCells t.endpoints t.cells.items × (t.written ≤ vec_len t.cells) × AreEmpty (drop t.written t.cells.items) };
 }
 
 impl SlotTable {
@@ -36,6 +39,7 @@ impl SlotTable {
             cells: vec![in alloc; None; slots as usize * endpoints as usize]?,
             slots,
             endpoints,
+            written: 0,
         })
     }
 
@@ -73,12 +77,22 @@ impl SlotTable {
         &self.cells[from..from + self.endpoints as usize]
     }
 
+    /// Whether no endpoint sends in the slot.
+    pub fn is_idle(&self, slot: u16) -> bool
+        requires { slot < length self.now.slots }
+        ensures { IsTrue result ↔ (slot_in self.now.slots slot ≡ []) }
+    {
+        self.place(slot, 0) >= self.written || !has_sender(self.row(slot))
+    }
+
     /// Empties every slot.
     pub fn clear(&mut self)
         ensures slots { self.new.slots ≡ replicate (length self.old.slots) [] }
         ensures endpoints { self.new.endpoints ≡ self.old.endpoints }
     {
-        self.cells.fill(None);
+        let written = self.written;
+        self.written = 0;
+        self.cells[0..written].fill(None);
     }
 
     /// Makes the slots from place `to` on those of a table for as many endpoints.
@@ -89,7 +103,9 @@ impl SlotTable {
         ensures endpoints { self.new.endpoints ≡ self.old.endpoints }
     {
         let at = self.place(to, 0);
-        self.cells[at..at + from.cells.len()].copy_from_slice(&from.cells);
+        let end = at + from.cells.len();
+        self.written = self.written.max(end);
+        self.cells[at..end].copy_from_slice(&from.cells);
     }
 
     /// Lets the source, which sends nothing in the slot, send to this destination.
@@ -102,6 +118,7 @@ impl SlotTable {
         ensures endpoints { self.new.endpoints ≡ self.old.endpoints }
     {
         let place = self.place(slot, src);
+        self.written = self.written.max(place + 1);
         self.cells[place] = Some(dst);
     }
 
@@ -111,4 +128,11 @@ impl SlotTable {
     {
         slot as usize * self.endpoints as usize + src as usize
     }
+}
+
+/// Whether a place of the row has a destination. There is no early end, so many places are read at once.
+fn has_sender(row: &[Option<u16>]) -> bool
+    ensures { result ≡ fold (λ sends to. sends || is_some to) false row.now }
+{
+    row.iter().fold(false, |sends, to| sends | to.is_some())
 }

@@ -204,6 +204,9 @@ impl LaneRounds {
             × (count.allocated ≡ allocated (lane_of (played_by self.now rounds).steps) allocations dst)
             × (count.acknowledged ≡ acknowledged self.now.lane.g (lane_of (played_by self.now rounds).steps) dst)
             × (count.lost ≡ lost self.now.lane.g (lane_of (played_by self.now rounds).steps) dst)) }
+        ensures told { (rounds : List Round) (allocations : List Allocation) →
+            StandsFor self.now rounds allocations →
+            lanes.FlowIsWithinLedger self.now.lane.g (lane_of (played_by self.now rounds).steps) allocations dst }
     {
         self.lane.count(dst)
     }

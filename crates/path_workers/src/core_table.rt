@@ -1,4 +1,4 @@
-ghost use Rattle.std.specs.Prelude.{◌≡◌, ◌<◌, ◌*◌, ℕ, length, IfOk};
+ghost use Rattle.std.specs.Prelude.{◌≡◌, ◌<◌, ◌*◌, ℕ, length, replicate, None, IfOk};
 ghost use Rattle.path_workers.specs.CoreTable.{core_of, NamesNone};
 
 use no_memory::NoMemory;
@@ -11,17 +11,19 @@ pub struct CoreTable {
     pub(crate) cores: Vec<Option<u16>>,
     slots: u16,
     pub(crate) endpoints: u16,
+    // Whether no core has been named since the table was opened.
+    pub(crate) is_new: bool,
 }
 
 impl Model for CoreTable {
-    ghost use Rattle.std.specs.Prelude.{◌≡◌, ◌*◌, vec_len};
+    ghost use Rattle.std.specs.Prelude.{◌≡◌, ◌*◌, true, None, replicate, vec_len};
     ghost use Rattle.path_workers.specs.CoreTable.{CoreSlots};
 
     ghost Value = { CoreSlots };
 
     ghost view = { λ t. record { slots = t.slots; endpoints = t.endpoints; cores = t.cores.items } };
 
-    ghost invariant = { λ t. vec_len t.cores ≡ t.slots * t.endpoints };
+    ghost invariant = { λ t. (vec_len t.cores ≡ t.slots * t.endpoints) × (t.is_new ≡ true → t.cores.items ≡ replicate (vec_len t.cores) None) };
 }
 
 impl CoreTable {
@@ -35,7 +37,19 @@ impl CoreTable {
             cores: vec![in alloc; None; slots as usize * endpoints as usize]?,
             slots,
             endpoints,
+            is_new: true,
         })
+    }
+
+    /// Names no core any more.
+    pub(crate) fn clear(&mut self)
+        ensures cores { self.new.cores ≡ replicate (length self.old.cores) None }
+        ensures slots { self.new.slots ≡ self.old.slots }
+        ensures endpoints { self.new.endpoints ≡ self.old.endpoints }
+    {
+        if !self.is_new {
+            self.cores.fill(None);
+        }
     }
 
     /// How many slots there is room for.

@@ -2,14 +2,12 @@
 #![tactic(auto)]
 
 mod core_table;
-mod idle;
 mod jobs;
 mod painter;
 mod paths;
 mod seats;
 
 pub use core_table::CoreTable;
-pub use idle::is_idle;
 pub use no_memory::NoMemory;
 pub use paths::Paths;
 

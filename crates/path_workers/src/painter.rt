@@ -9,7 +9,6 @@ ghost use Rattle.path_workers.specs.Coloured.{HasItsCores};
 ghost use Rattle.path_workers.specs.Jobs.{is_slot};
 ghost use Rattle.path_workers.specs.Painters.{IsPainter, HasPainted, HasRow, MayPaint, has_row};
 
-use crate::idle::is_idle;
 use crate::jobs::Job;
 use clos_topology::{Net, RackGraph};
 use edge_colouring::{Table, colour, every_colouring_makes_a_matching_clean, limits_are_degrees};
@@ -120,7 +119,7 @@ impl Painter {
     {
         every_colouring_makes_a_matching_clean();
         limits_are_degrees();
-        if is_idle(slots, slot) {
+        if slots.is_idle(slot) {
             return self.idle_place();
         }
         if let Some(place) = self.last_row(slots, slot) {

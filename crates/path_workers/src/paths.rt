@@ -1,4 +1,4 @@
-ghost use Rattle.std.specs.Prelude.{◌≡◌, ◌<◌, ◌≤◌, ◌+◌, ◌*◌, ℕ, List, true, length, All, IfOk};
+ghost use Rattle.std.specs.Prelude.{◌≡◌, ◌<◌, ◌≤◌, ◌+◌, ◌*◌, ℕ, List, true, None, length, replicate, All, IfOk};
 ghost use Rattle.std.specs.List.{list_any};
 ghost use Rattle.greedy_rules.specs.declared.flows.Flow.{Flow};
 ghost use Rattle.greedy_rules.specs.Matching.{IsMatching};
@@ -11,7 +11,6 @@ ghost use Rattle.path_workers.specs.Coloured.{IsFlowOf, IsWithinCores, NamesNoOt
 ghost use Rattle.path_workers.specs.Painters.{IsPainter, HasPainted, MayPaint, HaveRows, has_row};
 
 use crate::core_table::CoreTable;
-use crate::idle::is_idle;
 use crate::jobs;
 use crate::jobs::{JobPass, JobQueue};
 use crate::painter::Painter;
@@ -123,6 +122,8 @@ impl Paths {
         );
         jobs::join(&self.queue, &mut self.pass, pass);
         self.painters = painters;
+        out.clear();
+        out.is_new = false;
         let endpoints = out.endpoints;
         gather(&self.painters, slots.slots(), endpoints, &mut out.cores);
     }
@@ -147,7 +148,7 @@ fn between_racks(net: &Net, slots: &SlotTable, slot: u16) -> u16
     requires slot { slot < length slots.now.slots }
     requires flows { All (IsFlowOf net.now) (slot_in slots.now.slots slot) }
 {
-    if is_idle(slots, slot) {
+    if slots.is_idle(slot) {
         return 0;
     }
     let mut packets = 0u16;
@@ -169,15 +170,15 @@ fn forget(painters: &mut [Painter])
     }
 }
 
-/// Writes the row of every slot, each from a worker that has it, and none past them.
+/// Writes the row of every slot, each from a worker that has it, where no row names a core.
 fn gather(painters: &[Painter], slots: u16, endpoints: u16, cores: &mut [Option<u16>])
     requires painted { (table : List (List Flow)) × (length table ≡ slots) × All (MayPaint table) painters.now × HaveRows slots painters.now }
+    requires none { cores.old ≡ replicate (length cores.old) None }
     requires slot_room { slots * endpoints ≤ length cores.old }
     requires endpoint_room { All (λ painter. endpoints_of painter.net ≤ endpoints) painters.now }
     ensures coloured { (net : Network) (table : List (List Flow)) → All (MayPaint table) painters.now → All (λ painter. painter.net ≡ net) painters.now → length table ≡ slots → (at : ℕ) → at < slots → HasItsCores net (slot_in table at) (core_in (row_of endpoints cores.new at)) }
     ensures past { (at : ℕ) → slots ≤ at → NamesNone (core_in (row_of endpoints cores.new at)) }
 {
-    cores.fill(None);
     for slot in 0..slots {
         let from = slot as usize * endpoints as usize;
         let row = &mut cores[from..from + endpoints as usize];

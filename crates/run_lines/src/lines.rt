@@ -10,7 +10,7 @@ ghost use Rattle.run_lines.specs.Text.{text_of, entry_line, slot_line, slots_lin
 use crate::output::{Output, Stop};
 use fp_edge::Sink;
 use greedy_rules::{Batch, SlotTable};
-use path_workers::{CoreTable, is_idle};
+use path_workers::CoreTable;
 use report_text::Numeral;
 use window_engine::Step;
 
@@ -63,7 +63,7 @@ fn put_slot<K: Sink>(
     ensures { Passes output.old output.new
         (text_of (map (slot_line number.now (core_of cores.now place)) (slot_in table.now.slots place))) result }
 {
-    if is_idle(table, place) {
+    if table.is_idle(place) {
         return Ok(());
     }
     let row = table.row(place);

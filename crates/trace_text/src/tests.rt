@@ -251,8 +251,9 @@ fn asks_of(alloc: Global, trace: &Trace) -> Result<Vec<(u32, u16, u16, u32)>, Fa
     let mut asks = Vec::new(alloc);
     for round in 0..trace.rounds() {
         for src in 0..trace.endpoints() {
-            for ask in trace.asks_by(round, src) {
-                asks.push((ask.round, ask.src, ask.dst, ask.slots))?;
+            for at in 0..trace.ask_count(round, src) {
+                let (dst, slots) = trace.ask(round, src, at);
+                asks.push((round, src, dst, slots))?;
             }
         }
     }

@@ -147,6 +147,26 @@ impl Trace {
         of_round(&self.asks, &self.ask_starts, round)
     }
 
+    /// How many destinations the source asks for in the round.
+    pub fn ask_count(&self, round: u32, src: u16) -> usize
+        requires round { round < self.now.rounds }
+        requires src { src < endpoints_of self.now.net }
+        ensures { result ≡ length (asked_at self.now round src) }
+    {
+        self.asks_by(round, src).len()
+    }
+
+    /// One of these destinations, counted from 0 as they rise, and the sum of the asks for it in the round.
+    pub fn ask(&self, round: u32, src: u16, at: usize) -> (u16, u32)
+        requires round { round < self.now.rounds }
+        requires src { src < endpoints_of self.now.net }
+        requires at { at < length (asked_at self.now round src) }
+        ensures { slice_get (asked_at self.now round src) at ≡ Some result }
+    {
+        let ask = self.asks_by(round, src)[at];
+        (ask.dst, ask.slots)
+    }
+
     /// The asks of the source in the round, one a destination, rising by destination.
     pub fn asks_by(&self, round: u32, src: u16) -> &[Ask]
         requires round { round < self.now.rounds }

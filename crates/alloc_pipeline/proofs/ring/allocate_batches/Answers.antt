@@ -33,6 +33,7 @@ loop-place-preserved c =
       done = rw (now.list, now.slots) more;
       list = refl;
       ended = now.ended;
+      idle = now.idle;
       sizes = subst (λ (n : ℕ). AreFor n b c.allocate.new.self) was.endpoints (subst (λ (n : ℕ). AreFor c.loop-place.out.endpoints n c.allocate.new.self) size now.sizes);
       endpoints = now.endpoints ∙ was.endpoints;
     }

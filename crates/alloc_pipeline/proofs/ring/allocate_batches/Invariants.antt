@@ -1,5 +1,5 @@
 use Rattle.std.proofs.Common.{◌≡◌, length}
-use Rattle.alloc_pipeline.specs.Stages.{AreFor, HasEnded, held}
+use Rattle.alloc_pipeline.specs.Stages.{AreFor, HasEnded, held, IsIdleWhere}
 use Rattle.alloc_pipeline.proofs.RingLemmas.{IsDone}
 use Rattle.alloc_pipeline.proofs.ring.allocate_batches.Given as goal
 
@@ -8,6 +8,7 @@ invariant-loop-place l = record {
   done : IsDone l.fn.out.endpoints l.b l.first_batch l.place (length l.fn.out.slots) l.batches l.fn.list.items (held l.stages.holds l.stages.front l.fn.list) l.out.slots;
   list : l.list ≡ l.fn.list;
   ended : HasEnded l.stages.holds l.stages.front;
+  idle : IsIdleWhere l.stages.idle (held l.stages.holds l.stages.front l.fn.list);
   sizes : AreFor l.fn.out.endpoints l.b l.stages;
   endpoints : l.out.endpoints ≡ l.fn.out.endpoints;
 }

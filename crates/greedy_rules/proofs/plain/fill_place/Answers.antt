@@ -1,6 +1,7 @@
-use Rattle.std.proofs.Common.{◌≡◌, [], ◌<◌, ◌+◌, ◌-◌, ◌*◌, ℕ, length, set, take, drop, List, Option, sym, ap, ◌∙◌, subst, arith}
+use Rattle.std.proofs.Common.{◌≡◌, [], ◌<◌, ◌≤◌, ◌+◌, ◌-◌, ◌*◌, ℕ, length, set, take, drop, List, Option, sym, ap, ◌∙◌, subst, arith}
 use Rattle.std.proofs.lemmas.List.{with_items_is}
 use Rattle.std.proofs.lemmas.List.Elements.{All-take, All-drop}
+use Rattle.std.proofs.lemmas.Slice.{drop-put_mid}
 use borrow.Rule.Slice.PartMut.{put_mid, same_len_mid}
 use Rattle.greedy_rules.specs.declared.flows.Flow.{Flow}
 use Rattle.greedy_rules.specs.declared.flows.Item.{Item}
@@ -10,8 +11,9 @@ use Rattle.greedy_rules.specs.Slot.{Bar, greedy_slot}
 use Rattle.greedy_rules.specs.declared.limits.Limits.{Limits}
 use Rattle.greedy_rules.specs.Limits.{is_barred}
 use Rattle.greedy_rules.specs.Allocation.{after_slot}
-use Rattle.greedy_rules.specs.SlotTable.{Slots, flows_from, table_slots, AreCells}
+use Rattle.greedy_rules.specs.SlotTable.{Slots, flows_from, table_slots, AreCells, AreEmpty}
 use Rattle.greedy_rules.proofs.TableLemmas.{IsCell, fits, slot_below, slot_at_row, length-row, table_with, cells_with}
+use Rattle.greedy_rules.proofs.EmptyCells.{empty_after}
 use Rattle.greedy_rules.proofs.plain.fill_place.Goals as goal
 
 pub slice_bounds-row-end : goal.slice_bounds-row-end
@@ -50,7 +52,18 @@ invariant_of-out c =
     let was : AreCells endpoints (take size (drop from cells)) = All-take (IsCell endpoints) size (drop from cells) (All-drop (IsCell endpoints) from cells old) in
     let new : AreCells endpoints row =
     subst (λ (n : ℕ). AreCells n row) marks (c.fill_slot.ensures.row (subst (λ (n : ℕ). AreCells n (take size (drop from cells))) (sym marks) was)) in
-    (c.out.invariant.0, subst (AreCells endpoints) (sym (with_items_is table.cells (put_mid from size cells row) kept)) (cells_with endpoints from size cells row old new))
+    let most : ℕ = c.max-out-inside.result in
+    let within : from + endpoints ≤ table.cells.len = omega (arith, fits endpoints table.slots c.args.place below, c.out.invariant.0) in
+    let behind : AreEmpty (drop most table.cells.items) = empty_after table.written most table.cells.items (omega (arith, c.max-out-inside.ensures)) c.out.invariant.3 in
+    let past : drop most (put_mid from size cells row) ≡ drop most table.cells.items =
+    drop-put_mid from size cells row most (omega (arith, c.max-out-inside.ensures)) (omega (arith, within, c.deref_mut.ensures.len)) (omega (arith, c.fill_slot.auto.sends, marks))
+    ∙ ap (λ (xs : List (Option ℕ)). drop most xs) c.deref_mut.ensures.value in
+    let held = with_items_is table.cells (put_mid from size cells row) kept in (
+      c.out.invariant.0,
+      subst (AreCells endpoints) (sym held) (cells_with endpoints from size cells row old new),
+      omega (arith, c.max-out-inside.ensures, within, c.out.invariant.2),
+      subst (λ (xs : List (Option ℕ)). AreEmpty (drop most xs)) (sym held) (subst AreEmpty (sym past) behind),
+    )
 
 pub returns-clause-slots : goal.returns-clause-slots
 returns-clause-slots c =

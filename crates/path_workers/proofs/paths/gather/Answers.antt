@@ -18,7 +18,7 @@ loop-slot-preserved c =
     let k : ℕ = (slot * endpoints + endpoints) - slot * endpoints in
     let size : k ≡ endpoints = omega arith in
     let fits : slot * endpoints + endpoints ≤ length old =
-    omega (arith, row_fits slot endpoints c.args.slots endpoints c.loop-slot-test.true (omega arith), c.requires.slot_room, c.loop-slot.auto.cores, c.fill.ensures.len) in
+    omega (arith, row_fits slot endpoints c.args.slots endpoints c.loop-slot-test.true (omega arith), c.requires.slot_room, c.loop-slot.auto.cores) in
     let within : slot * endpoints ≤ length old = omega (arith, fits) in
     let whole : length row ≡ endpoints = c.copy_row.auto.row ∙ length-row endpoints k (slot * endpoints) old size fits in
     record {

@@ -1,4 +1,4 @@
-use Rattle.std.proofs.Common.{◌≡◌, ◌+◌, ◌-◌, ◌++◌, ℕ, List, [], length, take, replicate, All, sym, ap, ◌∙◌, subst, arith}
+use Rattle.std.proofs.Common.{◌≡◌, ◌+◌, ◌-◌, ◌++◌, ℕ, List, [], length, take, replicate, All, sym, ap, ◌∙◌, arith}
 use Rattle.std.proofs.lemmas.List.{append_assoc, replicate-append-replicate, take-append-drop}
 use Rattle.greedy_rules.specs.declared.flows.Flow.{Flow}
 use Rattle.greedy_rules.specs.declared.flows.Item.{Item}
@@ -10,8 +10,8 @@ use Rattle.slot_batches.specs.Stands.{batch_size_of}
 use Rattle.alloc_pipeline.specs.Stages.{held}
 use Rattle.alloc_pipeline.proofs.stages.Stages.allocate.Goals as goal
 
-pub returns-then-needs_none-clause-slots : goal.returns-then-needs_none-clause-slots
-returns-then-needs_none-clause-slots c =
+pub returns-then-is_idle-clause-slots : goal.returns-then-is_idle-clause-slots
+returns-then-is_idle-clause-slots c =
     let bar = is_barred c.args.batch.now.limits in
     let list : List Item = held c.args.self.now.holds c.args.self.now.front c.args.list.now in
     let was = c.args.out.now.slots in
@@ -20,7 +20,7 @@ returns-then-needs_none-clause-slots c =
     let none : List Flow = [] in
     let rest : ℕ = length was - (from + b) in
     let empty : c.args.batch.now.entries ≡ [] = c.is_empty.ensures.0 c.if-is_empty.true in
-    let idle : All (λ item. item.need ≡ 0) list = subst (All (λ (item : Item). item.need ≡ 0)) c.items_of-items.ensures (c.needs_none.ensures c.if-needs_none.true) in
+    let idle : All (λ item. item.need ≡ 0) list = c.is_idle.ensures.idle c.if-is_idle.true in
     let places : b + rest ≡ length was - from = omega (arith, c.requires.places) in
     let slots : batch_slots bar c.args.first_slot b (after_batch c.args.batch.now.entries list) ≡ replicate b none =
     ap (λ (entries : List Entry). batch_slots bar c.args.first_slot b (after_batch entries list)) empty

@@ -2,10 +2,12 @@ use Rattle.std.proofs.Common.{◌≡◌, ◌≤◌, ◌+◌, ◌-◌, ◌*◌, �
 use Rattle.std.proofs.lemmas.List.{with_items_is}
 use Rattle.std.proofs.Math.Nat.{mul-le-mul_left}
 use Rattle.std.proofs.lemmas.List.{append_assoc}
+use Rattle.std.proofs.lemmas.Slice.{drop-put_mid}
 use borrow.Rule.Slice.PartMut.{put_mid, same_len_mid}
 use Rattle.greedy_rules.specs.declared.flows.Flow.{Flow}
-use Rattle.greedy_rules.specs.SlotTable.{Slots, table_slots, AreCells}
+use Rattle.greedy_rules.specs.SlotTable.{Slots, table_slots, AreCells, AreEmpty}
 use Rattle.greedy_rules.proofs.TableLemmas.{length-table_slots, cells_with, copied_is}
+use Rattle.greedy_rules.proofs.EmptyCells.{empty_after}
 use Rattle.greedy_rules.proofs.slots.SlotTable.copy.Goals as goal
 
 -- both tables by their fields: they have as many endpoints, and the slots fit
@@ -47,7 +49,21 @@ invariant_of-self c =
     let old : AreCells table.endpoints cells = subst (AreCells table.endpoints) (sym c.deref_mut.ensures.value) c.self.invariant.1 in
     let written : row ≡ other.cells.items = c.copy_from_slice.ensures.after ∙ c.deref.ensures.value in
     let new : AreCells table.endpoints row = subst (AreCells table.endpoints) (sym written) (subst (λ (n : ℕ). AreCells n other.cells.items) both.0 c.from.invariant.1) in
-    (c.self.invariant.0, subst (AreCells table.endpoints) (sym (with_items_is table.cells (put_mid from size cells row) kept)) (cells_with table.endpoints from size cells row old new))
+    let is = with_items_is table.cells (put_mid from size cells row) kept in
+    let most : ℕ = c.max-self-inside.result in
+    let at : from ≡ c.args.to * table.endpoints = omega (arith, c.place-at.ensures ∙ ap (λ (t : Slots). c.args.to * t.endpoints + 0) (sym c.self.view_is)) in
+    let long : c.len.result ≡ other.slots * table.endpoints = c.len.ensures ∙ (c.from.invariant.0 ∙ ap (λ (n : ℕ). other.slots * n) both.0) in
+    let within : from + c.len.result ≤ table.cells.len = omega (arith, rows_fit table.endpoints table.slots c.args.to other.slots both.1, at, long, c.self.invariant.0) in
+    let whole : length row ≡ size = omega (arith, ap (λ (xs : List (Option ℕ)). length xs) written, other.cells.ok.0, c.len.ensures) in
+    let behind : AreEmpty (drop most table.cells.items) = empty_after table.written most table.cells.items (omega (arith, c.max-self-inside.ensures)) c.self.invariant.3 in
+    let past : drop most (put_mid from size cells row) ≡ drop most table.cells.items =
+    drop-put_mid from size cells row most (omega (arith, c.max-self-inside.ensures)) (omega (arith, within, c.deref_mut.ensures.len)) whole
+    ∙ ap (λ (xs : List (Option ℕ)). drop most xs) c.deref_mut.ensures.value in (
+      c.self.invariant.0,
+      subst (AreCells table.endpoints) (sym is) (cells_with table.endpoints from size cells row old new),
+      omega (arith, c.max-self-inside.ensures, within, c.self.invariant.2),
+      subst (λ (xs : List (Option ℕ)). AreEmpty (drop most xs)) (sym is) (subst AreEmpty (sym past) behind),
+    )
 
 pub returns-clause-slots : goal.returns-clause-slots
 returns-clause-slots c =

@@ -63,7 +63,7 @@ gather-requires-clause-endpoint_room g c k d below =
       ap (λ (t : _). t.endpoints) c.out.view_is,
     )
 
-painted_then : (g : Over) (c : goal.After-out-1 g) → All (HasPainted c.self.inside.net c.self.inside.slots c.args.slots.now.slots) c.play-painters.result.0.items
+painted_then : (g : Over) (c : goal.After-out-2-1 g) → All (HasPainted c.self.inside.net c.self.inside.slots c.args.slots.now.slots) c.play-painters.result.0.items
 painted_then g c =
     let net : Network = c.self.inside.net in
     let room : ℕ = c.self.inside.slots in
@@ -84,7 +84,7 @@ invariant_of-self g c =
     }
 
 -- a slot of the table has its cores
-coloured : (g : Over) (c : goal.After-out-1 g) (at : ℕ) → at < length c.args.slots.now.slots
+coloured : (g : Over) (c : goal.After-out-2-1 g) (at : ℕ) → at < length c.args.slots.now.slots
     → HasItsCores c.args.self.now.net (slot_in c.args.slots.now.slots at) (core_in (row_of c.out.inside.endpoints (with_items c.out.inside.cores c.gather.new.cores).items at))
 coloured g c at below =
     let slots : List (List Flow) = c.args.slots.now.slots in
