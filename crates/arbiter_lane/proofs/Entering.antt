@@ -1,5 +1,5 @@
 -- A batch that is entered destination by destination.
-use Rattle.std.proofs.Common.{◌≡◌, ◌+◌, ℕ, true, List, [], ◌∷◌, ◌++◌, IsTrue, Some, slice_get, get_or, set, sym, ap, subst, refl, arith, inl, inr, ◌∙◌}
+use Rattle.std.proofs.Common.{◌≡◌, ◌≤◌, ◌+◌, ◌-◌, ℕ, true, List, [], ◌∷◌, ◌++◌, IsTrue, Some, slice_get, get_or, set, sym, ap, subst, refl, arith, inl, inr, ◌∙◌}
 use Rattle.std.proofs.lemmas.Bool.{cases_eq}
 use Rattle.std.proofs.lemmas.List.{get_or-set_same, get_or-set_other, length-set, append_assoc}
 use Rattle.std.proofs.Math.Numerals.{add-one}
@@ -35,11 +35,18 @@ above_pushed (first ∷ []) entry src dst is = above_pushed [] entry src dst is
 above_pushed (_ ∷ (next ∷ entries)) entry src dst is = above_pushed (next ∷ entries) entry src dst is
 
 -- and so below each later flow of its source
-pub above_from : (entries : List Entry) (src n : ℕ) → IsAboveLast entries (record { src = src; dst = 0 }) → IsAboveLast entries (record { src = src; dst = n })
-above_from entries src zero above = above
-above_from entries src (suc n) above =
-    let next : n + 1 ≡ suc n = omega arith in
-    subst (λ (d : ℕ). IsAboveLast entries (record { src = src; dst = d })) next (above_later entries src n (above_from entries src n above))
+above_more : (entries : List Entry) (src n m : ℕ) → IsAboveLast entries (record { src = src; dst = n }) → IsAboveLast entries (record { src = src; dst = n + m })
+above_more entries src n zero above =
+    let same : n ≡ n + zero = omega arith in
+    subst (λ (d : ℕ). IsAboveLast entries (record { src = src; dst = d })) same above
+above_more entries src n (suc m) above =
+    let next : n + m + 1 ≡ n + suc m = omega arith in
+    subst (λ (d : ℕ). IsAboveLast entries (record { src = src; dst = d })) next (above_later entries src (n + m) (above_more entries src n m above))
+
+pub above_upward : (entries : List Entry) (src from to : ℕ) → from ≤ to → IsAboveLast entries (record { src = src; dst = from }) → IsAboveLast entries (record { src = src; dst = to })
+above_upward entries src from to upward above =
+    let whole : from + (to - from) ≡ to = omega (arith, upward) in
+    subst (λ (d : ℕ). IsAboveLast entries (record { src = src; dst = d })) whole (above_more entries src from (to - from) above)
 
 -- ---- the lines
 

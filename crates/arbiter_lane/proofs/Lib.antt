@@ -2,6 +2,7 @@ mod Changes
 mod Entering
 mod Held
 mod Recording
+mod Marking
 mod Beginning
 mod Allocating
 mod Refusing

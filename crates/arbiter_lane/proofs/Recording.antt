@@ -1,23 +1,24 @@
 -- What a lane stands for once its round is recorded, and the entries of the round.
-use Rattle.std.proofs.Common.{◌≡◌, ℕ, ◌+◌, ◌<◌, ◌≤◌, zero, suc, Bool, true, false, ◌&&◌, ◌||◌, cond, List, [], ◌∷◌, ◌++◌, ◌-◌, ◌⊎◌, inl, inr, not, min, length, slice_get, option_to_list, Option, Some, None, subst, ap, ◌∙◌, sym, refl, arith}
+use Rattle.std.proofs.Common.{◌≡◌, ℕ, ◌+◌, ◌<◌, ◌≤◌, zero, suc, Bool, true, false, ◌&&◌, ◌||◌, cond, List, [], ◌∷◌, ◌++◌, ◌-◌, inl, inr, not, length, option_to_list, Option, Some, None, ap, ◌∙◌, sym, refl, arith}
 use Rattle.std.specs.Prelude.{nat_lt}
 use Rattle.std.specs.List.{filter_map, range_with_len, cons_option}
 use Rattle.std.specs.Option.{option_and_then}
-use Rattle.std.proofs.lemmas.Bool.{le-ltb, ltb-false, cases_eq, cases_lt}
+use Rattle.std.proofs.lemmas.Bool.{le-ltb}
 use Rattle.std.proofs.lemmas.List.{append-nil}
-use Rattle.std.proofs.lemmas.Option.{get_or_from_slice_get}
+use Rattle.std.proofs.lemmas.Option.{slice_get_cases, slice_get_within}
 use Rattle.std.proofs.lemmas.List.Elements.{All-weaker}
 use Rattle.greedy_rules.specs.declared.flows.Entry.{Entry}
 use Rattle.greedy_rules.specs.declared.flows.Flow.{Flow}
 use Rattle.endpoint_history.specs.Lane.{LaneHistory, Records}
 use Rattle.endpoint_history.specs.Counts.{Allocation}
 use Rattle.endpoint_history.specs.Entries.{is_reset, added, entry_with, entry_of, had}
+use Rattle.line_marks.specs.declared.Marks.{Marks}
+use Rattle.line_marks.specs.Places.{is_marked}
 use Rattle.arbiter_lane.specs.declared.line.Line.{Line}
 use Rattle.arbiter_lane.specs.State.{LaneState, IsFlow, IsSound}
 use Rattle.arbiter_lane.specs.Standing.{StandsForFlow, StandsFor}
 use Rattle.arbiter_lane.specs.Lines.{Become, IsEntered, add_on, entry_on, has_entry}
-use Rattle.arbiter_lane.specs.Parts.{CanRise, HaveNotRisen, HaveEntriesWithin, entry_at, entries_on}
-use Rattle.arbiter_lane.proofs.Changes.{neither, UpTo}
+use Rattle.arbiter_lane.specs.Parts.{CanRise, AreMarked, HaveNotRisen, HaveEntriesMarked, entry_at, entries_on}
 use Rattle.arbiter_lane.proofs.Entering.{filter_map-more}
 use Rattle.arbiter_lane.proofs.Held.{each_line, line_here, Become-stay}
 
@@ -70,16 +71,30 @@ entries-none lines endpoint unrisen =
     let here = line_here lines dst (omega (arith, high)) in
     ap (entry_for endpoint false dst) here.1 ∙ entry-none here.0 (record { src = endpoint; dst = dst }) (unrisen dst here.0 here.1))
 
--- ---- only some lines have an entry
+-- ---- only marked lines have an entry
+
+unrisen-none : (line : Line) → line.count.demanded + line.count.lost ≡ line.entered → has_entry false line ≡ false
+unrisen-none line same = rw (le-ltb 0 (add_on line) (omega (arith, same))) refl
+
+-- where no reset was taken these are the lines that have risen
+pub entries-risen : (marks : Marks) (lines : List Line) → AreMarked marks lines → HaveEntriesMarked marks false lines
+entries-risen marks lines marked dst line here none = unrisen-none line (marked dst line here none)
 
 no_entry : (line : Line) (flow : Flow) (resets : Bool) → has_entry resets line ≡ false → entry_on line flow resets ≡ None
 no_entry line flow resets none =
     ap (λ (b : Bool). cond b (Some (record { flow = flow; opens = nat_lt 0 (add_on line) && not line.opened; clear = resets && line.opened; add = add_on line })) None) none
 
-entry_at-none : (lines : List Line) (endpoint : ℕ) (resets : Bool) (from to dst : ℕ) → HaveEntriesWithin from to resets lines → dst < length lines → (dst < from) ⊎ (to ≤ dst) → entry_at lines endpoint resets dst ≡ None
-entry_at-none lines endpoint resets from to dst all within past =
-    let here = line_here lines dst within in
-    ap (entry_for endpoint resets dst) here.1 ∙ no_entry here.0 (record { src = endpoint; dst = dst }) resets (all dst here.0 here.1 past)
+pub entry-unmarked : (marks : Marks) (lines : List Line) (endpoint : ℕ) (resets : Bool) (dst : ℕ) → HaveEntriesMarked marks resets lines → is_marked marks dst ≡ false → entry_at lines endpoint resets dst ≡ None
+entry-unmarked marks lines endpoint resets dst all none = elim (slice_get_cases lines dst).1 [
+  | inl line ↦ ap (entry_for endpoint resets dst) line.2 ∙ no_entry line.0 (record { src = endpoint; dst = dst }) resets (all dst line.0 line.2 none)
+  | inr past ↦ ap (entry_for endpoint resets dst) past.1
+]
+
+entry-past : (lines : List Line) (endpoint : ℕ) (resets : Bool) (dst : ℕ) → length lines ≤ dst → entry_at lines endpoint resets dst ≡ None
+entry-past lines endpoint resets dst past = elim (slice_get_cases lines dst).1 [
+  | inl line ↦ let within = slice_get_within lines dst line.0 line.2 in absurd (omega (arith, within, past))
+  | inr none ↦ ap (entry_for endpoint resets dst) none.1
+]
 
 more-none : {Y : Type 0} (f : ℕ → Option Y) (n m : ℕ) → ((k : ℕ) → n ≤ k → k < n + m → f k ≡ None) → filter_map f (range_with_len 0 (n + m)) ≡ filter_map f (range_with_len 0 n)
 more-none f n zero none = let same : n + 0 ≡ n = omega arith in ap (λ (k : ℕ). filter_map f (range_with_len 0 k)) same
@@ -91,47 +106,18 @@ more-none f n (suc m) none =
     ∙ (sym (filter_map-more f (n + m))
     ∙ (ap (λ o. filter_map f (range_with_len 0 (n + m)) ++ option_to_list o) last ∙ (append-nil (filter_map f (range_with_len 0 (n + m))) ∙ rest)))
 
--- before the first of them there are no entries
-pub entries-begin : (batch : List Entry) (lines : List Line) (endpoint : ℕ) (resets : Bool) (from to : ℕ) → HaveEntriesWithin from to resets lines → from ≤ length lines →
-    batch ≡ batch ++ filter_map (entry_at lines endpoint resets) (range_with_len 0 from)
-entries-begin batch lines endpoint resets from to all within =
-    let none = filter_map-none (entry_at lines endpoint resets) 0 from (λ k low high. entry_at-none lines endpoint resets from to k all (omega (arith, high, within)) (inl (omega (arith, high)))) in
-    sym (ap (λ xs. batch ++ xs) none ∙ append-nil batch)
+-- lines that are passed over add no entry
+pub entries-same : (lines : List Line) (endpoint : ℕ) (resets : Bool) (from to : ℕ) → from ≤ to → ((dst : ℕ) → from ≤ dst → dst < to → entry_at lines endpoint resets dst ≡ None) →
+    filter_map (entry_at lines endpoint resets) (range_with_len 0 to) ≡ filter_map (entry_at lines endpoint resets) (range_with_len 0 from)
+entries-same lines endpoint resets from to upward none =
+    let whole : to ≡ from + (to - from) = omega (arith, upward) in
+    ap (λ (n : ℕ). filter_map (entry_at lines endpoint resets) (range_with_len 0 n)) whole
+    ∙ more-none (entry_at lines endpoint resets) from (to - from) (λ k low high. none k low (omega (arith, high, upward)))
 
--- and past the last of them no more
-pub entries-end : (lines : List Line) (endpoint : ℕ) (resets : Bool) (from to at : ℕ) → HaveEntriesWithin from to resets lines → to ≤ at → at ≤ length lines →
+-- past the lines there is none
+pub entries-end : (lines : List Line) (endpoint : ℕ) (resets : Bool) (at : ℕ) → length lines ≤ at →
     filter_map (entry_at lines endpoint resets) (range_with_len 0 at) ≡ entries_on lines endpoint resets
-entries-end lines endpoint resets from to at all past within =
-    let long : at + (length lines - at) ≡ length lines = omega (arith, within) in
-    sym (more-none (entry_at lines endpoint resets) at (length lines - at) (λ k low high. entry_at-none lines endpoint resets from to k all (omega (arith, high, long)) (inr (omega (arith, low, past)))))
-    ∙ ap (λ (n : ℕ). filter_map (entry_at lines endpoint resets) (range_with_len 0 n)) long
-
--- a line with no entry has not risen
-pub unrisen-line : (line : Line) (resets : Bool) → line.entered ≤ line.count.demanded + line.count.lost → has_entry resets line ≡ false → line.count.demanded + line.count.lost ≡ line.entered
-unrisen-line line resets low none =
-    let is = ltb-false 0 (add_on line) (neither (nat_lt 0 (add_on line)) (resets && line.opened) none).0 in
-    omega (arith, low, is)
-
--- what is known of the lines below a place
-abbrev pub KnownBelow : ℕ → ℕ → ℕ → Bool → List Line → Type 0
-KnownBelow at from to resets lines = (dst : ℕ) (line : Line) → slice_get lines dst ≡ Some line → dst < at → (dst < from) ⊎ (to ≤ dst) → has_entry resets line ≡ false
-
-pub known-next : (lines : List Line) (resets enters : Bool) (at from to from' to' : ℕ) (line : Line) → slice_get lines at ≡ Some line → enters ≡ has_entry resets line →
-    from' ≡ cond enters (min from at) from → to' ≡ cond enters (at + 1) to → KnownBelow at from to resets lines → KnownBelow (at + 1) from' to' resets lines
-known-next lines resets true at from to from' to' line here is begins ends known = λ dst x there below past. elim past [
-  | inl low ↦ known dst x there (omega (arith, low, begins)) (inl (omega (arith, low, begins)))
-  | inr high ↦ absurd (omega (arith, high, ends, below))
-]
-known-next lines resets false at from to from' to' line here is begins ends known = λ dst x there below past. elim (cases_eq dst at) [
-  | inl same ↦
-      let at_it : slice_get lines at ≡ Some x = subst (λ (d : ℕ). slice_get lines d ≡ Some x) same there in
-      let x_is : x ≡ line = sym (get_or_from_slice_get lines at x line at_it) ∙ get_or_from_slice_get lines at line line here in
-      ap (has_entry resets) x_is ∙ sym is
-  | inr other ↦ known dst x there (omega (arith, below, other)) (elim past [
-    | inl low ↦ inl (omega (arith, low, begins))
-    | inr high ↦ inr (omega (arith, high, ends))
-  ])
-]
+entries-end lines endpoint resets at past = entries-same lines endpoint resets (length lines) at past (λ dst low high. entry-past lines endpoint resets dst low)
 
 -- a line that has not risen is entered as it is
 pub IsEntered-already : (line : Line) → line.count.demanded + line.count.lost ≡ line.entered → IsEntered line line
@@ -139,25 +125,6 @@ IsEntered-already line same = record {
   opened = rw (le-ltb 0 (add_on line) (omega (arith, same))) refl;
   entered = sym same;
   count = record { demanded = refl; allocated = refl; acknowledged = refl; lost = refl };
-}
-
--- so are the lines before those that have an entry
-pub entered-begin : (lines : List Line) (resets : Bool) (from to : ℕ) → CanRise lines → HaveEntriesWithin from to resets lines → Become (UpTo (λ dst. IsEntered) from) lines lines
-entered-begin lines resets from to can all =
-    Become-stay (UpTo (λ dst. IsEntered) from) lines
-    (λ dst line here. ((λ below. IsEntered-already line (unrisen-line line resets (can.entered dst line here) (all dst line here (inl below)))), (λ above. refl)))
-
--- and those past them
-pub entered-end : (before after : List Line) (resets : Bool) (from to at : ℕ) → CanRise before → HaveEntriesWithin from to resets before → to ≤ at → Become (UpTo (λ dst. IsEntered) at) before after →
-    Become (λ dst. IsEntered) before after
-entered-end before after resets from to at can all past become = record {
-  as_many = become.as_many;
-  each = λ dst x y was is.
-      let up_to = become.each dst x y was is in
-      elim (cases_lt dst at) [
-        | inl below ↦ up_to.0 below
-        | inr above ↦ subst (λ (z : Line). IsEntered x z) (sym (up_to.1 above)) (IsEntered-already x (unrisen-line x resets (can.entered dst x was) (all dst x was (inr (omega (arith, above, past))))))
-      ];
 }
 
 -- ---- the lane

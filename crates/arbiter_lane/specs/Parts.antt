@@ -1,5 +1,5 @@
 -- What the parts of a lane's calls read of it and write into it (this project's own profile).
-use Rattle.std.specs.Prelude.{◌≡◌, ◌≤◌, ◌<◌, ◌^◌, ℕ, ◌+◌, ◌*◌, ◌-◌, ◌&&◌, ◌⊎◌, Bool, false, nat_le, List, [], ◌∷◌, length, Option, Some, slice_get, if◌then◌else◌}
+use Rattle.std.specs.Prelude.{◌≡◌, ◌≤◌, ◌<◌, ◌^◌, ℕ, ◌+◌, ◌*◌, ◌-◌, ◌&&◌, Bool, false, nat_le, List, [], ◌∷◌, length, Option, Some, slice_get, if◌then◌else◌}
 use Rattle.std.specs.Option.{option_and_then}
 use Rattle.std.specs.List.{filter_map, range_with_len}
 use Rattle.greedy_rules.specs.declared.flows.Entry.{Entry}
@@ -8,6 +8,8 @@ use Rattle.fcp_framing.specs.declared.packet.Up.{Up}
 use Rattle.fcp_framing.specs.declared.packet.Down.{Down}
 use Rattle.ack_window.specs.declared.acknowledgement.Acknowledgement.{Acknowledgement}
 use Rattle.arbiter_lane.specs.declared.line.Line.{Line}
+use Rattle.line_marks.specs.declared.Marks.{Marks}
+use Rattle.line_marks.specs.Places.{is_marked}
 use Rattle.ack_window.specs.Outstanding.{may_send_new}
 use Rattle.ack_window.specs.Sends.{Event, Sends}
 use Rattle.ack_window.specs.Versions.{span_of}
@@ -54,9 +56,13 @@ entry_at lines endpoint resets dst =
 abbrev pub entries_on : List Line → ℕ → Bool → List Entry
 entries_on lines endpoint resets = filter_map (entry_at lines endpoint resets) (range_with_len 0 (length lines))
 
--- only lines from one on, up to another, have an entry
-abbrev pub HaveEntriesWithin : ℕ → ℕ → Bool → List Line → Type 0
-HaveEntriesWithin from to resets lines = (dst : ℕ) (line : Line) → slice_get lines dst ≡ Some line → (dst < from) ⊎ (to ≤ dst) → has_entry resets line ≡ false
+-- a line that has risen since it was entered last is marked; others may be, too
+abbrev pub AreMarked : Marks → List Line → Type 0
+AreMarked marks lines = (dst : ℕ) (line : Line) → slice_get lines dst ≡ Some line → is_marked marks dst ≡ false → line.count.demanded + line.count.lost ≡ line.entered
+
+-- only marked lines have an entry
+abbrev pub HaveEntriesMarked : Marks → Bool → List Line → Type 0
+HaveEntriesMarked marks resets lines = (dst : ℕ) (line : Line) → slice_get lines dst ≡ Some line → is_marked marks dst ≡ false → has_entry resets line ≡ false
 
 -- a new number may be sent
 abbrev pub may_tell : Sender Telling → Bool

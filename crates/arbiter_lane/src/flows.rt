@@ -9,7 +9,7 @@ ghost use Rattle.arbiter_lane.specs.Lines.{entry_on, Become, LosesSlots, Acknowl
 ghost use Rattle.std.specs.List.{filter_map};
 ghost use Rattle.greedy_rules.specs.Batches.{IsAboveLast};
 ghost use Rattle.arbiter_lane.specs.declared.line.Line.{Line as LineOf};
-ghost use Rattle.arbiter_lane.specs.Parts.{CanRise, HaveNotRisen, HaveEntriesWithin, entries_on};
+ghost use Rattle.arbiter_lane.specs.Parts.{CanRise, AreMarked, HaveEntriesMarked, HaveNotRisen, entries_on};
 ghost use Rattle.endpoint_history.specs.Confirmed.{total_named};
 
 use crate::NoMemory;
@@ -17,25 +17,31 @@ use crate::line::Line;
 use crate::telling::Telling;
 use ack_window::Decided;
 use fcp_framing::{Demand, Told};
-use greedy_rules::{Batch, Entry, Flow};
+use greedy_rules::{Batch, Flow};
+use line_marks::Marks;
 
-/// Counts each of the slots as lost.
-pub(crate) fn lose(lines: &mut [Line], told: &[Told])
+/// Counts each of the slots as lost, and marks its flow.
+pub(crate) fn lose(lines: &mut [Line], risen: &mut Marks, told: &[Told])
+    requires few { length lines.old ≤ 256 }
     requires destinations { All (λ (slot : ToldSlot). slot.dst < length lines.old) told.now }
     requires in_flight { AreInFlight (λ dst. slots_to dst told.now) lines.old }
-    ensures { Become (λ dst. LosesSlots (slots_to dst told.now)) lines.old lines.new }
+    ensures lost { Become (λ dst. LosesSlots (slots_to dst told.now)) lines.old lines.new }
+    ensures marked { AreMarked risen.old lines.old → AreMarked risen.new lines.new }
 {
     for slot in told {
-        lose_one(lines, *slot);
+        lose_one(lines, risen, *slot);
     }
 }
 
-fn lose_one(lines: &mut [Line], slot: Told)
+fn lose_one(lines: &mut [Line], risen: &mut Marks, slot: Told)
+    requires few { length lines.old ≤ 256 }
     requires destination { slot.dst < length lines.old }
     requires in_flight { AreInFlight (λ dst. slots_to dst (slot ∷ [])) lines.old }
-    ensures { Become (λ dst. LosesSlots (slots_to dst (slot ∷ []))) lines.old lines.new }
+    ensures lost { Become (λ dst. LosesSlots (slots_to dst (slot ∷ []))) lines.old lines.new }
+    ensures marked { AreMarked risen.old lines.old → AreMarked risen.new lines.new }
 {
     lines[slot.dst as usize].count.lose(1);
+    risen.set(slot.dst as usize);
 }
 
 /// Counts each of the slots as acknowledged.
@@ -57,26 +63,35 @@ fn acknowledge_one(lines: &mut [Line], slot: Told)
     lines[slot.dst as usize].count.acknowledge(1);
 }
 
-/// Raises the demand of each flow that is named to the total that is named for it. Answers whether one has risen.
-pub(crate) fn raise(lines: &mut [Line], demands: &[Demand]) -> bool
+/// Raises the demand of each flow that is named to the total that is named for it, and marks those that rise. Answers whether one
+/// has risen.
+pub(crate) fn raise(lines: &mut [Line], risen: &mut Marks, demands: &[Demand]) -> bool
+    requires few { length lines.old ≤ 256 }
     requires destinations { All (λ (demand : DemandItem). demand.dst < length lines.old) demands.now }
     ensures raised { Become (λ dst. RisesTo (total_named dst demands.now)) lines.old lines.new }
     ensures unrisen { result ≡ false → Become (λ dst. RisesTo 0) lines.old lines.new }
+    ensures marked { AreMarked risen.old lines.old → AreMarked risen.new lines.new }
 {
-    let mut risen = false;
+    let mut any = false;
     for demand in demands {
-        let rises = raise_one(lines, *demand);
-        risen |= rises;
+        let rises = raise_one(lines, risen, *demand);
+        any |= rises;
     }
-    risen
+    any
 }
 
-fn raise_one(lines: &mut [Line], demand: Demand) -> bool
-    requires { demand.dst < length lines.old }
+fn raise_one(lines: &mut [Line], risen: &mut Marks, demand: Demand) -> bool
+    requires few { length lines.old ≤ 256 }
+    requires destination { demand.dst < length lines.old }
     ensures raised { Become (λ dst. RisesTo (total_named dst (demand ∷ []))) lines.old lines.new }
     ensures unrisen { result ≡ false → Become (λ dst. RisesTo 0) lines.old lines.new }
+    ensures marked { AreMarked risen.old lines.old → AreMarked risen.new lines.new }
 {
-    lines[demand.dst as usize].count.raise(demand.total) > 0
+    let rises = lines[demand.dst as usize].count.raise(demand.total) > 0;
+    if rises {
+        risen.set(demand.dst as usize);
+    }
+    rises
 }
 
 /// Starts the counts of every flow again.
@@ -89,29 +104,33 @@ pub(crate) fn restart(lines: &mut [Line])
 }
 
 /// Counts the slots in the numbers that are decided, as lost or as acknowledged. Answers whether one is lost.
-pub(crate) fn decide(lines: &mut [Line], found: &[Decided<Telling>]) -> bool
+pub(crate) fn decide(lines: &mut [Line], risen: &mut Marks, found: &[Decided<Telling>]) -> bool
+    requires few { length lines.old ≤ 256 }
     requires destinations { All (λ (number : DecidedNumber TellingOf). All (λ (slot : ToldSlot). slot.dst < length lines.old) number.content.told) found.now }
     requires in_flight { AreInFlight (λ dst. slots_shown found.now dst + slots_lost found.now dst) lines.old }
     ensures decided { Become (λ dst. DecidesSlots (slots_shown found.now dst) (slots_lost found.now dst)) lines.old lines.new }
     ensures none_lost { result ≡ false → (dst : ℕ) → slots_lost found.now dst ≡ 0 }
+    ensures marked { AreMarked risen.old lines.old → AreMarked risen.new lines.new }
 {
     let mut lost = false;
     for number in found {
-        let loses = decide_one(lines, number);
+        let loses = decide_one(lines, risen, number);
         lost |= loses;
     }
     lost
 }
 
-fn decide_one(lines: &mut [Line], number: &Decided<Telling>) -> bool
+fn decide_one(lines: &mut [Line], risen: &mut Marks, number: &Decided<Telling>) -> bool
+    requires few { length lines.old ≤ 256 }
     requires destinations { All (λ (slot : ToldSlot). slot.dst < length lines.old) number.now.content.told }
     requires in_flight { AreInFlight (λ dst. slots_to dst number.now.content.told) lines.old }
     ensures decided { Become (λ dst. DecidesSlots (slots_shown (number.now ∷ []) dst) (slots_lost (number.now ∷ []) dst)) lines.old lines.new }
     ensures none_lost { result ≡ false → (dst : ℕ) → slots_lost (number.now ∷ []) dst ≡ 0 }
+    ensures marked { AreMarked risen.old lines.old → AreMarked risen.new lines.new }
 {
     let told = number.content.told.as_slice();
     if number.lost {
-        lose(lines, told);
+        lose(lines, risen, told);
         !told.is_empty()
     } else {
         acknowledge(lines, told);
@@ -123,6 +142,7 @@ fn decide_one(lines: &mut [Line], number: &Decided<Telling>) -> bool
 /// are as they were.
 pub(crate) fn record(
     lines: &mut [Line],
+    risen: &mut Marks,
     endpoint: u16,
     rises: bool,
     resets: bool,
@@ -131,87 +151,59 @@ pub(crate) fn record(
     requires few { length lines.old ≤ 256 }
     requires above { IsAboveLast batch.old.entries (record { src = endpoint; dst = 0 }) }
     requires can_rise { CanRise lines.old }
+    requires marked { AreMarked risen.old lines.old }
     requires unrisen { rises ≡ false → HaveNotRisen lines.old }
     ensures entries { OnOk result (batch.new.entries ≡ batch.old.entries ++ entries_on lines.old endpoint resets) }
     ensures limits { batch.new.limits ≡ batch.old.limits }
     ensures entered { OnOk result (Become (λ dst. IsEntered) lines.old lines.new) }
     ensures unchanged { OnErr result (lines.new ≡ lines.old) }
+    ensures marked { AreMarked risen.new lines.new }
 {
     if rises | resets {
-        let span = entered_lines(lines, resets);
-        enter(lines, span, endpoint, resets, batch)?;
-        settle(lines, span, resets);
+        mark_entries(lines, risen, resets);
+        enter(lines, risen, endpoint, resets, batch)?;
+        settle(lines, risen);
+        risen.clear_all();
     }
     Ok(())
 }
 
-/// The lines from one on, up to another.
-#[derive(Clone, Copy)]
-struct Span {
-    from: usize,
-    to: usize,
-}
-
-impl Span {
-    /// With the line at this place too, which is past it, if the line has an entry.
-    fn with(self, at: usize, has_entry: bool) -> Span
-        requires { at < 2 ^ 32 }
-        ensures from { result.from ≡ (if has_entry then min self.from at else self.from) }
-        ensures to { result.to ≡ (if has_entry then at + 1 else self.to) }
-    {
-        if has_entry {
-            Span {
-                from: self.from.min(at),
-                to: at + 1,
-            }
-        } else {
-            self
-        }
-    }
-}
-
-/// The lines between which all that have an entry lie.
-fn entered_lines(lines: &[Line], resets: bool) -> Span
+/// Marks every line in a round with a reset, since any flow that a batch has may start again.
+fn mark_entries(lines: &[Line], risen: &mut Marks, resets: bool)
     requires few { length lines.now ≤ 256 }
-    requires can_rise { CanRise lines.now }
-    ensures within { result.to ≤ length lines.now }
-    ensures begins { result.from ≤ length lines.now }
-    ensures all { HaveEntriesWithin result.from result.to resets lines.now }
+    requires marked { AreMarked risen.old lines.now }
+    ensures entries { HaveEntriesMarked risen.new resets lines.now }
+    ensures marked { AreMarked risen.new lines.now }
 {
-    let mut span = Span {
-        from: lines.len(),
-        to: 0,
-    };
-    for at in 0..lines.len() {
-        span = span.with(at, lines[at].has_entry(resets));
+    if resets {
+        risen.set_all();
     }
-    span
 }
 
-/// Enters the flows of an endpoint in these lines one by one, rising by destination. There is none from the endpoint to itself,
-/// whose line never rises.
+/// Enters the marked flows of an endpoint one by one, rising by destination. There is none from the endpoint to itself, whose line
+/// never rises.
 fn enter(
     lines: &[Line],
-    span: Span,
+    risen: &Marks,
     endpoint: u16,
     resets: bool,
     batch: &mut Batch,
 ) -> Result<(), NoMemory>
     requires few { length lines.now ≤ 256 }
-    requires within { span.to ≤ length lines.now }
-    requires begins { span.from ≤ length lines.now }
-    requires all { HaveEntriesWithin span.from span.to resets lines.now }
+    requires all { HaveEntriesMarked risen.now resets lines.now }
     requires above { IsAboveLast batch.old.entries (record { src = endpoint; dst = 0 }) }
     requires can_rise { CanRise lines.now }
     ensures entries { OnOk result (batch.new.entries ≡ batch.old.entries ++ entries_on lines.now endpoint resets) }
     ensures limits { batch.new.limits ≡ batch.old.limits }
 {
-    for dst in span.from..span.to {
+    let mut dst = risen.next_from(0);
+    while dst < lines.len() {
         let flow = Flow {
             src: endpoint,
             dst: dst as u16,
         };
         enter_one(&lines[dst], flow, resets, batch)?;
+        dst = risen.next_from(dst + 1);
     }
     Ok(())
 }
@@ -231,14 +223,16 @@ fn enter_one(line: &Line, flow: Flow, resets: bool, batch: &mut Batch) -> Result
     }
 }
 
-/// Takes all that the flows in these lines have risen by for entered. The others have not risen.
-fn settle(lines: &mut [Line], span: Span, resets: bool)
-    requires within { span.to ≤ length lines.old }
-    requires all { HaveEntriesWithin span.from span.to resets lines.old }
+/// Takes all that the marked flows have risen by for entered. The others have not risen.
+fn settle(lines: &mut [Line], risen: &Marks)
+    requires few { length lines.old ≤ 256 }
+    requires marked { AreMarked risen.now lines.old }
     requires can_rise { CanRise lines.old }
     ensures { Become (λ dst. IsEntered) lines.old lines.new }
 {
-    for at in span.from..span.to {
+    let mut at = risen.next_from(0);
+    while at < lines.len() {
         lines[at].settle();
+        at = risen.next_from(at + 1);
     }
 }

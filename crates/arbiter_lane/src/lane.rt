@@ -22,7 +22,7 @@ ghost use Rattle.arbiter_lane.specs.Standing.{StandsFor, FlowIsWithinLedger};
 ghost use Rattle.arbiter_lane.specs.Refusals.{refusal_of, IsOwn};
 ghost use Rattle.arbiter_lane.specs.declared.line.Line.{Line as LineOf};
 ghost use Rattle.arbiter_lane.specs.Lines.{Become, LosesSlots, DecidesSlots, HasStartedAgain, slots_shown, slots_lost};
-ghost use Rattle.arbiter_lane.specs.Parts.{packet_with, slots_told, acknowledgement_in};
+ghost use Rattle.arbiter_lane.specs.Parts.{packet_with, slots_told, acknowledgement_in, AreMarked};
 
 use crate::line::Line;
 use crate::refusal::UpRefused;
@@ -34,6 +34,7 @@ use endpoint_history::lanes_count_slots;
 use fcp_framing::{Down, Told, Up, decode_up, encode_alloc};
 use flow_ledger::FlowCount;
 use greedy_rules::Batch;
+use line_marks::Marks;
 use std::alloc::Global;
 use std::marker::Model;
 
@@ -54,6 +55,8 @@ pub struct Lane {
     arrived: TakeWindow,
     sent: SendWindow<Telling>,
     lines: Vec<Line>,
+    /// The lines that have risen since their entries were counted last: all of these, and maybe others.
+    risen: Marks,
     round: u32,
     is_made: bool,
     is_reset: bool,
@@ -61,14 +64,15 @@ pub struct Lane {
     /// The packet that was made last, and the one that arrived last.
     down: Down,
     up: Up,
-    /// What its acknowledgement decides. Empty between two calls.
-    found: ArrayVec<Decided<Telling>, 129>,
+    /// What its acknowledgement decides. Empty between two calls, and 36 KB large, so that a lane is moved without it.
+    found: Box<ArrayVec<Decided<Telling>, 129>>,
 }
 
 impl Model for Lane {
     ghost use Rattle.std.specs.Prelude.{◌≡◌, []};
     ghost use Rattle.arbiter_lane.specs.State.{LaneState, IsSound};
     ghost use Rattle.arbiter_lane.specs.Standing.{HasHistory};
+    ghost use Rattle.arbiter_lane.specs.Parts.{AreMarked};
 
     ghost Value = { LaneState };
 
@@ -106,7 +110,7 @@ impl Model for Lane {
           is_reset = lane.is_reset;
           has_risen = lane.has_risen;
         } in
-        IsSound state × HasHistory state × (lane.found.items ≡ []) };
+        IsSound state × HasHistory state × (lane.found.value.items ≡ []) × AreMarked lane.risen lane.lines.items };
 }
 
 impl Lane {
@@ -143,13 +147,14 @@ impl Lane {
             arrived: TakeWindow::new(FIRST_VERSION),
             sent: SendWindow::open(alloc, FIRST_VERSION)?,
             lines: vec![in alloc; Line::new(); endpoints as usize]?,
+            risen: Marks::new(),
             round: 0,
             is_made: false,
             is_reset: false,
             has_risen: false,
             down: Down::default(),
             up: Up::default(),
-            found: ArrayVec::new(),
+            found: Box::new(alloc, ArrayVec::new())?,
         })
     }
 
@@ -198,7 +203,14 @@ impl Lane {
         }
         let batch = round.saturating_sub(2 * u32::from(self.g));
         let down = &mut self.down;
-        let loses = tell(&mut self.sent, &mut self.lines, batch, told, down);
+        let loses = tell(
+            &mut self.sent,
+            &mut self.lines,
+            &mut self.risen,
+            batch,
+            told,
+            down,
+        );
         self.has_risen |= loses;
         Some(encode_alloc(&self.down, buf))
     }
@@ -251,11 +263,21 @@ impl Lane {
         if self.up.reset {
             return Ok(());
         }
-        let loses = read_ack(&self.up, &mut self.sent, &mut self.found, &mut self.lines);
+        let loses = read_ack(
+            &self.up,
+            &mut self.sent,
+            &mut self.found,
+            &mut self.lines,
+            &mut self.risen,
+        );
         self.has_risen |= loses;
         match self.arrived.take(self.up.seq) {
             Taken::Fresh => {
-                let rises = flows::raise(&mut self.lines, self.up.demands.as_slice());
+                let rises = flows::raise(
+                    &mut self.lines,
+                    &mut self.risen,
+                    self.up.demands.as_slice(),
+                );
                 self.has_risen |= rises;
                 Ok(())
             }
@@ -282,6 +304,7 @@ impl Lane {
     {
         flows::record(
             &mut self.lines,
+            &mut self.risen,
             self.endpoint,
             self.has_risen,
             self.is_reset,
@@ -378,6 +401,7 @@ impl Lane {
         self.arrived = TakeWindow::new(version);
         self.sent.restart(version);
         flows::restart(&mut self.lines);
+        self.risen.clear_all();
     }
 }
 
@@ -415,7 +439,9 @@ fn read_ack(
     sent: &mut SendWindow<Telling>,
     found: &mut ArrayVec<Decided<Telling>, 129>,
     lines: &mut [Line],
+    risen: &mut Marks,
 ) -> bool
+    requires few { length lines.old ≤ 256 }
     requires empty { found.old.items ≡ [] }
     requires stands { (events : List (Event TellingOf)) × HasDone sent.old events }
     requires destinations { All (λ (number : UnresolvedNumber TellingOf). All (λ (slot : ToldSlot). slot.dst < length lines.old) number.content.told) sent.old.outstanding.unresolved }
@@ -434,10 +460,11 @@ fn read_ack(
         HasDone sent.new (Reads (acknowledgement_in up.now) ∷ events) }
     ensures newest { sent.new.outstanding.newest ≡ sent.old.outstanding.newest }
     ensures version { sent.new.version ≡ sent.old.version }
+    ensures marked { AreMarked risen.old lines.old → AreMarked risen.new lines.new }
 {
     readings_move_what_they_decide::<Telling>();
     sent.read_ack(up.high, up.mask, found);
-    let lost = flows::decide(lines, found.as_slice());
+    let lost = flows::decide(lines, risen, found.as_slice());
     found.clear();
     lost
 }

@@ -14,7 +14,7 @@ pub struct Line {
 }
 
 impl Line {
-    ghost use Rattle.arbiter_lane.specs.Lines.{IsEntered, HasStartedAgain, entry_on, has_entry};
+    ghost use Rattle.arbiter_lane.specs.Lines.{IsEntered, HasStartedAgain, entry_on};
 
     /// A flow that no batch has, and of which nothing was demanded.
     pub(crate) fn new() -> Line
@@ -28,16 +28,7 @@ impl Line {
         }
     }
 
-    /// Whether the flow has an entry: it has risen since it was entered last, or its demand starts again.
-    pub(crate) fn has_entry(&self, resets: bool) -> bool
-        requires fits { self.now.count.demanded + self.now.count.lost < 2 ^ 32 }
-        requires risen { self.now.entered ≤ self.now.count.demanded + self.now.count.lost }
-        ensures { result ≡ has_entry resets self.now }
-    {
-        self.entered < self.count.demanded + self.count.lost || resets && self.opened
-    }
-
-    /// The entry of the flow, where it has one: what it has risen by since it was entered last.
+    /// The entry of the flow, where it has one: it has risen since it was entered last, or its demand starts again.
     pub(crate) fn entry(&self, flow: Flow, resets: bool) -> Option<Entry>
         requires fits { self.now.count.demanded + self.now.count.lost < 2 ^ 32 }
         requires risen { self.now.entered ≤ self.now.count.demanded + self.now.count.lost }

@@ -6,13 +6,14 @@ ghost use Rattle.ack_window.specs.Windows.{HasDone};
 ghost use Rattle.endpoint_history.specs.Packets.{Telling as TellingOf, slots_to};
 ghost use Rattle.arbiter_lane.specs.State.{AreInFlight};
 ghost use Rattle.arbiter_lane.specs.Lines.{Become, LosesSlots};
-ghost use Rattle.arbiter_lane.specs.Parts.{may_tell, events_after, lost_by};
+ghost use Rattle.arbiter_lane.specs.Parts.{may_tell, events_after, lost_by, AreMarked};
 
 use crate::flows;
 use crate::line::Line;
 use ack_window::SendWindow;
 use arrayvec::ArrayVec;
 use fcp_framing::{Down, Told};
+use line_marks::Marks;
 use std::marker::Model;
 
 /// An endpoint's slots of a batch, as they were told under a number. Clauses see the batch and the list of slots.
@@ -35,10 +36,12 @@ impl Model for Telling {
 pub(crate) fn tell(
     sent: &mut SendWindow<Telling>,
     lines: &mut [Line],
+    risen: &mut Marks,
     batch: u32,
     told: &[Told],
     down: &mut Down,
 ) -> bool
+    requires lines { length lines.old ≤ 256 }
     requires few { length told.now ≤ 64 }
     requires numbers_left { sent.old.outstanding.newest + 1 < 2 ^ 32 }
     requires destinations { All (λ (slot : ToldSlot). slot.dst < length lines.old) told.now }
@@ -50,6 +53,7 @@ pub(crate) fn tell(
     ensures version { sent.new.version ≡ sent.old.version }
     ensures lines { Become (λ dst. LosesSlots (lost_by sent.old told.now dst)) lines.old lines.new }
     ensures none_lost { result ≡ false → (dst : ℕ) → lost_by sent.old told.now dst ≡ 0 }
+    ensures marked { AreMarked risen.old lines.old → AreMarked risen.new lines.new }
     ensures content { (events : List (Event TellingOf)) →
         HasDone sent.old events →
         newest_content (events_after sent.old (record { batch = batch; told = told.now }) events) ≡ Some (record { batch = down.new.batch; told = down.new.told.items }) }
@@ -59,13 +63,15 @@ pub(crate) fn tell(
     if sent.may_send() {
         down.batch = batch;
         put_slots(&mut down.told, told);
-        down.seq = sent.push(Telling {
+        let mut telling = Telling {
             batch,
-            told: list_of(told),
-        });
+            told: ArrayVec::new(),
+        };
+        put_slots(&mut telling.told, told);
+        down.seq = sent.push(telling);
         return false;
     }
-    flows::lose(lines, told);
+    flows::lose(lines, risen, told);
     let (number, telling) = sent.newest();
     down.seq = number;
     down.batch = telling.batch;
@@ -73,20 +79,11 @@ pub(crate) fn tell(
     !told.is_empty()
 }
 
-/// Puts these slots in place of those that a packet tells.
+/// Puts these slots in place of those of a list.
 fn put_slots(list: &mut ArrayVec<Told, 64>, told: &[Told])
     requires { length told.now ≤ 64 }
     ensures { list.new.items ≡ told.now }
 {
     list.clear();
     let _ = list.try_extend_from_slice(told);
-}
-
-fn list_of(told: &[Told]) -> ArrayVec<Told, 64>
-    requires { length told.now ≤ 64 }
-    ensures { result.items ≡ told.now }
-{
-    let mut list = ArrayVec::new();
-    let _ = list.try_extend_from_slice(told);
-    list
 }

@@ -1,8 +1,9 @@
 -- What an agent stands for after each of its calls.
-use Rattle.std.proofs.Common.{◌≡◌, ℕ, zero, suc, get_or, leb, ◌%◌, ◌+◌, ◌-◌, ◌<◌, Bool, true, false, cond, ◌&&◌, ◌==◌, not, List, [], ◌∷◌, map, length, set, unwrap_or, refl, sym, ◌∙◌, ap, subst, inl, inr, arith}
+use Rattle.std.proofs.Common.{◌≡◌, ℕ, zero, suc, get_or, leb, ◌%◌, ◌+◌, ◌-◌, ◌<◌, ◌≤◌, max, Bool, true, false, cond, ◌&&◌, ◌==◌, not, List, [], ◌∷◌, map, length, set, unwrap_or, refl, sym, ◌∙◌, ap, subst, inl, inr, arith}
 use Rattle.std.specs.Prelude.{sum_by}
 use Rattle.std.proofs.lemmas.Bool.{cases_Bool, cases_eq, cond-true, cond-false, eq-eqb, ne_eqb}
 use Rattle.std.proofs.lemmas.List.{get_or-set_same, get_or-set_other}
+use Rattle.ack_window.specs.declared.send_window.Decided.{Decided}
 use Rattle.ack_window.specs.Arrivals.{receive_verdict, is_fresh}
 use Rattle.ack_window.specs.Outstanding.{may_send_new}
 use Rattle.ack_window.specs.Sends.{Event, Sends, Reads, newest_of, newest_content, open_numbers, decided_by}
@@ -291,6 +292,18 @@ Read agent history packet heard sent acknowledged =
     HasHeard heard (packet.seq ∷ arrived history)
     × HasDone sent (Reads packet.ack ∷ bare_numbers agent.endpoints agent.g history)
     × (acknowledged ≡ greatest_shown agent.acknowledged (decided_by (reorder_of agent.sent.version) (span_of agent.sent.version) (bare_numbers agent.endpoints agent.g history) packet.ack))
+
+at_least : (so_far : ℕ) (found : List (Decided (Unit {0}))) → so_far ≤ greatest_shown so_far found
+at_least so_far [] = omega arith
+at_least so_far (d ∷ found) = elim d.lost as (λ (b : Bool). so_far ≤ greatest_shown (cond b so_far (max so_far d.number)) found) [
+  | true ↦ at_least so_far found
+  | false ↦ let later = at_least (max so_far d.number) found in omega (arith, later)
+]
+
+pub acknowledges-more : (agent : AgentState) (history : AgentHistory) (packet : DownPacket) (heard : Receiver) (sent : Sender (Unit {0})) (acknowledged : ℕ) → Read agent history packet heard sent acknowledged → agent.acknowledged ≤ acknowledged
+acknowledges-more agent history packet heard sent acknowledged read =
+    let least = at_least agent.acknowledged (decided_by (reorder_of agent.sent.version) (span_of agent.sent.version) (bare_numbers agent.endpoints agent.g history) packet.ack) in
+    omega (arith, read.2, least)
 
 read-acknowledged : (agent : AgentState) (history : AgentHistory) (packet : DownPacket) (acknowledged : ℕ) → StandsFor agent history → agent.sent.version ≡ agent.version
     → acknowledged ≡ greatest_shown agent.acknowledged (decided_by (reorder_of agent.sent.version) (span_of agent.sent.version) (bare_numbers agent.endpoints agent.g history) packet.ack)

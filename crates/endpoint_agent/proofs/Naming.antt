@@ -1,13 +1,16 @@
 -- The flows that a request names, line by line.
-use Rattle.std.proofs.Common.{◌≡◌, ℕ, zero, suc, ◌+◌, ◌<◌, ◌≤◌, Bool, true, false, cond, ltb, List, [], ◌∷◌, ◌++◌, map, filter, length, refl, sym, ◌∙◌, ap, inl, inr, arith, length-append}
+use Rattle.std.proofs.Common.{◌≡◌, ℕ, zero, suc, ◌+◌, ◌-◌, ◌⊎◌, ◌<◌, ◌≤◌, Bool, true, false, cond, ltb, List, [], ◌∷◌, ◌++◌, map, filter, length, refl, sym, ◌∙◌, ap, inl, inr, arith, length-append, append-nil}
 use Rattle.std.specs.List.{range_with_len}
 use Rattle.std.proofs.lemmas.Bool.{cases_lt, cond-false, le-ltb, false≢true}
-use Rattle.std.proofs.lemmas.List.{map-append}
+use Rattle.std.proofs.lemmas.List.{map-append, get_or_past}
 use Rattle.std.proofs.lemmas.List.Elements.{filter-append}
 use Rattle.fcp_framing.specs.declared.packet.Demand.{Demand}
 use Rattle.endpoint_agent.specs.declared.lines.FlowLine.{FlowLine}
-use Rattle.endpoint_agent.specs.State.{line_at}
+use Rattle.endpoint_agent.specs.State.{line_at, AreMarked}
 use Rattle.endpoint_agent.specs.Lines.{demand_at, unconfirmed_in}
+use Rattle.endpoint_agent.proofs.Walking.{no_line}
+use Rattle.line_marks.specs.declared.Marks.{Marks}
+use Rattle.line_marks.specs.Places.{is_marked}
 
 pub range-last : (a n : ℕ) → range_with_len a (suc n) ≡ range_with_len a n ++ (a + n) ∷ []
 range-last a zero = let e : a ≡ a + zero = omega arith in ap (λ (k : ℕ). k ∷ []) e
@@ -86,14 +89,34 @@ room_for_one acknowledged lines me n own last own_last named =
       ]
     ]
 
--- none is named where every total may be carried by then
-named-none : (acknowledged : ℕ) (lines : List FlowLine) → ((dst : ℕ) → (line_at lines dst).carried_from ≤ acknowledged) → (a n : ℕ) →
-    filter (λ dst. ltb acknowledged (line_at lines dst).carried_from) (range_with_len a n) ≡ []
-named-none acknowledged lines reach a zero = refl
-named-none acknowledged lines reach a (suc n) =
-    let test : Bool = ltb acknowledged (line_at lines a).carried_from in
-    let rest = filter (λ dst. ltb acknowledged (line_at lines dst).carried_from) (range_with_len (a + 1) n) in
-    cond-false test (a ∷ rest) rest (le-ltb acknowledged (line_at lines a).carried_from (reach a)) ∙ named-none acknowledged lines reach (a + 1) n
+-- flows that are confirmed are passed over
+pub unconfirmed_in-skip : (acknowledged : ℕ) (lines : List FlowLine) (from more : ℕ) → ((dst : ℕ) → from ≤ dst → dst < from + more → (line_at lines dst).carried_from ≤ acknowledged) →
+    unconfirmed_in acknowledged (from + more) lines ≡ unconfirmed_in acknowledged from lines
+unconfirmed_in-skip acknowledged lines from zero confirmed = let same : from + zero ≡ from = omega arith in ap (λ (n : ℕ). unconfirmed_in acknowledged n lines) same
+unconfirmed_in-skip acknowledged lines from (suc more) confirmed =
+    let last : from + suc more ≡ from + more + 1 = omega arith in
+    let test : Bool = ltb acknowledged (line_at lines (from + more)).carried_from in
+    ap (λ (n : ℕ). unconfirmed_in acknowledged n lines) last
+    ∙ unconfirmed_in-next acknowledged (from + more) lines
+    ∙ ap (λ (xs : List Demand). unconfirmed_in acknowledged (from + more) lines ++ xs)
+    (cond-false test (demand_at lines (from + more) ∷ []) [] (le-ltb acknowledged (line_at lines (from + more)).carried_from (confirmed (from + more) (omega arith) (omega arith))))
+    ∙ append-nil (unconfirmed_in acknowledged (from + more) lines)
+    ∙ unconfirmed_in-skip acknowledged lines from more (λ dst above below. confirmed dst above (omega (arith, below)))
 
-pub unconfirmed_in-none : (acknowledged n : ℕ) (lines : List FlowLine) → ((dst : ℕ) → (line_at lines dst).carried_from ≤ acknowledged) → unconfirmed_in acknowledged n lines ≡ []
-unconfirmed_in-none acknowledged n lines reach = ap (map (demand_at lines)) (named-none acknowledged lines reach 0 n)
+pub unconfirmed_in-same : (acknowledged : ℕ) (lines : List FlowLine) (from to : ℕ) → from ≤ to → ((dst : ℕ) → from ≤ dst → dst < to → (line_at lines dst).carried_from ≤ acknowledged) →
+    unconfirmed_in acknowledged to lines ≡ unconfirmed_in acknowledged from lines
+unconfirmed_in-same acknowledged lines from to upward confirmed =
+    let is : from + (to - from) ≡ to = omega (arith, upward) in
+    sym (ap (λ (n : ℕ). unconfirmed_in acknowledged n lines) is) ∙ unconfirmed_in-skip acknowledged lines from (to - from) (λ dst above below. confirmed dst above (omega (arith, below, upward)))
+
+-- past the lines none is named
+pub past-lines : (acknowledged : ℕ) (lines : List FlowLine) (dst : ℕ) → length lines ≤ dst → (line_at lines dst).carried_from ≤ acknowledged
+past-lines acknowledged lines dst past = let is = ap (λ (l : FlowLine). l.carried_from) (get_or_past lines dst no_line past) in omega (arith, is)
+
+-- once a flow is named or has lost its mark, every flow that may be named is marked
+pub marked-still : (acknowledged : ℕ) (old new : Marks) (lines : List FlowLine) (at : ℕ) (line : FlowLine) → AreMarked acknowledged old lines → line ≡ line_at lines at →
+    ((place : ℕ) → is_marked new place ≡ false → (is_marked old place ≡ false) ⊎ ((place ≡ at) × (line.carried_from ≤ acknowledged))) → AreMarked acknowledged new lines
+marked-still acknowledged old new lines at line marked here moved = λ dst none. elim (moved dst none) [
+  | inl was ↦ marked dst was
+  | inr (same, low) ↦ let is = ap (λ (l : FlowLine). l.carried_from) here ∙ ap (λ (k : ℕ). (line_at lines k).carried_from) (sym same) in omega (arith, is, low)
+]

@@ -1,15 +1,17 @@
 -- What the numbers of an agent keep to after each of its calls.
-use Rattle.std.proofs.Common.{◌≡◌, ◌≢◌, ℕ, zero, suc, get_or, ◌+◌, ◌<◌, ◌≤◌, Bool, true, false, cond, ◌==◌, List, [], ◌∷◌, length, set, replicate, All, refl, sym, ◌∙◌, ap, subst, inl, inr, arith}
-use Rattle.std.proofs.lemmas.Bool.{cases_eq, cases_lt, cond-false, ne_eqb, eqb-true}
+use Rattle.std.proofs.Common.{◌≡◌, ◌≢◌, ℕ, zero, suc, get_or, ◌+◌, ◌<◌, ◌≤◌, Bool, true, false, cond, ◌==◌, ◌||◌, List, [], ◌∷◌, length, set, replicate, All, refl, sym, ◌∙◌, ap, subst, inl, inr, arith}
+use Rattle.std.proofs.lemmas.Bool.{cases_eq, cases_lt, cond-false, eq-eqb, ne_eqb, eqb-true, false≢true}
 use Rattle.std.proofs.lemmas.List.{get_or-set_same, get_or-set_other, get_or-replicate, get_or_past, length-replicate}
 use Rattle.std.proofs.lemmas.List.Elements.{All-nil, All-from_get_or}
 use Rattle.ack_window.specs.Windows.{Receiver, Sender}
 use Rattle.fcp_framing.specs.declared.packet.Demand.{Demand}
 use Rattle.fcp_framing.specs.declared.packet.Told.{Told}
 use Rattle.fcp_framing.specs.Versions.{IsVersion}
+use Rattle.line_marks.specs.declared.Marks.{Marks}
+use Rattle.line_marks.specs.Places.{is_marked}
 use Rattle.endpoint_agent.specs.declared.lines.FlowLine.{FlowLine}
 use Rattle.endpoint_agent.specs.Lines.{with_asked, with_missed, with_sent}
-use Rattle.endpoint_agent.specs.State.{AgentState, line_at, IsLine, IsSound, IsReached}
+use Rattle.endpoint_agent.specs.State.{AgentState, line_at, IsLine, IsSound, AreMarked, IsKept}
 use Rattle.endpoint_agent.proofs.Walking.{no_line}
 
 -- ---- lines
@@ -215,82 +217,62 @@ Sound-opens me endpoints b g heard sent lines own most heard_version sent_versio
   waiting = Below-none endpoints;
 }
 
--- ---- from which number on every total may be carried
+-- ---- marked flows
 
-asks-from : (b c : Bool) (old next from : ℕ) → old ≤ from → from ≤ next → cond b (cond c old next) old ≤ next
-asks-from true true old next from low high = omega (arith, low, high)
-asks-from true false old next from low high = omega arith
-asks-from false c old next from low high = omega (arith, low, high)
+neither : (a b : Bool) → (a || b) ≡ false → (a ≡ false) × (b ≡ false)
+neither true b none = absurd (false≢true (sym none))
+neither false b none = (refl, none)
 
-asked-from : (b : Bool) (next n : ℕ) (line : FlowLine) → (cond b (with_asked next n line) line).carried_from ≡ cond b (cond (n == 0) line.carried_from next) line.carried_from
-asked-from true next n line = refl
-asked-from false next n line = refl
-
-pub Reached-asks : (agent : AgentState) (seq from dst n : ℕ) (lines : List FlowLine) → IsReached seq from agent
+pub Kept-asks : (agent : AgentState) (seq dst n : ℕ) (marks marks' : Marks) (lines : List FlowLine) → IsKept seq marks agent
+    → ((place : ℕ) → is_marked marks' place ≡ (is_marked marks place || place == dst))
     → ((other : ℕ) → line_at lines other ≡ cond (dst == other) (with_asked (agent.sent.outstanding.newest + 1) n (line_at agent.lines other)) (line_at agent.lines other))
-    → IsReached seq (seq + 1) (record agent { lines = lines })
-Reached-asks agent seq from dst n lines reached asks =
-    let next = agent.sent.outstanding.newest + 1 in
-    record {
-      number = reached.number;
-      within = omega (arith, reached.number);
-      lines = λ other.
-          let old = line_at agent.lines other in
-          let is = ap (λ (l : FlowLine). l.carried_from) (asks other) ∙ asked-from (dst == other) next n old in
-          let low = asks-from (dst == other) (n == 0) old.carried_from next from (reached.lines other) reached.within in
-          omega (arith, is, low, reached.number);
-    }
-
-pub Reached-blank : (seq : ℕ) (agent : AgentState) → seq ≡ agent.sent.outstanding.newest → ((dst : ℕ) → line_at agent.lines dst ≡ no_line) → IsReached seq 0 agent
-Reached-blank seq agent same blank = record {
-  number = same;
-  within = omega arith;
-  lines = λ dst. let is = ap (λ (l : FlowLine). l.carried_from) (blank dst) in omega (arith, is);
+    → IsKept seq marks' (record agent { lines = lines })
+Kept-asks agent seq dst n marks marks' lines kept set asks = record {
+  number = kept.number;
+  marked = λ other none.
+      let (was, apart) = neither (is_marked marks other) (other == dst) (sym (set other) ∙ none) in
+      let old = line_at agent.lines other in
+      let away : (dst == other) ≡ false = ne_eqb dst other (λ e. false≢true (sym apart ∙ eq-eqb other dst (sym e))) in
+      let is = ap (λ (l : FlowLine). l.carried_from) (asks other ∙ cond-false (dst == other) (with_asked (agent.sent.outstanding.newest + 1) n old) old away) in
+      let low = kept.marked other was in
+      omega (arith, is, low);
 }
 
-pub Reached-ends : (agent after : AgentState) (seq from : ℕ) (n : ℕ → ℕ) → IsReached seq from agent → after.sent ≡ agent.sent → ((dst : ℕ) → line_at after.lines dst ≡ with_sent (n dst) (line_at agent.lines dst)) → IsReached seq from after
-Reached-ends agent after seq from n reached same counted =
+pub Kept-ends : (agent after : AgentState) (seq : ℕ) (marks : Marks) (n : ℕ → ℕ) → IsKept seq marks agent → after.sent ≡ agent.sent → after.acknowledged ≡ agent.acknowledged
+    → ((dst : ℕ) → line_at after.lines dst ≡ with_sent (n dst) (line_at agent.lines dst)) → IsKept seq marks after
+Kept-ends agent after seq marks n kept same known counted =
     let newest = ap (λ (s : Sender (Unit {0})). s.outstanding.newest) same in
     record {
-      number = reached.number ∙ sym newest;
-      within = omega (arith, reached.within, newest);
-      lines = λ dst. let is = ap (λ (l : FlowLine). l.carried_from) (counted dst) in omega (arith, is, reached.lines dst);
+      number = kept.number ∙ sym newest;
+      marked = λ dst none.
+          let is = ap (λ (l : FlowLine). l.carried_from) (counted dst) in
+          let low = kept.marked dst none in
+          omega (arith, is, low, known);
     }
 
--- a later number is sent, or none
-pub Reached-makes : (agent after : AgentState) (seq seq' from : ℕ) → IsReached seq from agent → after.lines ≡ agent.lines → agent.sent.outstanding.newest ≤ after.sent.outstanding.newest → seq' ≡ after.sent.outstanding.newest → IsReached seq' from after
-Reached-makes agent after seq seq' from reached same later number = record {
+-- no line changes
+pub Kept-makes : (agent after : AgentState) (seq : ℕ) (marks : Marks) → AreMarked agent.acknowledged marks agent.lines → after.lines ≡ agent.lines → agent.acknowledged ≤ after.acknowledged
+    → seq ≡ after.sent.outstanding.newest → IsKept seq marks after
+Kept-makes agent after seq marks marked same later number = record {
   number = number;
-  within = omega (arith, reached.within, later);
-  lines = subst (λ (ls : List FlowLine). (dst : ℕ) → (line_at ls dst).carried_from ≤ from) (sym same) reached.lines;
+  marked = λ dst none.
+      let is = ap (λ (ls : List FlowLine). (line_at ls dst).carried_from) same in
+      let low = marked dst none in
+      omega (arith, is, low, later);
 }
 
-missed-from : (c : Bool) (old next from : ℕ) → old ≤ from → from ≤ next → cond c old next ≤ next
-missed-from true old next from low high = omega (arith, low, high)
-missed-from false old next from low high = omega arith
-
--- slots are taken: where some are missed, every total may be carried from the next request on
-pub Reached-takes : (agent after : AgentState) (seq from from' : ℕ) (misses : Bool) (n : ℕ → ℕ) → IsReached seq from agent → after.sent.outstanding.newest ≡ agent.sent.outstanding.newest
+-- slots are taken: the flows of those that are missed are marked
+pub Kept-takes : (agent after : AgentState) (seq : ℕ) (marks marks' : Marks) (n : ℕ → ℕ) → IsKept seq marks agent → after.sent.outstanding.newest ≡ agent.sent.outstanding.newest → agent.acknowledged ≤ after.acknowledged
     → ((dst : ℕ) → line_at after.lines dst ≡ with_missed (agent.sent.outstanding.newest + 1) (n dst) (line_at agent.lines dst))
-    → (misses ≡ false → (dst : ℕ) → n dst ≡ 0) → from' ≡ cond misses (seq + 1) from → IsReached seq from' after
-Reached-takes agent after seq from from' false n reached newest counted none_missed moves =
+    → ((dst : ℕ) → is_marked marks' dst ≡ false → (is_marked marks dst ≡ false) × (n dst ≡ 0)) → IsKept seq marks' after
+Kept-takes agent after seq marks marks' n kept newest later counted missed =
     let next = agent.sent.outstanding.newest + 1 in
     record {
-      number = reached.number ∙ sym newest;
-      within = omega (arith, reached.within, newest, moves);
-      lines = λ dst.
+      number = kept.number ∙ sym newest;
+      marked = λ dst none.
+          let (was, zero_missed) = missed dst none in
           let old = line_at agent.lines dst in
-          let is = ap (λ (l : FlowLine). l.carried_from) (counted dst) ∙ ap (λ (k : ℕ). cond (k == 0) old.carried_from next) (none_missed refl dst) in
-          omega (arith, is, reached.lines dst, moves);
-    }
-Reached-takes agent after seq from from' true n reached newest counted none_missed moves =
-    let next = agent.sent.outstanding.newest + 1 in
-    record {
-      number = reached.number ∙ sym newest;
-      within = omega (arith, reached.number, newest, moves);
-      lines = λ dst.
-          let old = line_at agent.lines dst in
-          let is = ap (λ (l : FlowLine). l.carried_from) (counted dst) in
-          let low = missed-from (n dst == 0) old.carried_from next from (reached.lines dst) reached.within in
-          omega (arith, is, low, moves, reached.number);
+          let is = ap (λ (l : FlowLine). l.carried_from) (counted dst) ∙ ap (λ (k : ℕ). cond (k == 0) old.carried_from next) zero_missed in
+          let low = kept.marked dst was in
+          omega (arith, is, low, later);
     }

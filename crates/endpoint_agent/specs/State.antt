@@ -1,9 +1,11 @@
 -- What contracts see of an agent, and what a call asks of it (this project's own profile).
-use Rattle.std.specs.Prelude.{◌≡◌, ◌≢◌, ◌<◌, ◌≤◌, ℕ, ◌+◌, ◌*◌, ◌-◌, ◌%◌, Bool, nat_le, List, [], length, All, get_or, if◌then◌else◌}
+use Rattle.std.specs.Prelude.{◌≡◌, ◌≢◌, ◌<◌, ◌≤◌, ℕ, ◌+◌, ◌*◌, ◌-◌, ◌%◌, Bool, false, nat_le, List, [], length, All, get_or, if◌then◌else◌}
 use Rattle.ack_window.specs.Windows.{Receiver, Sender}
 use Rattle.fcp_framing.specs.declared.packet.Demand.{Demand}
 use Rattle.fcp_framing.specs.declared.packet.Told.{Told}
 use Rattle.fcp_framing.specs.Versions.{IsVersion}
+use Rattle.line_marks.specs.declared.Marks.{Marks}
+use Rattle.line_marks.specs.Places.{is_marked}
 use Rattle.endpoint_history.specs.Packets.{DownPacket, slots_to}
 use Rattle.endpoint_agent.specs.declared.lines.FlowLine.{FlowLine}
 
@@ -82,8 +84,11 @@ pub record IsSound (agent : AgentState) : Type 0 where
   pub three : length agent.waiting ≡ 3
   pub waiting : (place : ℕ) → All (λ (t : Told). t.dst < agent.endpoints) (get_or agent.waiting place [])
 
--- what is stored twice: the newest number with the newest request, and the number from which on every total may be carried
-pub record IsReached (seq from : ℕ) (agent : AgentState) : Type 0 where
+-- a flow whose total no request up to this number carries is marked; others may be, too
+abbrev pub AreMarked : ℕ → Marks → List FlowLine → Type 0
+AreMarked acknowledged marks lines = (dst : ℕ) → is_marked marks dst ≡ false → (line_at lines dst).carried_from ≤ acknowledged
+
+-- what is stored twice: the newest number with the newest request, and which flows may be named
+pub record IsKept (seq : ℕ) (unconfirmed : Marks) (agent : AgentState) : Type 0 where
   pub number : seq ≡ agent.sent.outstanding.newest
-  pub within : from ≤ agent.sent.outstanding.newest + 1
-  pub lines : (dst : ℕ) → (line_at agent.lines dst).carried_from ≤ from
+  pub marked : AreMarked agent.acknowledged unconfirmed agent.lines

@@ -16,14 +16,16 @@ ghost use Rattle.endpoint_agent.specs.Lines.{slots_sent, with_missed, with_sent,
 ghost use Rattle.endpoint_agent.specs.declared.lines.FlowLine.{FlowLine as FlowLineItem};
 ghost use Rattle.endpoint_agent.specs.Refusals.{refusal_of, IsOwn};
 ghost use Rattle.endpoint_agent.specs.Standing.{StandsFor};
-ghost use Rattle.endpoint_agent.specs.State.{line_at, place_of, MayTake};
+ghost use Rattle.endpoint_agent.specs.State.{line_at, place_of, MayTake, AreMarked};
+ghost use Rattle.line_marks.specs.Places.{is_marked};
 
-use crate::lines::{FlowLine, Sent, miss_all, name_unconfirmed, send_all};
+use crate::lines::{FlowLine, Sent, mark_all, miss_all, name_unconfirmed, send_all};
 use crate::{DownRefused, NoMemory};
 use ack_window::{Decided, SendWindow, TakeWindow, Taken};
 use arrayvec::ArrayVec;
 use endpoint_history::{agents_count_slots, requests_name_unconfirmed_totals};
 use fcp_framing::{Down, Told, Up, decode_down, encode_req, encode_reset};
+use line_marks::Marks;
 use std::alloc::Global;
 use std::marker::Model;
 
@@ -48,8 +50,8 @@ pub struct Agent {
     /// The newest request. Its number is 0 before the first.
     request: Up,
     lines: Vec<FlowLine>,
-    /// From this request on, every total may be carried: the greatest of what the lines have, or more.
-    carried_from: u32,
+    /// The flows whose total an acknowledged request may lack: all that do, and maybe others.
+    unconfirmed: Marks,
     /// The slots that wait, of three batches at most: batch k has the place k % 3.
     waiting: [ArrayVec<Told, 64>; 3],
     round: u32,
@@ -61,7 +63,7 @@ pub struct Agent {
 
 impl Model for Agent {
     ghost use Rattle.std.specs.Prelude.{◌≡◌, map, false};
-    ghost use Rattle.endpoint_agent.specs.State.{AgentState, IsSound, IsReached};
+    ghost use Rattle.endpoint_agent.specs.State.{AgentState, IsSound, IsKept};
     ghost use Rattle.endpoint_agent.specs.Standing.{HasHistory};
 
     ghost Value = { AgentState };
@@ -102,7 +104,7 @@ impl Model for Agent {
           round = agent.round;
           is_made = agent.is_made;
         } in
-        IsSound state × HasHistory state × IsReached agent.request.seq agent.carried_from state };
+        IsSound state × HasHistory state × IsKept agent.request.seq agent.unconfirmed state };
 }
 
 impl Agent {
@@ -133,7 +135,7 @@ impl Agent {
             acknowledged: 0,
             request: Up::default(),
             lines,
-            carried_from: 0,
+            unconfirmed: Marks::new(),
             waiting: [ArrayVec::new(), ArrayVec::new(), ArrayVec::new()],
             round: 0,
             is_made: false,
@@ -170,7 +172,7 @@ impl Agent {
         self.request.seq = 0;
         self.request.demands.clear();
         self.lines.fill(FlowLine::default());
-        self.carried_from = 0;
+        self.unconfirmed.clear_all();
         forget(&mut self.waiting);
     }
 
@@ -188,7 +190,7 @@ impl Agent {
             let line = &mut self.lines[dst as usize];
             line.asked += n;
             line.carried_from = self.request.seq + 1;
-            self.carried_from = self.request.seq + 1;
+            self.unconfirmed.set(dst as usize);
         }
     }
 
@@ -238,15 +240,15 @@ impl Agent {
             Taken::Fresh => {
                 self.has_begun = true;
                 let next = self.request.seq + 1;
-                let misses = take_slots(
+                take_slots(
                     &mut self.lines,
+                    &mut self.unconfirmed,
                     &mut self.waiting,
                     self.g,
                     round,
                     down,
                     next,
                 );
-                self.carried_from = reached(misses, self.carried_from, next);
                 Ok(())
             }
             Taken::Old => Err(DownRefused::OldSeq),
@@ -282,7 +284,7 @@ impl Agent {
             &mut self.request,
             &self.lines,
             self.acknowledged,
-            self.carried_from,
+            &mut self.unconfirmed,
         );
         let (high, mask) = self.arrived.ack();
         self.request.version = self.version;
@@ -383,17 +385,18 @@ fn renew(
     request: &mut Up,
     lines: &[FlowLine],
     acknowledged: u32,
-    carried_from: u32,
+    unconfirmed: &mut Marks,
 )
     requires numbers_left { sent.old.outstanding.newest + 1 < 2 ^ 32 }
     requires most { length lines.now ≤ 256 }
     requires totals { All (λ (line : FlowLineItem). line.asked + line.missed ≤ 200000000) lines.now }
     requires own { (me : ℕ) × (me < length lines.now) × ((line_at lines.now me).carried_from ≡ 0) }
-    requires reach { (dst : ℕ) → (line_at lines.now dst).carried_from ≤ carried_from }
+    requires marked { AreMarked acknowledged unconfirmed.old lines.now }
     ensures again { ¬ MaySend sent.old → (sent.new ≡ sent.old) × (request.new ≡ request.old) }
     ensures number { MaySend sent.old → (request.new.seq ≡ sent.old.outstanding.newest + 1) × (sent.new.outstanding.newest ≡ sent.old.outstanding.newest + 1) }
     ensures version { sent.new.version ≡ sent.old.version }
     ensures named { MaySend sent.old → request.new.demands.items ≡ unconfirmed_in acknowledged (length lines.now) lines.now }
+    ensures marked { AreMarked acknowledged unconfirmed.new lines.now }
     ensures stands { MaySend sent.old → (events : List (Event (Unit {0}))) →
         HasDone sent.old events →
         HasDone sent.new (Sends tt ∷ events) }
@@ -401,27 +404,22 @@ fn renew(
     if sent.may_send() {
         request.seq = sent.push(());
         request.demands.clear();
-        name_unconfirmed(lines, acknowledged, carried_from, &mut request.demands);
+        name_unconfirmed(lines, acknowledged, unconfirmed, &mut request.demands);
     }
 }
 
-/// From which request on every total may be carried, once slots were taken: from the next one where some are missed.
-fn reached(misses: bool, carried_from: u32, next: u32) -> u32
-    ensures { result ≡ (if misses then next else carried_from) }
-{
-    if misses { next } else { carried_from }
-}
-
 /// Lets the slots of a packet wait where they are in time, and counts them as missed where they are not. `next` is the number of
-/// the next request. Answers whether some are missed.
+/// the next request.
 fn take_slots(
     lines: &mut [FlowLine],
+    unconfirmed: &mut Marks,
     waiting: &mut [ArrayVec<Told, 64>; 3],
     g: u8,
     round: u32,
     down: &Down,
     next: u32,
-) -> bool
+)
+    requires few { length lines.old ≤ 256 }
     requires destinations { All (λ (t : ToldSlot). t.dst < length lines.old) down.now.told.items }
     requires late { down.now.told.items ≢ [] → down.now.batch ≤ round }
     requires rounds { round < 100000 }
@@ -431,20 +429,21 @@ fn take_slots(
         ≡ with_missed next (if nat_le round (down.now.batch + 2 * g + 2) then 0 else slots_to dst down.now.told.items) (line_at lines.old dst) }
     ensures waiting { down.now.told.items ≢ [] → round ≤ down.now.batch + 2 * g + 2 → waiting.new ≡ slice_set waiting.old (down.now.batch % 3) down.now.told }
     ensures others { (down.now.told.items ≡ []) ⊎ (down.now.batch + 2 * g + 2 < round) → waiting.new ≡ waiting.old }
-    ensures none_missed { result ≡ false → (dst : ℕ) → (if nat_le round (down.now.batch + 2 * g + 2) then 0 else slots_to dst down.now.told.items) ≡ 0 }
+    ensures marked { (dst : ℕ) → is_marked unconfirmed.new dst ≡ false →
+        (is_marked unconfirmed.old dst ≡ false) × ((if nat_le round (down.now.batch + 2 * g + 2) then 0 else slots_to dst down.now.told.items) ≡ 0) }
 {
     if down.told.is_empty() {
-        return false;
+        return;
     }
     if round <= down.batch + 2 * u32::from(g) + 2 {
         put_slots(
             &mut waiting[(down.batch % 3) as usize],
             down.told.as_slice(),
         );
-        return false;
+        return;
     }
     miss_all(lines, down.told.as_slice(), next);
-    true
+    mark_all(unconfirmed, down.told.as_slice());
 }
 
 /// Puts these slots in place of those that wait.

@@ -1,12 +1,14 @@
 //! What an agent keeps of each flow.
-ghost use Rattle.std.specs.Prelude.{◌≡◌, ◌<◌, ◌≤◌, ◌+◌, ◌^◌, ◌==◌, ◌++◌, List, [], ◌∷◌, ℕ, All, length, count_by, nat_lt, if◌then◌else◌};
+ghost use Rattle.std.specs.Prelude.{◌≡◌, ◌<◌, ◌≤◌, ◌+◌, ◌^◌, ◌==◌, ◌++◌, ◌⊎◌, false, List, [], ◌∷◌, ℕ, All, length, count_by, nat_lt, if◌then◌else◌};
 ghost use Rattle.endpoint_history.specs.Packets.{slots_to};
 ghost use Rattle.endpoint_history.specs.Sending.{Slot, sent_of};
-ghost use Rattle.endpoint_agent.specs.State.{line_at};
+ghost use Rattle.line_marks.specs.Places.{is_marked};
+ghost use Rattle.endpoint_agent.specs.State.{line_at, AreMarked};
 ghost use Rattle.endpoint_agent.specs.Lines.{slots_sent, with_missed, with_sent, unconfirmed_in, slots_after, left_in};
 
 use arrayvec::ArrayVec;
 use fcp_framing::{Demand, Told};
+use line_marks::Marks;
 
 /// A slot in which the endpoint sends, and where to.
 #[derive(Clone, Copy, Debug, Default, PartialEq, Eq)]
@@ -25,40 +27,62 @@ pub struct FlowLine {
     pub carried_from: u32,
 }
 
-/// Appends every flow whose total no request up to `acknowledged` carries; where all may be carried by then, no line is read.
+/// Appends every flow whose total no request up to `acknowledged` carries. Only marked flows are looked at, and those that are
+/// confirmed by now lose their mark.
 pub(crate) fn name_unconfirmed(
     lines: &[FlowLine],
     acknowledged: u32,
-    carried_from: u32,
+    unconfirmed: &mut Marks,
     demands: &mut ArrayVec<Demand, 255>,
 )
     requires empty { demands.old.items ≡ [] }
     requires most { length lines.now ≤ 256 }
     requires totals { All (λ line. line.asked + line.missed ≤ 200000000) lines.now }
     requires own { (me : ℕ) × (me < length lines.now) × ((line_at lines.now me).carried_from ≡ 0) }
-    requires reach { (dst : ℕ) → (line_at lines.now dst).carried_from ≤ carried_from }
-    ensures { demands.new.items ≡ unconfirmed_in acknowledged (length lines.now) lines.now }
+    requires marked { AreMarked acknowledged unconfirmed.old lines.now }
+    ensures named { demands.new.items ≡ unconfirmed_in acknowledged (length lines.now) lines.now }
+    ensures marked { AreMarked acknowledged unconfirmed.new lines.now }
 {
-    if carried_from <= acknowledged {
-        return;
-    }
-    for (dst, line) in lines.iter().enumerate() {
-        name_flow(dst as u16, line, acknowledged, demands);
+    let mut dst = unconfirmed.next_from(0);
+    while dst < lines.len() {
+        name_flow(dst, &lines[dst], acknowledged, unconfirmed, demands);
+        dst = unconfirmed.next_from(dst + 1);
     }
 }
 
-/// Appends the flow where its total is not confirmed.
-fn name_flow(dst: u16, line: &FlowLine, acknowledged: u32, demands: &mut ArrayVec<Demand, 255>)
+/// Appends the flow where its total is not confirmed, and takes its mark where it is.
+fn name_flow(
+    dst: usize,
+    line: &FlowLine,
+    acknowledged: u32,
+    unconfirmed: &mut Marks,
+    demands: &mut ArrayVec<Demand, 255>,
+)
+    requires destination { dst < 256 }
     requires total { line.now.asked + line.now.missed ≤ 200000000 }
     requires room { acknowledged < line.now.carried_from → length demands.old.items < 255 }
-    ensures { demands.new.items ≡ demands.old.items ++ (if nat_lt acknowledged line.now.carried_from
+    ensures named { demands.new.items ≡ demands.old.items ++ (if nat_lt acknowledged line.now.carried_from
         then record { dst = dst; total = line.now.asked + line.now.missed } ∷ [] else []) }
+    ensures marked { (place : ℕ) → is_marked unconfirmed.new place ≡ false →
+        (is_marked unconfirmed.old place ≡ false) ⊎ ((place ≡ dst) × (line.now.carried_from ≤ acknowledged)) }
 {
     if acknowledged < line.carried_from {
         demands.push(Demand {
-            dst,
+            dst: dst as u16,
             total: line.asked + line.missed,
         });
+    } else {
+        unconfirmed.clear(dst);
+    }
+}
+
+/// Marks the flow of each slot.
+pub(crate) fn mark_all(unconfirmed: &mut Marks, told: &[Told])
+    requires { All (λ t. t.dst < 256) told.now }
+    ensures { (dst : ℕ) → is_marked unconfirmed.new dst ≡ false → (is_marked unconfirmed.old dst ≡ false) × (slots_to dst told.now ≡ 0) }
+{
+    for slot in told {
+        unconfirmed.set(slot.dst as usize);
     }
 }
 

@@ -15,6 +15,13 @@ use Rattle.slot_batches.specs.Rests.{TakesNone}
 pub both_none : (a b : ℕ) → bit_or a b ≡ 0 → (a ≡ 0) × (b ≡ 0)
 both_none a b none = (omega (arith, le_or_l a b, none), omega (arith, le_or_r a b, none))
 
+pub four_none : (a b d e : ℕ) → bit_or (bit_or (bit_or a b) d) e ≡ 0 → (a ≡ 0) × (b ≡ 0) × (d ≡ 0) × (e ≡ 0)
+four_none a b d e none =
+    let all = both_none (bit_or (bit_or a b) d) e none in
+    let three = both_none (bit_or a b) d all.0 in
+    let two = both_none a b three.0 in
+    (two.0, two.1, three.1, all.1)
+
 -- an item whose ends share no slot takes none
 shares_none : (maps : FreeSlots) (item : Item) (place : ℕ) → (may_send maps item.flow.src place && may_receive maps item.flow.dst place) ≡ false
     → (is_common maps item.flow.src item.flow.dst place && nat_lt (count_below (is_common maps item.flow.src item.flow.dst) place) item.need) ≡ false
@@ -24,12 +31,15 @@ shares_none maps item place none =
     (not (is_between maps item.flow.src item.flow.dst) || has_links maps item.flow.src item.flow.dst place) none)
 
 -- nor does one without a need
+pub needs_none : (maps : FreeSlots) (item : Item) → item.need ≡ 0 → TakesNone maps item
+needs_none maps item idle = λ place.
+    and_right (is_common maps item.flow.src item.flow.dst place) (nat_lt (count_below (is_common maps item.flow.src item.flow.dst) place) item.need)
+    (le-ltb (count_below (is_common maps item.flow.src item.flow.dst) place) item.need (omega (arith, idle)))
+
 pub takes_none : (maps : FreeSlots) (item : Item) (shared : ℕ) → ((slot : ℕ) → has_slot shared slot ≡ (may_send maps item.flow.src slot && may_receive maps item.flow.dst slot))
     → min shared item.need ≡ 0 → TakesNone maps item
 takes_none maps item shared is none = λ place. elim (cases_eq item.need 0) [
-  | inl idle ↦
-      and_right (is_common maps item.flow.src item.flow.dst place) (nat_lt (count_below (is_common maps item.flow.src item.flow.dst) place) item.need)
-      (le-ltb (count_below (is_common maps item.flow.src item.flow.dst) place) item.need (omega (arith, idle)))
+  | inl idle ↦ needs_none maps item idle place
   | inr needs ↦
       let zero_shared : shared ≡ 0 = omega (arith, none, needs) in
       shares_none maps item place (sym (is place) ∙ (ap (λ (n : ℕ). has_slot n place) zero_shared ∙ has_slot-none place))

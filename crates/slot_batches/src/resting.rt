@@ -1,9 +1,10 @@
-ghost use Rattle.std.specs.Prelude.{◌≡◌, ◌<◌, ◌≤◌, ℕ, List, length, take, true, false, All};
+ghost use Rattle.std.specs.Prelude.{◌≡◌, ◌<◌, ◌≤◌, ℕ, List, length, take, true, false, None, All};
 ghost use Rattle.greedy_rules.specs.declared.flows.Entry.{Entry};
+ghost use Rattle.greedy_rules.specs.Batches.{entry_of};
 ghost use Rattle.greedy_rules.specs.Demands.{AreBelow};
 ghost use Rattle.slot_batches.specs.Marks.{AreMarked};
 ghost use Rattle.slot_batches.specs.Parts.{IsWhole};
-ghost use Rattle.slot_batches.specs.Rests.{opens_before, Rests};
+ghost use Rattle.slot_batches.specs.Rests.{opens_before, Rests, TakesNone};
 
 use crate::filling::Filling;
 use crate::marks::{common_marks, is_marked};
@@ -31,16 +32,44 @@ fn rests(filling: &Filling, marks: &[u64], unopened: usize, item: &Item) -> bool
     filling.must_wait(item)
 }
 
-/// What speaks against the item waiting as it is, where no flow opens before it: 0 only where nothing does. It may speak
-/// against one that waits.
-fn doubt(filling: &Filling, marks: &[u64], item: &Item) -> u64
-    requires whole { IsWhole filling.now marks.now }
+/// How many slots the item takes at most: 0 only where it takes none.
+fn wanted(filling: &Filling, item: &Item) -> u64
     requires src { item.now.flow.src < filling.now.maps.endpoints }
     requires dst { item.now.flow.dst < filling.now.maps.endpoints }
-    ensures { (entries : List Entry) → (unopened : ℕ) → AreMarked entries marks.now → result ≡ 0 → opens_before unopened item.now ≡ false → Rests entries unopened filling.now.maps item.now }
+    ensures { result ≡ 0 → TakesNone filling.now.maps item.now }
 {
     let slots = filling.maps.may_share(item.flow.src, item.flow.dst);
-    slots.min(u64::from(item.need)) | common_marks(marks, item.flow)
+    slots.min(u64::from(item.need))
+}
+
+/// Whether none of four items takes a slot, as far as this is seen at once; what they need is looked at first.
+fn four_take_none(filling: &Filling, four: &[Item]) -> bool
+    requires below { AreBelow filling.now.maps.endpoints four.now }
+    requires four { length four.now ≡ 4 }
+    ensures { result ≡ true → All (TakesNone filling.now.maps) four.now }
+{
+    if four[0].need | four[1].need | four[2].need | four[3].need == 0 {
+        return true;
+    }
+    let first = wanted(filling, &four[0]);
+    let second = wanted(filling, &four[1]);
+    let third = wanted(filling, &four[2]);
+    let fourth = wanted(filling, &four[3]);
+    first | second | third | fourth == 0
+}
+
+/// Whether none of four items' flows is marked.
+fn none_is_marked(marks: &[u64], four: &[Item]) -> bool
+    requires long { length marks.now ≡ 512 }
+    requires below { AreBelow 256 four.now }
+    requires four { length four.now ≡ 4 }
+    ensures { (entries : List Entry) → AreMarked entries marks.now → result ≡ true → All (λ item. entry_of entries item.flow ≡ None) four.now }
+{
+    let first = common_marks(marks, four[0].flow);
+    let second = common_marks(marks, four[1].flow);
+    let third = common_marks(marks, four[2].flow);
+    let fourth = common_marks(marks, four[3].flow);
+    first | second | third | fourth == 0
 }
 
 /// Whether no flow may open before any of four items.
@@ -58,11 +87,10 @@ fn four_rest(filling: &Filling, marks: &[u64], unopened: usize, four: &[Item]) -
     requires four { length four.now ≡ 4 }
     ensures { (entries : List Entry) → AreMarked entries marks.now → result ≡ true → All (Rests entries unopened filling.now.maps) four.now }
 {
-    let first = doubt(filling, marks, &four[0]);
-    let second = doubt(filling, marks, &four[1]);
-    let third = doubt(filling, marks, &four[2]);
-    let fourth = doubt(filling, marks, &four[3]);
-    first | second | third | fourth == 0 && none_opens(unopened, four)
+    if !four_take_none(filling, four) {
+        return false;
+    }
+    none_is_marked(marks, four) && none_opens(unopened, four)
 }
 
 /// How many items at the front wait as they are, at least, going on by fours.

@@ -26,6 +26,7 @@ loop-number-preserved c =
           let here = c.decide_one-loses.ensures.none_lost parts.1 dst in
           let next = subst (λ (x : Decided Telling). slots_lost (take (at + 1) found) dst ≡ slots_lost (take at found) dst + slots_lost (x ∷ []) dst) (sym c.number-item.is) (lost-next found at number dst c.loop-number-test.true) in
           omega (arith, before, here, next);
+      marked = λ before. c.decide_one-loses.ensures.marked (c.loop-number.invariant.marked before);
     }
 
 pub returns-clause-none_lost : goal.returns-clause-none_lost

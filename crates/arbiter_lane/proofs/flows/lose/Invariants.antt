@@ -1,7 +1,11 @@
 use Rattle.std.proofs.Common.{take}
 use Rattle.arbiter_lane.specs.Lines.{Become, LosesSlots}
+use Rattle.arbiter_lane.specs.Parts.{AreMarked}
 use Rattle.endpoint_history.specs.Packets.{slots_to}
 use Rattle.arbiter_lane.proofs.flows.lose.Given as goal
 
 abbrev pub invariant-loop-slot : goal.invariant-loop-slot
-invariant-loop-slot l = Become (λ dst. LosesSlots (slots_to dst (take l.slot-index l.told))) l.fn.lines l.lines
+invariant-loop-slot l = record {
+  lost : Become (λ dst. LosesSlots (slots_to dst (take l.slot-index l.told))) l.fn.lines l.lines;
+  marked : AreMarked l.fn.risen l.fn.lines → AreMarked l.risen l.lines;
+}

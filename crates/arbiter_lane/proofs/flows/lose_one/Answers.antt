@@ -3,6 +3,7 @@ use Rattle.std.proofs.lemmas.Option.{slice_get-get_or}
 use Rattle.arbiter_lane.specs.Lines.{LosesSlots}
 use Rattle.endpoint_history.specs.Packets.{slots_to}
 use Rattle.arbiter_lane.proofs.Changes.{Become-set, LosesSlots-none, slots_to-here, slots_to-elsewhere}
+use Rattle.arbiter_lane.proofs.Marking.{marked-set}
 use Rattle.arbiter_lane.proofs.flows.lose_one.Goals as goal
 
 pub lose-requires : goal.lose-requires
@@ -13,8 +14,8 @@ lose-requires c =
     let some = c.requires.in_flight c.args.slot.dst old (slice_get-get_or lines c.args.slot.dst c.index-lines-slot.result c.requires.destination) in
     omega (arith, one, some)
 
-pub returns : goal.returns
-returns c =
+pub returns-clause-lost : goal.returns-clause-lost
+returns-clause-lost c =
     let lines = c.args.lines.now in
     let slot = c.args.slot in
     let old = get_or lines slot.dst c.index-lines-slot.result in
@@ -32,3 +33,6 @@ returns c =
       };
     })
     (λ dst line other. LosesSlots-none line (slots_to dst (slot ∷ [])) (slots_to-elsewhere dst slot other))
+
+pub returns-clause-marked : goal.returns-clause-marked
+returns-clause-marked c = marked-set c.args.risen.now c.set.new.self c.args.lines.now c.args.slot.dst _ c.requires.destination c.set.ensures

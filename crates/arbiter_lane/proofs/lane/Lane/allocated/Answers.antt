@@ -5,7 +5,8 @@ use Rattle.arbiter_lane.specs.Lines.{AllocatesSlots}
 use Rattle.arbiter_lane.specs.State.{LaneState, IsSound}
 use Rattle.arbiter_lane.specs.Standing.{StandsFor}
 use Rattle.arbiter_lane.specs.contracts.lane.Lane.{the_view}
-use Rattle.arbiter_lane.proofs.Allocating.{allocates_at, room_left, stands-allocated, sound-allocated}
+use Rattle.arbiter_lane.proofs.Allocating.{counted, allocates_at, room_left, stands-allocated, sound-allocated}
+use Rattle.arbiter_lane.proofs.Marking.{marked-allocated}
 use Rattle.arbiter_lane.proofs.lane.Lane.allocated.Goals as goal
 
 -- the line of the destination
@@ -42,6 +43,7 @@ invariant_of-self c =
         before.1.3,
       ),
       before.2,
+      marked-allocated (counted was.last_reset c.args.dst c.args.batch c.args.n) c.self.inside.risen was.lines (set was.lines c.args.dst new) become before.3,
     )
 
 pub returns-then-batch-self-clause-stands : goal.returns-then-batch-self-clause-stands

@@ -9,6 +9,7 @@ use Rattle.arbiter_lane.specs.Lines.{HasStartedAgain}
 use Rattle.arbiter_lane.specs.contracts.lane.Lane.{the_view}
 use Rattle.arbiter_lane.proofs.Held.{Become-written}
 use Rattle.arbiter_lane.proofs.Beginning.{stands-begun, sound-begun, tells-begun}
+use Rattle.arbiter_lane.proofs.Marking.{marked-begun, marked-written}
 use Rattle.arbiter_lane.proofs.lane.Lane.begin.Goals as goal
 
 pub invariant_of-self : goal.invariant_of-self
@@ -27,6 +28,8 @@ invariant_of-self c =
             (lt-ltb (epoch_of before.1.0) c.args.epoch (omega (arith, greater, before.1.2.epoch))),
       ),
       before.2,
+      marked-written c.clear_all.new.self c.self.inside.lines c.deref_mut.result.now c.restart-2.new.lines c.deref_mut.ensures.value c.restart-2.ensures.as_many
+          (marked-begun c.clear_all.new.self c.deref_mut.result.now c.restart-2.new.lines c.restart-2.ensures),
     )
 
 pub returns-clause-stands : goal.returns-clause-stands

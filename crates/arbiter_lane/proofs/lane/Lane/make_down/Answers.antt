@@ -1,20 +1,20 @@
-use Rattle.std.proofs.Common.{◌≡◌, ◌≢◌, ℕ, ◌*◌, ◌-◌, ◌<◌, ◌^◌, [], ◌∷◌, ◌||◌, Some, IfSome, slice_get, take, false, sym, ◌∙◌, ap, subst, arith}
+use Rattle.std.proofs.Common.{◌≡◌, ◌≢◌, ℕ, ◌*◌, ◌-◌, ◌<◌, [], ◌∷◌, ◌||◌, Some, IfSome, slice_get, take, false, sym, ◌∙◌, ap, subst, arith}
 use Rattle.std.specs.Option.{option_map}
 use Rattle.std.specs.Vec.{with_items}
 use Rattle.std.proofs.lemmas.Bool.{or_parts}
 use Rattle.fcp_framing.specs.declared.packet.Down.{Down}
-use Rattle.fcp_framing.specs.Spelling.{IsAllocation, IsMask, SpellsDown, down_bytes}
-use Rattle.fcp_framing.specs.Versions.{mask_bits}
+use Rattle.fcp_framing.specs.Spelling.{IsAllocation, SpellsDown, down_bytes}
 use Rattle.endpoint_history.specs.Packets.{Telling as TellingOf}
 use Rattle.endpoint_history.specs.Packets.{DownPacket, slots_to, framed_down}
 use Rattle.endpoint_history.specs.Lane.{MakesDown, numbers, packet_down}
 use Rattle.arbiter_lane.specs.Lines.{LosesSlots}
-use Rattle.arbiter_lane.specs.Parts.{packet_with, slots_told, lost_by}
+use Rattle.arbiter_lane.specs.Parts.{AreMarked, packet_with, slots_told, lost_by}
 use Rattle.arbiter_lane.specs.State.{LaneState, AreAllocated, AreSlots}
 use Rattle.arbiter_lane.specs.Standing.{StandsFor}
 use Rattle.arbiter_lane.specs.contracts.lane.Lane.{the_view}
 use Rattle.arbiter_lane.proofs.Held.{Become-written}
 use Rattle.arbiter_lane.proofs.Making.{told-from, room-for, stands-made, tells-made, sound-made, stands-quiet, tells-quiet, sound-quiet, packet-made, packet-none, bytes-made, true-of, true-of_none, rules-made}
+use Rattle.arbiter_lane.proofs.Marking.{marked-written}
 use Rattle.arbiter_lane.proofs.lane.Lane.make_down.Goals as goal
 
 above : (n : ℕ) → n ≢ 0 → 0 < n
@@ -37,6 +37,7 @@ invariant_of-self c =
         tells-quiet was c.args.round slots before.1.0 (sym before.1.2.epoch ∙ c.if-self-eq0.true) before.1.3,
       ),
       before.2,
+      before.3,
     )
 
 pub returns-then-self-eq0-clause-packet : goal.returns-then-self-eq0-clause-packet
@@ -123,6 +124,8 @@ invariant_of-self-2 c =
         tells-made was c.args.round slots c.tell-loses.new.sent lines has_risen before.1.0 before.1.1 before.0.sent_version begun are before.1.2 before.1.3,
       ),
       before.2,
+      marked-written c.tell-loses.new.risen c.self.inside.lines c.deref_mut.result.now c.tell-loses.new.lines c.deref_mut.ensures.value c.tell-loses.ensures.lines.as_many
+          (c.tell-loses.ensures.marked (subst (AreMarked c.self.inside.risen) (sym c.deref_mut.ensures.value) before.3)),
     )
 
 pub returns-clause-packet : goal.returns-clause-packet

@@ -1,4 +1,4 @@
-use Rattle.std.proofs.Common.{◌≡◌, length, [], replicate, ◌∙◌, ap, rules}
+use Rattle.std.proofs.Common.{◌≡◌, length, [], replicate, ◌∙◌, ap, rules, arith}
 use Rattle.std.proofs.lemmas.List.{length-replicate}
 use Rattle.arbiter_lane.proofs.Beginning.{IsBlank, each_blank, stands-opened, sound-opened, tells-opened}
 use Rattle.arbiter_lane.proofs.lane.Lane.open.Goals as goal
@@ -17,7 +17,8 @@ invariant_of-result c =
         stands-opened c.args.endpoint c.args.endpoints c.args.b c.args.g c.new.result c.in_ok-open.field-0 lines c.new.ensures.stands c.in_ok-open.ensures.version c.in_ok-open.ensures.stands blank,
         tells-opened c.args.endpoint c.args.endpoints c.args.b c.args.g c.new.result c.in_ok-open.field-0 lines,
       ),
-      c.new-3.ensures,
+      rw c.in_ok-new.ensures.ok c.new-4.ensures,
+      λ dst line here none. let started = (blank dst line here).started in omega (arith, started.entered, started.count.demanded, started.count.lost),
     )
 
 pub returns-clause-stands : goal.returns-clause-stands

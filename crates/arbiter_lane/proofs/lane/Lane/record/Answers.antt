@@ -4,12 +4,13 @@ use Rattle.std.specs.Vec.{with_items}
 use Rattle.endpoint_history.specs.Entries.{entry_of}
 use Rattle.endpoint_history.specs.Lane.{Records}
 use Rattle.arbiter_lane.specs.Lines.{IsEntered}
-use Rattle.arbiter_lane.specs.Parts.{CanRise, HaveNotRisen, entries_on}
+use Rattle.arbiter_lane.specs.Parts.{CanRise, AreMarked, HaveNotRisen, entries_on}
 use Rattle.arbiter_lane.specs.State.{LaneState}
 use Rattle.arbiter_lane.specs.Standing.{StandsFor}
 use Rattle.arbiter_lane.specs.contracts.lane.Lane.{the_view}
 use Rattle.arbiter_lane.proofs.Held.{Become-written}
 use Rattle.arbiter_lane.proofs.Recording.{can_rise, entries-are, stands-recorded, sound-recorded}
+use Rattle.arbiter_lane.proofs.Marking.{marked-written}
 use Rattle.arbiter_lane.proofs.lane.Lane.record.Goals as goal
 
 pub record-requires-clause-can_rise : goal.record-requires-clause-can_rise
@@ -17,6 +18,9 @@ record-requires-clause-can_rise c = subst CanRise (sym c.deref_mut.ensures.value
 
 pub record-requires-clause-unrisen : goal.record-requires-clause-unrisen
 record-requires-clause-unrisen c = λ unrisen. subst HaveNotRisen (sym c.deref_mut.ensures.value) (λ dst line here. (c.self.invariant.0.flows dst line here).unrisen unrisen)
+
+pub record-requires-clause-marked : goal.record-requires-clause-marked
+record-requires-clause-marked c = subst (AreMarked c.self.inside.risen) (sym c.deref_mut.ensures.value) c.self.invariant.3
 
 pub invariant_of-self-2 : goal.invariant_of-self-2
 invariant_of-self-2 c =
@@ -28,6 +32,7 @@ invariant_of-self-2 c =
       sound-recorded was c.args.round lines now before.0 c.requires.rounds become,
       (Records c.args.round ∷ before.1.0, before.1.1, stands-recorded was c.args.round lines before.1.0 before.1.1 now before.1.2 become, before.1.3),
       before.2,
+      marked-written c.record.new.risen c.self.inside.lines c.deref_mut.result.now c.record.new.lines c.deref_mut.ensures.value c.in_ok-record.ensures.entered.as_many c.record.ensures.marked,
     )
 
 pub returns-clause-entries : goal.returns-clause-entries

@@ -20,6 +20,8 @@ use Rattle.arbiter_lane.specs.contracts.lane.Lane.{the_view}
 use Rattle.arbiter_lane.proofs.Held.{Become-written, open-told}
 use Rattle.arbiter_lane.proofs.Hearing.{heard_lane, HasReadRequest, heard-stale, heard-fresh, stands-heard, sound-heard, tells-heard}
 use Rattle.arbiter_lane.proofs.Taking.{request_in, request-is, reset-is, version_rules, names_others, stands-old_epoch, stands-version, stands-unsynced, stands-again}
+use Rattle.arbiter_lane.proofs.Marking.{marked-written}
+use Rattle.arbiter_lane.specs.Parts.{AreMarked}
 use Rattle.arbiter_lane.proofs.lane.Lane.take_up.Goals as goal
 
 -- ---- what is refused, and a reset that comes again
@@ -77,8 +79,8 @@ pub read_ack-loses-requires-clause-destinations : goal.read_ack-loses-requires-c
 read_ack-loses-requires-clause-destinations c =
     let was : LaneState = the_view c.self.inside in
     let before = c.self.invariant in
-    let lines = c.deref_mut.result.now in
-    let long : was.endpoints ≡ length lines = sym before.0.as_many ∙ ap length (sym c.deref_mut.ensures.value) in
+    let lines = c.deref_mut-2.result.now in
+    let long : was.endpoints ≡ length lines = sym before.0.as_many ∙ ap length (sym c.deref_mut-2.ensures.value) in
     open-told (λ (t : TellingOf). All (λ (slot : ToldSlot). slot.dst < length lines) t.told) was.sent (numbers was.g before.1.0) before.1.2.sent
     (All-weaker (λ (number : UnresolvedNumber TellingOf). AreSlots was.endpoints was.b was.endpoint number.content.told) (λ (number : UnresolvedNumber TellingOf). All (λ (slot : ToldSlot). slot.dst < length lines) number.content.told)
     (λ number slots. subst (λ n. All (λ (slot : ToldSlot). slot.dst < n) number.content.told) long slots.destinations) _ before.1.3)
@@ -102,7 +104,7 @@ invariant_of-self-in-Fresh c =
       done = c.read_ack-loses.ensures.sent (numbers was.g before.1.0) before.1.2.sent;
       decides = Become-written (λ dst. DecidesSlots
           (slots_shown (decided_by (reorder_of was.sent.version) (span_of was.sent.version) (numbers was.g before.1.0) (request_in up).ack) dst)
-          (slots_lost (decided_by (reorder_of was.sent.version) (span_of was.sent.version) (numbers was.g before.1.0) (request_in up).ack) dst)) c.self.inside.lines c.deref_mut.result.now c.read_ack-loses.new.lines c.deref_mut.ensures.value
+          (slots_lost (decided_by (reorder_of was.sent.version) (span_of was.sent.version) (numbers was.g before.1.0) (request_in up).ack) dst)) c.self.inside.lines c.deref_mut-2.result.now c.read_ack-loses.new.lines c.deref_mut-2.ensures.value
           (c.read_ack-loses.ensures.lines (numbers was.g before.1.0) before.1.2.sent);
       none_lost = λ none. c.read_ack-loses.ensures.none_lost none (numbers was.g before.1.0) before.1.2.sent;
     } in
@@ -114,6 +116,9 @@ invariant_of-self-in-Fresh c =
     (Become-written (λ dst. RisesTo (total_named dst up.demands.items)) table c.deref_mut-in-Fresh.result.now c.raise-rises.new.lines c.deref_mut-in-Fresh.ensures.value raised)
     (λ none. Become-written (λ dst. RisesTo 0) table c.deref_mut-in-Fresh.result.now c.raise-rises.new.lines c.deref_mut-in-Fresh.ensures.value (c.raise-rises.ensures.unrisen none)) in
     let has_risen = (was.has_risen || c.read_ack-loses.result) || c.raise-rises.result in
+    let marked =
+    marked-written c.read_ack-loses.new.risen c.self.inside.lines c.deref_mut-2.result.now c.read_ack-loses.new.lines c.deref_mut-2.ensures.value (c.read_ack-loses.ensures.lines (numbers was.g before.1.0) before.1.2.sent).as_many
+    (c.read_ack-loses.ensures.marked (subst (AreMarked c.self.inside.risen) (sym c.deref_mut-2.ensures.value) before.3)) in
     let names = names_others was was.endpoints c.args.bytes.now up c.in_default.ensures.spelled c.if-self-5.false c.if-self.false in (
       sound-heard c.lanes_count_slots.ensures.reading c.lanes_count_slots.ensures.sums was c.args.round (request_in up) Fresh c.take.new.self c.read_ack-loses.new.sent lines has_risen before.1.0 before.1.1 heard names
           (λ h. (or_parts was.has_risen c.read_ack-loses.result (or_parts (was.has_risen || c.read_ack-loses.result) c.raise-rises.result h).0).0) c.read_ack-loses.ensures.newest before.1.2 before.1.3 before.0,
@@ -124,6 +129,8 @@ invariant_of-self-in-Fresh c =
         tells-heard was c.args.round (request_in up) c.take.new.self c.read_ack-loses.new.sent lines has_risen before.1.0 before.1.3,
       ),
       c.read_ack-loses.ensures.empty,
+      marked-written c.raise-rises.new.risen table c.deref_mut-in-Fresh.result.now c.raise-rises.new.lines c.deref_mut-in-Fresh.ensures.value c.raise-rises.ensures.raised.as_many
+          (c.raise-rises.ensures.marked (subst (AreMarked c.read_ack-loses.new.risen) (sym c.deref_mut-in-Fresh.ensures.value) marked)),
     )
 
 pub returns-in-Fresh-clause-stands : goal.returns-in-Fresh-clause-stands
@@ -146,7 +153,7 @@ returns-in-Fresh-clause-stands c = λ own history allocations stood.
       done = c.read_ack-loses.ensures.sent (numbers was.g history) stands.sent;
       decides = Become-written (λ dst. DecidesSlots
           (slots_shown (decided_by (reorder_of was.sent.version) (span_of was.sent.version) (numbers was.g history) (request_in up).ack) dst)
-          (slots_lost (decided_by (reorder_of was.sent.version) (span_of was.sent.version) (numbers was.g history) (request_in up).ack) dst)) c.self.inside.lines c.deref_mut.result.now c.read_ack-loses.new.lines c.deref_mut.ensures.value
+          (slots_lost (decided_by (reorder_of was.sent.version) (span_of was.sent.version) (numbers was.g history) (request_in up).ack) dst)) c.self.inside.lines c.deref_mut-2.result.now c.read_ack-loses.new.lines c.deref_mut-2.ensures.value
           (c.read_ack-loses.ensures.lines (numbers was.g history) stands.sent);
       none_lost = λ none. c.read_ack-loses.ensures.none_lost none (numbers was.g history) stands.sent;
     } in
@@ -180,7 +187,7 @@ invariant_of-self-in-Repeat c =
       done = c.read_ack-loses.ensures.sent (numbers was.g before.1.0) before.1.2.sent;
       decides = Become-written (λ dst. DecidesSlots
           (slots_shown (decided_by (reorder_of was.sent.version) (span_of was.sent.version) (numbers was.g before.1.0) (request_in up).ack) dst)
-          (slots_lost (decided_by (reorder_of was.sent.version) (span_of was.sent.version) (numbers was.g before.1.0) (request_in up).ack) dst)) c.self.inside.lines c.deref_mut.result.now c.read_ack-loses.new.lines c.deref_mut.ensures.value
+          (slots_lost (decided_by (reorder_of was.sent.version) (span_of was.sent.version) (numbers was.g before.1.0) (request_in up).ack) dst)) c.self.inside.lines c.deref_mut-2.result.now c.read_ack-loses.new.lines c.deref_mut-2.ensures.value
           (c.read_ack-loses.ensures.lines (numbers was.g before.1.0) before.1.2.sent);
       none_lost = λ none. c.read_ack-loses.ensures.none_lost none (numbers was.g before.1.0) before.1.2.sent;
     } in
@@ -197,6 +204,8 @@ invariant_of-self-in-Repeat c =
         tells-heard was c.args.round (request_in up) c.take.new.self c.read_ack-loses.new.sent lines has_risen before.1.0 before.1.3,
       ),
       c.read_ack-loses.ensures.empty,
+      marked-written c.read_ack-loses.new.risen c.self.inside.lines c.deref_mut-2.result.now c.read_ack-loses.new.lines c.deref_mut-2.ensures.value (c.read_ack-loses.ensures.lines (numbers was.g before.1.0) before.1.2.sent).as_many
+          (c.read_ack-loses.ensures.marked (subst (AreMarked c.self.inside.risen) (sym c.deref_mut-2.ensures.value) before.3)),
     )
 
 pub returns-in-Repeat-clause-stands : goal.returns-in-Repeat-clause-stands
@@ -219,7 +228,7 @@ returns-in-Repeat-clause-stands c = λ own history allocations stood.
       done = c.read_ack-loses.ensures.sent (numbers was.g history) stands.sent;
       decides = Become-written (λ dst. DecidesSlots
           (slots_shown (decided_by (reorder_of was.sent.version) (span_of was.sent.version) (numbers was.g history) (request_in up).ack) dst)
-          (slots_lost (decided_by (reorder_of was.sent.version) (span_of was.sent.version) (numbers was.g history) (request_in up).ack) dst)) c.self.inside.lines c.deref_mut.result.now c.read_ack-loses.new.lines c.deref_mut.ensures.value
+          (slots_lost (decided_by (reorder_of was.sent.version) (span_of was.sent.version) (numbers was.g history) (request_in up).ack) dst)) c.self.inside.lines c.deref_mut-2.result.now c.read_ack-loses.new.lines c.deref_mut-2.ensures.value
           (c.read_ack-loses.ensures.lines (numbers was.g history) stands.sent);
       none_lost = λ none. c.read_ack-loses.ensures.none_lost none (numbers was.g history) stands.sent;
     } in
@@ -248,7 +257,7 @@ invariant_of-self-in-Old c =
       done = c.read_ack-loses.ensures.sent (numbers was.g before.1.0) before.1.2.sent;
       decides = Become-written (λ dst. DecidesSlots
           (slots_shown (decided_by (reorder_of was.sent.version) (span_of was.sent.version) (numbers was.g before.1.0) (request_in up).ack) dst)
-          (slots_lost (decided_by (reorder_of was.sent.version) (span_of was.sent.version) (numbers was.g before.1.0) (request_in up).ack) dst)) c.self.inside.lines c.deref_mut.result.now c.read_ack-loses.new.lines c.deref_mut.ensures.value
+          (slots_lost (decided_by (reorder_of was.sent.version) (span_of was.sent.version) (numbers was.g before.1.0) (request_in up).ack) dst)) c.self.inside.lines c.deref_mut-2.result.now c.read_ack-loses.new.lines c.deref_mut-2.ensures.value
           (c.read_ack-loses.ensures.lines (numbers was.g before.1.0) before.1.2.sent);
       none_lost = λ none. c.read_ack-loses.ensures.none_lost none (numbers was.g before.1.0) before.1.2.sent;
     } in
@@ -265,6 +274,8 @@ invariant_of-self-in-Old c =
         tells-heard was c.args.round (request_in up) c.take.new.self c.read_ack-loses.new.sent lines has_risen before.1.0 before.1.3,
       ),
       c.read_ack-loses.ensures.empty,
+      marked-written c.read_ack-loses.new.risen c.self.inside.lines c.deref_mut-2.result.now c.read_ack-loses.new.lines c.deref_mut-2.ensures.value (c.read_ack-loses.ensures.lines (numbers was.g before.1.0) before.1.2.sent).as_many
+          (c.read_ack-loses.ensures.marked (subst (AreMarked c.self.inside.risen) (sym c.deref_mut-2.ensures.value) before.3)),
     )
 
 pub returns-in-Old-clause-stands : goal.returns-in-Old-clause-stands
@@ -287,7 +298,7 @@ returns-in-Old-clause-stands c = λ own history allocations stood.
       done = c.read_ack-loses.ensures.sent (numbers was.g history) stands.sent;
       decides = Become-written (λ dst. DecidesSlots
           (slots_shown (decided_by (reorder_of was.sent.version) (span_of was.sent.version) (numbers was.g history) (request_in up).ack) dst)
-          (slots_lost (decided_by (reorder_of was.sent.version) (span_of was.sent.version) (numbers was.g history) (request_in up).ack) dst)) c.self.inside.lines c.deref_mut.result.now c.read_ack-loses.new.lines c.deref_mut.ensures.value
+          (slots_lost (decided_by (reorder_of was.sent.version) (span_of was.sent.version) (numbers was.g history) (request_in up).ack) dst)) c.self.inside.lines c.deref_mut-2.result.now c.read_ack-loses.new.lines c.deref_mut-2.ensures.value
           (c.read_ack-loses.ensures.lines (numbers was.g history) stands.sent);
       none_lost = λ none. c.read_ack-loses.ensures.none_lost none (numbers was.g history) stands.sent;
     } in

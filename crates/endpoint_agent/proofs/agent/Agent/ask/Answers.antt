@@ -8,7 +8,7 @@ use Rattle.endpoint_agent.specs.Lines.{with_asked}
 use Rattle.endpoint_agent.specs.Standing.{StandsFor}
 use Rattle.endpoint_agent.specs.State.{AgentState, line_at}
 use Rattle.endpoint_agent.proofs.Calls.{line_at-asks, StandsFor-asks}
-use Rattle.endpoint_agent.proofs.Sound.{Sound-asks, Reached-asks}
+use Rattle.endpoint_agent.proofs.Sound.{Sound-asks, Kept-asks}
 use Rattle.endpoint_agent.proofs.Walking.{no_line}
 use Rattle.endpoint_agent.proofs.agent.Agent.ask.Goals as goal
 
@@ -36,7 +36,7 @@ invariant_of-self c =
       Sound-asks agent dst n (agent.sent.outstanding.newest + 1) (set agent.lines dst line) sound (λ e. c.requires.other (e ∙ me))
           (subst (λ (a : AgentState). (line_at a.lines dst).asked + n ≤ 100000000) (sym c.self.view_is) c.requires.most) (length-set agent.lines dst line) asks,
       (Asks dst n ∷ history, StandsFor-asks agent history dst n (set agent.lines dst line) stands asks),
-      Reached-asks agent c.self.inside.request.seq c.self.inside.carried_from dst n (set agent.lines dst line) same asks,
+      Kept-asks agent c.self.inside.request.seq dst n c.self.inside.unconfirmed c.set.new.self (set agent.lines dst line) same c.set.ensures asks,
     )
 
 pub returns-then-n-gt0-clause-stands : goal.returns-then-n-gt0-clause-stands

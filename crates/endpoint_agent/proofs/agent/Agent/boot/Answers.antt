@@ -36,7 +36,6 @@ invariant_of-self c =
       both.1,
       record {
         number = sym newest;
-        within = omega arith;
-        lines = λ dst. let it = ap (λ (l : FlowLine). l.carried_from) (none dst) in omega (arith, it);
+        marked = λ dst unmarked. let it = ap (λ (l : FlowLine). l.carried_from) (none dst) in omega (arith, it);
       },
     )

@@ -1,4 +1,4 @@
-use Rattle.std.proofs.Common.{◌≡◌, ℕ, ◌+◌, ◌^◌, ◌<◌, true, false, List, ◌∷◌, length, take, sym, ◌∙◌, ap, subst, inl, inr, arith, ◌≤◌}
+use Rattle.std.proofs.Common.{◌≡◌, ℕ, ◌+◌, ◌^◌, ◌<◌, true, false, List, ◌∷◌, length, take, sym, ◌∙◌, ap, subst, inl, inr, arith}
 use Rattle.std.specs.Int.{IsBitSet}
 use Rattle.std.proofs.lemmas.Bool.{cases_Bool, false≢true}
 use Rattle.ack_window.specs.Sends.{Event, Sends}
@@ -12,11 +12,11 @@ use Rattle.endpoint_agent.specs.declared.lines.FlowLine.{FlowLine}
 use Rattle.endpoint_agent.specs.contracts.agent.Agent.{the_view}
 use Rattle.endpoint_agent.specs.Lines.{unconfirmed_in}
 use Rattle.endpoint_agent.specs.Standing.{StandsFor}
-use Rattle.endpoint_agent.specs.State.{AgentState, line_at}
+use Rattle.endpoint_agent.specs.State.{AgentState, AreMarked}
 use Rattle.endpoint_agent.proofs.Calls.{may_of}
 use Rattle.endpoint_agent.proofs.Making.{resets, IsRenewed, made, Sound-resets}
 use Rattle.endpoint_agent.proofs.Packets.{reset-is, reset-ok, request_in, request-is, request-ok}
-use Rattle.endpoint_agent.proofs.Sound.{Reached-makes}
+use Rattle.endpoint_agent.proofs.Sound.{Kept-makes}
 use Rattle.endpoint_agent.proofs.agent.Agent.make_up.Goals as goal
 
 abbrev Spells : AgentHistory → List ℕ → AgentState → Type 0
@@ -35,7 +35,7 @@ invariant_of-self c =
     let once : agent.is_made ≡ false = ap (λ (a : AgentState). a.is_made) c.self.view_is ∙ c.requires.once in (
       Sound-resets agent sound once,
       (MakesUp ∷ history, resets agent history sound stands c.if-not-self.true),
-      Reached-makes agent _ c.self.inside.request.seq c.self.inside.request.seq c.self.inside.carried_from same (λ i. agent.lines) (omega arith) same.number,
+      Kept-makes agent _ c.self.inside.request.seq c.self.inside.unconfirmed same.marked (λ i. agent.lines) (omega arith) same.number,
     )
 
 pub returns-then-not-self-clause-packet : goal.returns-then-not-self-clause-packet
@@ -90,14 +90,6 @@ seq-by agent sent old new same again counts = elim (cases_Bool (may_of agent.sen
       ap (λ (up : Up). up.seq) kept ∙ same ∙ sym (ap (λ (s : Sender (Unit {0})). s.outstanding.newest) sent_same)
 ]
 
-later-by : (agent : AgentState) (sent : Sender (Unit {0})) (old new : Up) → Again agent sent old new → Counts agent sent new → agent.sent.outstanding.newest ≤ sent.outstanding.newest
-later-by agent sent old new again counts = elim (cases_Bool (may_of agent.sent)) [
-  | inl may ↦ let is = (counts may).1 in omega (arith, is)
-  | inr closed ↦
-      let same = ap (λ (s : Sender (Unit {0})). s.outstanding.newest) (again (λ may. false≢true (sym closed ∙ may))).0 in
-      omega (arith, same)
-]
-
 -- the packet is the one that the agent's parts make
 packet-by : (after : AgentState) (new : Up) (high mask : ℕ) → new.demands.items ≡ after.named → new.seq ≡ after.sent.outstanding.newest → high ≡ after.arrived.told.high → mask ≡ after.arrived.told.mask →
     record { version = after.version; reset = false; src = after.me; epoch = after.epoch; seq = new.seq; high = high; mask = mask; demands = record { items = new.demands.items } } ≡ request_in after
@@ -117,10 +109,11 @@ mask-by agent high mask high_is mask_is numbers = λ i set.
     let low = numbers i (subst (λ (m : ℕ). IsBitSet m i) (sym mask_is) set) in
     omega (arith, low, high_is)
 
-pub renew-requires-clause-reach : goal.renew-requires-clause-reach
-renew-requires-clause-reach c =
+pub renew-requires-clause-marked : goal.renew-requires-clause-marked
+renew-requires-clause-marked c =
+    let agent : AgentState = the_view c.self.inside in
     let (sound, calls, same) = c.self.invariant in
-    subst (λ (ls : List FlowLine). (dst : ℕ) → (line_at ls dst).carried_from ≤ c.self.inside.carried_from) (sym c.deref.ensures.value) same.lines
+    subst (AreMarked agent.acknowledged c.self.inside.unconfirmed) (sym c.deref.ensures.value) same.marked
 
 pub encode_req-requires : goal.encode_req-requires
 encode_req-requires c =
@@ -155,7 +148,7 @@ invariant_of-self-2 c =
     let is = made c.agents_count_slots.ensures.taking agent history sent new.demands.items sound once stands c.if-not-self.false renewal in (
       is.sound,
       (MakesUp ∷ history, is.stands),
-      Reached-makes agent _ c.self.inside.request.seq new.seq c.self.inside.carried_from same (λ i. agent.lines) (later-by agent sent c.self.inside.request new r.again r.number)
+      Kept-makes agent _ new.seq c.renew.new.unconfirmed (subst (AreMarked agent.acknowledged c.renew.new.unconfirmed) c.deref.ensures.value r.marked) (λ i. agent.lines) (omega arith)
           (seq-by agent sent c.self.inside.request new same.number r.again r.number),
     )
 

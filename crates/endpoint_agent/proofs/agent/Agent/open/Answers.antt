@@ -25,10 +25,10 @@ invariant_of-result c =
     let long : length lines ≡ endpoints = ap (λ (ls : List FlowLine). length ls) is ∙ length-replicate endpoints line in
     let newest = c.in_ok-sent.ensures.stands.newest in
     let named = c.default-2.ensures.1.1.1.1.1.1.1 in
-    let first = c.new-2.ensures in
-    let second = c.new-3.ensures in
-    let third = c.new-4.ensures in
-    let whole : record (opened me endpoints b g heard sent lines) { named = c.default-2.result.demands.items; waiting = c.new-2.result.items ∷ c.new-3.result.items ∷ c.new-4.result.items ∷ [] } ≡ opened me endpoints b g heard sent lines = λ i. record (opened me endpoints b g heard sent lines) { named = named i; waiting = first i ∷ second i ∷ third i ∷ [] } in
+    let first = c.new-3.ensures in
+    let second = c.new-4.ensures in
+    let third = c.new-5.ensures in
+    let whole : record (opened me endpoints b g heard sent lines) { named = c.default-2.result.demands.items; waiting = c.new-3.result.items ∷ c.new-4.result.items ∷ c.new-5.result.items ∷ [] } ≡ opened me endpoints b g heard sent lines = λ i. record (opened me endpoints b g heard sent lines) { named = named i; waiting = first i ∷ second i ∷ third i ∷ [] } in
     let both = subst (λ (a : AgentState). IsSound a × HasHistory a) (sym whole) (
       Sound-opens me endpoints b g heard sent lines c.requires.own c.requires.endpoints c.new.ensures.version c.in_ok-sent.ensures.version newest long none,
       ([], StandsFor-opens me endpoints b g heard sent lines c.new.ensures.stands c.in_ok-sent.ensures.stands none),
@@ -37,7 +37,6 @@ invariant_of-result c =
       both.1,
       record {
         number = c.default-2.ensures.1.1.1.1.0 ∙ sym newest;
-        within = omega arith;
-        lines = λ dst. let it = ap (λ (l : FlowLine). l.carried_from) (none dst) in omega (arith, it);
+        marked = λ dst unmarked. let it = ap (λ (l : FlowLine). l.carried_from) (none dst) in omega (arith, it);
       },
     )

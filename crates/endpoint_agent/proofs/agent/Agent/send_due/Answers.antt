@@ -10,7 +10,7 @@ use Rattle.endpoint_agent.specs.Lines.{slots_sent, with_sent, slots_after, left_
 use Rattle.endpoint_agent.specs.Standing.{StandsFor, HasHistory}
 use Rattle.endpoint_agent.specs.State.{AgentState, line_at, place_of, IsSound}
 use Rattle.endpoint_agent.proofs.Ends.{sends-early, ends-early, walked, walked-is, ends-late}
-use Rattle.endpoint_agent.proofs.Sound.{Below, Below-set, Sound-ends, Reached-makes, Reached-ends}
+use Rattle.endpoint_agent.proofs.Sound.{Below, Below-set, Sound-ends, Kept-makes, Kept-ends}
 use Rattle.endpoint_agent.proofs.Walking.{to}
 use Rattle.endpoint_agent.proofs.agent.Agent.send_due.Goals as goal
 
@@ -30,7 +30,7 @@ invariant_of-self c =
     let early : c.args.round < 2 * agent.g + 2 = omega (arith, c.if-round-wait.true, c.from.ensures) in (
       Sound-ends agent c.args.round agent.lines agent.waiting (λ dst. 0) sound now c.requires.rounds (λ i. length agent.lines) (λ dst. with_none (line_at agent.lines dst)) sound.three sound.waiting,
       (SendsDue c.args.round ∷ history, ends-early agent history c.args.round stands now early),
-      Reached-makes agent _ c.self.inside.request.seq c.self.inside.request.seq c.self.inside.carried_from same (λ i. agent.lines) (omega arith) same.number,
+      Kept-makes agent _ c.self.inside.request.seq c.self.inside.unconfirmed same.marked (λ i. agent.lines) (omega arith) same.number,
     )
 
 pub returns-then-round-wait-clause-sends : goal.returns-then-round-wait-clause-sends
@@ -79,7 +79,7 @@ invariant_of-self-2 c =
     ) in (
       both.0,
       both.1,
-      Reached-ends agent _ c.self.inside.request.seq c.self.inside.carried_from (λ dst. to dst (walked agent batch)) same (λ i. agent.sent) (λ dst. ap (λ (ls : List FlowLine). line_at ls dst) whole ∙ counted dst),
+      Kept-ends agent _ c.self.inside.request.seq c.self.inside.unconfirmed (λ dst. to dst (walked agent batch)) same (λ i. agent.sent) (λ i. agent.acknowledged) (λ dst. ap (λ (ls : List FlowLine). line_at ls dst) whole ∙ counted dst),
     )
 
 pub returns-clause-sends : goal.returns-clause-sends

@@ -20,9 +20,9 @@ use Rattle.endpoint_agent.specs.Lines.{with_missed}
 use Rattle.endpoint_agent.specs.Refusals.{IsOwn}
 use Rattle.endpoint_agent.specs.Standing.{StandsFor}
 use Rattle.endpoint_agent.specs.State.{AgentState, line_at, MayTake, IsSound}
-use Rattle.endpoint_agent.proofs.Calls.{StandsFor-passed, Read}
+use Rattle.endpoint_agent.proofs.Calls.{StandsFor-passed, Read, acknowledges-more}
 use Rattle.endpoint_agent.proofs.Taking.{IsMine, takes-it, reads, AreTaken, takes-slots, Sound-slots}
-use Rattle.endpoint_agent.proofs.Sound.{All-lines, Sound-reads, Reached-makes, Reached-takes}
+use Rattle.endpoint_agent.proofs.Sound.{All-lines, Sound-reads, Kept-makes, Kept-takes}
 use Rattle.endpoint_agent.proofs.agent.Agent.take_down.Goals as goal
 
 abbrev After : AgentState → ℕ → AgentHistory → DownPacket → Type 0
@@ -86,8 +86,8 @@ slots-by agent round down vec old new waiting waiting' seq value long same lines
       kept = λ why. ap (map items) (kept why) ∙ places;
     }
 
-pub take_slots-misses-requires-clause-late : goal.take_slots-misses-requires-clause-late
-take_slots-misses-requires-clause-late c = λ some.
+pub take_slots-requires-clause-late : goal.take_slots-requires-clause-late
+take_slots-requires-clause-late c = λ some.
     let agent : AgentState = the_view c.self.inside in
     let (sound, calls, same) = c.self.invariant in
     let down : Down = c.decode_down.new.into in
@@ -103,8 +103,8 @@ take_slots-misses-requires-clause-late c = λ some.
     let late = may.late some in
     omega (arith, late)
 
-pub take_slots-misses-requires-clause-room : goal.take_slots-misses-requires-clause-room
-take_slots-misses-requires-clause-room c =
+pub take_slots-requires-clause-room : goal.take_slots-requires-clause-room
+take_slots-requires-clause-room c =
     let agent : AgentState = the_view c.self.inside in
     let (sound, calls, same) = c.self.invariant in
     let down : Down = c.decode_down.new.into in
@@ -113,9 +113,6 @@ take_slots-misses-requires-clause-room c =
     let mine : IsMine agent down = record { rules = spelled.rules; destination = c.if-self.false; epoch = c.if-self-2.false; version = c.if-self-3.false } in
     subst (λ (ls : List FlowLine). All (λ (line : FlowLine). line.missed + length down.told.items < 4294967296) ls) (sym c.deref_mut.ensures.value)
     (All-lines agent.lines (λ (line : FlowLine). line.missed + length down.told.items < 4294967296) (λ dst. omega (arith, (sound.lines dst).missed, mine.rules.count)))
-
-later-or-same : (before after : ℕ) → after ≡ before → before ≤ after
-later-or-same before after same = omega (arith, same)
 
 pub invariant_of-self-in-Fresh : goal.invariant_of-self-in-Fresh
 invariant_of-self-in-Fresh c =
@@ -132,15 +129,15 @@ invariant_of-self-in-Fresh c =
     let fresh : (history : AgentHistory) → StandsFor agent history → Fresh ≡ receive_verdict (reorder_of agent.arrived.version) (arrived history) down.seq = λ history stands.
     sym c.in-Fresh.is ∙ c.take.ensures.verdict (arrived history) stands.arrived in
     let may = may_take agent c.args.self.now c.args.round c.args.bytes.now down c.self.view_is is sound mine own fresh c.requires.may_take in
-    let slots = slots-by agent c.args.round down c.self.inside.lines c.deref_mut.result.now c.take_slots-misses.new.lines c.self.inside.waiting c.take_slots-misses.new.waiting c.self.inside.request.seq
-    c.deref_mut.ensures.value c.deref_mut.ensures.len same.number (λ i. agent.lines) (λ i. agent.waiting) c.take_slots-misses.ensures.length c.take_slots-misses.ensures.lines c.take_slots-misses.ensures.waiting c.take_slots-misses.ensures.others in
+    let slots = slots-by agent c.args.round down c.self.inside.lines c.deref_mut.result.now c.take_slots.new.lines c.self.inside.waiting c.take_slots.new.waiting c.self.inside.request.seq
+    c.deref_mut.ensures.value c.deref_mut.ensures.len same.number (λ i. agent.lines) (λ i. agent.waiting) c.take_slots.ensures.length c.take_slots.ensures.lines c.take_slots.ensures.waiting c.take_slots.ensures.others in
     let read : (history : AgentHistory) → StandsFor agent history → Read agent history (down_packet down) c.take.new.self c.read_ack-self-inside.new.sent c.read_ack-self-inside.result = λ history stands. (
       c.take.ensures.stands (arrived history) stands.arrived,
       c.read_ack-self-inside.ensures.stands (bare_numbers agent.endpoints agent.g history) stands.sent,
       c.read_ack-self-inside.ensures.acknowledged (bare_numbers agent.endpoints agent.g history) stands.sent,
     ) in
-    let lines = (with_items c.self.inside.lines c.take_slots-misses.new.lines).items in
-    let waiting = map (λ (w : ArrayVec Told). w.items) c.take_slots-misses.new.waiting in
+    let lines = (with_items c.self.inside.lines c.take_slots.new.lines).items in
+    let waiting = map (λ (w : ArrayVec Told). w.items) c.take_slots.new.waiting in
     let now : c.args.round ≡ agent.round = c.requires.round ∙ sym (ap (λ (a : AgentState). a.round) c.self.view_is) in (
       Sound-slots agent c.args.round down c.take.new.self c.read_ack-self-inside.new.sent c.read_ack-self-inside.result lines waiting sound mine may c.take.ensures.version c.read_ack-self-inside.ensures.version c.read_ack-self-inside.ensures.newest slots,
       (
@@ -148,9 +145,9 @@ invariant_of-self-in-Fresh c =
         takes-slots c.agents_count_slots.ensures.taking agent history c.args.round down c.take.new.self c.read_ack-self-inside.new.sent c.read_ack-self-inside.result lines waiting stands sound mine now may
             (fresh history stands) (read history stands) slots,
       ),
-      Reached-takes agent _ c.self.inside.request.seq c.self.inside.carried_from c.reached-self-inside.result c.take_slots-misses.result
-          (λ dst. cond (leb c.args.round (down.batch + 2 * agent.g + 2)) 0 (slots_to dst down.told.items)) same c.read_ack-self-inside.ensures.newest slots.counted
-          c.take_slots-misses.ensures.none_missed c.reached-self-inside.ensures,
+      Kept-takes agent _ c.self.inside.request.seq c.self.inside.unconfirmed c.take_slots.new.unconfirmed
+          (λ dst. cond (leb c.args.round (down.batch + 2 * agent.g + 2)) 0 (slots_to dst down.told.items)) same c.read_ack-self-inside.ensures.newest (acknowledges-more agent history (down_packet down) c.take.new.self c.read_ack-self-inside.new.sent c.read_ack-self-inside.result (read history stands)) slots.counted
+          c.take_slots.ensures.marked,
     )
 
 pub returns-in-Fresh-clause-stands : goal.returns-in-Fresh-clause-stands
@@ -168,15 +165,15 @@ returns-in-Fresh-clause-stands c = λ is_own history stands.
     let fresh : (history : AgentHistory) → StandsFor agent history → Fresh ≡ receive_verdict (reorder_of agent.arrived.version) (arrived history) down.seq = λ history stands.
     sym c.in-Fresh.is ∙ c.take.ensures.verdict (arrived history) stands.arrived in
     let may = may_take agent c.args.self.now c.args.round c.args.bytes.now down c.self.view_is is sound mine own fresh c.requires.may_take in
-    let slots = slots-by agent c.args.round down c.self.inside.lines c.deref_mut.result.now c.take_slots-misses.new.lines c.self.inside.waiting c.take_slots-misses.new.waiting c.self.inside.request.seq
-    c.deref_mut.ensures.value c.deref_mut.ensures.len same.number (λ i. agent.lines) (λ i. agent.waiting) c.take_slots-misses.ensures.length c.take_slots-misses.ensures.lines c.take_slots-misses.ensures.waiting c.take_slots-misses.ensures.others in
+    let slots = slots-by agent c.args.round down c.self.inside.lines c.deref_mut.result.now c.take_slots.new.lines c.self.inside.waiting c.take_slots.new.waiting c.self.inside.request.seq
+    c.deref_mut.ensures.value c.deref_mut.ensures.len same.number (λ i. agent.lines) (λ i. agent.waiting) c.take_slots.ensures.length c.take_slots.ensures.lines c.take_slots.ensures.waiting c.take_slots.ensures.others in
     let read : (history : AgentHistory) → StandsFor agent history → Read agent history (down_packet down) c.take.new.self c.read_ack-self-inside.new.sent c.read_ack-self-inside.result = λ history stands. (
       c.take.ensures.stands (arrived history) stands.arrived,
       c.read_ack-self-inside.ensures.stands (bare_numbers agent.endpoints agent.g history) stands.sent,
       c.read_ack-self-inside.ensures.acknowledged (bare_numbers agent.endpoints agent.g history) stands.sent,
     ) in
-    let lines = (with_items c.self.inside.lines c.take_slots-misses.new.lines).items in
-    let waiting = map (λ (w : ArrayVec Told). w.items) c.take_slots-misses.new.waiting in
+    let lines = (with_items c.self.inside.lines c.take_slots.new.lines).items in
+    let waiting = map (λ (w : ArrayVec Told). w.items) c.take_slots.new.waiting in
     let now : c.args.round ≡ agent.round = c.requires.round ∙ sym (ap (λ (a : AgentState). a.round) c.self.view_is) in
     subst (λ (d : Down). After (record agent { arrived = c.take.new.self; sent = c.read_ack-self-inside.new.sent; has_begun = true; acknowledged = c.read_ack-self-inside.result; lines = lines; waiting = waiting }) c.args.round history (down_packet d)) is
     (takes-slots c.agents_count_slots.ensures.taking agent history c.args.round down c.take.new.self c.read_ack-self-inside.new.sent c.read_ack-self-inside.result lines waiting here sound mine now may
@@ -204,7 +201,7 @@ invariant_of-self-in-Old c =
         reads agent history c.args.round down c.take.new.self c.read_ack-self-inside.new.sent c.read_ack-self-inside.result Old stands sound mine
             (sym c.in-Old.is ∙ c.take.ensures.verdict (arrived history) stands.arrived) (λ i. false) (read history stands),
       ),
-      Reached-makes agent _ c.self.inside.request.seq c.self.inside.request.seq c.self.inside.carried_from same (λ i. agent.lines) (later-or-same agent.sent.outstanding.newest c.read_ack-self-inside.new.sent.outstanding.newest c.read_ack-self-inside.ensures.newest)
+      Kept-makes agent _ c.self.inside.request.seq c.self.inside.unconfirmed same.marked (λ i. agent.lines) (acknowledges-more agent history (down_packet down) c.take.new.self c.read_ack-self-inside.new.sent c.read_ack-self-inside.result (read history stands))
           (same.number ∙ sym c.read_ack-self-inside.ensures.newest),
     )
 
@@ -246,7 +243,7 @@ invariant_of-self-in-Repeat c =
         reads agent history c.args.round down c.take.new.self c.read_ack-self-inside.new.sent c.read_ack-self-inside.result Repeat stands sound mine
             (sym c.in-Repeat.is ∙ c.take.ensures.verdict (arrived history) stands.arrived) (λ i. false) (read history stands),
       ),
-      Reached-makes agent _ c.self.inside.request.seq c.self.inside.request.seq c.self.inside.carried_from same (λ i. agent.lines) (later-or-same agent.sent.outstanding.newest c.read_ack-self-inside.new.sent.outstanding.newest c.read_ack-self-inside.ensures.newest)
+      Kept-makes agent _ c.self.inside.request.seq c.self.inside.unconfirmed same.marked (λ i. agent.lines) (acknowledges-more agent history (down_packet down) c.take.new.self c.read_ack-self-inside.new.sent c.read_ack-self-inside.result (read history stands))
           (same.number ∙ sym c.read_ack-self-inside.ensures.newest),
     )
 

@@ -1,0 +1,6 @@
+use Rattle.std.proofs.Common.{rules}
+use Rattle.line_marks.proofs.BitLemmas.{bit_is_set}
+use Rattle.line_marks.proofs.Marks.set.Goals as goal
+
+pub returns : goal.returns
+returns c = bit_is_set c.args.self.now.words c.args.at (search rules)

@@ -1,0 +1,70 @@
+//! Marks for the lines of a table: which of them are to be looked at.
+#![tactic(auto)]
+
+ghost use Rattle.std.specs.Prelude.{◌≡◌, ◌≤◌, ◌<◌, ◌==◌, ◌&&◌, ◌||◌, ℕ, true, false, not};
+
+/// A mark for each of 256 places. Clauses read them by `is_marked`.
+#[derive(Clone, Copy, Debug)]
+pub struct Marks {
+    words: [u64; 4],
+}
+
+impl Marks {
+    ghost use Rattle.line_marks.specs.Places.{is_marked};
+
+    /// No place is marked.
+    pub fn new() -> Marks
+        ensures { (place : ℕ) → is_marked result place ≡ false }
+    {
+        Marks { words: [0; 4] }
+    }
+
+    /// Marks this place.
+    pub fn set(&mut self, at: usize)
+        requires { at < 256 }
+        ensures { (place : ℕ) → is_marked self.new place ≡ (is_marked self.old place || place == at) }
+    {
+        self.words[at / 64] |= 1 << (at % 64);
+    }
+
+    /// Takes the mark from this place.
+    pub fn clear(&mut self, at: usize)
+        requires { at < 256 }
+        ensures { (place : ℕ) → is_marked self.new place ≡ (is_marked self.old place && not (place == at)) }
+    {
+        self.words[at / 64] &= !(1 << (at % 64));
+    }
+
+    /// Marks every place.
+    pub fn set_all(&mut self)
+        ensures { (place : ℕ) → place < 256 → is_marked self.new place ≡ true }
+    {
+        self.words = [u64::MAX; 4];
+    }
+
+    /// Takes the mark from every place.
+    pub fn clear_all(&mut self)
+        ensures { (place : ℕ) → is_marked self.new place ≡ false }
+    {
+        self.words = [0; 4];
+    }
+
+    /// The first marked place from this one on, 256 where there is none.
+    pub fn next_from(&self, at: usize) -> usize
+        requires { at ≤ 256 }
+        ensures from { at ≤ result }
+        ensures most { result ≤ 256 }
+        ensures marked { result < 256 → is_marked self.now result ≡ true }
+        ensures first { (place : ℕ) → at ≤ place → place < result → is_marked self.now place ≡ false }
+    {
+        let mut mask = u64::MAX << (at % 64);
+        for word in at / 64..4 {
+            let marked = self.words[word] & mask;
+            if marked != 0 {
+                return word * 64 + marked.trailing_zeros() as usize;
+            }
+            mask = u64::MAX;
+        }
+        256
+    }
+}
