@@ -1,5 +1,5 @@
 //! One endpoint's rounds.
-ghost use Rattle.std.specs.Prelude.{◌≡◌, ◌<◌, ◌≤◌, ◌+◌, ◌^◌, ◌++◌, ◌↔◌, true, false, ℕ, List, [], ◌∷◌, map, replicate, slice_get, IfOk, OnOk, IfSome, IsSome, Some};
+ghost use Rattle.std.specs.Prelude.{◌≡◌, ◌<◌, ◌≤◌, ◌+◌, ◌^◌, ◌++◌, ◌↔◌, true, false, ℕ, List, [], ◌∷◌, map, replicate, slice_get, IfOk, OnOk, OnErr, IfSome, IsSome, Some};
 ghost use Rattle.greedy_rules.specs.Batches.{IsAboveLast};
 ghost use Rattle.flow_ledger.specs.FlowCount.{pending};
 ghost use Rattle.loss_world.specs.Arrivals.{Departure};
@@ -102,7 +102,7 @@ impl LaneRounds {
 
     /// Does one round: boots and asks; the lane's packet, and what arrives of these; the agent's packet, what arrives of these,
     /// and the raw packets; the batch; the slots that are due. `told` are the endpoint's slots of the batch of two windows before.
-    /// After `NoMemory` it is only to be dropped, like the lists that it writes.
+    /// After `NoMemory` it is only to be dropped, like the batch and the list of refusals; no slot is sent in then.
     pub fn round(
         &mut self,
         round: u32,
@@ -143,6 +143,8 @@ impl LaneRounds {
         ensures refused { OnOk result ((rounds : List Round) (allocations : List Allocation) →
             StandsFor self.old rounds allocations →
             refused.new ≡ refused.old ++ refused_by self.old.lane.endpoint self.old.lane.endpoints self.old.lane.g events.now told.now.items rounds) }
+        // No slot is used in a round whose batch isn't recorded.
+        ensures unsent { OnErr result (sent.new.items ≡ sent.old.items) }
         ensures stands { OnOk result ((rounds : List Round) (allocations : List Allocation) →
             StandsFor self.old rounds allocations →
             StandsFor self.new (round_of self.old.lane.endpoint self.old.lane.endpoints events.now told.now.items ∷ rounds) allocations) }
