@@ -1,4 +1,4 @@
-ghost use Rattle.std.specs.Prelude.{◌≡◌, ◌+◌, ◌<◌, ◌^◌, [], ◌∷◌, ◌++◌, length, MatchOption, MatchResult, IfOk};
+ghost use Rattle.std.specs.Prelude.{◌≡◌, ◌+◌, ◌<◌, ◌≤◌, ◌^◌, [], ◌∷◌, ◌++◌, length, nat_lt, MatchOption, MatchResult, IfOk};
 ghost use Rattle.slot_batches.specs.Pieces.{part_of};
 
 use crate::link::Link;
@@ -10,23 +10,28 @@ use std::collections::VecDeque;
 use std::marker::Model;
 use std::snapshot::Snapshot;
 
-/// An edge of fixed room: the pieces that were sent and not yet taken, and how many were taken and sent.
+/// An edge of fixed room: the pieces that were sent and not yet taken, and how many were taken and sent. A piece that is sent
+/// where none waits lies by itself, so that an edge that is emptied at once stays in one place.
 #[derive(Drop)]
 pub(crate) struct Edge {
-    pieces: VecDeque<Piece>,
+    first: Option<Piece>,
+    others: VecDeque<Piece>,
     taken: u32,
     sent: u32,
 }
 
 impl Model for Edge {
-    ghost use Rattle.std.specs.Prelude.{map};
+    ghost use Rattle.std.specs.Prelude.{◌≤◌, ◌++◌, length, map};
+    ghost use Rattle.std.specs.Option.{option_to_list};
     ghost use Rattle.std.specs.VecDeque.{deque_capacity};
     ghost use Rattle.slot_batches.specs.Pieces.{part_of};
     ghost use Rattle.ring_core.specs.States.{EdgeState};
 
     ghost Value = { EdgeState };
 
-    ghost view = { λ e. record { pieces = map part_of e.pieces.items; taken = e.taken; sent = e.sent; room = deque_capacity e.pieces } };
+    ghost view = { λ e. record { pieces = map part_of (option_to_list e.first ++ e.others.items); taken = e.taken; sent = e.sent; room = deque_capacity e.others } };
+
+    ghost invariant = { λ e. length (option_to_list e.first ++ e.others.items) ≤ deque_capacity e.others };
 }
 
 impl Edge {
@@ -38,7 +43,8 @@ impl Edge {
         ensures sent { IfOk result (λ edge. edge.sent ≡ 0) }
     {
         Ok(Edge {
-            pieces: VecDeque::with_capacity(alloc, room)?,
+            first: None,
+            others: VecDeque::with_capacity(alloc, room)?,
             taken: 0,
             sent: 0,
         })
@@ -51,9 +57,24 @@ impl Edge {
         ensures sent { self.new.sent ≡ 0 }
         ensures room { self.new.room ≡ self.old.room }
     {
-        self.pieces.clear();
+        self.first = None;
+        self.others.clear();
         self.taken = 0;
         self.sent = 0;
+    }
+
+    /// Whether a piece can be taken.
+    pub(crate) fn has_piece(&self) -> bool
+        ensures { result ≡ nat_lt self.now.taken self.now.sent }
+    {
+        self.taken < self.sent
+    }
+
+    /// Whether it has room for one more piece of so many.
+    pub(crate) fn has_room(&self, room: u32) -> bool
+        ensures { result ≡ nat_lt self.now.sent (self.now.taken + room) }
+    {
+        u64::from(self.sent) < u64::from(self.taken) + u64::from(room)
     }
 
     pub(crate) fn take(&mut self) -> Option<Piece>
@@ -64,9 +85,26 @@ impl Edge {
         ensures sent { self.new.sent ≡ self.old.sent }
         ensures room { self.new.room ≡ self.old.room }
     {
-        let piece = self.pieces.pop_front()?;
-        self.taken += 1;
-        Some(piece)
+        let piece = self.pop();
+        if piece.is_some() {
+            self.taken += 1;
+        }
+        piece
+    }
+
+    /// Removes the first piece.
+    fn pop(&mut self) -> Option<Piece>
+        ensures popped { MatchOption result
+            ((self.new.pieces ≡ self.old.pieces) × (self.old.pieces ≡ []))
+            (λ piece. self.old.pieces ≡ part_of piece ∷ self.new.pieces) }
+        ensures taken { self.new.taken ≡ self.old.taken }
+        ensures sent { self.new.sent ≡ self.old.sent }
+        ensures room { self.new.room ≡ self.old.room }
+    {
+        if self.first.is_some() {
+            return self.first.take();
+        }
+        self.others.pop_front()
     }
 
     pub(crate) fn give(&mut self, piece: Piece) -> Result<(), Piece>
@@ -77,12 +115,35 @@ impl Edge {
         ensures taken { self.new.taken ≡ self.old.taken }
         ensures room { self.new.room ≡ self.old.room }
     {
-        if self.pieces.len() == self.pieces.capacity() {
+        if self.len() == self.others.capacity() {
             return Err(piece);
         }
-        self.pieces.push_back_reserved(piece);
+        self.push(piece);
         self.sent += 1;
         Ok(())
+    }
+
+    /// How many pieces it holds.
+    fn len(&self) -> usize
+        ensures value { result ≡ length self.now.pieces }
+        ensures within { result ≤ self.now.room }
+    {
+        self.others.len() + usize::from(self.first.is_some())
+    }
+
+    /// Appends a piece.
+    fn push(&mut self, piece: Piece)
+        requires { length self.old.pieces < self.old.room }
+        ensures pushed { self.new.pieces ≡ self.old.pieces ++ part_of piece ∷ [] }
+        ensures taken { self.new.taken ≡ self.old.taken }
+        ensures sent { self.new.sent ≡ self.old.sent }
+        ensures room { self.new.room ≡ self.old.room }
+    {
+        if self.len() == 0 {
+            self.first = Some(piece);
+        } else {
+            self.others.push_back_reserved(piece);
+        }
     }
 }
 

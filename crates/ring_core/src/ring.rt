@@ -1,11 +1,11 @@
-ghost use Rattle.std.specs.Prelude.{◌≡◌, ◌<◌, ◌≤◌, ◌+◌, ◌-◌, ◌*◌, ◌^◌, ◌↔◌, ℕ, List, [], ◌++◌, length, take, drop, replicate, IsTrue, true, IfOk, All, Some, slice_get, ◌==◌, nat_le, if◌then◌else◌};
+ghost use Rattle.std.specs.Prelude.{◌≡◌, ◌<◌, ◌≤◌, ◌+◌, ◌-◌, ◌*◌, ◌^◌, ◌↔◌, ℕ, List, [], ◌++◌, length, take, drop, replicate, IsTrue, true, IfOk, All, Some, MatchOption, slice_get, ◌==◌, nat_le, if◌then◌else◌};
 ghost use Rattle.greedy_rules.specs.Batches.{DemandBatch};
 ghost use Rattle.greedy_rules.specs.Recorded.{MayBeApplied};
 ghost use Rattle.greedy_rules.specs.Schedule.{first_slot, schedule_from, rest_from};
 ghost use Rattle.slot_batches.specs.NextList.{IsListBefore};
 ghost use Rattle.slot_batches.specs.Pieces.{part_of, piece_count, piece_at, pieces};
 ghost use Rattle.ring_core.specs.States.{EdgeState, WorkerState};
-ghost use Rattle.ring_core.specs.Windows.{window_of, turns_of};
+ghost use Rattle.ring_core.specs.Windows.{window_of, turns_of, worker_after};
 ghost use Rattle.ring_core.specs.Workers.{Plays, IsWorker, MayBegin, HasBegunWith, IsSameWorker};
 ghost use Rattle.ring_core.specs.declared.turn.Turn.TheVariants.{Moved};
 ghost use Rattle.ring_core.specs.Streams.{items_of};
@@ -184,12 +184,58 @@ impl RingCore {
         every_batch_leaves_a_list();
         flows_fit_pairs();
         let mut turns = 0;
-        while !self.finished() {
-            let worker = self.movable();
-            let _ = self.step(batches, worker);
+        let mut worker = 0;
+        while let Some(next) = self.next_worker(worker) {
+            let _ = self.step(batches, next);
+            worker = next;
             turns += 1;
         }
         turns
+    }
+
+    /// A worker whose next turn moves a piece, after a turn of this one: the worker after it, where a piece waits for that one,
+    /// or it again, where a piece waits for it, so that a piece goes on while it is near; and else a movable one. None where
+    /// every stage has ended.
+    fn next_worker(&self, worker: u16) -> Option<u16>
+        requires worker { worker < self.now.workers }
+        requires room { (batches : List DemandBatch) × IsPlaying batches self.now × HasRoomForTwo batches self.now }
+        ensures { MatchOption result
+            (IsFinished self.now)
+            (λ next. (next < self.now.workers) × ((batches : List DemandBatch) → IsPlaying batches self.now → HasRoomForTwo batches self.now → CanMove batches self.now next)) }
+    {
+        let after = self.worker_after(worker);
+        if self.flows(after) {
+            return Some(after);
+        }
+        if self.flows(worker) {
+            return Some(worker);
+        }
+        if self.finished() {
+            return None;
+        }
+        Some(self.movable())
+    }
+
+    /// The worker after this one.
+    fn worker_after(&self, worker: u16) -> u16
+        requires { worker < self.now.workers }
+        ensures value { result ≡ worker_after self.now.workers worker }
+        ensures within { result < self.now.workers }
+    {
+        let workers = self.workers;
+        if worker + 1 == workers { 0 } else { worker + 1 }
+    }
+
+    /// Whether a piece waits for the worker, and the edge after it has room.
+    fn flows(&self, worker: u16) -> bool
+        requires ring { IsRing self.now }
+        requires worker { worker < self.now.workers }
+        ensures { result ≡ true → (batches : List DemandBatch) → IsPlaying batches self.now → CanMove batches self.now worker }
+    {
+        let after = self.worker_after(worker);
+        !self.crew[worker as usize].has_ended(self.stages)
+            && self.edges[worker as usize].has_piece()
+            && self.edges[after as usize].has_room(self.room)
     }
 
     /// Takes the list that is left out of the ring, and copies the slots: slot i of stage s, both counted from 0, to place

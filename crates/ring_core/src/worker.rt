@@ -175,10 +175,10 @@ impl Worker {
     {
         early_pieces_are_of_the_list();
         every_batch_leaves_a_list();
-        match self.held.take() {
-            Some(piece) => Some(piece),
-            None => self.stages[self.place].emit(),
+        if self.held.is_some() {
+            return self.held.take();
         }
+        self.stages[self.place].emit()
     }
 
     /// Pushes the piece; a refused one stays with the worker.
@@ -242,10 +242,11 @@ impl Worker {
         ensures answer { Answers batches.now self.old (L.ends link.old) (L.ends link.new) (L.found_empty link.new) (L.found_full link.new) result }
         ensures worker { IsSameWorker self.old self.new }
     {
-        let Some(piece) = link.pop() else {
+        let popped = link.pop();
+        let Some(piece) = &popped else {
             return Turn::NoPiece { at: self.taken };
         };
-        self.feed(batches, &piece);
+        self.feed(batches, piece);
         Turn::Moved
     }
 

@@ -9,21 +9,22 @@ use Rattle.ring_core.proofs.CountLemmas.{pieces_below}
 use Rattle.ring_core.proofs.RunLemmas.{one_more, most, most_short, at_first, turns_were}
 use Rattle.ring_core.proofs.ring.RingCore.run_out.Goals as goal
 
-pub loop-self-init : goal.loop-self-init
-loop-self-init c =
+pub loop-next-init : goal.loop-next-init
+loop-next-init c =
     let first = at_first c.args.batches.now c.args.self.now c.requires.playing c.requires.begun in
     record {
       playing = c.requires.playing;
       window = refl;
       same = record { same_workers = refl; same_endpoints = refl; same_batches = refl; same_b = refl; same_room = refl };
       count = omega (arith, first);
+      worker = c.requires.playing.ring.some_workers;
     }
 
 pub overflow_add-turns : goal.overflow_add-turns
 overflow_add-turns c =
-    let was = c.loop-self.invariant in
-    let few = most c.args.batches.now c.loop-self.self was.playing in
-    let short = most_short c.args.batches.now c.loop-self.self was.playing c.every_batch_leaves_a_list.ensures.flows c.flows_fit_pairs.ensures in
+    let was = c.loop-next.invariant in
+    let few = most c.args.batches.now c.loop-next.self was.playing in
+    let short = most_short c.args.batches.now c.loop-next.self was.playing c.every_batch_leaves_a_list.ensures.flows c.flows_fit_pairs.ensures in
     omega (arith, was.count, few, short)
 
 -- there is room for two again
@@ -33,28 +34,28 @@ rooms_on batches old new window room rooms stage within =
     let same : pieces_before (window_in batches new) stage ≡ pieces_before (window_in batches old) stage = ap (λ (w : Window). pieces_before w stage) window in
     omega (arith, there, same, room)
 
-pub loop-self-smaller : goal.loop-self-smaller
-loop-self-smaller c =
-    let was = c.loop-self.invariant in
+pub loop-next-smaller : goal.loop-next-smaller
+loop-next-smaller c =
+    let was = c.loop-next.invariant in
     let told = c.step.ensures in
     let batches = c.args.batches.now in
-    let rooms = rooms_on batches c.args.self.now c.loop-self.self was.window was.same.same_room c.requires.room in
-    let moved = told.moves (c.movable-worker.ensures.moves batches was.playing rooms) in
-    let one = one_more batches c.loop-self.self c.step.new.self c.movable-worker.result was.playing c.movable-worker.ensures.worker told.others
-    (subst (λ (t : Turn). AnswersIn batches c.loop-self.self c.step.new.self c.movable-worker.result t) moved told.answer) in
+    let rooms = rooms_on batches c.args.self.now c.loop-next.self was.window was.same.same_room c.requires.room in
+    let moved = told.moves (c.in-Some.ensures.1 batches was.playing rooms) in
+    let one = one_more batches c.loop-next.self c.step.new.self c.in-Some.next was.playing c.in-Some.ensures.0 told.others
+    (subst (λ (t : Turn). AnswersIn batches c.loop-next.self c.step.new.self c.in-Some.next t) moved told.answer) in
     let few = most batches c.step.new.self told.playing in
     let window = ap (λ (w : Window). pieces_below w (length batches + 1)) (told.window ∙ was.window) in
     omega (arith, one, few, window)
 
-pub loop-self-preserved : goal.loop-self-preserved
-loop-self-preserved c =
-    let was = c.loop-self.invariant in
+pub loop-next-preserved : goal.loop-next-preserved
+loop-next-preserved c =
+    let was = c.loop-next.invariant in
     let told = c.step.ensures in
     let batches = c.args.batches.now in
-    let rooms = rooms_on batches c.args.self.now c.loop-self.self was.window was.same.same_room c.requires.room in
-    let moved = told.moves (c.movable-worker.ensures.moves batches was.playing rooms) in
-    let one = one_more batches c.loop-self.self c.step.new.self c.movable-worker.result was.playing c.movable-worker.ensures.worker told.others
-    (subst (λ (t : Turn). AnswersIn batches c.loop-self.self c.step.new.self c.movable-worker.result t) moved told.answer) in
+    let rooms = rooms_on batches c.args.self.now c.loop-next.self was.window was.same.same_room c.requires.room in
+    let moved = told.moves (c.in-Some.ensures.1 batches was.playing rooms) in
+    let one = one_more batches c.loop-next.self c.step.new.self c.in-Some.next was.playing c.in-Some.ensures.0 told.others
+    (subst (λ (t : Turn). AnswersIn batches c.loop-next.self c.step.new.self c.in-Some.next t) moved told.answer) in
     let same = told.others.same in
     record {
       playing = told.playing;
@@ -67,11 +68,12 @@ loop-self-preserved c =
         same_room = same.same_room ∙ was.same.same_room;
       };
       count = omega (arith, was.count, one);
+      worker = omega (arith, c.in-Some.ensures.0, same.same_workers);
     }
 
 pub returns-clause-turns : goal.returns-clause-turns
 returns-clause-turns c =
-    let was = c.loop-self.invariant in
+    let was = c.loop-next.invariant in
     let batches = c.args.batches.now in
-    let list : piece_count c.loop-self.self.list ≡ piece_count c.args.self.now.list = ap (λ (w : Window). piece_count w.list) was.window in
-    turns_were batches c.loop-self.self was.playing c.loop-self.turns (c.finished.ensures.ended.0 c.loop-self-test.false) (omega (arith, was.count, list)) ∙ ap turns_of was.window
+    let list : piece_count c.loop-next.self.list ≡ piece_count c.args.self.now.list = ap (λ (w : Window). piece_count w.list) was.window in
+    turns_were batches c.loop-next.self was.playing c.loop-next.turns c.in_default.ensures (omega (arith, was.count, list)) ∙ ap turns_of was.window

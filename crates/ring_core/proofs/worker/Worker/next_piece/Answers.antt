@@ -1,5 +1,6 @@
-use Rattle.std.proofs.Common.{◌≡◌, ◌<◌, ◌+◌, length, Option, None, Some, option_map, sym, ap, ◌∙◌, subst}
-use Rattle.std.specs.Prelude.{IsSome}
+use Rattle.std.proofs.Common.{◌≡◌, ◌<◌, ◌+◌, length, true, false, Option, None, Some, option_map, refl, sym, ap, ◌∙◌, subst}
+use Rattle.std.specs.Prelude.{IsSome, is_some}
+use Rattle.slot_batches.specs.declared.piece.Piece.{Piece}
 use Rattle.slot_batches.specs.Pieces.{Part, part_of}
 use Rattle.slot_batches.specs.Stands.{StageState}
 use Rattle.ring_core.specs.contracts.worker.Worker.{the_view}
@@ -9,6 +10,20 @@ use Rattle.ring_core.specs.Workers.{StageIsAt, HasPlayed, Plays}
 use Rattle.ring_core.proofs.PlayLemmas.{held_is, to_push, idle_state, with_stage, stage_gives, gave_or_not}
 use Rattle.ring_core.proofs.worker.Worker.next_piece.Goals as goal
 
+is_none : (o : Option Piece) → is_some o ≡ false → o ≡ None
+is_none None is = refl
+is_none (Some piece) is = absurd (true_not_false is)
+  where
+    true_not_false : true ≡ false → ⊥
+    true_not_false q = cc
+
+some_piece : (o : Option Piece) → is_some o ≡ true → (piece : Piece) × (o ≡ Some piece)
+some_piece None is = absurd (false_not_true is)
+  where
+    false_not_true : false ≡ true → ⊥
+    false_not_true q = cc
+some_piece (Some piece) is = (piece, refl)
+
 pub emit-requires : goal.emit-requires
 emit-requires c =
     let w : WorkerState = the_view c.self.inside in
@@ -16,40 +31,41 @@ emit-requires c =
     let ends = c.requires.1 in
     let plays : Plays batches ends w = subst (λ (v : WorkerState). Plays batches ends v) (sym c.self.view_is) c.requires.2 in
     let below : w.stage < length batches = subst (λ (v : WorkerState). v.stage < length batches) (sym c.self.view_is) c.requires.3 in
-    let none : w.held ≡ None = ap (option_map part_of) (sym c.take.ensures.value ∙ c.in-None.is) in
+    let none : w.held ≡ None = ap (option_map part_of) (is_none c.self.inside.held (sym c.is_some.ensures ∙ c.if-is_some.false)) in
     let window = ends.before.window in
     let at = idle_state batches ends w plays.0 plays.1 plays.2 c.index_mut.result.now below none c.index_mut.ensures.value in
     (batch_of window w.stage, items_fed window w.stage plays.0, is_fed window w.stage plays.0, plays.1, at.stands)
 
-pub returns-in-Some-clause-piece : goal.returns-in-Some-clause-piece
-returns-in-Some-clause-piece c =
+pub returns-then-is_some-clause-piece : goal.returns-then-is_some-clause-piece
+returns-then-is_some-clause-piece c =
     rw (← c.self.view_is) (λ batches ends plays below.
     let w : WorkerState = the_view c.self.inside in
-    let held : w.held ≡ Some (part_of c.in-Some.piece) = ap (option_map part_of) (sym c.take.ensures.value ∙ c.in-Some.is) in
-    sym (held_is batches ends w plays.0 plays.1 plays.2 (part_of c.in-Some.piece) held).1 ∙ sym (to_push batches ends w plays.0 plays.1 plays.2))
+    let piece = some_piece c.self.inside.held (sym c.is_some.ensures ∙ c.if-is_some.true) in
+    let held : w.held ≡ Some (part_of piece.0) = ap (option_map part_of) piece.1 in
+    ap (option_map part_of) c.take.ensures.value
+    ∙ (held ∙ (sym (held_is batches ends w plays.0 plays.1 plays.2 (part_of piece.0) held).1 ∙ sym (to_push batches ends w plays.0 plays.1 plays.2))))
 
-pub returns-in-Some-clause-plays : goal.returns-in-Some-clause-plays
-returns-in-Some-clause-plays c =
+pub returns-then-is_some-clause-plays : goal.returns-then-is_some-clause-plays
+returns-then-is_some-clause-plays c =
     rw (← c.self.view_is) (λ batches ends plays below.
     let w : WorkerState = the_view c.self.inside in
-    let held : w.held ≡ Some (part_of c.in-Some.piece) = ap (option_map part_of) (sym c.take.ensures.value ∙ c.in-Some.is) in
-    (plays.0, plays.1, subst (λ (h : Option Part). HasPlayed batches ends (record w { held = h }) plays.0 plays.1) held plays.2))
+    (plays.0, plays.1, subst (λ (h : Option Part). HasPlayed batches ends (record w { held = h }) plays.0 plays.1) (ap (option_map part_of) (sym c.take.ensures.value)) plays.2))
 
-pub returns-in-None-clause-piece : goal.returns-in-None-clause-piece
-returns-in-None-clause-piece c =
+pub returns-clause-piece : goal.returns-clause-piece
+returns-clause-piece c =
     rw (← c.self.view_is) (λ batches ends plays below.
     let w : WorkerState = the_view c.self.inside in
-    let none : w.held ≡ None = ap (option_map part_of) (sym c.take.ensures.value ∙ c.in-None.is) in
+    let none : w.held ≡ None = ap (option_map part_of) (is_none c.self.inside.held (sym c.is_some.ensures ∙ c.if-is_some.false)) in
     let at = idle_state batches ends w plays.0 plays.1 plays.2 c.index_mut.result.now below none c.index_mut.ensures.value in
     let window = ends.before.window in
     c.emit.ensures.piece (batch_of window w.stage) (items_fed window w.stage plays.0) (is_fed window w.stage plays.0) plays.1 at.stands
     ∙ (stage_gives w.endpoints window w.stage plays.0 plays.1 c.index_mut.result.now at ∙ sym (to_push batches ends w plays.0 plays.1 plays.2)))
 
-pub returns-in-None-clause-plays : goal.returns-in-None-clause-plays
-returns-in-None-clause-plays c =
+pub returns-clause-plays : goal.returns-clause-plays
+returns-clause-plays c =
     rw (← c.self.view_is) (λ batches ends plays below.
     let w : WorkerState = the_view c.self.inside in
-    let none : w.held ≡ None = ap (option_map part_of) (sym c.take.ensures.value ∙ c.in-None.is) in
+    let none : w.held ≡ None = ap (option_map part_of) (is_none c.self.inside.held (sym c.is_some.ensures ∙ c.if-is_some.false)) in
     let fed = plays.0 in
     let given = plays.1 in
     let window = ends.before.window in
