@@ -5,7 +5,7 @@ use Rattle.std.proofs.lemmas.List.{append_assoc, append-nil, length-append, leng
 use Rattle.greedy_rules.specs.declared.flows.Flow.{Flow}
 use Rattle.greedy_rules.specs.declared.flows.Item.{Item}
 use Rattle.greedy_rules.specs.Batches.{DemandBatch}
-use Rattle.greedy_rules.specs.Demands.{after_batch, opened}
+use Rattle.greedy_rules.specs.Demands.{after_batch}
 use Rattle.greedy_rules.specs.Limits.{is_barred}
 use Rattle.greedy_rules.specs.Allocation.{batch_slots, list_after_slots}
 use Rattle.greedy_rules.specs.Schedule.{first_slot, slots_then, list_then, schedule_from, rest_from}
@@ -52,11 +52,14 @@ grows b k list [] flows = omega arith
 grows b k list (batch ∷ batches) flows =
     omega (arith, flows (is_barred batch.limits) (first_slot b k) b batch.entries list, grows b (k + 1) (list_then b k batch list) batches flows)
 
-pub room_for_next : (endpoints b first p n spare : ℕ) (batches : List DemandBatch) (initial list : List Item) (slots : List (List Flow)) (batch : DemandBatch) → EveryBatchKeepsItsFlows → IsDone endpoints b first p n batches initial list slots
-    → drop p batches ≡ batch ∷ drop (p + 1) batches → length (rest_from b first initial batches) ≤ length list + spare → length (opened batch.entries) ≤ spare
-room_for_next endpoints b first p n spare batches initial list slots batch flows done split room =
+-- so there is room for the list that the next one leaves
+pub room_after : (endpoints b first p n number size room : ℕ) (batches : List DemandBatch) (initial list : List Item) (slots : List (List Flow)) (batch : DemandBatch) → EveryBatchKeepsItsFlows → IsDone endpoints b first p n batches initial list slots
+    → drop p batches ≡ batch ∷ drop (p + 1) batches → length (rest_from b first initial batches) ≤ room → length (list_after_slots (is_barred batch.limits) number size (after_batch batch.entries list)) ≤ room
+room_after endpoints b first p n number size room batches initial list slots batch flows done split fits =
     omega (
       arith,
+      fits,
+      flows (is_barred batch.limits) number size batch.entries list,
       flows (is_barred batch.limits) (first_slot b (first + p)) b batch.entries list,
       grows b (first + p + 1) (list_then b (first + p) batch list) (drop (p + 1) batches) flows,
       ap length (ap (rest_from b (first + p) list) (sym split) ∙ done.rest),

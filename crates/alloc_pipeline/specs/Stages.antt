@@ -1,8 +1,11 @@
 -- Two stages that take turns with the batches of a window (this project's own profile).
-use Rattle.std.specs.Prelude.{◌≡◌, ℕ, List, Bool, true, if◌then◌else◌, All}
+use Rattle.std.specs.Prelude.{◌≡◌, ℕ, ◌+◌, ◌-◌, List, [], ◌++◌, length, take, replicate, Bool, true, if◌then◌else◌, All}
+use Rattle.greedy_rules.specs.declared.flows.Flow.{Flow}
 use Rattle.greedy_rules.specs.declared.flows.Item.{Item}
 use Rattle.greedy_rules.specs.Batches.{DemandBatch}
-use Rattle.greedy_rules.specs.Demands.{Demands}
+use Rattle.greedy_rules.specs.Limits.{is_barred}
+use Rattle.greedy_rules.specs.Demands.{Demands, after_batch}
+use Rattle.greedy_rules.specs.Allocation.{batch_slots, list_after_slots}
 use Rattle.slot_batches.specs.Stands.{StageState, Stands, endpoints_of, batch_size_of}
 use Rattle.alloc_pipeline.specs.declared.stages.Stages.{Stages}
 
@@ -24,3 +27,12 @@ held holds stage list = if holds then stage.fill.waiting else list.items
 -- where it is said so, no item of the list needs a slot
 abbrev pub IsIdleWhere : Bool → List Item → Type 0
 IsIdleWhere said list = said ≡ true → All (λ item. item.need ≡ 0) list
+
+-- the list that a batch leaves, whose first slot has this number
+abbrev pub list_left : DemandBatch → ℕ → ℕ → List Item → List Item
+list_left batch first b list = list_after_slots (is_barred batch.limits) first b (after_batch batch.entries list)
+
+-- a table with the batch's slots from this place on, and empty ones behind them
+abbrev pub table_with : DemandBatch → ℕ → ℕ → List Item → ℕ → List (List Flow) → List (List Flow)
+table_with batch first b list from table =
+    (take from table ++ batch_slots (is_barred batch.limits) first b (after_batch batch.entries list)) ++ replicate (length table - (from + b)) []

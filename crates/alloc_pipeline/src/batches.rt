@@ -1,4 +1,4 @@
-ghost use Rattle.std.specs.Prelude.{◌≡◌, ◌<◌, ◌≤◌, ◌+◌, ◌-◌, ◌^◌, List, [], ◌++◌, length, take, drop, true, false, replicate, All};
+ghost use Rattle.std.specs.Prelude.{◌≡◌, ◌<◌, ◌≤◌, ◌+◌, ◌-◌, ◌^◌, List, [], ◌++◌, length, take, drop, true, false, replicate, Some, All, slice_get};
 ghost use Rattle.greedy_rules.specs.declared.flows.Item.{Item};
 ghost use Rattle.greedy_rules.specs.Batches.{DemandBatch, entry_of};
 ghost use Rattle.greedy_rules.specs.Limits.{is_barred};
@@ -6,23 +6,14 @@ ghost use Rattle.greedy_rules.specs.Schedule.{slot_in};
 ghost use Rattle.greedy_rules.specs.SlotTable.{IsSlotOf};
 ghost use Rattle.greedy_rules.specs.Demands.{need_with, AreBelow, OpensNewFlows, opened, after_batch};
 ghost use Rattle.greedy_rules.specs.Allocation.{batch_slots, list_after_slots};
+ghost use Rattle.slot_batches.specs.Feeding.{was_served};
 ghost use Rattle.slot_batches.specs.NextList.{IsListBefore};
 ghost use Rattle.slot_batches.specs.Stands.{endpoints_of, batch_size_of, first_slot_of, number_of, IsSameWork, Stands};
 ghost use Rattle.slot_batches.specs.Settled.{settled};
+ghost use Rattle.alloc_pipeline.specs.Stages.{table_with};
 
-use greedy_rules::{Batch, DemandList, Item, SlotTable};
+use greedy_rules::{Batch, Item, SlotTable};
 use slot_batches::{Stage, lists_may_be_fed};
-
-/// Appends the items, for which there is room.
-pub(crate) fn append_items(list: &mut DemandList, items: &[Item])
-    requires { length items.now ≤ list.old.spare }
-    ensures items { list.new.items ≡ list.old.items ++ items.now }
-    ensures spare { length list.new.items + list.new.spare ≡ length list.old.items + list.old.spare }
-{
-    for item in items {
-        list.push(*item);
-    }
-}
 
 /// The bits of all that the items need: none only where no item needs a slot.
 fn needs_of(items: &[Item]) -> u32
@@ -47,6 +38,23 @@ pub(crate) fn needs_none(items: &[Item]) -> bool
     true
 }
 
+/// Whether the first of the items was served in some slot, where there are any.
+pub(crate) fn begins_served(items: &[Item]) -> bool
+    ensures { result ≡ true → (item : Item) → slice_get items.now 0 ≡ Some item → was_served item ≡ true }
+{
+    match items.first() {
+        Some(item) => item.last > 0,
+        None => true,
+    }
+}
+
+/// Whether each of the items was last served in this slot or a later one.
+pub(crate) fn are_served(items: &[Item], first_slot: u32) -> bool
+    ensures { result ≡ true → All (λ item. first_slot ≤ item.last) items.now }
+{
+    items.iter().all(|item| item.last >= first_slot)
+}
+
 /// Lets the stage, which is fed these items, fill the slots of a batch, and copies them.
 pub(crate) fn serve_batch(
     stage: &mut Stage,
@@ -68,7 +76,7 @@ pub(crate) fn serve_batch(
     requires empty { drop from out.old.slots ≡ replicate (length out.old.slots - from) [] }
     ensures work { IsSameWork (endpoints_of stage.old) (batch_size_of stage.old) number first_slot stage.new }
     ensures stands { Stands batch.now items.now true 0 stage.new }
-    ensures slots { out.new.slots ≡ (take from out.old.slots ++ batch_slots (is_barred batch.now.limits) first_slot (batch_size_of stage.old) (after_batch batch.now.entries items.now)) ++ replicate (length out.old.slots - (from + batch_size_of stage.old)) [] }
+    ensures slots { out.new.slots ≡ table_with batch.now first_slot (batch_size_of stage.old) items.now from out.old.slots }
     ensures endpoints { out.new.endpoints ≡ out.old.endpoints }
 {
     lists_may_be_fed();

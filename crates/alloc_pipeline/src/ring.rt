@@ -132,4 +132,5 @@ fn allocate_batches(
         );
     }
     stages.give(list);
+    stages.idle = false;
 }

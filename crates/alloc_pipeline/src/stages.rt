@@ -1,17 +1,17 @@
 //! Two stages that take turns with the batches of a window: each is fed the list that the other one left.
-ghost use Rattle.std.specs.Prelude.{◌≡◌, ◌<◌, ◌≤◌, ◌+◌, ◌-◌, ◌^◌, [], ◌++◌, length, take, drop, false, replicate, All, IfOk};
+ghost use Rattle.std.specs.Prelude.{◌≡◌, ◌<◌, ◌≤◌, ◌+◌, ◌-◌, ◌^◌, ℕ, [], ◌++◌, length, take, drop, true, false, replicate, All, IfOk, if◌then◌else◌};
 ghost use Rattle.greedy_rules.specs.Batches.{entry_of};
 ghost use Rattle.greedy_rules.specs.Limits.{is_barred};
 ghost use Rattle.greedy_rules.specs.Demands.{need_with, AreBelow, OpensNewFlows, opened, after_batch};
 ghost use Rattle.greedy_rules.specs.Allocation.{batch_slots, list_after_slots};
 ghost use Rattle.slot_batches.specs.NextList.{IsListBefore};
 ghost use Rattle.slot_batches.specs.Stands.{batch_size_of};
-ghost use Rattle.alloc_pipeline.specs.Stages.{AreFor, HasEnded, held, IsIdleWhere};
+ghost use Rattle.alloc_pipeline.specs.Stages.{AreFor, HasEnded, held, IsIdleWhere, list_left, table_with};
 
-use crate::batches::{append_items, needs_none, serve_batch};
+use crate::batches::{are_served, begins_served, needs_none, serve_batch};
 use greedy_rules::{Batch, DemandList, Item, SlotTable};
 use no_memory::NoMemory;
-use slot_batches::{Stage, idle_lists_stay};
+use slot_batches::{Stage, every_batch_leaves_a_list, idle_lists_stay};
 use std::alloc::Global;
 use std::mem;
 
@@ -54,13 +54,19 @@ impl Stages {
         })
     }
 
-    /// Whether the list needs no slot. Once that is known the list is not looked at again.
-    fn is_idle(&mut self, list: &DemandList) -> bool
+    /// Whether the list needs no slot and every entry of the batch opens its flow. Once it is known that the list needs none it
+    /// is not looked at again.
+    fn is_idle(&mut self, batch: &Batch, list: &DemandList) -> bool
         requires ended { HasEnded self.old.holds self.old.front }
         requires idle { IsIdleWhere self.old.idle (held self.old.holds self.old.front list.now) }
-        ensures idle { IsIdleWhere result (held self.old.holds self.old.front list.now) }
-        ensures same { self.new ≡ record self.old { idle = result } }
+        ensures needs_none { IsIdleWhere result (held self.old.holds self.old.front list.now) }
+        ensures only_opens { result ≡ true → All (λ entry. entry.opens ≡ true) batch.now.entries }
+        ensures idle { IsIdleWhere self.new.idle (held self.old.holds self.old.front list.now) }
+        ensures same { self.new ≡ record self.old { idle = self.new.idle } }
     {
+        if !batch.only_opens() {
+            return false;
+        }
         if !self.idle {
             self.idle = needs_none(items_of(self.holds, &self.front, list));
         }
@@ -71,6 +77,129 @@ impl Stages {
     /// batch's slots stand in `out` from place `from` on. Takes no memory.
     pub(crate) fn allocate(
         &mut self,
+        list: &mut DemandList,
+        batch: &Batch,
+        number: u32,
+        first_slot: u32,
+        from: u16,
+        out: &mut SlotTable,
+    )
+        requires sizes { AreFor out.old.endpoints (batch_size_of self.old.back) self.old }
+        requires ended { HasEnded self.old.holds self.old.front }
+        requires idle { IsIdleWhere self.old.idle (held self.old.holds self.old.front list.old) }
+        requires first { 1 ≤ first_slot }
+        requires numbers { first_slot + batch_size_of self.old.back ≤ 2 ^ 32 }
+        requires before { IsListBefore first_slot (held self.old.holds self.old.front list.old) }
+        requires opens { OpensNewFlows batch.now.entries (held self.old.holds self.old.front list.old) }
+        requires in_range { AreBelow out.old.endpoints ((held self.old.holds self.old.front list.old) ++ opened batch.now.entries) }
+        requires needs { All (λ item. need_with (entry_of batch.now.entries item.flow) item.need < 2 ^ 32) (held self.old.holds self.old.front list.old) }
+        requires room { length (list_left batch.now first_slot (batch_size_of self.old.back) (held self.old.holds self.old.front list.old)) ≤ length list.old.items + list.old.spare }
+        requires places { from + batch_size_of self.old.back ≤ length out.old.slots }
+        requires empty { drop from out.old.slots ≡ replicate (length out.old.slots - from) [] }
+        ensures sizes { AreFor out.old.endpoints (batch_size_of self.old.back) self.new }
+        ensures ended { HasEnded self.new.holds self.new.front }
+        ensures idle { IsIdleWhere self.new.idle (held self.new.holds self.new.front list.new) }
+        ensures list { held self.new.holds self.new.front list.new ≡ list_left batch.now first_slot (batch_size_of self.old.back) (held self.old.holds self.old.front list.old) }
+        ensures spare { length list.new.items + list.new.spare ≡ length list.old.items + list.old.spare }
+        ensures slots { out.new.slots ≡ table_with batch.now first_slot (batch_size_of self.old.back) (held self.old.holds self.old.front list.old) from out.old.slots }
+        ensures endpoints { out.new.endpoints ≡ out.old.endpoints }
+    {
+        if !self.passes_over(list, batch, number, first_slot, from, out) {
+            self.serve(list, batch, number, first_slot, from, out);
+        }
+    }
+
+    /// Lets the batch pass an idle list over, where it can: what the batch opens then follows the list. Otherwise the list and
+    /// the table stay as they are.
+    fn passes_over(
+        &mut self,
+        list: &mut DemandList,
+        batch: &Batch,
+        number: u32,
+        first_slot: u32,
+        from: u16,
+        out: &mut SlotTable,
+    ) -> bool
+        requires sizes { AreFor out.old.endpoints (batch_size_of self.old.back) self.old }
+        requires ended { HasEnded self.old.holds self.old.front }
+        requires idle { IsIdleWhere self.old.idle (held self.old.holds self.old.front list.old) }
+        requires first { 1 ≤ first_slot }
+        requires numbers { first_slot + batch_size_of self.old.back ≤ 2 ^ 32 }
+        requires before { IsListBefore first_slot (held self.old.holds self.old.front list.old) }
+        requires opens { OpensNewFlows batch.now.entries (held self.old.holds self.old.front list.old) }
+        requires in_range { AreBelow out.old.endpoints (opened batch.now.entries) }
+        requires room { length (list_left batch.now first_slot (batch_size_of self.old.back) (held self.old.holds self.old.front list.old)) ≤ length list.old.items + list.old.spare }
+        requires places { from + batch_size_of self.old.back ≤ length out.old.slots }
+        requires empty { drop from out.old.slots ≡ replicate (length out.old.slots - from) [] }
+        ensures sizes { AreFor out.old.endpoints (batch_size_of self.old.back) self.new }
+        ensures ended { HasEnded self.new.holds self.new.front }
+        ensures idle { IsIdleWhere self.new.idle (held self.new.holds self.new.front list.new) }
+        ensures list { held self.new.holds self.new.front list.new ≡ (if result then list_left batch.now first_slot (batch_size_of self.old.back) (held self.old.holds self.old.front list.old) else (held self.old.holds self.old.front list.old)) }
+        ensures spare { length list.new.items + list.new.spare ≡ length list.old.items + list.old.spare }
+        ensures slots { out.new.slots ≡ (if result then table_with batch.now first_slot (batch_size_of self.old.back) (held self.old.holds self.old.front list.old) from out.old.slots else out.old.slots) }
+        ensures endpoints { out.new.endpoints ≡ out.old.endpoints }
+    {
+        if !self.is_idle(batch, list) {
+            return false;
+        }
+        if batch.is_empty() {
+            idle_lists_stay();
+            return true;
+        }
+        every_batch_leaves_a_list();
+        self.give(list);
+        self.follow(list, batch, number, first_slot, from, out)
+    }
+
+    /// Lets what the batch opens follow the idle list, if all of it is served in the batch.
+    fn follow(
+        &mut self,
+        list: &mut DemandList,
+        batch: &Batch,
+        number: u32,
+        first_slot: u32,
+        from: u16,
+        out: &mut SlotTable,
+    ) -> bool
+        requires sizes { AreFor out.old.endpoints (batch_size_of self.old.back) self.old }
+        requires none { self.old.holds ≡ false }
+        requires idle { All (λ item. item.need ≡ 0) list.old.items }
+        requires only_opens { All (λ entry. entry.opens ≡ true) batch.now.entries }
+        requires first { 1 ≤ first_slot }
+        requires numbers { first_slot + batch_size_of self.old.back ≤ 2 ^ 32 }
+        requires before { IsListBefore first_slot list.old.items }
+        requires opens { OpensNewFlows batch.now.entries list.old.items }
+        requires in_range { AreBelow out.old.endpoints (opened batch.now.entries) }
+        requires room { length (list_left batch.now first_slot (batch_size_of self.old.back) list.old.items) ≤ length list.old.items + list.old.spare }
+        requires places { from + batch_size_of self.old.back ≤ length out.old.slots }
+        requires empty { drop from out.old.slots ≡ replicate (length out.old.slots - from) [] }
+        ensures sizes { AreFor out.old.endpoints (batch_size_of self.old.back) self.new }
+        ensures none { self.new.holds ≡ false }
+        ensures idle { IsIdleWhere self.new.idle list.new.items }
+        ensures list { list.new.items ≡ (if result then list_left batch.now first_slot (batch_size_of self.old.back) list.old.items else list.old.items) }
+        ensures spare { length list.new.items + list.new.spare ≡ length list.old.items + list.old.spare }
+        ensures slots { out.new.slots ≡ (if result then table_with batch.now first_slot (batch_size_of self.old.back) list.old.items from out.old.slots else out.old.slots) }
+        ensures endpoints { out.new.endpoints ≡ out.old.endpoints }
+    {
+        if !begins_served(list.items()) {
+            return false;
+        }
+        idle_lists_stay();
+        self.back.begin(batch, number, first_slot);
+        self.back.finish(batch);
+        let opened = self.back.settled_items();
+        if !are_served(opened, first_slot) {
+            return false;
+        }
+        list.append(opened);
+        self.idle = needs_none(opened);
+        out.copy(self.back.slots(), from);
+        true
+    }
+
+    /// Greedy allocation of one batch by the back stage, which is fed the list and then stands in front.
+    fn serve(
+        &mut self,
         list: &DemandList,
         batch: &Batch,
         number: u32,
@@ -80,26 +209,21 @@ impl Stages {
     )
         requires sizes { AreFor out.old.endpoints (batch_size_of self.old.back) self.old }
         requires ended { HasEnded self.old.holds self.old.front }
-        requires idle { IsIdleWhere self.old.idle (held self.old.holds self.old.front list.now) }
         requires first { 1 ≤ first_slot }
         requires numbers { first_slot + batch_size_of self.old.back ≤ 2 ^ 32 }
         requires before { IsListBefore first_slot (held self.old.holds self.old.front list.now) }
         requires opens { OpensNewFlows batch.now.entries (held self.old.holds self.old.front list.now) }
-        requires in_range { AreBelow out.old.endpoints (held self.old.holds self.old.front list.now ++ opened batch.now.entries) }
+        requires in_range { AreBelow out.old.endpoints ((held self.old.holds self.old.front list.now) ++ opened batch.now.entries) }
         requires needs { All (λ item. need_with (entry_of batch.now.entries item.flow) item.need < 2 ^ 32) (held self.old.holds self.old.front list.now) }
         requires places { from + batch_size_of self.old.back ≤ length out.old.slots }
         requires empty { drop from out.old.slots ≡ replicate (length out.old.slots - from) [] }
         ensures sizes { AreFor out.old.endpoints (batch_size_of self.old.back) self.new }
         ensures ended { HasEnded self.new.holds self.new.front }
-        ensures idle { IsIdleWhere self.new.idle (held self.new.holds self.new.front list.now) }
-        ensures list { held self.new.holds self.new.front list.now ≡ list_after_slots (is_barred batch.now.limits) first_slot (batch_size_of self.old.back) (after_batch batch.now.entries (held self.old.holds self.old.front list.now)) }
-        ensures slots { out.new.slots ≡ (take from out.old.slots ++ batch_slots (is_barred batch.now.limits) first_slot (batch_size_of self.old.back) (after_batch batch.now.entries (held self.old.holds self.old.front list.now))) ++ replicate (length out.old.slots - (from + batch_size_of self.old.back)) [] }
+        ensures unknown { self.new.idle ≡ false }
+        ensures list { held self.new.holds self.new.front list.now ≡ list_left batch.now first_slot (batch_size_of self.old.back) (held self.old.holds self.old.front list.now) }
+        ensures slots { out.new.slots ≡ table_with batch.now first_slot (batch_size_of self.old.back) (held self.old.holds self.old.front list.now) from out.old.slots }
         ensures endpoints { out.new.endpoints ≡ out.old.endpoints }
     {
-        if batch.is_empty() && self.is_idle(list) {
-            idle_lists_stay();
-            return;
-        }
         let items = items_of(self.holds, &self.front, list);
         serve_batch(&mut self.back, items, batch, number, first_slot, from, out);
         mem::swap(&mut self.front, &mut self.back);
@@ -111,14 +235,14 @@ impl Stages {
     pub(crate) fn give(&mut self, list: &mut DemandList)
         requires ended { HasEnded self.old.holds self.old.front }
         requires room { length (held self.old.holds self.old.front list.old) ≤ length list.old.items + list.old.spare }
-        ensures stages { self.new ≡ record self.old { holds = false; idle = false } }
+        ensures sizes { (endpoints b : ℕ) → AreFor endpoints b self.old → AreFor endpoints b self.new }
+        ensures none { self.new.holds ≡ false }
+        ensures idle { self.new.idle ≡ self.old.idle }
         ensures list { list.new.items ≡ held self.old.holds self.old.front list.old }
         ensures spare { length list.new.items + list.new.spare ≡ length list.old.items + list.old.spare }
     {
-        self.idle = false;
         if self.holds {
-            list.clear();
-            append_items(list, self.front.settled_items());
+            self.front.give(list);
             self.holds = false;
         }
     }

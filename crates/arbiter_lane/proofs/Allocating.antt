@@ -45,7 +45,6 @@ allocated_lane was lines = record {
   round = was.round;
   is_made = was.is_made;
   is_reset = was.is_reset;
-  has_risen = was.has_risen;
 }
 
 abbrev pub Allocates : LaneState → ℕ → ℕ → ℕ → ℕ → Line → Line → Type 0
@@ -96,7 +95,6 @@ sound-flow was lines n dst old new allocates flow =
       entered = omega (arith, entered, demanded, lost, flow.entered);
       open_slots = omega (arith, allocated, acknowledged, lost, flow.open_slots);
       own = λ is. let none = flow.own is in (omega (arith, demanded, lost, none.0), allocates.opened ∙ none.1);
-      unrisen = λ h. let same = flow.unrisen h in omega (arith, demanded, lost, entered, same);
     }
 
 pub sound-allocated : (was : LaneState) (lines : List Line) (to batch slots : ℕ) → Become (Allocates was to batch slots) was.lines lines → IsSound was → IsSound (allocated_lane was lines)

@@ -36,7 +36,6 @@ begun_lane was epoch version arrived sent lines = record {
   round = was.round;
   is_made = was.is_made;
   is_reset = true;
-  has_risen = false;
 }
 
 -- no allocation of an earlier batch counts
@@ -110,7 +109,6 @@ flow-started was epoch version arrived sent lines dst old new done started flow 
       entered = omega (arith, entered);
       open_slots = omega (arith, none);
       own = λ is. (omega (arith, demanded, lost), started.opened ∙ (flow.own is).1);
-      unrisen = λ h. omega (arith, demanded, lost, entered);
     }
 
 pub sound-begun : (was : LaneState) (epoch version : ℕ) (arrived : Receiver) (sent : Sender Telling) (lines : List Line) → IsVersion version → arrived.version ≡ version → sent.version ≡ version →
@@ -160,7 +158,6 @@ opened_lane endpoint endpoints b g arrived sent lines = record {
   round = 0;
   is_made = false;
   is_reset = false;
-  has_risen = false;
 }
 
 flow-opened : (g dst : ℕ) (line : Line) → IsBlank line → StandsForFlow g [] [] dst line
@@ -202,7 +199,6 @@ opened-flow lane dst line done blank =
       entered = omega (arith, entered);
       open_slots = omega (arith, none);
       own = λ is. (omega (arith, demanded, lost), blank.opened);
-      unrisen = λ h. omega (arith, demanded, lost, entered);
     }
 
 pub sound-opened : (endpoint endpoints b g : ℕ) (arrived : Receiver) (sent : Sender Telling) (lines : List Line) → endpoint < endpoints → endpoints ≤ 256 → b ≤ 64 → arrived.version ≡ 1 → sent.version ≡ 1 → HasDone sent [] →

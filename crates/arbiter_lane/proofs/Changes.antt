@@ -294,9 +294,6 @@ RisesTo-next demands at demand before lines after within one two =
     (λ dst x y z first second.
     subst (λ total. RisesTo total x z) (sym (total_named-next demands at demand dst within)) (RisesTo-then (total_named dst (take at demands)) (total_named dst (get_or demands at demand ∷ [])) x y z first second))
 
-pub RisesTo-still : (before lines after : List Line) → Become (λ dst. RisesTo 0) before lines → Become (λ dst. RisesTo 0) lines after → Become (λ dst. RisesTo 0) before after
-RisesTo-still before lines after one two = Become-then (λ dst. RisesTo 0) (λ dst. RisesTo 0) (λ dst. RisesTo 0) before lines after one two (λ dst x y z first second. RisesTo-then 0 0 x y z first second)
-
 -- ---- answers
 
 pub OnOk-from : {T F : Type 0} (P : Type 0) (r : Result T F) → P → OnOk r P

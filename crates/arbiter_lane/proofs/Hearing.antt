@@ -1,11 +1,9 @@
 -- What a lane stands for once a request of its connection has arrived.
-use Rattle.std.proofs.Common.{◌≡◌, ◌≢◌, ℕ, ◌+◌, ◌≤◌, Bool, true, false, ◌||◌, cond, max, List, [], ◌∷◌, All, get_or, ap, ◌∙◌, sym, subst, refl, inl, inr, arith}
+use Rattle.std.proofs.Common.{◌≡◌, ◌≢◌, ℕ, ◌+◌, ◌≤◌, Bool, true, false, cond, max, List, [], ◌∷◌, All, get_or, ap, ◌∙◌, sym, subst, refl, inl, inr, arith}
 use Rattle.std.specs.Prelude.{sum_by, ◌==◌}
-use Rattle.std.proofs.lemmas.Bool.{eq-eqb, ne_eqb, cases_Bool, and_from, or_parts}
+use Rattle.std.proofs.lemmas.Bool.{eq-eqb, ne_eqb, cases_Bool, and_from}
 use Rattle.std.proofs.lemmas.List.Elements.{All-head, All-tail}
 use Rattle.std.proofs.lemmas.List.Sums.{sum_by-cons}
-use Rattle.ack_window.specs.declared.take_window.Taken.{Taken}
-use Rattle.ack_window.specs.declared.take_window.Taken.TheVariants.{Fresh}
 use Rattle.ack_window.specs.declared.send_window.Unresolved.{Unresolved}
 use Rattle.ack_window.specs.Arrivals.{receive_verdict, is_fresh}
 use Rattle.ack_window.specs.Ends.{Numbered}
@@ -22,12 +20,12 @@ use Rattle.endpoint_history.specs.CountLaws.{ReadingDecides, CountsAddUp}
 use Rattle.arbiter_lane.specs.declared.line.Line.{Line}
 use Rattle.arbiter_lane.specs.State.{LaneState, IsFlow, IsSound, AreSlots, open_to}
 use Rattle.arbiter_lane.specs.Standing.{StandsForFlow, StandsFor, TellsSlots}
-use Rattle.arbiter_lane.specs.Lines.{Become, HasChanged, DecidesSlots, RisesTo, slots_shown, slots_lost}
-use Rattle.arbiter_lane.proofs.Changes.{line_between, Become-none}
+use Rattle.arbiter_lane.specs.Lines.{Become, DecidesSlots, RisesTo, Hears, slots_shown, slots_lost}
+use Rattle.arbiter_lane.proofs.Changes.{line_between, Become-then, Become-none}
 use Rattle.arbiter_lane.proofs.Held.{each_line, open_to-is, open-told}
 
-abbrev pub heard_lane : LaneState → Receiver → Sender Telling → List Line → Bool → LaneState
-heard_lane was arrived sent lines has_risen = record {
+abbrev pub heard_lane : LaneState → Receiver → Sender Telling → List Line → LaneState
+heard_lane was arrived sent lines = record {
   endpoint = was.endpoint;
   endpoints = was.endpoints;
   b = was.b;
@@ -41,7 +39,6 @@ heard_lane was arrived sent lines has_risen = record {
   round = was.round;
   is_made = was.is_made;
   is_reset = was.is_reset;
-  has_risen = has_risen;
 }
 
 -- ---- a request
@@ -98,19 +95,6 @@ open-own endpoints b endpoint (number ∷ sent) slots =
 
 -- ---- what it makes of a line
 
-abbrev pub Hears : ℕ → ℕ → ℕ → Line → Line → Type 0
-Hears shown lost total old new = HasChanged old new (record {
-  demanded = max old.count.demanded total;
-  allocated = old.count.allocated;
-  acknowledged = old.count.acknowledged + shown;
-  lost = old.count.lost + lost;
-})
-
--- and that it does not rise where none may have risen
-pub record HearsOf (has_risen : Bool) (shown lost total : ℕ) (old new : Line) : Type 0 where
-  pub changed : Hears shown lost total old new
-  pub still : has_risen ≡ false → (lost ≡ 0) × (new.count.demanded ≡ old.count.demanded)
-
 Hears-from : (shown lost total : ℕ) (x y z : Line) → DecidesSlots shown lost x y → RisesTo total y z → Hears shown lost total x z
 Hears-from shown lost total x y z decides rises = record {
   opened = rises.opened ∙ decides.opened;
@@ -123,23 +107,38 @@ Hears-from shown lost total x y z decides rises = record {
   };
 }
 
-pub Hears-lines : (has_risen : Bool) (shown lost total : ℕ → ℕ) (was between lines : List Line) → Become (λ dst. DecidesSlots (shown dst) (lost dst)) was between → Become (λ dst. RisesTo (total dst)) between lines →
-    (has_risen ≡ false → ((dst : ℕ) → lost dst ≡ 0) × Become (λ dst. RisesTo 0) between lines) →
-    Become (λ dst. HearsOf has_risen (shown dst) (lost dst) (total dst)) was lines
-Hears-lines has_risen shown lost total was between lines decides rises still = record {
-  as_many = rises.as_many ∙ decides.as_many;
-  each = λ dst x z before after.
-      let there = line_between was between decides.as_many dst x before in
-      let y = get_or between dst x in
-      let one = decides.each dst x y before there in
-      record {
-        changed = Hears-from (shown dst) (lost dst) (total dst) x y z one (rises.each dst y z there after);
-        still = λ h.
-            let none = still h in
-            let stays = none.1.each dst y z there after in
-            (none.0 dst, stays.count.demanded ∙ (omega arith ∙ one.count.demanded));
-      };
-}
+Hears-lines : (shown lost total : ℕ → ℕ) (was between lines : List Line) → Become (λ dst. DecidesSlots (shown dst) (lost dst)) was between → Become (λ dst. RisesTo (total dst)) between lines →
+    Become (λ dst. Hears (shown dst) (lost dst) (total dst)) was lines
+Hears-lines shown lost total was between lines decides rises =
+    Become-then (λ dst. DecidesSlots (shown dst) (lost dst)) (λ dst. RisesTo (total dst)) (λ dst. Hears (shown dst) (lost dst) (total dst)) was between lines decides rises
+    (λ dst x y z one two. Hears-from (shown dst) (lost dst) (total dst) x y z one two)
+
+-- a fresh number raises what it names
+pub Hears-fresh : (shown lost total : ℕ → ℕ) (fresh : Bool) (was between lines : List Line) → fresh ≡ true → Become (λ dst. DecidesSlots (shown dst) (lost dst)) was between → Become (λ dst. RisesTo (total dst)) between lines →
+    Become (λ dst. Hears (shown dst) (lost dst) (cond fresh (total dst) 0)) was lines
+Hears-fresh shown lost total fresh was between lines is decides rises =
+    subst (λ (b : Bool). Become (λ dst. Hears (shown dst) (lost dst) (cond b (total dst) 0)) was lines) (sym is) (Hears-lines shown lost total was between lines decides rises)
+
+-- and one that is not raises nothing
+pub Hears-stale : (shown lost total : ℕ → ℕ) (fresh : Bool) (was lines : List Line) → fresh ≡ false → Become (λ dst. DecidesSlots (shown dst) (lost dst)) was lines →
+    Become (λ dst. Hears (shown dst) (lost dst) (cond fresh (total dst) 0)) was lines
+Hears-stale shown lost total fresh was lines is decides =
+    subst (λ (b : Bool). Become (λ dst. Hears (shown dst) (lost dst) (cond b (total dst) 0)) was lines) (sym is)
+    (Hears-lines shown lost (λ dst. 0) was lines lines decides (Become-none (λ dst. RisesTo 0) lines (λ dst line. RisesTo-none line)))
+  where
+    RisesTo-none : (line : Line) → RisesTo 0 line line
+    RisesTo-none line = record { opened = refl; entered = refl; count = record { demanded = omega arith; allocated = refl; acknowledged = refl; lost = refl } }
+
+-- whether a number that arrives is fresh to a lane
+abbrev pub is_new : LaneState → LaneHistory → ℕ → Bool
+is_new lane history seq = is_fresh (receive_verdict (reorder_of lane.arrived.version) (arrived history) seq)
+
+-- what a request of the connection makes of the line of a destination
+abbrev pub HearsRequest : LaneState → LaneHistory → Numbered (List Demand) → ℕ → Line → Line → Type 0
+HearsRequest was history packet dst =
+    Hears (slots_shown (decided_by (reorder_of was.sent.version) (span_of was.sent.version) (numbers was.g history) packet.ack) dst)
+    (slots_lost (decided_by (reorder_of was.sent.version) (span_of was.sent.version) (numbers was.g history) packet.ack) dst)
+    (cond (is_new was history packet.seq) (total_named dst packet.content) 0)
 
 -- ---- what it stands for
 
@@ -169,86 +168,23 @@ flow-heard laws g version round packet history allocations dst total old new cur
     }
 
 -- what is known once a request of the connection has arrived
-pub record HasHeardRequest (was : LaneState) (packet : Numbered (List Demand)) (verdict : Taken) (arrived_now : Receiver) (sent : Sender Telling) (lines : List Line) (has_risen : Bool) (history : LaneHistory) : Type 0 where
+pub record HasHeardRequest (was : LaneState) (packet : Numbered (List Demand)) (arrived_now : Receiver) (sent : Sender Telling) (lines : List Line) (history : LaneHistory) : Type 0 where
   pub epoch : packet.epoch ≡ was.epoch
   pub version : packet.version ≡ was.version
   pub heard_version : was.arrived.version ≡ was.version
   pub sent_version : was.sent.version ≡ was.version
   pub arrived_version : arrived_now.version ≡ was.arrived.version
   pub now_version : sent.version ≡ was.sent.version
-  pub judged : verdict ≡ receive_verdict (reorder_of was.arrived.version) (arrived history) packet.seq
   pub heard : HasHeard arrived_now (packet.seq ∷ arrived history)
   pub done : HasDone sent (Reads packet.ack ∷ numbers was.g history)
-  pub change : Become (λ dst. HearsOf has_risen
-      (slots_shown (decided_by (reorder_of was.sent.version) (span_of was.sent.version) (numbers was.g history) packet.ack) dst)
-      (slots_lost (decided_by (reorder_of was.sent.version) (span_of was.sent.version) (numbers was.g history) packet.ack) dst)
-      (cond (is_fresh verdict) (total_named dst packet.content) 0)) was.lines lines
+  pub change : Become (HearsRequest was history packet) was.lines lines
 
--- what is known once its acknowledgement is read and its number is judged
-pub record HasReadRequest (was : LaneState) (packet : Numbered (List Demand)) (verdict : Taken) (arrived_now : Receiver) (sent : Sender Telling) (between : List Line) (loses : Bool) (history : LaneHistory) : Type 0 where
-  pub epoch : packet.epoch ≡ was.epoch
-  pub version : packet.version ≡ was.version
-  pub heard_version : was.arrived.version ≡ was.version
-  pub sent_version : was.sent.version ≡ was.version
-  pub arrived_version : arrived_now.version ≡ was.arrived.version
-  pub now_version : sent.version ≡ was.sent.version
-  pub judged : verdict ≡ receive_verdict (reorder_of was.arrived.version) (arrived history) packet.seq
-  pub heard : HasHeard arrived_now (packet.seq ∷ arrived history)
-  pub done : HasDone sent (Reads packet.ack ∷ numbers was.g history)
-  pub decides : Become (λ dst. DecidesSlots
-      (slots_shown (decided_by (reorder_of was.sent.version) (span_of was.sent.version) (numbers was.g history) packet.ack) dst)
-      (slots_lost (decided_by (reorder_of was.sent.version) (span_of was.sent.version) (numbers was.g history) packet.ack) dst)) was.lines between
-  pub none_lost : loses ≡ false → (dst : ℕ) → slots_lost (decided_by (reorder_of was.sent.version) (span_of was.sent.version) (numbers was.g history) packet.ack) dst ≡ 0
-
-heard-as : (was : LaneState) (packet : Numbered (List Demand)) (verdict : Taken) (arrived_now : Receiver) (sent : Sender Telling) (between lines : List Line) (loses has_risen : Bool) (history : LaneHistory) →
-    HasReadRequest was packet verdict arrived_now sent between loses history → Become (λ dst. RisesTo (cond (is_fresh verdict) (total_named dst packet.content) 0)) between lines →
-    (has_risen ≡ false → (loses ≡ false) × Become (λ dst. RisesTo 0) between lines) → HasHeardRequest was packet verdict arrived_now sent lines has_risen history
-heard-as was packet verdict arrived_now sent between lines loses has_risen history reads rises still = record {
-  epoch = reads.epoch;
-  version = reads.version;
-  heard_version = reads.heard_version;
-  sent_version = reads.sent_version;
-  arrived_version = reads.arrived_version;
-  now_version = reads.now_version;
-  judged = reads.judged;
-  heard = reads.heard;
-  done = reads.done;
-  change = Hears-lines has_risen (λ dst. slots_shown (decided_by (reorder_of was.sent.version) (span_of was.sent.version) (numbers was.g history) packet.ack) dst)
-      (λ dst. slots_lost (decided_by (reorder_of was.sent.version) (span_of was.sent.version) (numbers was.g history) packet.ack) dst) (λ dst. cond (is_fresh verdict) (total_named dst packet.content) 0) was.lines between lines reads.decides rises
-      (λ h. let parts = still h in (reads.none_lost parts.0, parts.1));
-}
-
-RisesTo-none : (line : Line) → RisesTo 0 line line
-RisesTo-none line = record { opened = refl; entered = refl; count = record { demanded = omega arith; allocated = refl; acknowledged = refl; lost = refl } }
-
--- a number that is not fresh raises nothing
-pub heard-stale : (was : LaneState) (packet : Numbered (List Demand)) (verdict : Taken) (arrived_now : Receiver) (sent : Sender Telling) (between : List Line) (loses : Bool) (history : LaneHistory) → is_fresh verdict ≡ false →
-    HasReadRequest was packet verdict arrived_now sent between loses history → HasHeardRequest was packet verdict arrived_now sent between (was.has_risen || loses) history
-heard-stale was packet verdict arrived_now sent between loses history stale reads =
-    let stays = Become-none (λ dst. RisesTo 0) between (λ dst line. RisesTo-none line) in
-    heard-as was packet verdict arrived_now sent between between loses (was.has_risen || loses) history reads
-    (Become-none (λ dst. RisesTo (cond (is_fresh verdict) (total_named dst packet.content) 0)) between
-    (λ dst line. subst (λ n. RisesTo n line line) (sym (ap (λ b. cond b (total_named dst packet.content) 0) stale)) (RisesTo-none line)))
-    (λ h. ((or_parts was.has_risen loses h).1, stays))
-
--- a fresh one raises what it names
-pub heard-fresh : (was : LaneState) (packet : Numbered (List Demand)) (arrived_now : Receiver) (sent : Sender Telling) (between lines : List Line) (loses rises : Bool) (history : LaneHistory) →
-    HasReadRequest was packet Fresh arrived_now sent between loses history → Become (λ dst. RisesTo (total_named dst packet.content)) between lines → (rises ≡ false → Become (λ dst. RisesTo 0) between lines) →
-    HasHeardRequest was packet Fresh arrived_now sent lines ((was.has_risen || loses) || rises) history
-heard-fresh was packet arrived_now sent between lines loses rises history reads raised unrisen =
-    heard-as was packet Fresh arrived_now sent between lines loses ((was.has_risen || loses) || rises) history reads raised
-    (λ h. let parts = or_parts (was.has_risen || loses) rises h in ((or_parts was.has_risen loses parts.0).1, unrisen parts.1))
-
-pub stands-heard : (laws : ReadingDecides) (was : LaneState) (round : ℕ) (packet : Numbered (List Demand)) (verdict : Taken) (arrived_now : Receiver) (sent : Sender Telling) (lines : List Line) (has_risen : Bool) (history : LaneHistory) (allocations : List Allocation) →
-    HasHeardRequest was packet verdict arrived_now sent lines has_risen history → StandsFor was history allocations → StandsFor (heard_lane was arrived_now sent lines has_risen) (TakesUp round (Requests packet) ∷ history) allocations
-stands-heard laws was round packet verdict arrived_now sent lines has_risen history allocations hears stands =
+pub stands-heard : (laws : ReadingDecides) (was : LaneState) (round : ℕ) (packet : Numbered (List Demand)) (arrived_now : Receiver) (sent : Sender Telling) (lines : List Line) (history : LaneHistory) (allocations : List Allocation) →
+    HasHeardRequest was packet arrived_now sent lines history → StandsFor was history allocations → StandsFor (heard_lane was arrived_now sent lines) (TakesUp round (Requests packet) ∷ history) allocations
+stands-heard laws was round packet arrived_now sent lines history allocations hears stands =
     let current = is_current-from history packet (hears.epoch ∙ stands.epoch) (hears.version ∙ stands.version) in
-    let taken : takes history packet ≡ is_fresh verdict =
-    takes-fresh history packet current
-    ∙ (ap (λ v. is_fresh (receive_verdict (reorder_of v) (arrived history) packet.seq)) (sym (hears.heard_version ∙ stands.version)) ∙ ap is_fresh (sym hears.judged)) in
-    let shown : ℕ → ℕ = λ dst. slots_shown (decided_by (reorder_of was.sent.version) (span_of was.sent.version) (numbers was.g history) packet.ack) dst in
-    let lost : ℕ → ℕ = λ dst. slots_lost (decided_by (reorder_of was.sent.version) (span_of was.sent.version) (numbers was.g history) packet.ack) dst in
-    let total : ℕ → ℕ = λ dst. cond (is_fresh verdict) (total_named dst packet.content) 0 in
+    let taken : takes history packet ≡ is_new was history packet.seq =
+    takes-fresh history packet current ∙ ap (λ v. is_fresh (receive_verdict (reorder_of v) (arrived history) packet.seq)) (sym (hears.heard_version ∙ stands.version)) in
     record {
       epoch = stands.epoch;
       version = stands.version;
@@ -256,18 +192,18 @@ stands-heard laws was round packet verdict arrived_now sent lines has_risen hist
       arrived = rw current hears.heard;
       sent = rw current hears.done;
       sent_version = hears.now_version ∙ stands.sent_version;
-      flows = each_line (λ dst. HearsOf has_risen (shown dst) (lost dst) (total dst)) (StandsForFlow was.g history allocations) (StandsForFlow was.g (TakesUp round (Requests packet) ∷ history) allocations) was.lines lines hears.change stands.flows
-          (λ dst old new change. flow-heard laws was.g was.sent.version round packet history allocations dst (total dst) old new current (hears.sent_version ∙ stands.version)
-          (ap (λ b. cond b (total_named dst packet.content) 0) (sym taken)) change.changed);
+      flows = each_line (HearsRequest was history packet) (StandsForFlow was.g history allocations) (StandsForFlow was.g (TakesUp round (Requests packet) ∷ history) allocations) was.lines lines hears.change stands.flows
+          (λ dst old new. flow-heard laws was.g was.sent.version round packet history allocations dst (cond (is_new was history packet.seq) (total_named dst packet.content) 0) old new current (hears.sent_version ∙ stands.version)
+          (ap (λ b. cond b (total_named dst packet.content) 0) (sym taken)));
       round = stands.round;
       is_reset = stands.is_reset;
       recorded = stands.recorded;
     }
 
 -- nothing more is told
-pub tells-heard : (was : LaneState) (round : ℕ) (packet : Numbered (List Demand)) (arrived_now : Receiver) (sent : Sender Telling) (lines : List Line) (has_risen : Bool) (history : LaneHistory) →
-    TellsSlots was history → TellsSlots (heard_lane was arrived_now sent lines has_risen) (TakesUp round (Requests packet) ∷ history)
-tells-heard was round packet arrived_now sent lines has_risen history tells =
+pub tells-heard : (was : LaneState) (round : ℕ) (packet : Numbered (List Demand)) (arrived_now : Receiver) (sent : Sender Telling) (lines : List Line) (history : LaneHistory) →
+    TellsSlots was history → TellsSlots (heard_lane was arrived_now sent lines) (TakesUp round (Requests packet) ∷ history)
+tells-heard was round packet arrived_now sent lines history tells =
     elim (cases_Bool (is_current history packet)) [
       | inl current ↦ rw current tells
       | inr other ↦ rw other tells
@@ -306,15 +242,15 @@ told-again laws sums was now round packet history allocations dst old new window
     let two_now = after.lost in
     omega (arith, three, three_now, tells, same, open_was, open_now, one, two, one_now, two_now)
 
-flow-sound : (was : LaneState) (arrived_now : Receiver) (sent : Sender Telling) (lines : List Line) (has_risen : Bool) (shown lost total dst : ℕ) (old new : Line) → (dst ≡ was.endpoint → open_to dst was.sent ≡ 0) →
-    total ≤ 200000000 → (dst ≡ was.endpoint → total ≡ 0) → (has_risen ≡ false → was.has_risen ≡ false) → HearsOf has_risen shown lost total old new →
-    new.count.acknowledged + new.count.lost + open_to dst sent ≡ old.count.acknowledged + old.count.lost + open_to dst was.sent → IsFlow was dst old → IsFlow (heard_lane was arrived_now sent lines has_risen) dst new
-flow-sound was arrived_now sent lines has_risen shown lost total dst old new none_open most none_named unrisen hears three flow =
-    let demanded = hears.changed.count.demanded in
-    let allocated = hears.changed.count.allocated in
-    let acknowledged = hears.changed.count.acknowledged in
-    let lost_now = hears.changed.count.lost in
-    let entered = hears.changed.entered in
+flow-sound : (was : LaneState) (arrived_now : Receiver) (sent : Sender Telling) (lines : List Line) (shown lost total dst : ℕ) (old new : Line) → (dst ≡ was.endpoint → open_to dst was.sent ≡ 0) →
+    total ≤ 200000000 → (dst ≡ was.endpoint → total ≡ 0) → Hears shown lost total old new →
+    new.count.acknowledged + new.count.lost + open_to dst sent ≡ old.count.acknowledged + old.count.lost + open_to dst was.sent → IsFlow was dst old → IsFlow (heard_lane was arrived_now sent lines) dst new
+flow-sound was arrived_now sent lines shown lost total dst old new none_open most none_named hears three flow =
+    let demanded = hears.count.demanded in
+    let allocated = hears.count.allocated in
+    let acknowledged = hears.count.acknowledged in
+    let lost_now = hears.count.lost in
+    let entered = hears.entered in
     let before = flow.demanded in
     let told_before = flow.told in
     let entered_before = flow.entered in
@@ -329,23 +265,18 @@ flow-sound was arrived_now sent lines has_risen shown lost total dst old new non
           let owed = none.0 in
           let named = none_named is in
           let opened = none_open is in
-          (omega (arith, three, owed, named, opened, demanded, acknowledged, lost_now), hears.changed.opened ∙ none.1);
-      unrisen = λ h.
-          let still = hears.still h in
-          let lost_none = still.0 in
-          let same = still.1 in
-          let was_entered = flow.unrisen (unrisen h) in
-          omega (arith, lost_none, same, was_entered, entered, lost_now);
+          (omega (arith, three, owed, named, opened, demanded, acknowledged, lost_now), hears.opened ∙ none.1);
     }
 
-pub sound-heard : (laws : ReadingDecides) (sums : CountsAddUp) (was : LaneState) (round : ℕ) (packet : Numbered (List Demand)) (verdict : Taken) (arrived_now : Receiver) (sent : Sender Telling) (lines : List Line) (has_risen : Bool) (history : LaneHistory) (allocations : List Allocation) →
-    HasHeardRequest was packet verdict arrived_now sent lines has_risen history → NamesOthers was packet.content → (has_risen ≡ false → was.has_risen ≡ false) → sent.outstanding.newest ≡ was.sent.outstanding.newest →
-    StandsFor was history allocations → TellsSlots was history → IsSound was → IsSound (heard_lane was arrived_now sent lines has_risen)
-sound-heard laws sums was round packet verdict arrived_now sent lines has_risen history allocations hears names unrisen newest stands tells sound =
-    let now : LaneState = heard_lane was arrived_now sent lines has_risen in
-    let stands_now : StandsFor now (TakesUp round (Requests packet) ∷ history) allocations = stands-heard laws was round packet verdict arrived_now sent lines has_risen history allocations hears stands in
+pub sound-heard : (laws : ReadingDecides) (sums : CountsAddUp) (was : LaneState) (round : ℕ) (packet : Numbered (List Demand)) (arrived_now : Receiver) (sent : Sender Telling) (lines : List Line) (history : LaneHistory) (allocations : List Allocation) →
+    HasHeardRequest was packet arrived_now sent lines history → NamesOthers was packet.content → sent.outstanding.newest ≡ was.sent.outstanding.newest →
+    StandsFor was history allocations → TellsSlots was history → IsSound was → IsSound (heard_lane was arrived_now sent lines)
+sound-heard laws sums was round packet arrived_now sent lines history allocations hears names newest stands tells sound =
+    let now : LaneState = heard_lane was arrived_now sent lines in
+    let stands_now : StandsFor now (TakesUp round (Requests packet) ∷ history) allocations = stands-heard laws was round packet arrived_now sent lines history allocations hears stands in
     let own_open = open-own was.endpoints was.b was.endpoint was.sent.outstanding.unresolved
     (open-told (λ (t : Telling). AreSlots was.endpoints was.b was.endpoint t.told) was.sent (numbers was.g history) stands.sent tells) in
+    let fresh = is_new was history packet.seq in
     record {
       endpoint = sound.endpoint;
       endpoints = sound.endpoints;
@@ -360,15 +291,14 @@ sound-heard laws sums was round packet verdict arrived_now sent lines has_risen 
       flows = λ dst new here.
           let there = line_between lines was.lines (sym hears.change.as_many) dst new here in
           let old = get_or was.lines dst new in
-          let change = hears.change.each dst old new there here in
-          flow-sound was arrived_now sent lines has_risen
+          flow-sound was arrived_now sent lines
           (slots_shown (decided_by (reorder_of was.sent.version) (span_of was.sent.version) (numbers was.g history) packet.ack) dst)
           (slots_lost (decided_by (reorder_of was.sent.version) (span_of was.sent.version) (numbers was.g history) packet.ack) dst)
-          (cond (is_fresh verdict) (total_named dst packet.content) 0) dst old new
+          (cond fresh (total_named dst packet.content) 0) dst old new
           (λ is. ap (λ d. open_to d was.sent) is ∙ own_open)
-          (at-most (is_fresh verdict) (total_named dst packet.content) 200000000 (total_named-most 200000000 dst packet.content names.totals))
-          (λ is. none-named (is_fresh verdict) (total_named dst packet.content) (ap (λ d. total_named d packet.content) is ∙ total_named-own was.endpoint packet.content names.others))
-          unrisen change
+          (at-most fresh (total_named dst packet.content) 200000000 (total_named-most 200000000 dst packet.content names.totals))
+          (λ is. none-named fresh (total_named dst packet.content) (ap (λ d. total_named d packet.content) is ∙ total_named-own was.endpoint packet.content names.others))
+          (hears.change.each dst old new there here)
           (told-again laws sums was now round packet history allocations dst old new refl sound.sent_version (hears.now_version ∙ sound.sent_version) stands stands_now (stands.flows dst old there) (stands_now.flows dst new here))
           (sound.flows dst old there);
     }

@@ -1,9 +1,9 @@
 -- What a lane's parts are of the calls for which it stands.
-use Rattle.std.proofs.Common.{◌≡◌, ℕ, ◌+◌, ◌<◌, ◌≤◌, List, [], ◌∷◌, ◌++◌, All, Some, slice_get, get_or, length, ap, ◌∙◌, sym, subst, refl, inl, inr, arith}
+use Rattle.std.proofs.Common.{◌≡◌, ℕ, ◌+◌, ◌<◌, ◌≤◌, List, [], ◌∷◌, ◌++◌, All, Some, slice_get, get_or, length, ap, ◌∙◌, sym, subst, inl, inr, arith}
 use Rattle.std.specs.Prelude.{Vec, sum_by, is_none, unwrap_or}
 use Rattle.std.proofs.lemmas.List.Elements.{All-head, All-tail, All-filter, All-same}
 use Rattle.std.proofs.lemmas.List.{with_items_is}
-use Rattle.std.proofs.lemmas.Option.{get_or_from_slice_get, slice_get_cases}
+use Rattle.std.proofs.lemmas.Option.{slice_get_cases}
 use Rattle.std.specs.Vec.{with_items}
 use Rattle.ack_window.specs.declared.send_window.Unresolved.{Unresolved}
 use Rattle.ack_window.specs.Sends.{Event, Sends, Reads, newest_of, newest_content, numbers_sent, decision_of, open_numbers}
@@ -86,15 +86,6 @@ each_line relation P Q before after become held goes_on dst line here =
     let there = line_between after before (sym become.as_many) dst line here in
     let old = get_or before dst line in
     goes_on dst old line (become.each dst old line there here) (held dst old there)
-
--- lines that stay
-pub Become-stay : (relation : ℕ → Line → Line → Type 0) (lines : List Line) → ((dst : ℕ) (line : Line) → slice_get lines dst ≡ Some line → relation dst line line) → Become relation lines lines
-Become-stay relation lines same = record {
-  as_many = refl;
-  each = λ dst a b before after.
-      let is : b ≡ a = sym (get_or_from_slice_get lines dst b a after) ∙ get_or_from_slice_get lines dst a a before in
-      subst (λ y. relation dst a y) (sym is) (same dst a before);
-}
 
 -- each place below the length has a line
 pub line_here : (lines : List Line) (dst : ℕ) → dst < length lines → (line : Line) × (slice_get lines dst ≡ Some line)

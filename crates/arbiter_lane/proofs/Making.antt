@@ -30,8 +30,8 @@ use Rattle.arbiter_lane.proofs.Changes.{line_between}
 use Rattle.arbiter_lane.proofs.Held.{each_line, open_to-is, open-told, newest-told, newest-counted}
 use Rattle.arbiter_lane.proofs.Hearing.{told-own, open-own}
 
-abbrev pub made_lane : LaneState → Sender Telling → List Line → Bool → LaneState
-made_lane was sent lines has_risen = record {
+abbrev pub made_lane : LaneState → Sender Telling → List Line → LaneState
+made_lane was sent lines = record {
   endpoint = was.endpoint;
   endpoints = was.endpoints;
   b = was.b;
@@ -45,7 +45,6 @@ made_lane was sent lines has_risen = record {
   round = was.round;
   is_made = true;
   is_reset = was.is_reset;
-  has_risen = has_risen;
 }
 
 -- ---- the slots that are told
@@ -118,24 +117,23 @@ numbers-made lane history allocations round slots version stands begun =
     ∙ ap (λ (t : Telling). cond (may_tell lane.sent) (Sends t ∷ events) events) (sym (telling-is lane history round slots stands.last_reset)))
 
 -- what is known once the slots of a round are told
-pub record HasTold (was : LaneState) (round : ℕ) (slots : List Told) (sent : Sender Telling) (lines : List Line) (loses : Bool) (content : Telling) : Type 0 where
+pub record HasTold (was : LaneState) (round : ℕ) (slots : List Told) (sent : Sender Telling) (lines : List Line) (content : Telling) : Type 0 where
   pub few : length (slots_told was round slots) ≤ 64
   pub done : (events : List (Event Telling)) → HasDone was.sent events → HasDone sent (events_after was.sent (telling_of was round slots) events)
   pub says : (events : List (Event Telling)) → HasDone was.sent events → newest_content (events_after was.sent (telling_of was round slots) events) ≡ Some content
   pub version : sent.version ≡ was.sent.version
   pub newest : sent.outstanding.newest ≤ was.sent.outstanding.newest + 1
   pub change : Become (λ dst. LosesSlots (lost_by was.sent (slots_told was round slots) dst)) was.lines lines
-  pub none_lost : loses ≡ false → (dst : ℕ) → lost_by was.sent (slots_told was round slots) dst ≡ 0
 
 abbrev pub with_slots : ℕ → List Told → Telling
 with_slots batch slots = record { batch = batch; told = slots }
 
-pub told-from : (was : LaneState) (round : ℕ) (slots : List Told) (batch : ℕ) (now : List Told) (sent : Sender Telling) (lines : List Line) (loses : Bool) (content : Telling) → batch ≡ round - 2 * was.g → now ≡ slots_told was round slots → length now ≤ 64 →
+pub told-from : (was : LaneState) (round : ℕ) (slots : List Told) (batch : ℕ) (now : List Told) (sent : Sender Telling) (lines : List Line) (content : Telling) → batch ≡ round - 2 * was.g → now ≡ slots_told was round slots → length now ≤ 64 →
     ((events : List (Event Telling)) → HasDone was.sent events → HasDone sent (events_after was.sent (with_slots batch now) events)) →
     ((events : List (Event Telling)) → HasDone was.sent events → newest_content (events_after was.sent (with_slots batch now) events) ≡ Some content) →
     sent.version ≡ was.sent.version → sent.outstanding.newest ≡ was.sent.outstanding.newest + cond (may_tell was.sent) 1 0 → Become (λ dst. LosesSlots (lost_by was.sent now dst)) was.lines lines →
-    (loses ≡ false → (dst : ℕ) → lost_by was.sent now dst ≡ 0) → HasTold was round slots sent lines loses content
-told-from was round slots batch now sent lines loses content is_batch is_now few done says version newest change none_lost =
+    HasTold was round slots sent lines content
+told-from was round slots batch now sent lines content is_batch is_now few done says version newest change =
     let telling : with_slots batch now ≡ telling_of was round slots = ap (λ b. with_slots b now) is_batch ∙ ap (λ xs. with_slots (round - 2 * was.g) xs) is_now in
     let one = at_most_one (may_tell was.sent) in
     record {
@@ -145,7 +143,6 @@ told-from was round slots batch now sent lines loses content is_batch is_now few
       version = version;
       newest = omega (arith, newest, one);
       change = subst (λ (xs : List Told). Become (λ dst. LosesSlots (lost_by was.sent xs dst)) was.lines lines) is_now change;
-      none_lost = λ h. subst (λ (xs : List Told). (dst : ℕ) → lost_by was.sent xs dst ≡ 0) is_now (none_lost h);
     }
   where
     at_most_one : (b : Bool) → cond {A = ℕ} b 1 0 ≤ 1
@@ -183,11 +180,11 @@ flow-made laws g round n slots history allocations dst old new law loses flow = 
   opened = loses.opened ∙ flow.opened;
 }
 
-pub stands-made : (laws : MakingTells) (was : LaneState) (round : ℕ) (slots : List Told) (sent : Sender Telling) (lines : List Line) (has_risen : Bool) (history : LaneHistory) (allocations : List Allocation) →
+pub stands-made : (laws : MakingTells) (was : LaneState) (round : ℕ) (slots : List Told) (sent : Sender Telling) (lines : List Line) (history : LaneHistory) (allocations : List Allocation) →
     was.sent.version ≡ was.version → sent.version ≡ was.sent.version → 0 < was.epoch → HasDone sent (events_after was.sent (telling_of was round slots) (numbers was.g history)) →
     Become (λ dst. LosesSlots (lost_by was.sent (slots_told was round slots) dst)) was.lines lines → StandsFor was history allocations →
-    StandsFor (made_lane was sent lines has_risen) (MakesDown round slots ∷ history) allocations
-stands-made laws was round slots sent lines has_risen history allocations version same begun done become stands = record {
+    StandsFor (made_lane was sent lines) (MakesDown round slots ∷ history) allocations
+stands-made laws was round slots sent lines history allocations version same begun done become stands = record {
   epoch = stands.epoch;
   version = stands.version;
   last_reset = stands.last_reset;
@@ -214,9 +211,9 @@ tells-after was round slots events are tells =
       | false ↦ tells
     ]
 
-pub tells-made : (was : LaneState) (round : ℕ) (slots : List Told) (sent : Sender Telling) (lines : List Line) (has_risen : Bool) (history : LaneHistory) (allocations : List Allocation) → was.sent.version ≡ was.version → 0 < was.epoch →
-    AreSlots was.endpoints was.b was.endpoint slots → StandsFor was history allocations → TellsSlots was history → TellsSlots (made_lane was sent lines has_risen) (MakesDown round slots ∷ history)
-tells-made was round slots sent lines has_risen history allocations version begun are stands tells =
+pub tells-made : (was : LaneState) (round : ℕ) (slots : List Told) (sent : Sender Telling) (lines : List Line) (history : LaneHistory) (allocations : List Allocation) → was.sent.version ≡ was.version → 0 < was.epoch →
+    AreSlots was.endpoints was.b was.endpoint slots → StandsFor was history allocations → TellsSlots was history → TellsSlots (made_lane was sent lines) (MakesDown round slots ∷ history)
+tells-made was round slots sent lines history allocations version begun are stands tells =
     subst (λ (e : List (Event Telling)). All (λ (number : Unresolved Telling). AreSlots was.endpoints was.b was.endpoint number.content.told) (numbers_sent e)) (sym (numbers-made was history allocations round slots version stands begun))
     (tells-after was round slots (numbers was.g history) are tells)
 
@@ -244,10 +241,10 @@ told-more laws sums was now round slots history allocations dst old new windows 
 made-once : (b : Bool) → b ≡ false → cond {A = ℕ} b 1 0 ≡ 0
 made-once b is = ap (λ b. cond {A = ℕ} b 1 0) is
 
-flow-sound : (was : LaneState) (sent : Sender Telling) (lines : List Line) (has_risen : Bool) (n lost dst : ℕ) (old new : Line) → was.is_made ≡ false → n ≤ 64 → n + open_to dst was.sent ≤ in_flight old.count →
-    (dst ≡ was.endpoint → n + open_to dst was.sent ≡ 0) → (has_risen ≡ false → (was.has_risen ≡ false) × (lost ≡ 0)) → LosesSlots lost old new →
-    new.count.acknowledged + new.count.lost + open_to dst sent ≡ old.count.acknowledged + old.count.lost + open_to dst was.sent + n → IsFlow was dst old → IsFlow (made_lane was sent lines has_risen) dst new
-flow-sound was sent lines has_risen n lost dst old new once few room own unrisen loses three flow =
+flow-sound : (was : LaneState) (sent : Sender Telling) (lines : List Line) (n lost dst : ℕ) (old new : Line) → was.is_made ≡ false → n ≤ 64 → n + open_to dst was.sent ≤ in_flight old.count →
+    (dst ≡ was.endpoint → n + open_to dst was.sent ≡ 0) → LosesSlots lost old new →
+    new.count.acknowledged + new.count.lost + open_to dst sent ≡ old.count.acknowledged + old.count.lost + open_to dst was.sent + n → IsFlow was dst old → IsFlow (made_lane was sent lines) dst new
+flow-sound was sent lines n lost dst old new once few room own loses three flow =
     let demanded = loses.count.demanded in
     let allocated = loses.count.allocated in
     let acknowledged = loses.count.acknowledged in
@@ -267,22 +264,16 @@ flow-sound was sent lines has_risen n lost dst old new once few room own unrisen
           let owed = none.0 in
           let nothing = own is in
           (omega (arith, three, owed, nothing, demanded, acknowledged, lost_now), loses.opened ∙ none.1);
-      unrisen = λ h.
-          let still = unrisen h in
-          let lost_none = still.1 in
-          let was_entered = flow.unrisen still.0 in
-          omega (arith, lost_none, was_entered, demanded, lost_now, entered);
     }
 
-pub sound-made : (laws : MakingTells) (sums : CountsAddUp) (was : LaneState) (round : ℕ) (slots : List Told) (sent : Sender Telling) (lines : List Line) (has_risen : Bool) (history : LaneHistory) (allocations : List Allocation) →
+pub sound-made : (laws : MakingTells) (sums : CountsAddUp) (was : LaneState) (round : ℕ) (slots : List Told) (sent : Sender Telling) (lines : List Line) (history : LaneHistory) (allocations : List Allocation) →
     was.is_made ≡ false → was.round < 100000 → 0 < was.epoch → length (slots_told was round slots) ≤ 64 → AreSlots was.endpoints was.b was.endpoint slots → AreAllocated was round slots →
     sent.version ≡ was.sent.version → sent.outstanding.newest ≤ was.sent.outstanding.newest + 1 → HasDone sent (events_after was.sent (telling_of was round slots) (numbers was.g history)) →
     Become (λ dst. LosesSlots (lost_by was.sent (slots_told was round slots) dst)) was.lines lines →
-    (has_risen ≡ false → (was.has_risen ≡ false) × ((dst : ℕ) → lost_by was.sent (slots_told was round slots) dst ≡ 0)) →
-    StandsFor was history allocations → TellsSlots was history → IsSound was → IsSound (made_lane was sent lines has_risen)
-sound-made laws sums was round slots sent lines has_risen history allocations once rounds begun short are allocated version newest done become unrisen stands tells sound =
-    let now : LaneState = made_lane was sent lines has_risen in
-    let stands_now : StandsFor now (MakesDown round slots ∷ history) allocations = stands-made laws was round slots sent lines has_risen history allocations sound.sent_version version begun done become stands in
+    StandsFor was history allocations → TellsSlots was history → IsSound was → IsSound (made_lane was sent lines)
+sound-made laws sums was round slots sent lines history allocations once rounds begun short are allocated version newest done become stands tells sound =
+    let now : LaneState = made_lane was sent lines in
+    let stands_now : StandsFor now (MakesDown round slots ∷ history) allocations = stands-made laws was round slots sent lines history allocations sound.sent_version version begun done become stands in
     let made = made-once was.is_made once in
     let numbered = sound.numbers in
     let none_open = open-own was.endpoints was.b was.endpoint was.sent.outstanding.unresolved (open-told (λ (t : Telling). AreSlots was.endpoints was.b was.endpoint t.told) was.sent (numbers was.g history) stands.sent tells) in
@@ -303,13 +294,12 @@ sound-made laws sums was round slots sent lines has_risen history allocations on
           let there = line_between lines was.lines (sym become.as_many) dst new here in
           let old = get_or was.lines dst new in
           let counted = count_by-le-length (λ (slot : Told). slot.dst == dst) (slots_told was round slots) in
-          flow-sound was sent lines has_risen (slots_to dst (slots_told was round slots)) (lost_by was.sent (slots_told was round slots) dst) dst old new once (omega (arith, counted, short))
+          flow-sound was sent lines (slots_to dst (slots_told was round slots)) (lost_by was.sent (slots_told was round slots) dst) dst old new once (omega (arith, counted, short))
           (room-for was round slots sound allocated begun dst old there)
           (λ is.
           let one = ap (λ d. slots_to d (slots_told was round slots)) is in
           let two = ap (λ d. open_to d was.sent) is in
           omega (arith, one, two, none_told, none_open))
-          (λ h. ((unrisen h).0, (unrisen h).1 dst))
           (become.each dst old new there here)
           (told-more laws sums was now round slots history allocations dst old new refl sound.sent_version (version ∙ sound.sent_version) begun stands stands_now (stands.flows dst old there) (stands_now.flows dst new here))
           (sound.flows dst old there);
@@ -318,7 +308,7 @@ sound-made laws sums was round slots sent lines has_risen history allocations on
 -- ---- before the first reset
 
 pub stands-quiet : (laws : MakingTells) (was : LaneState) (round : ℕ) (slots : List Told) (history : LaneHistory) (allocations : List Allocation) → was.epoch ≡ 0 → StandsFor was history allocations →
-    StandsFor (made_lane was was.sent was.lines was.has_risen) (MakesDown round slots ∷ history) allocations
+    StandsFor (made_lane was was.sent was.lines) (MakesDown round slots ∷ history) allocations
 stands-quiet laws was round slots history allocations none stands =
     let quiet : epoch_of history ≡ 0 = sym stands.epoch ∙ none in
     let still : nat_lt 0 (epoch_of history) ≡ false = le-ltb 0 (epoch_of history) (omega (arith, quiet)) in
@@ -344,10 +334,10 @@ stands-quiet laws was round slots history allocations none stands =
       recorded = stands.recorded;
     }
 
-pub tells-quiet : (was : LaneState) (round : ℕ) (slots : List Told) (history : LaneHistory) → epoch_of history ≡ 0 → TellsSlots was history → TellsSlots (made_lane was was.sent was.lines was.has_risen) (MakesDown round slots ∷ history)
+pub tells-quiet : (was : LaneState) (round : ℕ) (slots : List Told) (history : LaneHistory) → epoch_of history ≡ 0 → TellsSlots was history → TellsSlots (made_lane was was.sent was.lines) (MakesDown round slots ∷ history)
 tells-quiet was round slots history quiet tells = rw (le-ltb 0 (epoch_of history) (omega (arith, quiet))) tells
 
-pub sound-quiet : (was : LaneState) → was.is_made ≡ false → was.round < 100000 → IsSound was → IsSound (made_lane was was.sent was.lines was.has_risen)
+pub sound-quiet : (was : LaneState) → was.is_made ≡ false → was.round < 100000 → IsSound was → IsSound (made_lane was was.sent was.lines)
 sound-quiet was once rounds sound =
     let made = made-once was.is_made once in
     let numbered = sound.numbers in
@@ -365,7 +355,7 @@ sound-quiet was once rounds sound =
       flows = λ dst line here.
           let flow = sound.flows dst line here in
           let told_before = flow.told in
-          record { demanded = flow.demanded; told = omega (arith, told_before, made); entered = flow.entered; open_slots = flow.open_slots; own = flow.own; unrisen = flow.unrisen };
+          record { demanded = flow.demanded; told = omega (arith, told_before, made); entered = flow.entered; open_slots = flow.open_slots; own = flow.own };
     }
 
 -- ---- the allocation
@@ -451,10 +441,10 @@ allocation-made lane seq content sound begun counted mask width few slots = reco
 }
 
 -- what is told keeps every rule
-pub rules-made : (was : LaneState) (round : ℕ) (slots : List Told) (sent : Sender Telling) (lines : List Line) (loses : Bool) (content : Telling) (history : LaneHistory) (allocations : List Allocation) → IsSound was → 0 < was.epoch →
+pub rules-made : (was : LaneState) (round : ℕ) (slots : List Told) (sent : Sender Telling) (lines : List Line) (content : Telling) (history : LaneHistory) (allocations : List Allocation) → IsSound was → 0 < was.epoch →
     IsMask was.arrived.told.high was.arrived.told.mask → was.arrived.told.mask < 2 ^ mask_bits was.version → length content.told ≤ 64 → AreSlots was.endpoints was.b was.endpoint slots →
-    HasTold was round slots sent lines loses content → StandsFor was history allocations → TellsSlots was history → IsAllocation was.endpoints was.b (packet_with was sent.outstanding.newest content.batch content.told)
-rules-made was round slots sent lines loses content history allocations sound begun mask width few are told stands tells =
+    HasTold was round slots sent lines content → StandsFor was history allocations → TellsSlots was history → IsAllocation was.endpoints was.b (packet_with was sent.outstanding.newest content.batch content.told)
+rules-made was round slots sent lines content history allocations sound begun mask width few are told stands tells =
     let events = numbers was.g history in
     let after = events_after was.sent (telling_of was round slots) events in
     let says = told.says events stands.sent in

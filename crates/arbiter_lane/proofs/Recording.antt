@@ -1,5 +1,5 @@
 -- What a lane stands for once its round is recorded, and the entries of the round.
-use Rattle.std.proofs.Common.{◌≡◌, ℕ, ◌+◌, ◌<◌, ◌≤◌, zero, suc, Bool, true, false, ◌&&◌, ◌||◌, cond, List, [], ◌∷◌, ◌++◌, ◌-◌, inl, inr, not, length, option_to_list, Option, Some, None, ap, ◌∙◌, sym, refl, arith}
+use Rattle.std.proofs.Common.{◌≡◌, ℕ, ◌+◌, ◌<◌, ◌≤◌, zero, suc, Bool, true, false, ◌&&◌, ◌||◌, cond, List, ◌∷◌, ◌++◌, ◌-◌, inl, inr, not, length, option_to_list, Option, Some, None, ap, ◌∙◌, sym, refl, arith}
 use Rattle.std.specs.Prelude.{nat_lt}
 use Rattle.std.specs.List.{filter_map, range_with_len, cons_option}
 use Rattle.std.specs.Option.{option_and_then}
@@ -12,15 +12,14 @@ use Rattle.greedy_rules.specs.declared.flows.Flow.{Flow}
 use Rattle.endpoint_history.specs.Lane.{LaneHistory, Records}
 use Rattle.endpoint_history.specs.Counts.{Allocation}
 use Rattle.endpoint_history.specs.Entries.{is_reset, added, entry_with, entry_of, had}
-use Rattle.line_marks.specs.declared.Marks.{Marks}
-use Rattle.line_marks.specs.Places.{is_marked}
+use Rattle.line_marks.specs.Places.{Places, is_marked}
 use Rattle.arbiter_lane.specs.declared.line.Line.{Line}
 use Rattle.arbiter_lane.specs.State.{LaneState, IsFlow, IsSound}
 use Rattle.arbiter_lane.specs.Standing.{StandsForFlow, StandsFor}
 use Rattle.arbiter_lane.specs.Lines.{Become, IsEntered, add_on, entry_on, has_entry}
-use Rattle.arbiter_lane.specs.Parts.{CanRise, AreMarked, HaveNotRisen, HaveEntriesMarked, entry_at, entries_on}
+use Rattle.arbiter_lane.specs.Parts.{CanRise, AreMarked, HaveEntriesMarked, entry_at, entries_on}
 use Rattle.arbiter_lane.proofs.Entering.{filter_map-more}
-use Rattle.arbiter_lane.proofs.Held.{each_line, line_here, Become-stay}
+use Rattle.arbiter_lane.proofs.Held.{each_line, line_here}
 
 -- ---- entries
 
@@ -29,12 +28,6 @@ filter_map-same f e first zero same = refl
 filter_map-same f e first (suc n) same =
     ap (λ o. cons_option o (filter_map f (range_with_len (first + 1) n))) (same first (omega arith) (omega arith))
     ∙ ap (λ l. cons_option (e first) l) (filter_map-same f e (first + 1) n (λ k low high. same k (omega (arith, low)) (omega (arith, high))))
-
-filter_map-none : {Y : Type 0} (f : ℕ → Option Y) (first n : ℕ) → ((k : ℕ) → first ≤ k → k < first + n → f k ≡ None) → filter_map f (range_with_len first n) ≡ []
-filter_map-none f first zero none = refl
-filter_map-none f first (suc n) none =
-    ap (λ o. cons_option o (filter_map f (range_with_len (first + 1) n))) (none first (omega arith) (omega arith))
-    ∙ filter_map-none f (first + 1) n (λ k low high. none k (omega (arith, low)) (omega (arith, high)))
 
 add-is : (g : ℕ) (history : LaneHistory) (allocations : List Allocation) (dst : ℕ) (line : Line) → StandsForFlow g history allocations dst line → add_on line ≡ added g history dst
 add-is g history allocations dst line flow = omega (arith, flow.demanded, flow.lost, flow.entered)
@@ -60,31 +53,20 @@ entries-are lane history allocations as_many stands =
     ap (entry_for lane.endpoint lane.is_reset dst) here.1
     ∙ entry-is lane.endpoint lane.g history allocations dst here.0 lane.is_reset stands.is_reset (stands.flows dst here.0 here.1))
 
-entry-none : (line : Line) (flow : Flow) → line.count.demanded + line.count.lost ≡ line.entered → entry_on line flow false ≡ None
-entry-none line flow same = rw (le-ltb 0 (add_on line) (omega (arith, same))) refl
-
--- there is none where nothing has risen and no reset was taken
-pub entries-none : (lines : List Line) (endpoint : ℕ) → HaveNotRisen lines → entries_on lines endpoint false ≡ []
-entries-none lines endpoint unrisen =
-    filter_map-none (entry_at lines endpoint false) 0 (length lines)
-    (λ dst low high.
-    let here = line_here lines dst (omega (arith, high)) in
-    ap (entry_for endpoint false dst) here.1 ∙ entry-none here.0 (record { src = endpoint; dst = dst }) (unrisen dst here.0 here.1))
-
 -- ---- only marked lines have an entry
 
 unrisen-none : (line : Line) → line.count.demanded + line.count.lost ≡ line.entered → has_entry false line ≡ false
 unrisen-none line same = rw (le-ltb 0 (add_on line) (omega (arith, same))) refl
 
 -- where no reset was taken these are the lines that have risen
-pub entries-risen : (marks : Marks) (lines : List Line) → AreMarked marks lines → HaveEntriesMarked marks false lines
+pub entries-risen : (marks : Places) (lines : List Line) → AreMarked marks lines → HaveEntriesMarked marks false lines
 entries-risen marks lines marked dst line here none = unrisen-none line (marked dst line here none)
 
 no_entry : (line : Line) (flow : Flow) (resets : Bool) → has_entry resets line ≡ false → entry_on line flow resets ≡ None
 no_entry line flow resets none =
     ap (λ (b : Bool). cond b (Some (record { flow = flow; opens = nat_lt 0 (add_on line) && not line.opened; clear = resets && line.opened; add = add_on line })) None) none
 
-pub entry-unmarked : (marks : Marks) (lines : List Line) (endpoint : ℕ) (resets : Bool) (dst : ℕ) → HaveEntriesMarked marks resets lines → is_marked marks dst ≡ false → entry_at lines endpoint resets dst ≡ None
+pub entry-unmarked : (marks : Places) (lines : List Line) (endpoint : ℕ) (resets : Bool) (dst : ℕ) → HaveEntriesMarked marks resets lines → is_marked marks dst ≡ false → entry_at lines endpoint resets dst ≡ None
 entry-unmarked marks lines endpoint resets dst all none = elim (slice_get_cases lines dst).1 [
   | inl line ↦ ap (entry_for endpoint resets dst) line.2 ∙ no_entry line.0 (record { src = endpoint; dst = dst }) resets (all dst line.0 line.2 none)
   | inr past ↦ ap (entry_for endpoint resets dst) past.1
@@ -144,7 +126,6 @@ recorded_lane was round lines = record {
   round = round + 1;
   is_made = false;
   is_reset = false;
-  has_risen = false;
 }
 
 flow-recorded : (g round : ℕ) (history : LaneHistory) (allocations : List Allocation) (dst : ℕ) (old new : Line) → IsEntered old new → StandsForFlow g history allocations dst old →
@@ -190,7 +171,6 @@ sound-flow was round lines dst old new now entered flow =
           let none = flow.own is in
           let add : add_on old ≡ 0 = omega (arith, none.0) in
           (omega (arith, demanded, lost, none.0), entered.opened ∙ (ap (λ a. nat_lt 0 a || old.opened) add ∙ none.1));
-      unrisen = λ h. omega (arith, entered.entered, demanded, lost);
     }
   where
     at_most : (b : Bool) → cond {A = ℕ} b 1 0 ≤ 1
@@ -215,10 +195,6 @@ sound-recorded was round lines now sound rounds become = record {
     at_most : (b : Bool) → cond {A = ℕ} b 1 0 ≤ 1
     at_most true = omega arith
     at_most false = omega arith
-
--- lines that have not risen are entered as they are
-pub entered-already : (lines : List Line) → HaveNotRisen lines → Become (λ dst. IsEntered) lines lines
-entered-already lines unrisen = Become-stay (λ dst. IsEntered) lines (λ dst line here. IsEntered-already line (unrisen dst line here))
 
 -- the lines of a lane can rise
 pub can_rise : (lane : LaneState) → IsSound lane → CanRise lane.lines

@@ -1,16 +1,22 @@
 -- What a packet that was read is to a lane.
-use Rattle.std.proofs.Common.{◌≡◌, ◌≢◌, ℕ, ◌<◌, ◌≤◌, true, false, cond, List, ◌∷◌, All, ap, ◌∙◌, sym, subst, inl, inr, arith}
-use Rattle.std.proofs.lemmas.Bool.{false≢true}
+use Rattle.std.proofs.Common.{◌≡◌, ◌≢◌, ℕ, ◌<◌, ◌≤◌, true, false, cond, List, ◌∷◌, All, Option, Some, None, ap, ◌∙◌, sym, subst, inl, inr, arith}
+use Rattle.std.specs.Prelude.{IfSome}
+use Rattle.std.proofs.lemmas.Bool.{false≢true, eq-eqb, le-ltb}
+use Rattle.ack_window.specs.Arrivals.{receive_verdict}
+use Rattle.ack_window.specs.Versions.{reorder_of}
 use Rattle.ack_window.specs.Ends.{Numbered}
 use Rattle.fcp_framing.specs.declared.packet.Demand.{Demand}
 use Rattle.fcp_framing.specs.declared.packet.Up.{Up}
 use Rattle.fcp_framing.specs.Spelling.{SpellsUp, IsRequest}
 use Rattle.fcp_framing.specs.Versions.{IsVersion}
+use Rattle.fcp_framing.specs.Fields.{up_of}
+use Rattle.fcp_framing.specs.Refusals.{first_refusal, refuses_up}
 use Rattle.endpoint_history.specs.Packets.{Resets, Requests, up_packet}
-use Rattle.endpoint_history.specs.Lane.{LaneHistory, TakesUp}
+use Rattle.endpoint_history.specs.Lane.{LaneHistory, TakesUp, epoch_of, version_of, arrived}
 use Rattle.endpoint_history.specs.Counts.{Allocation}
 use Rattle.endpoint_history.specs.CountLaws.{ReadingDecides, ResetsCountAnew}
 use Rattle.arbiter_lane.specs.State.{LaneState}
+use Rattle.arbiter_lane.specs.Refusals.{refusal_of, refusal_or, refusal_of_packet, refusal_of_number}
 use Rattle.arbiter_lane.specs.Standing.{StandsFor}
 use Rattle.arbiter_lane.proofs.Hearing.{NamesOthers}
 use Rattle.arbiter_lane.proofs.Refusing.{stands-reset_again, stands-other_epoch, stands-other_version}
@@ -39,6 +45,23 @@ pub names_others : (lane : LaneState) (endpoints : ℕ) (bytes : List ℕ) (up :
 names_others lane endpoints bytes up spells request own =
     let rules = request_rules endpoints bytes up spells request in
     record { others = subst (λ src. All (λ (demand : Demand). demand.dst ≢ src) up.demands.items) own rules.others; totals = rules.totals }
+
+-- ---- what it is refused for
+
+-- a request of the lane's epoch and version is refused for its number alone
+pub refusal-request : (lane : LaneState) (bytes : List ℕ) (up : Up) (history : LaneHistory) (allocations : List Allocation) → first_refusal (refuses_up lane.endpoints bytes) ≡ None → up ≡ up_of bytes → up.src ≡ lane.endpoint → up.epoch ≡ lane.epoch →
+    up.version ≡ lane.version → up.reset ≡ false → lane.arrived.version ≡ lane.version → StandsFor lane history allocations →
+    refusal_of lane.endpoint lane.endpoints history bytes ≡ refusal_of_number (receive_verdict (reorder_of lane.arrived.version) (arrived history) up.seq)
+refusal-request lane bytes up history allocations spelled read own epoch version request heard_version stands =
+    let known : up.epoch ≡ epoch_of history = epoch ∙ stands.epoch in
+    ap (λ o. refusal_or o (refusal_of_packet lane.endpoint history (up_of bytes))) spelled
+    ∙ (ap (refusal_of_packet lane.endpoint history) (sym read)
+    ∙ rw (eq-eqb up.src lane.endpoint own, le-ltb up.epoch (epoch_of history) (omega (arith, known)), le-ltb (epoch_of history) up.epoch (omega (arith, known)), eq-eqb up.version (version_of history) (version ∙ stands.version), request)
+    (ap (λ v. refusal_of_number (receive_verdict (reorder_of v) (arrived history) up.seq)) (sym (heard_version ∙ stands.version))))
+
+pub IfSome-then : {X : Type 0} (P Q : X → Type 0) (o : Option X) → IfSome o P → ((x : X) → P x → Q x) → IfSome o Q
+IfSome-then P Q None p then = tt
+IfSome-then P Q (Some x) p then = then x p
 
 -- ---- what changes nothing
 

@@ -56,6 +56,15 @@ slots_shown found dst = weight_shown (λ (telling : Telling). slots_to dst telli
 abbrev pub DecidesSlots : ℕ → ℕ → Line → Line → Type 0
 DecidesSlots shown lost old new = HasChanged old new (record (counts_on old) { acknowledged = old.count.acknowledged + shown; lost = old.count.lost + lost })
 
+-- a request decides numbers, and raises a demand
+abbrev pub Hears : ℕ → ℕ → ℕ → Line → Line → Type 0
+Hears shown lost total old new = HasChanged old new (record {
+  demanded = max old.count.demanded total;
+  allocated = old.count.allocated;
+  acknowledged = old.count.acknowledged + shown;
+  lost = old.count.lost + lost;
+})
+
 -- what a line has to add to the need of its flow
 abbrev pub add_on : Line → ℕ
 add_on line = line.count.demanded + line.count.lost - line.entered

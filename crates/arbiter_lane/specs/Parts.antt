@@ -8,8 +8,7 @@ use Rattle.fcp_framing.specs.declared.packet.Up.{Up}
 use Rattle.fcp_framing.specs.declared.packet.Down.{Down}
 use Rattle.ack_window.specs.declared.acknowledgement.Acknowledgement.{Acknowledgement}
 use Rattle.arbiter_lane.specs.declared.line.Line.{Line}
-use Rattle.line_marks.specs.declared.Marks.{Marks}
-use Rattle.line_marks.specs.Places.{is_marked}
+use Rattle.line_marks.specs.Places.{Places, is_marked}
 use Rattle.ack_window.specs.Outstanding.{may_send_new}
 use Rattle.ack_window.specs.Sends.{Event, Sends}
 use Rattle.ack_window.specs.Versions.{span_of}
@@ -44,10 +43,6 @@ pub record CanRise (lines : List Line) : Type 0 where
   pub fits : (dst : ℕ) (line : Line) → slice_get lines dst ≡ Some line → line.count.demanded + line.count.lost < 2 ^ 32
   pub entered : (dst : ℕ) (line : Line) → slice_get lines dst ≡ Some line → line.entered ≤ line.count.demanded + line.count.lost
 
--- all that they owe is entered
-abbrev pub HaveNotRisen : List Line → Type 0
-HaveNotRisen lines = (dst : ℕ) (line : Line) → slice_get lines dst ≡ Some line → line.count.demanded + line.count.lost ≡ line.entered
-
 -- the entry of the line of a destination, for the flow from an endpoint
 abbrev pub entry_at : List Line → ℕ → Bool → ℕ → Option Entry
 entry_at lines endpoint resets dst =
@@ -57,11 +52,11 @@ abbrev pub entries_on : List Line → ℕ → Bool → List Entry
 entries_on lines endpoint resets = filter_map (entry_at lines endpoint resets) (range_with_len 0 (length lines))
 
 -- a line that has risen since it was entered last is marked; others may be, too
-abbrev pub AreMarked : Marks → List Line → Type 0
+abbrev pub AreMarked : Places → List Line → Type 0
 AreMarked marks lines = (dst : ℕ) (line : Line) → slice_get lines dst ≡ Some line → is_marked marks dst ≡ false → line.count.demanded + line.count.lost ≡ line.entered
 
 -- only marked lines have an entry
-abbrev pub HaveEntriesMarked : Marks → Bool → List Line → Type 0
+abbrev pub HaveEntriesMarked : Places → Bool → List Line → Type 0
 HaveEntriesMarked marks resets lines = (dst : ℕ) (line : Line) → slice_get lines dst ≡ Some line → is_marked marks dst ≡ false → has_entry resets line ≡ false
 
 -- a new number may be sent

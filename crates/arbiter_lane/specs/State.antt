@@ -24,11 +24,10 @@ pub record LaneState : Type 0 where
   pub sent : Sender Telling
   -- a line for each destination
   pub lines : List Line
-  -- the batches recorded, whether this round's packet was made, whether a reset was taken in it, and whether a flow may have risen in it
+  -- the batches recorded, whether this round's packet was made, and whether a reset was taken in it
   pub round : ℕ
   pub is_made : Bool
   pub is_reset : Bool
-  pub has_risen : Bool
 
 -- an endpoint's slots of one batch of b slots: rising, within the batch and the network, none to itself
 pub record AreSlots (endpoints b endpoint : ℕ) (told : List Told) : Type 0 where
@@ -65,7 +64,6 @@ pub record IsFlow (lane : LaneState) (dst : ℕ) (line : Line) : Type 0 where
   pub entered : line.entered ≤ line.count.demanded + line.count.lost
   pub open_slots : open_to dst lane.sent ≤ in_flight line.count
   pub own : dst ≡ lane.endpoint → (line.count.demanded + line.count.lost ≡ 0) × (line.opened ≡ false)
-  pub unrisen : lane.has_risen ≡ false → line.count.demanded + line.count.lost ≡ line.entered
 
 -- what the numbers of every lane keep to
 pub record IsSound (lane : LaneState) : Type 0 where

@@ -9,7 +9,7 @@ ghost use Rattle.arbiter_lane.specs.Lines.{entry_on, Become, LosesSlots, Acknowl
 ghost use Rattle.std.specs.List.{filter_map};
 ghost use Rattle.greedy_rules.specs.Batches.{IsAboveLast};
 ghost use Rattle.arbiter_lane.specs.declared.line.Line.{Line as LineOf};
-ghost use Rattle.arbiter_lane.specs.Parts.{CanRise, AreMarked, HaveEntriesMarked, HaveNotRisen, entries_on};
+ghost use Rattle.arbiter_lane.specs.Parts.{CanRise, AreMarked, HaveEntriesMarked, entries_on};
 ghost use Rattle.endpoint_history.specs.Confirmed.{total_named};
 
 use crate::NoMemory;
@@ -63,35 +63,28 @@ fn acknowledge_one(lines: &mut [Line], slot: Told)
     lines[slot.dst as usize].count.acknowledge(1);
 }
 
-/// Raises the demand of each flow that is named to the total that is named for it, and marks those that rise. Answers whether one
-/// has risen.
-pub(crate) fn raise(lines: &mut [Line], risen: &mut Marks, demands: &[Demand]) -> bool
+/// Raises the demand of each flow that is named to the total that is named for it, and marks those that rise.
+pub(crate) fn raise(lines: &mut [Line], risen: &mut Marks, demands: &[Demand])
     requires few { length lines.old ≤ 256 }
     requires destinations { All (λ (demand : DemandItem). demand.dst < length lines.old) demands.now }
     ensures raised { Become (λ dst. RisesTo (total_named dst demands.now)) lines.old lines.new }
-    ensures unrisen { result ≡ false → Become (λ dst. RisesTo 0) lines.old lines.new }
     ensures marked { AreMarked risen.old lines.old → AreMarked risen.new lines.new }
 {
-    let mut any = false;
     for demand in demands {
-        let rises = raise_one(lines, risen, *demand);
-        any |= rises;
+        raise_one(lines, risen, *demand);
     }
-    any
 }
 
-fn raise_one(lines: &mut [Line], risen: &mut Marks, demand: Demand) -> bool
+fn raise_one(lines: &mut [Line], risen: &mut Marks, demand: Demand)
     requires few { length lines.old ≤ 256 }
     requires destination { demand.dst < length lines.old }
     ensures raised { Become (λ dst. RisesTo (total_named dst (demand ∷ []))) lines.old lines.new }
-    ensures unrisen { result ≡ false → Become (λ dst. RisesTo 0) lines.old lines.new }
     ensures marked { AreMarked risen.old lines.old → AreMarked risen.new lines.new }
 {
     let rises = lines[demand.dst as usize].count.raise(demand.total) > 0;
     if rises {
         risen.set(demand.dst as usize);
     }
-    rises
 }
 
 /// Starts the counts of every flow again.
@@ -103,38 +96,31 @@ pub(crate) fn restart(lines: &mut [Line])
     }
 }
 
-/// Counts the slots in the numbers that are decided, as lost or as acknowledged. Answers whether one is lost.
-pub(crate) fn decide(lines: &mut [Line], risen: &mut Marks, found: &[Decided<Telling>]) -> bool
+/// Counts the slots in the numbers that are decided, as lost or as acknowledged, and marks the flows of those that are lost.
+pub(crate) fn decide(lines: &mut [Line], risen: &mut Marks, found: &[Decided<Telling>])
     requires few { length lines.old ≤ 256 }
     requires destinations { All (λ (number : DecidedNumber TellingOf). All (λ (slot : ToldSlot). slot.dst < length lines.old) number.content.told) found.now }
     requires in_flight { AreInFlight (λ dst. slots_shown found.now dst + slots_lost found.now dst) lines.old }
     ensures decided { Become (λ dst. DecidesSlots (slots_shown found.now dst) (slots_lost found.now dst)) lines.old lines.new }
-    ensures none_lost { result ≡ false → (dst : ℕ) → slots_lost found.now dst ≡ 0 }
     ensures marked { AreMarked risen.old lines.old → AreMarked risen.new lines.new }
 {
-    let mut lost = false;
     for number in found {
-        let loses = decide_one(lines, risen, number);
-        lost |= loses;
+        decide_one(lines, risen, number);
     }
-    lost
 }
 
-fn decide_one(lines: &mut [Line], risen: &mut Marks, number: &Decided<Telling>) -> bool
+fn decide_one(lines: &mut [Line], risen: &mut Marks, number: &Decided<Telling>)
     requires few { length lines.old ≤ 256 }
     requires destinations { All (λ (slot : ToldSlot). slot.dst < length lines.old) number.now.content.told }
     requires in_flight { AreInFlight (λ dst. slots_to dst number.now.content.told) lines.old }
     ensures decided { Become (λ dst. DecidesSlots (slots_shown (number.now ∷ []) dst) (slots_lost (number.now ∷ []) dst)) lines.old lines.new }
-    ensures none_lost { result ≡ false → (dst : ℕ) → slots_lost (number.now ∷ []) dst ≡ 0 }
     ensures marked { AreMarked risen.old lines.old → AreMarked risen.new lines.new }
 {
     let told = number.content.told.as_slice();
     if number.lost {
         lose(lines, risen, told);
-        !told.is_empty()
     } else {
         acknowledge(lines, told);
-        false
     }
 }
 
@@ -144,7 +130,6 @@ pub(crate) fn record(
     lines: &mut [Line],
     risen: &mut Marks,
     endpoint: u16,
-    rises: bool,
     resets: bool,
     batch: &mut Batch,
 ) -> Result<(), NoMemory>
@@ -152,19 +137,16 @@ pub(crate) fn record(
     requires above { IsAboveLast batch.old.entries (record { src = endpoint; dst = 0 }) }
     requires can_rise { CanRise lines.old }
     requires marked { AreMarked risen.old lines.old }
-    requires unrisen { rises ≡ false → HaveNotRisen lines.old }
     ensures entries { OnOk result (batch.new.entries ≡ batch.old.entries ++ entries_on lines.old endpoint resets) }
     ensures limits { batch.new.limits ≡ batch.old.limits }
     ensures entered { OnOk result (Become (λ dst. IsEntered) lines.old lines.new) }
     ensures unchanged { OnErr result (lines.new ≡ lines.old) }
     ensures marked { AreMarked risen.new lines.new }
 {
-    if rises | resets {
-        mark_entries(lines, risen, resets);
-        enter(lines, risen, endpoint, resets, batch)?;
-        settle(lines, risen);
-        risen.clear_all();
-    }
+    mark_entries(lines, risen, resets);
+    enter(lines, risen, endpoint, resets, batch)?;
+    settle(lines, risen);
+    risen.clear_all();
     Ok(())
 }
 

@@ -1,27 +1,30 @@
 //! The lane of one endpoint.
-ghost use Rattle.std.specs.Prelude.{◌≡◌, ◌≢◌, ◌<◌, ◌≤◌, ◌↔◌, ℕ, ◌+◌, ◌*◌, ◌-◌, ◌++◌, ◌^◌, true, false, List, [], ◌∷◌, length, take, drop, IfOk, OnOk, OnErr, IfSome, IsSome, IsNone, unwrap_or, Some, None, All, slice_get};
+ghost use Rattle.std.specs.Prelude.{◌≡◌, ◌≢◌, ◌<◌, ◌≤◌, ◌↔◌, ℕ, ◌+◌, ◌*◌, ◌-◌, ◌++◌, ◌^◌, true, false, List, [], ◌∷◌, length, take, drop, IfOk, OnOk, OnErr, IfSome, IsSome, IsNone, unwrap_or, Some, None, All, slice_get, ◌⊎◌, if◌then◌else◌};
 ghost use Rattle.std.specs.List.{filter_map, range_with_len};
 ghost use Rattle.std.specs.Option.{option_map};
 ghost use Rattle.std.specs.Result.{result_err};
 ghost use Rattle.greedy_rules.specs.Batches.{IsAboveLast};
 ghost use Rattle.flow_ledger.specs.FlowCount.{pending};
+ghost use Rattle.fcp_framing.specs.declared.packet.Demand.{Demand as DemandItem};
 ghost use Rattle.fcp_framing.specs.declared.packet.Told.{Told as ToldSlot};
 ghost use Rattle.ack_window.specs.declared.send_window.Unresolved.{Unresolved as UnresolvedNumber};
 ghost use Rattle.fcp_framing.specs.Spelling.{down_bytes, IsMask, SpellsDown};
 ghost use Rattle.fcp_framing.specs.Fields.{up_of};
 ghost use Rattle.fcp_framing.specs.Versions.{IsVersion, mask_bits};
+ghost use Rattle.ack_window.specs.Arrivals.{receive_verdict, is_fresh};
 ghost use Rattle.ack_window.specs.Sends.{Event, Sends, Reads, newest_content, decided_by};
 ghost use Rattle.ack_window.specs.Versions.{reorder_of, span_of};
 ghost use Rattle.ack_window.specs.Windows.{HasHeard, HasDone, MaySend, Sender};
 ghost use Rattle.endpoint_history.specs.Packets.{Telling as TellingOf, Resets, slots_to, up_packet, framed_down};
 ghost use Rattle.endpoint_history.specs.Lane.{LaneHistory, MakesDown, TakesUp, Records, packet_down};
+ghost use Rattle.endpoint_history.specs.Confirmed.{total_named};
 ghost use Rattle.endpoint_history.specs.Counts.{Allocation, recorded, acknowledged, lost, allocated};
 ghost use Rattle.endpoint_history.specs.Entries.{had, entry_of};
 ghost use Rattle.arbiter_lane.specs.State.{AreSlots, AreAllocated, AreInFlight, open_to};
 ghost use Rattle.arbiter_lane.specs.Standing.{StandsFor, FlowIsWithinLedger};
-ghost use Rattle.arbiter_lane.specs.Refusals.{refusal_of, IsOwn};
+ghost use Rattle.arbiter_lane.specs.Refusals.{refusal_of, refusal_of_number, IsOwn};
 ghost use Rattle.arbiter_lane.specs.declared.line.Line.{Line as LineOf};
-ghost use Rattle.arbiter_lane.specs.Lines.{Become, LosesSlots, DecidesSlots, HasStartedAgain, slots_shown, slots_lost};
+ghost use Rattle.arbiter_lane.specs.Lines.{Become, LosesSlots, DecidesSlots, Hears, HasStartedAgain, slots_shown, slots_lost};
 ghost use Rattle.arbiter_lane.specs.Parts.{packet_with, slots_told, acknowledgement_in, AreMarked};
 
 use crate::line::Line;
@@ -60,7 +63,6 @@ pub struct Lane {
     round: u32,
     is_made: bool,
     is_reset: bool,
-    has_risen: bool,
     /// The packet that was made last, and the one that arrived last.
     down: Down,
     up: Up,
@@ -90,7 +92,6 @@ impl Model for Lane {
       round = lane.round;
       is_made = lane.is_made;
       is_reset = lane.is_reset;
-      has_risen = lane.has_risen;
     } };
 
     ghost invariant = { λ lane.
@@ -108,7 +109,6 @@ impl Model for Lane {
           round = lane.round;
           is_made = lane.is_made;
           is_reset = lane.is_reset;
-          has_risen = lane.has_risen;
         } in
         IsSound state × HasHistory state × (lane.found.value.items ≡ []) × AreMarked lane.risen lane.lines.items };
 }
@@ -151,7 +151,6 @@ impl Lane {
             round: 0,
             is_made: false,
             is_reset: false,
-            has_risen: false,
             down: Down::default(),
             up: Up::default(),
             found: Box::new(alloc, ArrayVec::new())?,
@@ -183,7 +182,7 @@ impl Lane {
             IfSome (packet_down self.old.g history round told.now.items) (λ packet. SpellsDown self.old.endpoints self.old.b (take (unwrap_or result 0) buf.new) (framed_down self.old.endpoint packet)) }
         ensures room { unwrap_or result 0 ≤ 2048 }
         ensures rest { drop (unwrap_or result 0) buf.new ≡ drop (unwrap_or result 0) buf.old }
-        ensures frame { self.new ≡ record self.old { sent = self.new.sent; lines = self.new.lines; has_risen = self.new.has_risen; is_made = true } }
+        ensures frame { self.new ≡ record self.old { sent = self.new.sent; lines = self.new.lines; is_made = true } }
         ensures stands { (history : LaneHistory) (allocations : List Allocation) →
             StandsFor self.old history allocations →
             StandsFor self.new (MakesDown round told.now.items ∷ history) allocations }
@@ -203,7 +202,7 @@ impl Lane {
         }
         let batch = round.saturating_sub(2 * u32::from(self.g));
         let down = &mut self.down;
-        let loses = tell(
+        tell(
             &mut self.sent,
             &mut self.lines,
             &mut self.risen,
@@ -211,7 +210,6 @@ impl Lane {
             told,
             down,
         );
-        self.has_risen |= loses;
         Some(encode_alloc(&self.down, buf))
     }
 
@@ -226,7 +224,7 @@ impl Lane {
         ensures unchanged { IfSome (result_err result) (λ refusal.
             refusal ≢ UpRefused.OldSeq → refusal ≢ UpRefused.Repeat → self.new ≡ self.old) }
         ensures kept { IfSome (result_err result) (λ refusal.
-            self.new ≡ record self.old { sent = self.new.sent; lines = self.new.lines; has_risen = self.new.has_risen }) }
+            self.new ≡ record self.old { sent = self.new.sent; lines = self.new.lines }) }
         ensures endpoint { self.new.endpoint ≡ self.old.endpoint }
         ensures endpoints { self.new.endpoints ≡ self.old.endpoints }
         ensures b { self.new.b ≡ self.old.b }
@@ -263,27 +261,14 @@ impl Lane {
         if self.up.reset {
             return Ok(());
         }
-        let loses = read_ack(
+        take_request(
             &self.up,
+            &mut self.arrived,
             &mut self.sent,
             &mut self.found,
             &mut self.lines,
             &mut self.risen,
-        );
-        self.has_risen |= loses;
-        match self.arrived.take(self.up.seq) {
-            Taken::Fresh => {
-                let rises = flows::raise(
-                    &mut self.lines,
-                    &mut self.risen,
-                    self.up.demands.as_slice(),
-                );
-                self.has_risen |= rises;
-                Ok(())
-            }
-            Taken::Repeat => Err(UpRefused::Repeat),
-            Taken::Old => Err(UpRefused::OldSeq),
-        }
+        )
     }
 
     /// Records this round: appends the entries of the flows that have risen, or whose demand starts again. The last flow of
@@ -297,7 +282,7 @@ impl Lane {
             StandsFor self.old history allocations →
             batch.new.entries ≡ batch.old.entries ++ filter_map (entry_of self.old.endpoint self.old.g history) (range_with_len 0 self.old.endpoints)) }
         ensures limits { batch.new.limits ≡ batch.old.limits }
-        ensures frame { OnOk result (self.new ≡ record self.old { lines = self.new.lines; has_risen = false; is_reset = false; is_made = false; round = round + 1 }) }
+        ensures frame { OnOk result (self.new ≡ record self.old { lines = self.new.lines; is_reset = false; is_made = false; round = round + 1 }) }
         ensures stands { OnOk result ((history : LaneHistory) (allocations : List Allocation) →
             StandsFor self.old history allocations →
             StandsFor self.new (Records round ∷ history) allocations) }
@@ -306,11 +291,9 @@ impl Lane {
             &mut self.lines,
             &mut self.risen,
             self.endpoint,
-            self.has_risen,
             self.is_reset,
             batch,
         )?;
-        self.has_risen = false;
         self.is_reset = false;
         self.is_made = false;
         self.round = round + 1;
@@ -386,7 +369,6 @@ impl Lane {
           sent = self.new.sent;
           lines = self.new.lines;
           is_reset = true;
-          has_risen = false;
         } }
         ensures stands { (history : LaneHistory) (allocations : List Allocation) →
             StandsFor self.old history allocations →
@@ -397,7 +379,6 @@ impl Lane {
         self.version = version;
         self.last_reset = self.round;
         self.is_reset = true;
-        self.has_risen = false;
         self.arrived = TakeWindow::new(version);
         self.sent.restart(version);
         flows::restart(&mut self.lines);
@@ -432,15 +413,66 @@ fn put_header(down: &mut Down, version: u8, endpoint: u16, epoch: u32, arrived: 
     down.told.clear();
 }
 
-/// Reads the acknowledgement that a request carries, and counts the slots in the numbers that it decides. Answers whether some
-/// are lost. `found` is empty again.
+/// Takes a request of the connection: reads its acknowledgement, and where its number is fresh raises the demands that it names.
+/// Answers what the number is refused for. `found` is empty again.
+fn take_request(
+    up: &Up,
+    arrived: &mut TakeWindow,
+    sent: &mut SendWindow<Telling>,
+    found: &mut ArrayVec<Decided<Telling>, 129>,
+    lines: &mut [Line],
+    risen: &mut Marks,
+) -> Result<(), UpRefused>
+    requires number { 1 ≤ up.now.seq }
+    requires few { length lines.old ≤ 256 }
+    requires empty { found.old.items ≡ [] }
+    requires stands { (events : List (Event TellingOf)) × HasDone sent.old events }
+    requires destinations { All (λ (number : UnresolvedNumber TellingOf). All (λ (slot : ToldSlot). slot.dst < length lines.old) number.content.told) sent.old.outstanding.unresolved }
+    requires named { All (λ (demand : DemandItem). demand.dst < length lines.old) up.now.demands.items }
+    requires in_flight { AreInFlight (λ dst. open_to dst sent.old) lines.old }
+    ensures answer { (numbers : List ℕ) →
+        HasHeard arrived.old numbers →
+        result_err result ≡ refusal_of_number (receive_verdict (reorder_of arrived.old.version) numbers up.now.seq) }
+    ensures refused { IfSome (result_err result) (λ refusal. (refusal ≡ UpRefused.OldSeq) ⊎ (refusal ≡ UpRefused.Repeat)) }
+    ensures unheard { IfSome (result_err result) (λ refusal. arrived.new ≡ arrived.old) }
+    ensures arrived { (numbers : List ℕ) →
+        HasHeard arrived.old numbers →
+        HasHeard arrived.new (up.now.seq ∷ numbers) }
+    ensures arrived_version { arrived.new.version ≡ arrived.old.version }
+    ensures empty { found.new.items ≡ [] }
+    ensures lines { (numbers : List ℕ) (events : List (Event TellingOf)) →
+        HasHeard arrived.old numbers →
+        HasDone sent.old events →
+        Become (λ dst. Hears
+        (slots_shown (decided_by (reorder_of sent.old.version) (span_of sent.old.version) events (acknowledgement_in up.now)) dst)
+        (slots_lost (decided_by (reorder_of sent.old.version) (span_of sent.old.version) events (acknowledgement_in up.now)) dst)
+        (if is_fresh (receive_verdict (reorder_of arrived.old.version) numbers up.now.seq) then total_named dst up.now.demands.items else 0)) lines.old lines.new }
+    ensures sent { (events : List (Event TellingOf)) →
+        HasDone sent.old events →
+        HasDone sent.new (Reads (acknowledgement_in up.now) ∷ events) }
+    ensures newest { sent.new.outstanding.newest ≡ sent.old.outstanding.newest }
+    ensures version { sent.new.version ≡ sent.old.version }
+    ensures marked { AreMarked risen.old lines.old → AreMarked risen.new lines.new }
+{
+    read_ack(up, sent, found, lines, risen);
+    match arrived.take(up.seq) {
+        Taken::Fresh => {
+            flows::raise(lines, risen, up.demands.as_slice());
+            Ok(())
+        }
+        Taken::Repeat => Err(UpRefused::Repeat),
+        Taken::Old => Err(UpRefused::OldSeq),
+    }
+}
+
+/// Reads the acknowledgement that a request carries, and counts the slots in the numbers that it decides. `found` is empty again.
 fn read_ack(
     up: &Up,
     sent: &mut SendWindow<Telling>,
     found: &mut ArrayVec<Decided<Telling>, 129>,
     lines: &mut [Line],
     risen: &mut Marks,
-) -> bool
+)
     requires few { length lines.old ≤ 256 }
     requires empty { found.old.items ≡ [] }
     requires stands { (events : List (Event TellingOf)) × HasDone sent.old events }
@@ -452,9 +484,6 @@ fn read_ack(
         Become (λ dst. DecidesSlots
         (slots_shown (decided_by (reorder_of sent.old.version) (span_of sent.old.version) events (acknowledgement_in up.now)) dst)
         (slots_lost (decided_by (reorder_of sent.old.version) (span_of sent.old.version) events (acknowledgement_in up.now)) dst)) lines.old lines.new }
-    ensures none_lost { result ≡ false → (events : List (Event TellingOf)) →
-        HasDone sent.old events →
-        (dst : ℕ) → slots_lost (decided_by (reorder_of sent.old.version) (span_of sent.old.version) events (acknowledgement_in up.now)) dst ≡ 0 }
     ensures sent { (events : List (Event TellingOf)) →
         HasDone sent.old events →
         HasDone sent.new (Reads (acknowledgement_in up.now) ∷ events) }
@@ -464,7 +493,6 @@ fn read_ack(
 {
     readings_move_what_they_decide::<Telling>();
     sent.read_ack(up.high, up.mask, found);
-    let lost = flows::decide(lines, risen, found.as_slice());
+    flows::decide(lines, risen, found.as_slice());
     found.clear();
-    lost
 }

@@ -32,7 +32,7 @@ impl Model for Telling {
 }
 
 /// Tells the slots of a batch under a new number, or takes them for lost where none may be sent. Writes the newest number, with
-/// what goes with it, into `down`, and answers whether slots are lost.
+/// what goes with it, into `down`.
 pub(crate) fn tell(
     sent: &mut SendWindow<Telling>,
     lines: &mut [Line],
@@ -40,7 +40,7 @@ pub(crate) fn tell(
     batch: u32,
     told: &[Told],
     down: &mut Down,
-) -> bool
+)
     requires lines { length lines.old ≤ 256 }
     requires few { length told.now ≤ 64 }
     requires numbers_left { sent.old.outstanding.newest + 1 < 2 ^ 32 }
@@ -52,7 +52,6 @@ pub(crate) fn tell(
     ensures newest { sent.new.outstanding.newest ≡ sent.old.outstanding.newest + (if may_tell sent.old then 1 else 0) }
     ensures version { sent.new.version ≡ sent.old.version }
     ensures lines { Become (λ dst. LosesSlots (lost_by sent.old told.now dst)) lines.old lines.new }
-    ensures none_lost { result ≡ false → (dst : ℕ) → lost_by sent.old told.now dst ≡ 0 }
     ensures marked { AreMarked risen.old lines.old → AreMarked risen.new lines.new }
     ensures content { (events : List (Event TellingOf)) →
         HasDone sent.old events →
@@ -69,14 +68,13 @@ pub(crate) fn tell(
         };
         put_slots(&mut telling.told, told);
         down.seq = sent.push(telling);
-        return false;
+        return;
     }
     flows::lose(lines, risen, told);
     let (number, telling) = sent.newest();
     down.seq = number;
     down.batch = telling.batch;
     put_slots(&mut down.told, telling.told.as_slice());
-    !told.is_empty()
 }
 
 /// Puts these slots in place of those of a list.

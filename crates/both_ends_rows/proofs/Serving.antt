@@ -70,7 +70,7 @@ module _ (lane : LaneState) (dst number : ℕ) (before last : Bool) where
   slot-allocated suffice is =
       suffice.telling lane is.calls number (told_of dst before) (subst (λ (g : ℕ). MeetsConditions g (Happens (MakesDown number (told_of dst before)) ∷ is.calls)) (sym is.g) (meets-told is)) is.stands
 
-  pub served-told : (new : LaneState) → (is : IsServed lane dst number 0 before last) → new ≡ record lane { sent = new.sent; lines = new.lines; has_risen = new.has_risen; is_made = true } →
+  pub served-told : (new : LaneState) → (is : IsServed lane dst number 0 before last) → new ≡ record lane { sent = new.sent; lines = new.lines; is_made = true } →
       StandsFor new (MakesDown number (told_of dst before) ∷ history_of is.calls) (allocations_of is.calls) → IsServed new dst number 1 before last
   served-told new is frame stands =
       called lane dst number 0 before last is new number 1 before last (Happens (MakesDown number (told_of dst before)) ∷ is.calls)
@@ -95,7 +95,7 @@ module _ (lane : LaneState) (dst number : ℕ) (before last : Bool) where
         | inr same ↦ subst (λ (l : LaneState). IsServed l dst number 1 before last) (sym same) is
       ]
 
-  pub served-recorded : (new : LaneState) → (is : IsServed lane dst number 1 before last) → new ≡ record lane { lines = new.lines; has_risen = false; is_reset = false; is_made = false; round = number + 1 } →
+  pub served-recorded : (new : LaneState) → (is : IsServed lane dst number 1 before last) → new ≡ record lane { lines = new.lines; is_reset = false; is_made = false; round = number + 1 } →
       StandsFor new (Records number ∷ history_of is.calls) (allocations_of is.calls) → IsServed new dst (number + 1) 0 last false
   served-recorded new is frame stands =
       let begun = is.begun in

@@ -9,8 +9,7 @@ use Rattle.endpoint_agent.specs.declared.lines.FlowLine.{FlowLine}
 use Rattle.endpoint_agent.specs.State.{line_at, AreMarked}
 use Rattle.endpoint_agent.specs.Lines.{demand_at, unconfirmed_in}
 use Rattle.endpoint_agent.proofs.Walking.{no_line}
-use Rattle.line_marks.specs.declared.Marks.{Marks}
-use Rattle.line_marks.specs.Places.{is_marked}
+use Rattle.line_marks.specs.Places.{Places, is_marked}
 
 pub range-last : (a n : ℕ) → range_with_len a (suc n) ≡ range_with_len a n ++ (a + n) ∷ []
 range-last a zero = let e : a ≡ a + zero = omega arith in ap (λ (k : ℕ). k ∷ []) e
@@ -114,7 +113,7 @@ pub past-lines : (acknowledged : ℕ) (lines : List FlowLine) (dst : ℕ) → le
 past-lines acknowledged lines dst past = let is = ap (λ (l : FlowLine). l.carried_from) (get_or_past lines dst no_line past) in omega (arith, is)
 
 -- once a flow is named or has lost its mark, every flow that may be named is marked
-pub marked-still : (acknowledged : ℕ) (old new : Marks) (lines : List FlowLine) (at : ℕ) (line : FlowLine) → AreMarked acknowledged old lines → line ≡ line_at lines at →
+pub marked-still : (acknowledged : ℕ) (old new : Places) (lines : List FlowLine) (at : ℕ) (line : FlowLine) → AreMarked acknowledged old lines → line ≡ line_at lines at →
     ((place : ℕ) → is_marked new place ≡ false → (is_marked old place ≡ false) ⊎ ((place ≡ at) × (line.carried_from ≤ acknowledged))) → AreMarked acknowledged new lines
 marked-still acknowledged old new lines at line marked here moved = λ dst none. elim (moved dst none) [
   | inl was ↦ marked dst was

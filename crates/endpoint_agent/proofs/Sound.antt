@@ -7,8 +7,7 @@ use Rattle.ack_window.specs.Windows.{Receiver, Sender}
 use Rattle.fcp_framing.specs.declared.packet.Demand.{Demand}
 use Rattle.fcp_framing.specs.declared.packet.Told.{Told}
 use Rattle.fcp_framing.specs.Versions.{IsVersion}
-use Rattle.line_marks.specs.declared.Marks.{Marks}
-use Rattle.line_marks.specs.Places.{is_marked}
+use Rattle.line_marks.specs.Places.{Places, is_marked}
 use Rattle.endpoint_agent.specs.declared.lines.FlowLine.{FlowLine}
 use Rattle.endpoint_agent.specs.Lines.{with_asked, with_missed, with_sent}
 use Rattle.endpoint_agent.specs.State.{AgentState, line_at, IsLine, IsSound, AreMarked, IsKept}
@@ -223,7 +222,7 @@ neither : (a b : Bool) → (a || b) ≡ false → (a ≡ false) × (b ≡ false)
 neither true b none = absurd (false≢true (sym none))
 neither false b none = (refl, none)
 
-pub Kept-asks : (agent : AgentState) (seq dst n : ℕ) (marks marks' : Marks) (lines : List FlowLine) → IsKept seq marks agent
+pub Kept-asks : (agent : AgentState) (seq dst n : ℕ) (marks marks' : Places) (lines : List FlowLine) → IsKept seq marks agent
     → ((place : ℕ) → is_marked marks' place ≡ (is_marked marks place || place == dst))
     → ((other : ℕ) → line_at lines other ≡ cond (dst == other) (with_asked (agent.sent.outstanding.newest + 1) n (line_at agent.lines other)) (line_at agent.lines other))
     → IsKept seq marks' (record agent { lines = lines })
@@ -238,7 +237,7 @@ Kept-asks agent seq dst n marks marks' lines kept set asks = record {
       omega (arith, is, low);
 }
 
-pub Kept-ends : (agent after : AgentState) (seq : ℕ) (marks : Marks) (n : ℕ → ℕ) → IsKept seq marks agent → after.sent ≡ agent.sent → after.acknowledged ≡ agent.acknowledged
+pub Kept-ends : (agent after : AgentState) (seq : ℕ) (marks : Places) (n : ℕ → ℕ) → IsKept seq marks agent → after.sent ≡ agent.sent → after.acknowledged ≡ agent.acknowledged
     → ((dst : ℕ) → line_at after.lines dst ≡ with_sent (n dst) (line_at agent.lines dst)) → IsKept seq marks after
 Kept-ends agent after seq marks n kept same known counted =
     let newest = ap (λ (s : Sender (Unit {0})). s.outstanding.newest) same in
@@ -251,7 +250,7 @@ Kept-ends agent after seq marks n kept same known counted =
     }
 
 -- no line changes
-pub Kept-makes : (agent after : AgentState) (seq : ℕ) (marks : Marks) → AreMarked agent.acknowledged marks agent.lines → after.lines ≡ agent.lines → agent.acknowledged ≤ after.acknowledged
+pub Kept-makes : (agent after : AgentState) (seq : ℕ) (marks : Places) → AreMarked agent.acknowledged marks agent.lines → after.lines ≡ agent.lines → agent.acknowledged ≤ after.acknowledged
     → seq ≡ after.sent.outstanding.newest → IsKept seq marks after
 Kept-makes agent after seq marks marked same later number = record {
   number = number;
@@ -262,7 +261,7 @@ Kept-makes agent after seq marks marked same later number = record {
 }
 
 -- slots are taken: the flows of those that are missed are marked
-pub Kept-takes : (agent after : AgentState) (seq : ℕ) (marks marks' : Marks) (n : ℕ → ℕ) → IsKept seq marks agent → after.sent.outstanding.newest ≡ agent.sent.outstanding.newest → agent.acknowledged ≤ after.acknowledged
+pub Kept-takes : (agent after : AgentState) (seq : ℕ) (marks marks' : Places) (n : ℕ → ℕ) → IsKept seq marks agent → after.sent.outstanding.newest ≡ agent.sent.outstanding.newest → agent.acknowledged ≤ after.acknowledged
     → ((dst : ℕ) → line_at after.lines dst ≡ with_missed (agent.sent.outstanding.newest + 1) (n dst) (line_at agent.lines dst))
     → ((dst : ℕ) → is_marked marks' dst ≡ false → (is_marked marks dst ≡ false) × (n dst ≡ 0)) → IsKept seq marks' after
 Kept-takes agent after seq marks marks' n kept newest later counted missed =

@@ -4,8 +4,7 @@ use Rattle.ack_window.specs.Windows.{Receiver, Sender}
 use Rattle.fcp_framing.specs.declared.packet.Demand.{Demand}
 use Rattle.fcp_framing.specs.declared.packet.Told.{Told}
 use Rattle.fcp_framing.specs.Versions.{IsVersion}
-use Rattle.line_marks.specs.declared.Marks.{Marks}
-use Rattle.line_marks.specs.Places.{is_marked}
+use Rattle.line_marks.specs.Places.{Places, is_marked}
 use Rattle.endpoint_history.specs.Packets.{DownPacket, slots_to}
 use Rattle.endpoint_agent.specs.declared.lines.FlowLine.{FlowLine}
 
@@ -85,10 +84,10 @@ pub record IsSound (agent : AgentState) : Type 0 where
   pub waiting : (place : ℕ) → All (λ (t : Told). t.dst < agent.endpoints) (get_or agent.waiting place [])
 
 -- a flow whose total no request up to this number carries is marked; others may be, too
-abbrev pub AreMarked : ℕ → Marks → List FlowLine → Type 0
+abbrev pub AreMarked : ℕ → Places → List FlowLine → Type 0
 AreMarked acknowledged marks lines = (dst : ℕ) → is_marked marks dst ≡ false → (line_at lines dst).carried_from ≤ acknowledged
 
 -- what is stored twice: the newest number with the newest request, and which flows may be named
-pub record IsKept (seq : ℕ) (unconfirmed : Marks) (agent : AgentState) : Type 0 where
+pub record IsKept (seq : ℕ) (unconfirmed : Places) (agent : AgentState) : Type 0 where
   pub number : seq ≡ agent.sent.outstanding.newest
   pub marked : AreMarked agent.acknowledged unconfirmed agent.lines

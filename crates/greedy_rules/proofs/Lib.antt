@@ -7,7 +7,6 @@ mod KeptLemmas
 mod ScheduleLemmas
 mod RowLemmas
 mod TableLemmas
-mod EmptyCells
 mod WalkLemmas
 mod FillLemmas
 mod ApplyLemmas

@@ -1,201 +1,242 @@
--- The cells of a slot table, row after row, and the slots that contracts see.
-use Rattle.std.proofs.Common.{◌≡◌, ◌≢◌, ◌<◌, ◌≤◌, ◌+◌, ◌-◌, ◌*◌, ℕ, zero, suc, List, [], ◌∷◌, ◌++◌, length, get_or, set, replicate, Option, Some, None, IfSome, take, drop, All, refl, sym, ap, ◌∙◌, arith, inl, inr, length-set}
-use Rattle.std.proofs.Math.Seq.{take-append_seam, drop-append_seam, drop-append-add}
-use Rattle.std.proofs.lemmas.List.{take-append-drop, take-append-le, drop-append-le, drop-take, drop-drop, take-replicate, drop-replicate, length-take, length-drop, get_or-take, get_or-drop, get_or_default, get_or-set_same, get_or-set_other, same_lists}
-use Rattle.std.proofs.lemmas.List.Elements.{All-nil, All-cons, All-take, All-drop, All-append}
+-- The rows of a slot table, and the slots that contracts see.
+use Rattle.std.proofs.Common.{◌≡◌, ◌≢◌, ◌<◌, ◌≤◌, ◌+◌, ◌-◌, ◌*◌, ℕ, zero, suc, List, [], ◌∷◌, ◌++◌, length, get_or, set, replicate, Option, Some, None, IfSome, take, drop, All, refl, sym, ap, ◌∙◌, subst, arith, inl, inr, length-set}
+use Rattle.std.specs.Prelude.{filter, is_some}
+use Rattle.std.proofs.lemmas.List.{length-map, get_or-map, length-append, length-replicate, take-append-le, drop-append-le, take_all, drop_at, drop-take, length-take, length-drop, get_or_default, get_or-set_same, get_or-set_other, same_lists}
+use Rattle.std.proofs.lemmas.List.Elements.{All-nil, All-take, All-drop, All-append, All-replicate, All-set}
 use Rattle.std.proofs.lemmas.Bool.{cases_eq, cases_order}
 use Rattle.std.proofs.lemmas.Nat.{row_fits}
 use Rattle.std.proofs.lemmas.Slice.{take-put_mid_below, drop-put_mid, between-put_mid}
 use borrow.Rule.Slice.PartMut.{put_mid, set_mid_at}
+use Rattle.list_facts.proofs.Pairs.{AllPairs-nil}
 use Rattle.greedy_rules.specs.declared.flows.Flow.{Flow}
 use Rattle.greedy_rules.specs.Slot.{slot_with}
 use Rattle.greedy_rules.specs.Schedule.{slot_in}
-use Rattle.greedy_rules.specs.SlotTable.{Slots, flows_from, table_slots, destination_of, IsSlotOf, AreCells}
+use Rattle.greedy_rules.specs.SlotTable.{flows_from, row_of, flows_at, table_slots, place_at, destination_of, IsSlotOf, AreCells, AreRows}
 use Rattle.greedy_rules.proofs.RowLemmas.{destination-at, flows_from-set, flows_from-replicate, slot_of_row}
-
-abbrev pub row_of : ℕ → List (Option ℕ) → ℕ → List (Option ℕ)
-row_of endpoints cells slot = take endpoints (drop (slot * endpoints) cells)
 
 abbrev pub IsCell : ℕ → Option ℕ → Type 0
 IsCell endpoints cell = IfSome cell (λ dst. dst < endpoints)
 
-pub length-table_slots : (endpoints count : ℕ) (cells : List (Option ℕ)) → length (table_slots endpoints count cells) ≡ count
-length-table_slots endpoints zero cells = refl
-length-table_slots endpoints (suc count) cells = omega (arith, length-table_slots endpoints count (drop endpoints cells))
-
-pub slots_of_cells : (endpoints count : ℕ) (cells : List (Option ℕ)) → AreCells endpoints cells → All (IsSlotOf endpoints) (table_slots endpoints count cells)
-slots_of_cells endpoints zero cells are = All-nil (IsSlotOf endpoints)
-slots_of_cells endpoints (suc count) cells are =
-    All-cons (IsSlotOf endpoints) (flows_from 0 (take endpoints cells)) (table_slots endpoints count (drop endpoints cells))
-    (slot_of_row endpoints (take endpoints cells) (omega (arith, length-take endpoints cells)) (All-take (IsCell endpoints) endpoints cells are))
-    (slots_of_cells endpoints count (drop endpoints cells) (All-drop (IsCell endpoints) endpoints cells are))
-
 -- a slot of a table is what its row holds
-pub slot_at_row : (endpoints count : ℕ) (cells : List (Option ℕ)) (slot : ℕ) (d : List Flow) → slot < count → get_or (table_slots endpoints count cells) slot d ≡ flows_from 0 (row_of endpoints cells slot)
-slot_at_row endpoints zero cells slot d below = absurd (omega arith)
-slot_at_row endpoints (suc count) cells zero d below =
-    let first : 0 ≡ 0 * endpoints = omega arith in
-    ap (λ (n : ℕ). flows_from 0 (take endpoints (drop n cells))) first
-slot_at_row endpoints (suc count) cells (suc slot) d below =
-    let next : endpoints + slot * endpoints ≡ suc slot * endpoints = omega arith in
-    slot_at_row endpoints count (drop endpoints cells) slot d (omega arith)
-    ∙ ap (λ (xs : List (Option ℕ)). flows_from 0 (take endpoints xs)) (drop-drop (slot * endpoints) endpoints cells ∙ ap (λ (n : ℕ). drop n cells) next)
+pub slot_at : (endpoints : ℕ) (cells places : List (Option ℕ)) (slot : ℕ) (d : List Flow) → slot < length places → get_or (table_slots endpoints cells places) slot d ≡ flows_at endpoints cells (place_at places slot)
+slot_at endpoints cells places slot d below = get_or-map (flows_at endpoints cells) places slot None d below
 
--- the row of each slot is whole
-pub fits : (endpoints count slot : ℕ) → slot < count → slot * endpoints + endpoints ≤ count * endpoints
-fits endpoints count slot below = row_fits slot endpoints count endpoints below (omega arith)
+-- a place that is read is the one that stands there
+pub place_read : (places : List (Option ℕ)) (slot : ℕ) (place : Option ℕ) → slot < length places → place ≡ get_or places slot place → place_at places slot ≡ place
+place_read places slot place below is = sym (is ∙ get_or_default places slot place None below)
 
-pub length-row : (endpoints count : ℕ) (cells : List (Option ℕ)) (slot : ℕ) → slot < count → length cells ≡ count * endpoints → length (row_of endpoints cells slot) ≡ endpoints
-length-row endpoints count cells slot below full = omega (arith, length-take endpoints (drop (slot * endpoints) cells), length-drop (slot * endpoints) cells, fits endpoints count slot below)
+flows_of_place : (endpoints : ℕ) (cells : List (Option ℕ)) (place : Option ℕ) → AreCells endpoints cells → IsSlotOf endpoints (flows_at endpoints cells place)
+flows_of_place endpoints cells None are = record { rising = AllPairs-nil (λ f g. f.src < g.src); in_range = All-nil (λ flow. (flow.src < endpoints) × (flow.dst < endpoints)) }
+flows_of_place endpoints cells (Some row) are =
+    slot_of_row endpoints (row_of endpoints cells row) (omega (arith, length-take endpoints (drop (row * endpoints) cells)))
+    (All-take (IsCell endpoints) endpoints (drop (row * endpoints) cells) (All-drop (IsCell endpoints) (row * endpoints) cells are))
 
--- where contracts see a table, its slots and sources have their places
-pub slot_below : (endpoints count : ℕ) (cells : List (Option ℕ)) (seen : Slots) (slot : ℕ) → record { slots = table_slots endpoints count cells; endpoints = endpoints } ≡ seen → slot < length seen.slots → slot < count
-slot_below endpoints count cells seen slot is below = omega (arith, ap (λ (t : Slots). length t.slots) is, length-table_slots endpoints count cells)
+pub slots_of_cells : (endpoints : ℕ) (cells places : List (Option ℕ)) → AreCells endpoints cells → All (IsSlotOf endpoints) (table_slots endpoints cells places)
+slots_of_cells endpoints cells places are = λ k d below.
+    subst (IsSlotOf endpoints) (sym (slot_at endpoints cells places k d (omega (arith, below, length-map places (flows_at endpoints cells))))) (flows_of_place endpoints cells (place_at places k) are)
 
-pub in_table : (endpoints count : ℕ) (cells : List (Option ℕ)) (seen : Slots) (slot src place : ℕ) → record { slots = table_slots endpoints count cells; endpoints = endpoints } ≡ seen
-    → length cells ≡ count * endpoints → slot < length seen.slots → src < seen.endpoints → place ≡ slot * seen.endpoints + src
-    → (slot < count) × (src < endpoints) × (place ≡ slot * endpoints + src) × (place < length cells)
-in_table endpoints count cells seen slot src place is full slot_in_range src_in_range at =
-    let below : slot < count = slot_below endpoints count cells seen slot is slot_in_range in
-    let here : src < endpoints = omega (arith, ap (λ (t : Slots). t.endpoints) is) in
-    let same : place ≡ slot * endpoints + src = at ∙ ap (λ (t : Slots). slot * t.endpoints + src) (sym is) in
-    (below, here, same, omega (arith, same, full, fits endpoints count slot below))
+-- every row is whole
+pub fits : (endpoints count row : ℕ) → row < count → row * endpoints + endpoints ≤ count * endpoints
+fits endpoints count row below = row_fits row endpoints count endpoints below (omega arith)
 
--- what a table holds at a slot and a source is where the source sends
-pub to_is : (endpoints count : ℕ) (cells : List (Option ℕ)) (slot src : ℕ) (cell : Option ℕ) → slot < count → src < endpoints → length cells ≡ count * endpoints
-    → cell ≡ get_or cells (slot * endpoints + src) cell → cell ≡ destination_of (slot_in (table_slots endpoints count cells) slot) src
-to_is endpoints count cells slot src cell below here full held =
-    let row = row_of endpoints cells slot in
-    held
-    ∙ (get_or_default cells (slot * endpoints + src) cell None (omega (arith, fits endpoints count slot below))
-    ∙ (sym (get_or-take endpoints (drop (slot * endpoints) cells) src None here ∙ get_or-drop (slot * endpoints) cells src None)
-    ∙ (sym (destination-at 0 src src row (omega arith))
-    ∙ ap (λ (flows : List Flow). destination_of flows src) (sym (slot_at_row endpoints count cells slot [] below)))))
-
--- a row that is written: it holds what was written, and the others what they had
-row_same : (endpoints slot k : ℕ) (cells row : List (Option ℕ)) → k ≡ endpoints → length row ≡ endpoints → slot * endpoints ≤ length cells → row_of endpoints (put_mid (slot * endpoints) k cells row) slot ≡ row
-row_same endpoints slot k cells row size whole within =
-    let from : ℕ = slot * endpoints in
-    let count : endpoints ≡ (from + endpoints) - from = omega arith in
-    ap (λ (n : ℕ). take n (drop from (put_mid from k cells row))) count ∙ between-put_mid from k cells row (from + endpoints) within (omega (arith, whole))
-
-row_other : (endpoints slot k at : ℕ) (cells row : List (Option ℕ)) → k ≡ endpoints → length row ≡ endpoints → slot * endpoints ≤ length cells → at ≢ slot
-    → row_of endpoints (put_mid (slot * endpoints) k cells row) at ≡ row_of endpoints cells at
-row_other endpoints slot k at cells row size whole within other =
-    let from : ℕ = slot * endpoints in
-    let place : ℕ = at * endpoints in
-    elim (cases_order at slot) [
-      | inl same ↦ absurd (other same)
-      | inr (inl before) ↦
-          let below : place + endpoints ≤ from = fits endpoints slot at before in
-          sym (drop-take place endpoints (put_mid from k cells row))
-          ∙ (ap (drop place) (take-put_mid_below from k cells row (place + endpoints) below within) ∙ drop-take place endpoints cells)
-      | inr (inr after) ↦
-          let above : from + endpoints ≤ place = fits endpoints at slot after in
-          ap (take endpoints) (drop-put_mid from k cells row place (omega (arith, above, size)) within (omega (arith, whole, size)))
-    ]
-
--- a row is written, and with it the slot
-pub table_with : (endpoints count : ℕ) (cells : List (Option ℕ)) (slot k : ℕ) (row : List (Option ℕ)) → slot < count → length cells ≡ count * endpoints → k ≡ endpoints → length row ≡ endpoints
-    → table_slots endpoints count (put_mid (slot * endpoints) k cells row) ≡ set (table_slots endpoints count cells) slot (flows_from 0 row)
-table_with endpoints count cells slot k row below full size whole =
-    let old : List (List Flow) = table_slots endpoints count cells in
-    let written : List (Option ℕ) = put_mid (slot * endpoints) k cells row in
-    let flows : List Flow = flows_from 0 row in
-    let counts : length old ≡ count = length-table_slots endpoints count cells in
-    let within : slot * endpoints ≤ length cells = omega (arith, fits endpoints count slot below) in
-    same_lists (table_slots endpoints count written) (set old slot flows)
-    (omega (arith, counts, length-table_slots endpoints count written, length-set old slot flows))
-    (λ at d inside.
-    let at_below : at < count = omega (arith, inside, length-table_slots endpoints count written) in
-    slot_at_row endpoints count written at d at_below
-    ∙ elim (cases_eq at slot) [
-      | inl same ↦
-          ap (λ (n : ℕ). flows_from 0 (row_of endpoints written n)) same
-          ∙ (ap (flows_from 0) (row_same endpoints slot k cells row size whole within)
-          ∙ sym (ap (λ (n : ℕ). get_or (set old slot flows) n d) same ∙ get_or-set_same old slot flows d (omega (arith, counts))))
-      | inr other ↦
-          ap (flows_from 0) (row_other endpoints slot k at cells row size whole within other)
-          ∙ sym (get_or-set_other old slot at flows d other ∙ slot_at_row endpoints count cells at d at_below)
-    ])
-
-pub cells_with : (endpoints from k : ℕ) (cells row : List (Option ℕ)) → AreCells endpoints cells → AreCells endpoints row → AreCells endpoints (put_mid from k cells row)
-cells_with endpoints from k cells row old new =
-    All-append (IsCell endpoints) (take from cells) _ (All-take (IsCell endpoints) from cells old)
-    (All-append (IsCell endpoints) row (drop k (drop from cells)) new (All-drop (IsCell endpoints) k (drop from cells) (All-drop (IsCell endpoints) from cells old)))
-
--- a destination is written where the source sends nothing
-pub put_is : (endpoints count : ℕ) (cells : List (Option ℕ)) (slot src dst : ℕ) → slot < count → src < endpoints → length cells ≡ count * endpoints
-    → destination_of (slot_in (table_slots endpoints count cells) slot) src ≡ None
-    → table_slots endpoints count (set cells (slot * endpoints + src) (Some dst))
-    ≡ set (table_slots endpoints count cells) slot (slot_with (record { src = src; dst = dst }) (slot_in (table_slots endpoints count cells) slot))
-put_is endpoints count cells slot src dst below here full free =
-    let row = row_of endpoints cells slot in
-    let slots : List (List Flow) = table_slots endpoints count cells in
-    let whole : length row ≡ endpoints = length-row endpoints count cells slot below full in
-    let held : slot_in slots slot ≡ flows_from 0 row = slot_at_row endpoints count cells slot [] below in
-    let empty : get_or row src None ≡ None =
-    sym (destination-at 0 src src row (omega arith)) ∙ (ap (λ (flows : List Flow). destination_of flows src) (sym held) ∙ free) in
-    ap (table_slots endpoints count) (sym (set_mid_at (slot * endpoints) endpoints src cells (Some dst) (omega (arith, whole))))
-    ∙ (table_with endpoints count cells slot endpoints (set row src (Some dst)) below full refl (length-set row src (Some dst) ∙ whole)
-    ∙ ap (set slots slot) (flows_from-set 0 src src dst row (omega arith) (omega (arith, whole)) empty ∙ ap (slot_with (record { src = src; dst = dst })) (sym held)))
+pub length-row : (endpoints count : ℕ) (cells : List (Option ℕ)) (row : ℕ) → row < count → length cells ≡ count * endpoints → length (row_of endpoints cells row) ≡ endpoints
+length-row endpoints count cells row below full = omega (arith, length-take endpoints (drop (row * endpoints) cells), length-drop (row * endpoints) cells, fits endpoints count row below)
 
 -- a table that sends nothing
-pub empty_table : (endpoints count places : ℕ) → places ≡ count * endpoints → table_slots endpoints count (replicate places None) ≡ replicate count []
-empty_table endpoints zero places is = refl
-empty_table endpoints (suc count) places is =
-    let rest : places - endpoints ≡ count * endpoints = omega (arith, is) in
-    let none : List Flow = [] in
-    ap (λ (flows : List Flow). flows ∷ table_slots endpoints count (drop endpoints (replicate places None)))
-    (ap (flows_from 0) (take-replicate endpoints places None (omega (arith, is))) ∙ flows_from-replicate 0 endpoints)
-    ∙ ap (λ (slots : List (List Flow)). none ∷ slots)
-    (ap (table_slots endpoints count) (drop-replicate endpoints places None) ∙ empty_table endpoints count (places - endpoints) rest)
+pub empty_table : (endpoints count : ℕ) (cells : List (Option ℕ)) → table_slots endpoints cells (replicate count None) ≡ replicate count []
+empty_table endpoints zero cells = refl
+empty_table endpoints (suc count) cells = ap (λ (slots : List (List Flow)). [] ∷ slots) (empty_table endpoints count cells)
 
--- the slots of a table's first rows, and of the others
-table_slots-append : (endpoints count a b : ℕ) (xs ys : List (Option ℕ)) → count ≡ a + b → length xs ≡ a * endpoints → table_slots endpoints count (xs ++ ys) ≡ table_slots endpoints a xs ++ table_slots endpoints b ys
-table_slots-append endpoints count zero b [] ys counts is = ap (λ (n : ℕ). table_slots endpoints n ys) (omega (arith, counts))
-table_slots-append endpoints count zero b (x ∷ xs) ys counts is = absurd (omega (arith, is))
-table_slots-append endpoints zero (suc a) b xs ys counts is = absurd (omega (arith, counts))
-table_slots-append endpoints (suc count) (suc a) b xs ys counts is =
-    let row : endpoints ≤ length xs = omega (arith, is) in
-    let rest : length (drop endpoints xs) ≡ a * endpoints = omega (arith, is, length-drop endpoints xs) in
-    ap (λ (cells : List (Option ℕ)). flows_from 0 cells ∷ table_slots endpoints count (drop endpoints (xs ++ ys))) (take-append-le endpoints xs ys row)
-    ∙ ap (λ (slots : List (List Flow)). flows_from 0 (take endpoints xs) ∷ slots)
-    (ap (table_slots endpoints count) (drop-append-le endpoints xs ys row) ∙ table_slots-append endpoints count a b (drop endpoints xs) ys (omega (arith, counts)) rest)
+abbrev pub nobody : Option ℕ
+nobody = None
 
--- rows are written over by those of another table
-pub copied_is : (endpoints count to n k : ℕ) (cells other : List (Option ℕ)) → length cells ≡ count * endpoints → length other ≡ n * endpoints → k ≡ n * endpoints → to + n ≤ count
-    → table_slots endpoints count (put_mid (to * endpoints) k cells other)
-    ≡ take to (table_slots endpoints count cells) ++ (table_slots endpoints n other ++ drop (to + n) (table_slots endpoints count cells))
-copied_is endpoints count to n k cells other full whole size within =
-    let from : ℕ = to * endpoints in
-    let b : ℕ = count - (to + n) in
-    let counts : count ≡ to + (n + b) = omega (arith, within) in
-    let spread : count * endpoints ≡ to * endpoints + (n * endpoints + b * endpoints) = ap (λ (c : ℕ). c * endpoints) counts ∙ omega arith in
-    let before : List (Option ℕ) = take from cells in
-    let middle : List (Option ℕ) = take k (drop from cells) in
-    let after : List (Option ℕ) = drop k (drop from cells) in
-    let long : length before ≡ to * endpoints = omega (arith, length-take from cells, full, spread) in
-    let mid : length middle ≡ n * endpoints = omega (arith, length-take k (drop from cells), length-drop from cells, full, spread, size) in
-    let first : List (List Flow) = table_slots endpoints to before in
-    let second : List (List Flow) = table_slots endpoints n middle in
-    let last : List (List Flow) = table_slots endpoints b after in
-    let parts : cells ≡ before ++ (middle ++ after) =
-    sym (ap (λ (xs : List (Option ℕ)). before ++ xs) (take-append-drop k (drop from cells)) ∙ take-append-drop from cells) in
-    let old : table_slots endpoints count cells ≡ first ++ (second ++ last) =
-    ap (table_slots endpoints count) parts
-    ∙ (table_slots-append endpoints count to (n + b) before (middle ++ after) counts long
-    ∙ ap (λ (slots : List (List Flow)). first ++ slots) (table_slots-append endpoints (n + b) n b middle after refl mid)) in
-    let new : table_slots endpoints count (put_mid from k cells other) ≡ first ++ (table_slots endpoints n other ++ last) =
-    table_slots-append endpoints count to (n + b) before (other ++ after) counts long
-    ∙ ap (λ (slots : List (List Flow)). first ++ slots) (table_slots-append endpoints (n + b) n b other after refl whole) in
-    let firsts : length first ≡ to = length-table_slots endpoints to before in
-    let seconds : length second ≡ n = length-table_slots endpoints n middle in
-    let kept : take to (first ++ (second ++ last)) ≡ first = ap (λ (c : ℕ). take c (first ++ (second ++ last))) (sym firsts) ∙ take-append_seam first (second ++ last) in
-    let left : drop (to + n) (first ++ (second ++ last)) ≡ last =
-    ap (λ (c : ℕ). drop (c + n) (first ++ (second ++ last))) (sym firsts)
-    ∙ (drop-append-add first (second ++ last) n
-    ∙ (ap (λ (c : ℕ). drop c (second ++ last)) (sym seconds) ∙ drop-append_seam second last)) in
-    new
-    ∙ (ap (λ (slots : List (List Flow)). slots ++ (table_slots endpoints n other ++ last)) (sym (ap (take to) old ∙ kept))
-    ∙ ap (λ (slots : List (List Flow)). take to (table_slots endpoints count cells) ++ (table_slots endpoints n other ++ slots)) (sym (ap (drop (to + n)) old ∙ left)))
+none_counted : (count : ℕ) → length (filter is_some (replicate count nobody)) ≡ 0
+none_counted zero = refl
+none_counted (suc count) = none_counted count
+
+none_placed : (count slot : ℕ) → place_at (replicate count None) slot ≡ None
+none_placed zero slot = refl
+none_placed (suc count) zero = refl
+none_placed (suc count) (suc slot) = none_placed count slot
+
+pub no_rows : (endpoints count : ℕ) → AreRows endpoints 0 [] (replicate count None)
+no_rows endpoints count = record {
+  whole = omega arith;
+  counted = none_counted count;
+  below = λ slot row is. let none : None ≡ Some row = sym (none_placed count slot) ∙ is in absurd (cc);
+  apart = λ slot other row is same. let none : None ≡ Some row = sym (none_placed count slot) ∙ is in absurd (cc);
+  cells_are = All-nil (IsCell endpoints);
+}
+
+-- a slot without a row leaves room for one
+pub one_less : (places : List (Option ℕ)) (slot : ℕ) → slot < length places → place_at places slot ≡ None → length (filter is_some places) < length places
+one_less [] slot below none = absurd (omega arith)
+one_less (None ∷ places) zero below none = omega (arith, most places)
+  where
+    most : (xs : List (Option ℕ)) → length (filter is_some xs) ≤ length xs
+    most [] = omega arith
+    most (None ∷ xs) = omega (arith, most xs)
+    most (Some x ∷ xs) = omega (arith, most xs)
+one_less (Some row ∷ places) zero below none = absurd (cc)
+one_less (None ∷ places) (suc slot) below none = omega (arith, one_less places slot (omega arith) none)
+one_less (Some row ∷ places) (suc slot) below none = omega (arith, one_less places slot (omega arith) none)
+
+counted_more : (places : List (Option ℕ)) (slot row : ℕ) → slot < length places → place_at places slot ≡ None → length (filter is_some (set places slot (Some row))) ≡ length (filter is_some places) + 1
+counted_more [] slot row below none = absurd (omega arith)
+counted_more (None ∷ places) zero row below none = omega arith
+counted_more (Some old ∷ places) zero row below none = absurd (cc)
+counted_more (None ∷ places) (suc slot) row below none = counted_more places slot row (omega arith) none
+counted_more (Some old ∷ places) (suc slot) row below none = omega (arith, counted_more places slot row (omega arith) none)
+
+next_row : (count endpoints : ℕ) → (count + 1) * endpoints ≡ count * endpoints + endpoints
+next_row count endpoints = grind arith
+
+-- a slot without a row is given one in which nobody sends
+module _ (endpoints count slot : ℕ) (cells places : List (Option ℕ)) (are : AreRows endpoints count cells places) (below : slot < length places) (none : place_at places slot ≡ None) where
+  abbrev empty_row : List (Option ℕ)
+  empty_row = replicate endpoints None
+
+  given_place : (at : ℕ) → at ≢ slot → place_at (set places slot (Some count)) at ≡ place_at places at
+  given_place at other = get_or-set_other places slot at (Some count) None other
+
+  new_place : place_at (set places slot (Some count)) slot ≡ Some count
+  new_place = get_or-set_same places slot (Some count) None below
+
+  old_row : (place : Option ℕ) → ((row : ℕ) → place ≡ Some row → row < count) → flows_at endpoints (cells ++ empty_row) place ≡ flows_at endpoints cells place
+  old_row None within = refl
+  old_row (Some row) within =
+      let whole : row * endpoints + endpoints ≤ length cells = omega (arith, fits endpoints count row (within row refl), are.whole) in
+      ap (λ (xs : List (Option ℕ)). flows_from 0 (take endpoints xs)) (drop-append-le (row * endpoints) cells empty_row (omega (arith, whole)))
+      ∙ ap (flows_from 0) (take-append-le endpoints (drop (row * endpoints) cells) empty_row (omega (arith, whole, length-drop (row * endpoints) cells)))
+
+  new_row : flows_at endpoints (cells ++ empty_row) (Some count) ≡ []
+  new_row =
+      ap (λ (xs : List (Option ℕ)). flows_from 0 (take endpoints xs)) (drop_at cells empty_row (count * endpoints) are.whole)
+      ∙ (ap (flows_from 0) (take_all endpoints empty_row (omega (arith, length-replicate endpoints nobody))) ∙ flows_from-replicate 0 endpoints)
+
+  pub given_slots : table_slots endpoints (cells ++ empty_row) (set places slot (Some count)) ≡ table_slots endpoints cells places
+  given_slots =
+      let new : List (List Flow) = table_slots endpoints (cells ++ empty_row) (set places slot (Some count)) in
+      let long : length (set places slot (Some count)) ≡ length places = length-set places slot (Some count) in
+      let many : length new ≡ length places = length-map (set places slot (Some count)) (flows_at endpoints (cells ++ empty_row)) ∙ long in
+      same_lists new (table_slots endpoints cells places) (many ∙ sym (length-map places (flows_at endpoints cells))) (λ at d inside.
+      let within : at < length places = omega (arith, inside, many) in
+      slot_at endpoints (cells ++ empty_row) (set places slot (Some count)) at d (omega (arith, within, long))
+      ∙ (elim (cases_eq at slot) [
+        | inl same ↦
+            ap (flows_at endpoints (cells ++ empty_row)) (ap (place_at (set places slot (Some count))) same ∙ new_place)
+            ∙ (new_row ∙ sym (ap (flows_at endpoints cells) (ap (place_at places) same ∙ none)))
+        | inr other ↦ ap (flows_at endpoints (cells ++ empty_row)) (given_place at other) ∙ old_row (place_at places at) (are.below at)
+      ] ∙ sym (slot_at endpoints cells places at d within)))
+
+  pub given_rows : AreRows endpoints (count + 1) (cells ++ empty_row) (set places slot (Some count))
+  given_rows = record {
+    whole = omega (arith, length-append cells empty_row, length-replicate endpoints nobody, are.whole, next_row count endpoints);
+    counted = omega (arith, counted_more places slot count below none, are.counted);
+    below = λ at row is. elim (cases_eq at slot) [
+      | inl same ↦ let it : Some row ≡ Some count = sym is ∙ (ap (place_at (set places slot (Some count))) same ∙ new_place) in let newest : row ≡ count = cc in omega (arith, newest)
+      | inr other ↦ omega (arith, are.below at row (sym (given_place at other) ∙ is))
+    ];
+    apart = λ at other row first second. elim (cases_eq at slot) [
+      | inl same ↦ elim (cases_eq other slot) [
+        | inl too ↦ same ∙ sym too
+        | inr differs ↦
+            let it : Some row ≡ Some count = sym first ∙ (ap (place_at (set places slot (Some count))) same ∙ new_place) in
+            let newest : row ≡ count = cc in
+            absurd (omega (arith, newest, are.below other row (sym (given_place other differs) ∙ second)))
+      ]
+      | inr differs ↦ elim (cases_eq other slot) [
+        | inl same ↦
+            let it : Some row ≡ Some count = sym second ∙ (ap (place_at (set places slot (Some count))) same ∙ new_place) in
+            let newest : row ≡ count = cc in
+            absurd (omega (arith, newest, are.below at row (sym (given_place at differs) ∙ first)))
+        | inr too ↦ are.apart at other row (sym (given_place at differs) ∙ first) (sym (given_place other too) ∙ second)
+      ]
+    ];
+    cells_are = All-append (IsCell endpoints) cells empty_row are.cells_are (All-replicate (IsCell endpoints) endpoints None tt);
+  }
+
+-- a row that is written: it holds what was written, and the others what they had
+row_same : (endpoints row k : ℕ) (cells new : List (Option ℕ)) → k ≡ endpoints → length new ≡ endpoints → row * endpoints ≤ length cells → row_of endpoints (put_mid (row * endpoints) k cells new) row ≡ new
+row_same endpoints row k cells new size whole within =
+    let from : ℕ = row * endpoints in
+    let count : endpoints ≡ (from + endpoints) - from = omega arith in
+    ap (λ (n : ℕ). take n (drop from (put_mid from k cells new))) count ∙ between-put_mid from k cells new (from + endpoints) within (omega (arith, whole))
+
+row_other : (endpoints row k at : ℕ) (cells new : List (Option ℕ)) → k ≡ endpoints → length new ≡ endpoints → row * endpoints ≤ length cells → at ≢ row
+    → row_of endpoints (put_mid (row * endpoints) k cells new) at ≡ row_of endpoints cells at
+row_other endpoints row k at cells new size whole within other =
+    let from : ℕ = row * endpoints in
+    let place : ℕ = at * endpoints in
+    elim (cases_order at row) [
+      | inl same ↦ absurd (other same)
+      | inr (inl before) ↦
+          let below : place + endpoints ≤ from = fits endpoints row at before in
+          sym (drop-take place endpoints (put_mid from k cells new))
+          ∙ (ap (drop place) (take-put_mid_below from k cells new (place + endpoints) below within) ∙ drop-take place endpoints cells)
+      | inr (inr after) ↦
+          let above : from + endpoints ≤ place = fits endpoints at row after in
+          ap (take endpoints) (drop-put_mid from k cells new place (omega (arith, above, size)) within (omega (arith, whole, size)))
+    ]
+
+-- a slot's row is written, and with it the slot
+module _ (endpoints count slot row k : ℕ) (cells places new : List (Option ℕ)) (are : AreRows endpoints count cells places) (below : slot < length places) (is : place_at places slot ≡ Some row) (size : k ≡ endpoints) (whole : length new ≡ endpoints) where
+  here : row * endpoints + endpoints ≤ length cells
+  here = omega (arith, fits endpoints count row (are.below slot row is), are.whole)
+
+  kept_row : (at : ℕ) → at ≢ slot → (place : Option ℕ) → place ≡ place_at places at → flows_at endpoints (put_mid (row * endpoints) k cells new) place ≡ flows_at endpoints cells place
+  kept_row at other None named = refl
+  kept_row at other (Some there) named = ap (flows_from 0) (row_other endpoints row k there cells new size whole (omega (arith, here)) (λ same. other (are.apart at slot row (sym named ∙ ap Some same) is)))
+
+  pub written_slots : table_slots endpoints (put_mid (row * endpoints) k cells new) places ≡ set (table_slots endpoints cells places) slot (flows_from 0 new)
+  written_slots =
+      let old : List (List Flow) = table_slots endpoints cells places in
+      let flows : List Flow = flows_from 0 new in
+      let now : List (Option ℕ) = put_mid (row * endpoints) k cells new in
+      let counts : length old ≡ length places = length-map places (flows_at endpoints cells) in
+      same_lists (table_slots endpoints now places) (set old slot flows) (omega (arith, counts, length-map places (flows_at endpoints now), length-set old slot flows)) (λ at d inside.
+      let within : at < length places = omega (arith, inside, length-map places (flows_at endpoints now)) in
+      slot_at endpoints now places at d within
+      ∙ elim (cases_eq at slot) [
+        | inl same ↦
+            ap (flows_at endpoints now) (ap (place_at places) same ∙ is)
+            ∙ (ap (flows_from 0) (row_same endpoints row k cells new size whole (omega (arith, here)))
+            ∙ sym (ap (λ (n : ℕ). get_or (set old slot flows) n d) same ∙ get_or-set_same old slot flows d (omega (arith, counts, below))))
+        | inr other ↦ kept_row at other (place_at places at) refl ∙ sym (get_or-set_other old slot at flows d other ∙ slot_at endpoints cells places at d within)
+      ])
+
+  pub written_rows : length (put_mid (row * endpoints) k cells new) ≡ length cells → AreCells endpoints new → AreRows endpoints count (put_mid (row * endpoints) k cells new) places
+  written_rows long new_cells = record {
+    whole = long ∙ are.whole;
+    counted = are.counted;
+    below = are.below;
+    apart = are.apart;
+    cells_are = All-append (IsCell endpoints) (take (row * endpoints) cells) _ (All-take (IsCell endpoints) (row * endpoints) cells are.cells_are)
+        (All-append (IsCell endpoints) new (drop k (drop (row * endpoints) cells)) new_cells
+        (All-drop (IsCell endpoints) k (drop (row * endpoints) cells) (All-drop (IsCell endpoints) (row * endpoints) cells are.cells_are)));
+  }
+
+-- a destination is written where the source sends nothing
+pub put_is : (endpoints count slot row src dst : ℕ) (cells places : List (Option ℕ)) → AreRows endpoints count cells places → slot < length places → place_at places slot ≡ Some row → src < endpoints
+    → destination_of (slot_in (table_slots endpoints cells places) slot) src ≡ None
+    → table_slots endpoints (set cells (row * endpoints + src) (Some dst)) places
+    ≡ set (table_slots endpoints cells places) slot (slot_with (record { src = src; dst = dst }) (slot_in (table_slots endpoints cells places) slot))
+put_is endpoints count slot row src dst cells places are below is here free =
+    let held = row_of endpoints cells row in
+    let slots : List (List Flow) = table_slots endpoints cells places in
+    let whole : length held ≡ endpoints = length-row endpoints count cells row (are.below slot row is) are.whole in
+    let seen : slot_in slots slot ≡ flows_from 0 held = slot_at endpoints cells places slot [] below ∙ ap (flows_at endpoints cells) is in
+    let empty : get_or held src None ≡ None =
+    sym (destination-at 0 src src held (omega arith)) ∙ (ap (λ (flows : List Flow). destination_of flows src) (sym seen) ∙ free) in
+    ap (λ (xs : List (Option ℕ)). table_slots endpoints xs places) (sym (set_mid_at (row * endpoints) endpoints src cells (Some dst) (omega (arith, whole))))
+    ∙ (written_slots endpoints count slot row endpoints cells places (set held src (Some dst)) are below is refl (length-set held src (Some dst) ∙ whole)
+    ∙ ap (set slots slot) (flows_from-set 0 src src dst held (omega arith) (omega (arith, whole)) empty ∙ ap (slot_with (record { src = src; dst = dst })) (sym seen)))
+
+pub put_rows : (endpoints count at dst : ℕ) (cells places : List (Option ℕ)) → AreRows endpoints count cells places → dst < endpoints → AreRows endpoints count (set cells at (Some dst)) places
+put_rows endpoints count at dst cells places are below = record {
+  whole = length-set cells at (Some dst) ∙ are.whole;
+  counted = are.counted;
+  below = are.below;
+  apart = are.apart;
+  cells_are = All-set (IsCell endpoints) cells at (Some dst) below are.cells_are;
+}

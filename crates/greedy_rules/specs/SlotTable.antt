@@ -1,6 +1,8 @@
 -- What contracts see of a slot table: its slots, each the list of its flows rising by source, and how many endpoints it serves.
-use Rattle.std.specs.Prelude.{◌≡◌, ◌<◌, ℕ, zero, suc, ◌+◌, List, [], ◌∷◌, take, drop, Option, Some, None, All, AllPairs, IfSome, find, option_map, ◌==◌}
+use Rattle.std.specs.Prelude.{◌≡◌, ◌<◌, ◌≤◌, ℕ, ◌+◌, ◌*◌, List, [], ◌∷◌, length, take, drop, map, filter, replicate, Option, Some, None, is_some, All, AllPairs, IfSome, find, option_map, ◌==◌, vec_len, vec_capacity}
+use Rattle.std.specs.List.{slice_index_or}
 use Rattle.greedy_rules.specs.declared.flows.Flow.{Flow}
+use Rattle.greedy_rules.specs.declared.rows.Rows.{Rows}
 
 pub record Slots : Type 0 where
   pub slots : List (List Flow)
@@ -12,10 +14,21 @@ flows_from src [] = []
 flows_from src (None ∷ cells) = flows_from (src + 1) cells
 flows_from src (Some dst ∷ cells) = record { src = src; dst = dst } ∷ flows_from (src + 1) cells
 
--- the slots of a table: so many rows, one after the other, each with a place for every endpoint
-abbrev pub table_slots : ℕ → ℕ → List (Option ℕ) → List (List Flow)
-table_slots endpoints zero cells = []
-table_slots endpoints (suc count) cells = flows_from 0 (take endpoints cells) ∷ table_slots endpoints count (drop endpoints cells)
+-- the places of the row of this number, where rows stand one after the other
+abbrev pub row_of : ℕ → List (Option ℕ) → ℕ → List (Option ℕ)
+row_of endpoints cells row = take endpoints (drop (row * endpoints) cells)
+
+-- the flows of a slot whose row has this number, if it has one
+abbrev pub flows_at : ℕ → List (Option ℕ) → Option ℕ → List Flow
+flows_at endpoints cells None = []
+flows_at endpoints cells (Some row) = flows_from 0 (row_of endpoints cells row)
+
+-- the slots of a table: each has the row of this number, if it has one
+abbrev pub table_slots : ℕ → List (Option ℕ) → List (Option ℕ) → List (List Flow)
+table_slots endpoints cells places = map (flows_at endpoints cells) places
+
+abbrev pub place_at : List (Option ℕ) → ℕ → Option ℕ
+place_at places slot = slice_index_or places slot None
 
 -- where the source sends in this slot, if it does
 abbrev pub destination_of : List Flow → ℕ → Option ℕ
@@ -30,6 +43,21 @@ pub record IsSlotOf (endpoints : ℕ) (slot : List Flow) : Type 0 where
 abbrev pub AreCells : ℕ → List (Option ℕ) → Type 0
 AreCells endpoints cells = All (λ cell. IfSome cell (λ dst. dst < endpoints)) cells
 
--- nobody sends in these places
-abbrev pub AreEmpty : List (Option ℕ) → Type 0
-AreEmpty cells = All (λ cell. cell ≡ None) cells
+-- there are so many rows, and each is one slot's
+pub record AreRows (endpoints count : ℕ) (cells places : List (Option ℕ)) : Type 0 where
+  pub whole : length cells ≡ count * endpoints
+  pub counted : length (filter is_some places) ≡ count
+  pub below : (slot row : ℕ) → place_at places slot ≡ Some row → row < count
+  pub apart : (slot other row : ℕ) → place_at places slot ≡ Some row → place_at places other ≡ Some row → slot ≡ other
+  pub cells_are : AreCells endpoints cells
+
+-- there is room for a row of each slot, and one in which nobody sends
+pub record IsTable (rows : Rows) : Type 0 where
+  pub rows_are : AreRows rows.endpoints rows.count rows.cells.items rows.places.items
+  pub few : vec_len rows.places < 65536
+  pub room : vec_len rows.places * rows.endpoints ≤ vec_capacity rows.cells
+  pub idle : rows.idle.items ≡ replicate rows.endpoints None
+
+-- what contracts see of these rows
+abbrev pub slots_of_rows : Rows → List (List Flow)
+slots_of_rows rows = table_slots rows.endpoints rows.cells.items rows.places.items

@@ -1,4 +1,4 @@
-ghost use Rattle.std.specs.Prelude.{◌≡◌, ◌<◌, ◌↔◌, List, [], ◌∷◌, ◌++◌, length, IsTrue, OnOk, OnErr, slice_get};
+ghost use Rattle.std.specs.Prelude.{◌≡◌, ◌<◌, ◌↔◌, List, [], ◌∷◌, ◌++◌, length, IsTrue, OnOk, OnErr, true, All, slice_get};
 ghost use Rattle.greedy_rules.specs.declared.flows.Entry.{Entry};
 ghost use Rattle.greedy_rules.specs.Batches.{DemandBatch, IsBatch, IsAboveLast, entry_of};
 ghost use Rattle.greedy_rules.specs.Limits.{AreLimits};
@@ -66,6 +66,13 @@ impl Batch {
         ensures { IsTrue result ↔ (self.now.entries ≡ []) }
     {
         self.entries.is_empty()
+    }
+
+    /// Whether every entry opens its flow.
+    pub fn only_opens(&self) -> bool
+        ensures { IsTrue result ↔ All (λ entry. entry.opens ≡ true) self.now.entries }
+    {
+        self.entries.iter().all(|entry| entry.opens)
     }
 
     pub fn entry(&self, at: usize) -> Entry

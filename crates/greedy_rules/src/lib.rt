@@ -9,6 +9,7 @@ mod limits;
 mod marks;
 mod plain;
 mod recorded;
+mod rows;
 mod slots;
 
 pub use batches::Batch;

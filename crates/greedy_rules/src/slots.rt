@@ -1,32 +1,29 @@
-ghost use Rattle.std.specs.Prelude.{◌≡◌, ◌<◌, ◌≤◌, ◌+◌, ◌*◌, ◌↔◌, ◌||◌, List, [], ◌++◌, length, take, drop, replicate, None, IfOk, IsTrue, false, is_some, All, slice_set};
+ghost use Rattle.std.specs.Prelude.{◌≡◌, ◌<◌, ◌≤◌, ◌+◌, ◌↔◌, ◌||◌, List, [], ◌++◌, length, take, drop, replicate, None, IfOk, IsTrue, false, is_some, All, slice_set};
 ghost use Rattle.std.specs.List.{fold};
 ghost use Rattle.greedy_rules.specs.Slot.{slot_with};
 ghost use Rattle.greedy_rules.specs.Schedule.{slot_in};
-ghost use Rattle.greedy_rules.specs.SlotTable.{destination_of, flows_from, IsSlotOf};
+ghost use Rattle.greedy_rules.specs.SlotTable.{destination_of, flows_from, AreCells, IsSlotOf};
 
+use crate::rows::Rows;
 use no_memory::NoMemory;
 use std::alloc::Global;
 use std::marker::Model;
 
-/// Timeslots of a window, counted from 0: in each, where each endpoint sends.
+/// Timeslots of a window, counted from 0: in each, where each endpoint sends. Memory is written for the slots alone in which
+/// some endpoint sends.
 #[derive(Debug, Drop)]
 pub struct SlotTable {
-    pub(crate) cells: Vec<Option<u16>>,
-    slots: u16,
-    pub(crate) endpoints: u16,
-    // From this cell on nothing has been written since the table was cleared.
-    pub(crate) written: usize,
+    rows: Rows,
 }
 
 impl Model for SlotTable {
-    ghost use Rattle.std.specs.Prelude.{◌≡◌, ◌≤◌, ◌*◌, drop, vec_len};
-    ghost use Rattle.greedy_rules.specs.SlotTable.{Slots, AreCells, AreEmpty, table_slots};
+    ghost use Rattle.greedy_rules.specs.SlotTable.{Slots, IsTable, slots_of_rows};
 
     ghost Value = { Slots };
 
-    ghost view = { λ t. record { slots = table_slots t.endpoints t.slots t.cells.items; endpoints = t.endpoints } };
+    ghost view = { λ t. record { slots = slots_of_rows t.rows; endpoints = t.rows.endpoints } };
 
-    ghost invariant = { λ t. (vec_len t.cells ≡ t.slots * t.endpoints) × AreCells t.endpoints t.cells.items × (t.written ≤ vec_len t.cells) × AreEmpty (drop t.written t.cells.items) };
+    ghost invariant = { λ t. IsTable t.rows };
 }
 
 impl SlotTable {
@@ -36,10 +33,7 @@ impl SlotTable {
         ensures endpoints { IfOk result (λ table. table.endpoints ≡ endpoints) }
     {
         Ok(SlotTable {
-            cells: vec![in alloc; None; slots as usize * endpoints as usize]?,
-            slots,
-            endpoints,
-            written: 0,
+            rows: Rows::open(alloc, slots, endpoints)?,
         })
     }
 
@@ -48,14 +42,14 @@ impl SlotTable {
         ensures count { result ≡ length self.now.slots }
         ensures each { All (IsSlotOf self.now.endpoints) self.now.slots }
     {
-        self.slots
+        self.rows.places.len() as u16
     }
 
     /// How many endpoints the table serves.
     pub fn endpoints(&self) -> u16
         ensures { result ≡ self.now.endpoints }
     {
-        self.endpoints
+        self.rows.endpoints
     }
 
     /// Where the source sends in the slot; None where it sends nothing.
@@ -64,7 +58,7 @@ impl SlotTable {
         requires src_in_range { src < self.now.endpoints }
         ensures { result ≡ destination_of (slot_in self.now.slots slot) src }
     {
-        self.cells[self.place(slot, src)]
+        self.rows.row(slot)[src as usize]
     }
 
     /// Where each source sends in the slot, at the source's place.
@@ -73,8 +67,7 @@ impl SlotTable {
         ensures flows { flows_from 0 result.now ≡ slot_in self.now.slots slot }
         ensures count { length result.now ≡ self.now.endpoints }
     {
-        let from = self.place(slot, 0);
-        &self.cells[from..from + self.endpoints as usize]
+        self.rows.row(slot)
     }
 
     /// Whether no endpoint sends in the slot.
@@ -82,7 +75,7 @@ impl SlotTable {
         requires { slot < length self.now.slots }
         ensures { IsTrue result ↔ (slot_in self.now.slots slot ≡ []) }
     {
-        self.place(slot, 0) >= self.written || !has_sender(self.row(slot))
+        !self.rows.has_row(slot) || !has_sender(self.rows.row(slot))
     }
 
     /// Empties every slot.
@@ -90,9 +83,7 @@ impl SlotTable {
         ensures slots { self.new.slots ≡ replicate (length self.old.slots) [] }
         ensures endpoints { self.new.endpoints ≡ self.old.endpoints }
     {
-        let written = self.written;
-        self.written = 0;
-        self.cells[0..written].fill(None);
+        self.rows.clear();
     }
 
     /// Makes the slots from place `to` on those of a table for as many endpoints.
@@ -102,10 +93,34 @@ impl SlotTable {
         ensures slots { self.new.slots ≡ take to self.old.slots ++ from.now.slots ++ drop (to + length from.now.slots) self.old.slots }
         ensures endpoints { self.new.endpoints ≡ self.old.endpoints }
     {
-        let at = self.place(to, 0);
-        let end = at + from.cells.len();
-        self.written = self.written.max(end);
-        self.cells[at..end].copy_from_slice(&from.cells);
+        let _slots = self.slots();
+        for slot in 0..from.slots() {
+            self.copy_slot(from, slot, to + slot);
+        }
+    }
+
+    /// Makes the slot at place `to` the one at place `slot` of a table for as many endpoints.
+    fn copy_slot(&mut self, from: &SlotTable, slot: u16, to: u16)
+        requires endpoints { from.now.endpoints ≡ self.old.endpoints }
+        requires slot { slot < length from.now.slots }
+        requires to { to < length self.old.slots }
+        ensures slots { self.new.slots ≡ slice_set self.old.slots to (slot_in from.now.slots slot) }
+        ensures endpoints { self.new.endpoints ≡ self.old.endpoints }
+    {
+        if from.rows.has_row(slot) || self.rows.has_row(to) {
+            self.rows.write(to, from.rows.row(slot));
+        }
+    }
+
+    /// Lets the slot hold what this row holds, which has a place for each endpoint.
+    pub(crate) fn write(&mut self, slot: u16, row: &[Option<u16>])
+        requires slot { slot < length self.old.slots }
+        requires whole { length row.now ≡ self.old.endpoints }
+        requires cells { AreCells self.old.endpoints row.now }
+        ensures slots { self.new.slots ≡ slice_set self.old.slots slot (flows_from 0 row.now) }
+        ensures endpoints { self.new.endpoints ≡ self.old.endpoints }
+    {
+        self.rows.write(slot, row);
     }
 
     /// Lets the source, which sends nothing in the slot, send to this destination.
@@ -117,16 +132,7 @@ impl SlotTable {
         ensures slots { self.new.slots ≡ slice_set self.old.slots slot (slot_with (record { src = src; dst = dst }) (slot_in self.old.slots slot)) }
         ensures endpoints { self.new.endpoints ≡ self.old.endpoints }
     {
-        let place = self.place(slot, src);
-        self.written = self.written.max(place + 1);
-        self.cells[place] = Some(dst);
-    }
-
-    /// Where a source has its cell in a slot.
-    fn place(&self, slot: u16, src: u16) -> usize
-        ensures { result ≡ slot * self.now.endpoints + src }
-    {
-        slot as usize * self.endpoints as usize + src as usize
+        self.rows.put(slot, src, dst);
     }
 }
 

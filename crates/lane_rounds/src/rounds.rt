@@ -269,7 +269,7 @@ fn post_down(
     requires once { lane.old.is_made ≡ false }
     requires slots { AreSlots lane.old.endpoints lane.old.b lane.old.endpoint told.now.items }
     requires allocated { AreAllocated lane.old round told.now.items }
-    ensures frame { lane.new ≡ record lane.old { sent = lane.new.sent; lines = lane.new.lines; has_risen = lane.new.has_risen; is_made = true } }
+    ensures frame { lane.new ≡ record lane.old { sent = lane.new.sent; lines = lane.new.lines; is_made = true } }
     ensures stands { OnOk result ((history : LaneHistory) (allocations : List Allocation) →
         lanes.StandsFor lane.old history allocations →
         lanes.StandsFor lane.new (MakesDown round told.now.items ∷ history) allocations) }

@@ -2,16 +2,25 @@
 #![tactic(auto)]
 
 ghost use Rattle.std.specs.Prelude.{◌≡◌, ◌≤◌, ◌<◌, ◌==◌, ◌&&◌, ◌||◌, ℕ, true, false, not};
+ghost use Rattle.line_marks.specs.Places.{is_marked};
+
+use std::marker::Model;
 
 /// A mark for each of 256 places. Clauses read them by `is_marked`.
-#[derive(Clone, Copy, Debug)]
+#[derive(Debug, Drop)]
 pub struct Marks {
     words: [u64; 4],
 }
 
-impl Marks {
-    ghost use Rattle.line_marks.specs.Places.{is_marked};
+impl Model for Marks {
+    ghost use Rattle.line_marks.specs.Places.{Places};
 
+    ghost Value = { Places };
+
+    ghost view = { λ marks. record { words = marks.words } };
+}
+
+impl Marks {
     /// No place is marked.
     pub fn new() -> Marks
         ensures { (place : ℕ) → is_marked result place ≡ false }

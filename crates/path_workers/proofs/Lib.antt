@@ -4,4 +4,5 @@ pub mod PainterLemmas
 pub mod PlayLemmas
 pub mod CrewLemmas
 pub mod RowLemmas
+pub mod TableLemmas
 pub mod TestLemmas

@@ -1,10 +1,10 @@
 -- A painter's rows: which have the cores of a slot, and what changes where one is written.
-use Rattle.std.proofs.Common.{◌≡◌, ◌≢◌, ◌<◌, ◌≤◌, ◌+◌, ◌-◌, ◌*◌, ℕ, List, [], ◌++◌, length, get_or, set, take, drop, replicate, Option, Some, None, Vec, vec_len, sym, ap, ◌∙◌, subst, arith, inl, inr}
+use Rattle.std.proofs.Common.{◌≡◌, ◌≢◌, ◌<◌, ◌≤◌, ◌+◌, ◌*◌, ℕ, List, [], length, get_or, set, take, drop, replicate, Option, Some, None, Vec, vec_len, sym, ap, ◌∙◌, subst, arith, inl, inr}
 use borrow.Rule.Slice.PartMut.{put_mid, same_len_mid}
 use Rattle.std.specs.Vec.{with_items}
 use Rattle.std.proofs.Math.Path.{fun_ext}
 use Rattle.std.proofs.lemmas.Bool.{cases_eq, cases_lt}
-use Rattle.std.proofs.lemmas.List.{get_or-take, get_or_past, get_or_default, get_or-replicate, get_or-set_same, get_or-set_other, get_or-append_right, get_or_append_left, get_or-drop, drop-replicate, length-replicate, length-take, length-drop, with_items_is}
+use Rattle.std.proofs.lemmas.List.{get_or_past, get_or_default, get_or-replicate, get_or-set_same, get_or-set_other, length-replicate, length-take, length-drop, with_items_is}
 use Rattle.std.proofs.lemmas.Nat.{row_fits}
 use Rattle.greedy_rules.specs.declared.flows.Flow.{Flow}
 use Rattle.greedy_rules.specs.Schedule.{slot_in}
@@ -14,10 +14,10 @@ use Rattle.clos_topology.specs.RackGraph.{rack_edges}
 use Rattle.edge_colouring.specs.Colouring.{IsColouring, EveryColouringMakesAMatchingClean}
 use Rattle.edge_colouring.specs.Cores.{core_in}
 use Rattle.path_workers.specs.declared.painter.Painter.{Painter}
-use Rattle.path_workers.specs.CoreTable.{row_of, NamesNone}
+use Rattle.path_workers.specs.CoreTable.{NamesNone}
 use Rattle.path_workers.specs.Coloured.{HasItsCores}
 use Rattle.path_workers.proofs.RowLemmas.{row_same, row_other}
-use Rattle.path_workers.specs.Painters.{AreColourable, place_of, row_at, IsPainter, HasRow, HasPainted, MayPaint}
+use Rattle.path_workers.specs.Painters.{AreColourable, place_of, row_of, row_at, IsPainter, HasRow, HasPainted, MayPaint}
 
 -- no place of a list of Nones has another
 pub none_at : (n at : ℕ) → core_in (replicate n None) at ≡ None
@@ -28,47 +28,25 @@ none_at n at =
       | inr above ↦ get_or_past (replicate n none) at none (omega (arith, above, length-replicate n none))
     ]
 
--- a row of a table that names no core
-pub none_row : (n endpoints place : ℕ) → NamesNone (core_in (row_of endpoints (replicate n None) place))
-none_row n endpoints place source =
-    let none : Option ℕ = None in
-    let rest : List (Option ℕ) = drop (place * endpoints) (replicate n none) in
-    let is : rest ≡ replicate (n - place * endpoints) none = drop-replicate (place * endpoints) n none in
-    elim (cases_lt source endpoints) [
-      | inl inside ↦ get_or-take endpoints rest source none inside ∙ elim (cases_lt source (n - place * endpoints)) [
-        | inl below ↦ ap (λ (xs : List (Option ℕ)). get_or xs source none) is ∙ get_or-replicate (n - place * endpoints) source none none below
-        | inr above ↦ get_or_past rest source none (omega (arith, above, ap (λ (xs : List (Option ℕ)). length xs) is, length-replicate (n - place * endpoints) none))
-      ]
-      | inr outside ↦ get_or_past (take endpoints rest) source none (omega (arith, outside, length-take endpoints rest))
-    ]
-
--- no row has a place for more than the endpoints
-pub row_past : (endpoints place : ℕ) (cores : List (Option ℕ)) (source : ℕ) → endpoints ≤ source → core_in (row_of endpoints cores place) source ≡ None
-row_past endpoints place cores source outside = get_or_past (row_of endpoints cores place) source None (omega (arith, outside, length-take endpoints (drop (place * endpoints) cores)))
-
 -- a part of the rows that is a row
 pub slice_is_row : (endpoints count place k : ℕ) (cores part : List (Option ℕ)) → count ≡ endpoints → k ≡ count → part ≡ cores → take k (drop (place * count) part) ≡ row_of endpoints cores place
 slice_is_row endpoints count place k cores part same size from = λ i. take ((size ∙ same) i) (drop (place * same i) (from i))
 
--- a row written over the front of one that names none
-pub row_over_none : (endpoints place : ℕ) (cores row : List (Option ℕ)) → place * endpoints + endpoints ≤ length cores → NamesNone (core_in row)
-    → core_in (row_of endpoints cores place) ≡ core_in (row_of endpoints cores place ++ drop endpoints row)
-row_over_none endpoints place cores row fits none = fun_ext (λ source.
-    let from : List (Option ℕ) = row_of endpoints cores place in
-    let size : length from ≡ endpoints = omega (arith, fits, length-take endpoints (drop (place * endpoints) cores), length-drop (place * endpoints) cores) in
-    elim (cases_lt source endpoints) [
-      | inl inside ↦ sym (get_or_append_left from (drop endpoints row) None source (omega (arith, inside, size)))
-      | inr outside ↦
-          row_past endpoints place cores source outside
-          ∙ sym (get_or-append_right from (drop endpoints row) endpoints source None size outside
-          ∙ (get_or-drop endpoints row (source - endpoints) None ∙ none (endpoints + (source - endpoints))))
-    ])
+-- past the rows no core is named
+row_behind : (endpoints place : ℕ) (cores : List (Option ℕ)) → length cores ≤ place * endpoints → NamesNone (core_in (row_of endpoints cores place))
+row_behind endpoints place cores behind source = get_or_past (row_of endpoints cores place) source None (omega (arith, behind, length-take endpoints (drop (place * endpoints) cores), length-drop (place * endpoints) cores))
+
+-- a worker's place past the rows
+pub idle_none : (net : Network) (room : ℕ) (painter : Painter) (place : ℕ) → place ≡ room → IsPainter net room painter → NamesNone (row_at painter place)
+idle_none net room painter place last sized =
+    let rows : vec_len painter.rows ≡ place * endpoints_of painter.net = sized.rows ∙ ap (λ (n : ℕ). n * endpoints_of net) (sym last) ∙ ap (λ (n : Network). place * endpoints_of n) (sym sized.same_net) in
+    row_behind (endpoints_of painter.net) place painter.rows.items (omega (arith, rows, painter.rows.ok.0))
 
 -- a slot without packets between racks needs no core
 pub idle_row : (net : Network) (room : ℕ) (slots : List (List Flow)) (painter : Painter) (slot place : ℕ) → place ≡ room → EveryColouringMakesAMatchingClean → IsPainter net room painter → AreColourable net room slots
     → slot < length slots → rack_edges net.hosts (slot_in slots slot) ≡ [] → HasRow net room slots painter slot place
 idle_row net room slots painter slot place last clean sized colourable below idle =
-    let nothing : NamesNone (row_at painter place) = subst (λ (k : ℕ). NamesNone (row_at painter k)) (sym last) sized.idle in
+    let nothing : NamesNone (row_at painter place) = idle_none net room painter place last sized in
     let none : IsColouring net.cores [] (row_at painter place) = record {
       named = λ k d under. absurd (omega (arith, under));
       proper = λ i j d lt under. absurd (omega (arith, under));
@@ -125,7 +103,6 @@ regraphed net room slots p q painted same_net same_table same_room same_places s
         graph = omega (arith, s.graph, same_room);
         places = ap (λ (v : _). vec_len v) same_places ∙ s.places;
         rows = ap (λ (v : _). vec_len v) same_rows ∙ s.rows;
-        idle = subst NamesNone (rows_same room) s.idle;
       };
       rows = λ slot place below is.
           let old = painted.rows slot place below (ap (λ (v : _). get_or v.items slot None) (sym same_places) ∙ is) in
@@ -145,7 +122,6 @@ repainted net room slots p q slot painted within same_net table graph same_place
         graph = graph;
         places = ap (λ (v : _). vec_len v) same_places ∙ s.places;
         rows = len ∙ s.rows;
-        idle = subst NamesNone (others room (λ same. omega (arith, within))) s.idle;
       };
       rows = λ other place below is.
           let old = painted.rows other place below (ap (λ (v : _). get_or v.items other None) (sym same_places) ∙ is) in
@@ -176,7 +152,6 @@ placed net room slots p q slot place painted below fits row same_net same_table 
         graph = omega (arith, s.graph, ap (λ (g : _). g.room) same_graph);
         places = len ∙ s.places;
         rows = ap (λ (v : _). vec_len v) same_rows ∙ s.rows;
-        idle = subst NamesNone (rows_same room) s.idle;
       };
       rows = λ other at under is.
           let now : get_or (set p.places.items slot (Some place)) other None ≡ Some at = ap (λ (xs : List (Option ℕ)). get_or xs other None) (sym places) ∙ is in
@@ -203,7 +178,6 @@ forgotten net room slots p q s same_net same_table same_graph same_rows len none
         graph = omega (arith, s.graph, ap (λ (g : _). g.room) same_graph);
         places = len ∙ s.places;
         rows = ap (λ (v : _). vec_len v) same_rows ∙ s.rows;
-        idle = subst NamesNone (rows_same room) s.idle;
       };
       rows = λ slot place below is. let was : None ≡ Some place = sym (none slot) ∙ is in absurd (cc);
     }
@@ -213,13 +187,11 @@ pub named_place : (slots : List (List Flow)) (p : Painter) (slot place : ℕ) (f
 named_place slots p slot place found may below at is =
     get_or_default p.places.items slot None found (omega (arith, below, may.colourable.count, p.places.ok.0)) ∙ (sym at ∙ is)
 
--- a row that is noted stands within the rows
-pub place_fits : (slots : List (List Flow)) (p : Painter) (slot place : ℕ) → MayPaint slots p → slot < length slots → place_of p slot ≡ Some place → place * endpoints_of p.net + endpoints_of p.net ≤ vec_len p.rows
-place_fits slots p slot place may below is =
-    let row = may.painted.rows slot place below is in
-    let within : place ≤ vec_len p.places = row.within in
-    let rows : vec_len p.rows ≡ (vec_len p.places + 1) * endpoints_of p.net = may.painted.sized.rows in
-    omega (arith, rows, row_fits place (endpoints_of p.net) (vec_len p.places + 1) (endpoints_of p.net) (omega (arith, within)) (omega arith))
+-- a row that is noted and is not past the rows stands within them
+pub place_fits : (slots : List (List Flow)) (p : Painter) (place : ℕ) → MayPaint slots p → place < vec_len p.places → place * endpoints_of p.net + endpoints_of p.net ≤ vec_len p.rows
+place_fits slots p place may below =
+    let rows : vec_len p.rows ≡ vec_len p.places * endpoints_of p.net = may.painted.sized.rows in
+    omega (arith, rows, row_fits place (endpoints_of p.net) (vec_len p.places) (endpoints_of p.net) below (omega arith))
 
 -- what a worker has painted, where its sizes are those of another
 pub resized : (net : Network) (room : ℕ) (slots : List (List Flow)) (p q : Painter) → IsPainter net room p → HasPainted p.net (vec_len p.places) slots q → HasPainted net room slots q

@@ -16,7 +16,7 @@ use Rattle.edge_colouring.specs.declared.degrees.Degree.{Degree}
 use Rattle.edge_colouring.specs.Degrees.{degree_on, HasDegreesWithin, IsFirstExcess}
 use Rattle.edge_colouring.specs.Colouring.{IsColouring, MakesClean}
 use Rattle.path_workers.specs.Coloured.{HasItsCores}
-use Rattle.path_workers.specs.CoreTable.{row_of}
+use Rattle.path_workers.specs.Painters.{row_of}
 
 -- degrees within the bound are never refused
 pub no_excess : {X : Type 0} (result : Result X Degree) (most : ℕ) (edges : List Edge) → is_ok result ≡ false → HasDegreesWithin most edges → IfErr result (IsFirstExcess most edges) → ⊥

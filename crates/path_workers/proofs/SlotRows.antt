@@ -1,5 +1,5 @@
 -- Equal rows of destinations are rows of equal slots.
-use Rattle.std.proofs.Common.{◌≡◌, ℕ, ◌+◌, List, Bool, IsTrue, Option, Some, None, refl, sym, ap, ◌∙◌}
+use Rattle.std.proofs.Common.{◌≡◌, ℕ, List, Bool, IsTrue, Option, Some, None, refl, sym, ap, ◌∙◌}
 use Rattle.std.specs.Bool.{Decides}
 use Rattle.std.specs.Cmp.Lexicographic.{pointwise}
 use Rattle.std.specs.Option.{option_eq}

@@ -1,4 +1,5 @@
 pub mod CoreTable
+pub mod CoreRows
 pub mod PathWork
 pub mod Coloured
 pub mod Jobs

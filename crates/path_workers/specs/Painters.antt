@@ -1,5 +1,5 @@
 -- A path worker's rows of cores: for each slot that it has coloured, the row that has its cores (this project's own profile).
-use Rattle.std.specs.Prelude.{◌≡◌, ◌<◌, ◌≤◌, ℕ, ◌+◌, ◌*◌, List, length, Bool, true, Option, Some, None, All, IsTrue, is_some, vec_len}
+use Rattle.std.specs.Prelude.{◌≡◌, ◌<◌, ◌≤◌, ℕ, ◌*◌, List, length, Bool, true, Option, Some, None, All, IsTrue, is_some, take, drop, vec_len}
 use Rattle.std.specs.List.{slice_index_or, list_any}
 use Rattle.greedy_rules.specs.declared.flows.Flow.{Flow}
 use Rattle.greedy_rules.specs.Matching.{IsMatching}
@@ -9,7 +9,6 @@ use Rattle.clos_topology.specs.Links.{CoreOf}
 use Rattle.edge_colouring.specs.Cores.{core_in}
 use Rattle.path_workers.specs.declared.jobs.Job.{Job}
 use Rattle.path_workers.specs.declared.painter.Painter.{Painter}
-use Rattle.path_workers.specs.CoreTable.{row_of, NamesNone}
 use Rattle.path_workers.specs.Coloured.{IsFlowOf, IsWithinCores, HasItsCores}
 use Rattle.path_workers.specs.Jobs.{weigh, is_slot}
 
@@ -27,20 +26,23 @@ place_of painter slot = slice_index_or painter.places.items slot None
 abbrev pub has_row : ℕ → Painter → Bool
 has_row slot painter = is_some (place_of painter slot)
 
+-- the row at a place, where each has so many cores
+abbrev pub row_of : ℕ → List (Option ℕ) → ℕ → List (Option ℕ)
+row_of endpoints cores place = take endpoints (drop (place * endpoints) cores)
+
 abbrev pub row_at : Painter → ℕ → CoreOf
 row_at painter place = core_in (row_of (endpoints_of painter.net) painter.rows.items place)
 
--- a row for each slot, and a last one that names no core
+-- a row for each slot
 pub record IsPainter (net : Network) (room : ℕ) (painter : Painter) : Type 0 where
   pub few : room ≤ 1024
   pub same_net : painter.net ≡ net
   pub table : painter.table.net ≡ net
   pub graph : endpoints_of net ≤ painter.graph.room
   pub places : vec_len painter.places ≡ room
-  pub rows : vec_len painter.rows ≡ (room + 1) * endpoints_of net
-  pub idle : NamesNone (row_at painter room)
+  pub rows : vec_len painter.rows ≡ room * endpoints_of net
 
--- a slot's row has its cores; it is the row of a slot with the same packets, or the last one
+-- a slot's row has its cores; it is the row of a slot with the same packets, or an empty one past the rows
 pub record HasRow (net : Network) (room : ℕ) (slots : List (List Flow)) (painter : Painter) (slot place : ℕ) : Type 0 where
   pub within : place ≤ room
   pub same : place < room → slot_in slots place ≡ slot_in slots slot

@@ -1,29 +1,38 @@
-ghost use Rattle.std.specs.Prelude.{◌≡◌, ◌<◌, ◌*◌, ℕ, length, replicate, None, IfOk};
+ghost use Rattle.std.specs.Prelude.{◌≡◌, ◌<◌, ◌≤◌, ℕ, [], ◌∷◌, ◌++◌, length, IfOk};
 ghost use Rattle.path_workers.specs.CoreTable.{core_of, NamesNone};
 
 use no_memory::NoMemory;
 use std::alloc::Global;
 use std::marker::Model;
 
-/// The cores of the packets of many slots: in each slot, counted from 0, one place for each endpoint.
+/// The cores of the packets of many slots: of each slot, counted from 0, a row of cores by source. Rows are added slot after
+/// slot.
 #[derive(Debug, Drop)]
 pub struct CoreTable {
-    pub(crate) cores: Vec<Option<u16>>,
     slots: u16,
-    pub(crate) endpoints: u16,
-    // Whether no core has been named since the table was opened.
-    pub(crate) is_new: bool,
+    endpoints: u16,
+    // By slot, as far as rows were added: where its row stands.
+    places: Vec<Place>,
+    // Row after row.
+    cores: Vec<Option<u16>>,
+}
+
+/// Where the row of a slot stands.
+#[derive(Debug, Clone, Copy)]
+pub(crate) struct Place {
+    from: u32,
+    len: u16,
 }
 
 impl Model for CoreTable {
-    ghost use Rattle.std.specs.Prelude.{◌≡◌, ◌*◌, true, None, replicate, vec_len};
     ghost use Rattle.path_workers.specs.CoreTable.{CoreSlots};
+    ghost use Rattle.path_workers.specs.CoreRows.{AreRows, rows_of};
 
     ghost Value = { CoreSlots };
 
-    ghost view = { λ t. record { slots = t.slots; endpoints = t.endpoints; cores = t.cores.items } };
+    ghost view = { λ t. record { slots = t.slots; endpoints = t.endpoints; rows = rows_of t.cores.items t.places.items } };
 
-    ghost invariant = { λ t. (vec_len t.cores ≡ t.slots * t.endpoints) × (t.is_new ≡ true → t.cores.items ≡ replicate (vec_len t.cores) None) };
+    ghost invariant = { AreRows };
 }
 
 impl CoreTable {
@@ -34,22 +43,32 @@ impl CoreTable {
         ensures none { IfOk result (λ table. (slot : ℕ) → NamesNone (core_of table slot)) }
     {
         Ok(CoreTable {
-            cores: vec![in alloc; None; slots as usize * endpoints as usize]?,
             slots,
             endpoints,
-            is_new: true,
+            places: Vec::with_capacity(alloc, slots as usize)?,
+            cores: Vec::with_capacity(alloc, slots as usize * endpoints as usize)?,
         })
     }
 
     /// Names no core any more.
     pub(crate) fn clear(&mut self)
-        ensures cores { self.new.cores ≡ replicate (length self.old.cores) None }
-        ensures slots { self.new.slots ≡ self.old.slots }
-        ensures endpoints { self.new.endpoints ≡ self.old.endpoints }
+        ensures { self.new ≡ record self.old { rows = [] } }
     {
-        if !self.is_new {
-            self.cores.fill(None);
-        }
+        self.places.clear();
+        self.cores.clear();
+    }
+
+    /// Adds the row of the next slot, which may be shorter than there are endpoints: it names no core for the others.
+    pub(crate) fn push(&mut self, row: &[Option<u16>])
+        requires slot_room { length self.old.rows < self.old.slots }
+        requires endpoint_room { length row.now ≤ self.old.endpoints }
+        ensures { self.new ≡ record self.old { rows = self.old.rows ++ row.now ∷ [] } }
+    {
+        self.places.push_reserved(Place {
+            from: self.cores.len() as u32,
+            len: row.len() as u16,
+        });
+        let _ = self.cores.extend_from_slice(row);
     }
 
     /// How many slots there is room for.
@@ -72,6 +91,9 @@ impl CoreTable {
         requires src_in_range { src < self.now.endpoints }
         ensures { result ≡ core_of self.now slot src }
     {
-        self.cores[slot as usize * self.endpoints as usize + src as usize]
+        match self.places.get(slot as usize) {
+            Some(place) if src < place.len => self.cores[place.from as usize + src as usize],
+            _ => None,
+        }
     }
 }

@@ -1,10 +1,9 @@
 //! One path worker's colouring.
-ghost use Rattle.std.specs.Prelude.{◌≡◌, ◌<◌, ◌≤◌, ◌+◌, ◌*◌, ℕ, List, length, false, IsTrue, IfOk, IfSome, vec_len};
+ghost use Rattle.std.specs.Prelude.{◌≡◌, ◌<◌, ◌≤◌, ◌+◌, ◌*◌, ℕ, List, length, IsTrue, IfOk, IfSome, is_some, vec_len};
 ghost use Rattle.greedy_rules.specs.declared.flows.Flow.{Flow};
 ghost use Rattle.greedy_rules.specs.Schedule.{slot_in};
 ghost use Rattle.clos_topology.specs.Network.{Network, endpoints_of};
 ghost use Rattle.edge_colouring.specs.Cores.{core_in};
-ghost use Rattle.path_workers.specs.CoreTable.{NamesNone};
 ghost use Rattle.path_workers.specs.Coloured.{HasItsCores};
 ghost use Rattle.path_workers.specs.Jobs.{is_slot};
 ghost use Rattle.path_workers.specs.Painters.{IsPainter, HasPainted, HasRow, MayPaint, has_row};
@@ -28,7 +27,7 @@ pub(crate) struct Painter {
     places: Vec<Option<u16>>,
     // The slot that it coloured last.
     last: u16,
-    // A row for each slot, and a last one that names no core; a row has a place for each endpoint.
+    // A row for each slot, which has a core or None for each endpoint.
     rows: Vec<Option<u16>>,
 }
 
@@ -51,7 +50,7 @@ impl Painter {
             table: Table::open(alloc, net)?,
             places: vec![in alloc; None; slots as usize]?,
             last: 0,
-            rows: vec![in alloc; None; (slots as usize + 1) * endpoints as usize]?,
+            rows: vec![in alloc; None; slots as usize * endpoints as usize]?,
         })
     }
 
@@ -138,7 +137,7 @@ impl Painter {
         slot
     }
 
-    /// Where the row stands that names no core.
+    /// The place of a slot whose packets have no core: past the rows.
     fn idle_place(&self) -> u16
         requires { vec_len self.now.places ≤ 1024 }
         ensures { result ≡ vec_len self.now.places }
@@ -146,26 +145,20 @@ impl Painter {
         self.places.len() as u16
     }
 
-    /// Writes the slot's cores into a row that names none, where this worker has coloured it. Answers whether it has.
-    pub(crate) fn copy_row(&self, slot: u16, row: &mut [Option<u16>]) -> bool
-        requires painted { (slots : List (List Flow)) × MayPaint slots self.now × (slot < length slots) }
-        requires room { endpoints_of self.now.net ≤ length row.old }
-        requires none { NamesNone (core_in row.old) }
-        ensures has { result ≡ has_row slot self.now }
-        ensures cores { IsTrue result → (slots : List (List Flow)) → MayPaint slots self.now → slot < length slots → HasItsCores self.now.net (slot_in slots slot) (core_in row.new) }
-        ensures same { result ≡ false → row.new ≡ row.old }
+    /// The slot's cores by source, where this worker has coloured it: an empty row where its packets have none.
+    pub(crate) fn row(&self, slot: u16) -> Option<&[Option<u16>]>
+        requires { (slots : List (List Flow)) × MayPaint slots self.now × (slot < length slots) }
+        ensures has { is_some result ≡ has_row slot self.now }
+        ensures cores { IfSome result (λ row. (slots : List (List Flow)) → MayPaint slots self.now → slot < length slots → HasItsCores self.now.net (slot_in slots slot) (core_in row.now)) }
+        ensures len { IfSome result (λ row. length row.now ≤ endpoints_of self.now.net) }
     {
-        let Some(place) = self.places[slot as usize] else {
-            return false;
-        };
+        let place = self.places[slot as usize]?;
         if place == self.idle_place() {
-            return true;
+            return Some(&[]);
         }
         let endpoints = self.net.endpoints() as usize;
         let from = place as usize * endpoints;
-        let to = &mut row[..endpoints];
-        to.copy_from_slice(&self.rows[from..from + endpoints]);
-        true
+        Some(&self.rows[from..from + endpoints])
     }
 }
 

@@ -1,4 +1,4 @@
-ghost use Rattle.std.specs.Prelude.{◌≡◌, ◌<◌, ◌≤◌, ◌+◌, ◌*◌, ℕ, List, true, None, length, replicate, All, IfOk};
+ghost use Rattle.std.specs.Prelude.{◌≡◌, ◌<◌, ◌≤◌, ◌+◌, ℕ, List, true, length, All, IfOk};
 ghost use Rattle.std.specs.List.{list_any};
 ghost use Rattle.greedy_rules.specs.declared.flows.Flow.{Flow};
 ghost use Rattle.greedy_rules.specs.Matching.{IsMatching};
@@ -6,7 +6,7 @@ ghost use Rattle.greedy_rules.specs.Schedule.{slot_in};
 ghost use Rattle.clos_topology.specs.Network.{Network, endpoints_of};
 ghost use Rattle.clos_topology.specs.Links.{IsClean};
 ghost use Rattle.edge_colouring.specs.Cores.{core_in};
-ghost use Rattle.path_workers.specs.CoreTable.{core_of, row_of, NamesNone};
+ghost use Rattle.path_workers.specs.CoreTable.{core_of, NamesNone};
 ghost use Rattle.path_workers.specs.Coloured.{IsFlowOf, IsWithinCores, NamesNoOther, HasItsCores};
 ghost use Rattle.path_workers.specs.Painters.{IsPainter, HasPainted, MayPaint, HaveRows, has_row};
 
@@ -122,10 +122,7 @@ impl Paths {
         );
         jobs::join(&self.queue, &mut self.pass, pass);
         self.painters = painters;
-        out.clear();
-        out.is_new = false;
-        let endpoints = out.endpoints;
-        gather(&self.painters, slots.slots(), endpoints, &mut out.cores);
+        gather(&self.painters, slots.slots(), out);
     }
 }
 
@@ -170,33 +167,33 @@ fn forget(painters: &mut [Painter])
     }
 }
 
-/// Writes the row of every slot, each from a worker that has it, where no row names a core.
-fn gather(painters: &[Painter], slots: u16, endpoints: u16, cores: &mut [Option<u16>])
+/// Fills the table with the row of every slot, each from a worker that has it.
+fn gather(painters: &[Painter], slots: u16, out: &mut CoreTable)
     requires painted { (table : List (List Flow)) × (length table ≡ slots) × All (MayPaint table) painters.now × HaveRows slots painters.now }
-    requires none { cores.old ≡ replicate (length cores.old) None }
-    requires slot_room { slots * endpoints ≤ length cores.old }
-    requires endpoint_room { All (λ painter. endpoints_of painter.net ≤ endpoints) painters.now }
-    ensures coloured { (net : Network) (table : List (List Flow)) → All (MayPaint table) painters.now → All (λ painter. painter.net ≡ net) painters.now → length table ≡ slots → (at : ℕ) → at < slots → HasItsCores net (slot_in table at) (core_in (row_of endpoints cores.new at)) }
-    ensures past { (at : ℕ) → slots ≤ at → NamesNone (core_in (row_of endpoints cores.new at)) }
+    requires slot_room { slots ≤ out.old.slots }
+    requires endpoint_room { All (λ painter. endpoints_of painter.net ≤ out.old.endpoints) painters.now }
+    ensures coloured { (net : Network) (table : List (List Flow)) → All (MayPaint table) painters.now → All (λ painter. painter.net ≡ net) painters.now → length table ≡ slots → (at : ℕ) → at < slots → HasItsCores net (slot_in table at) (core_of out.new at) }
+    ensures past { (at : ℕ) → slots ≤ at → NamesNone (core_of out.new at) }
+    ensures slots { out.new.slots ≡ out.old.slots }
+    ensures endpoints { out.new.endpoints ≡ out.old.endpoints }
 {
+    out.clear();
     for slot in 0..slots {
-        let from = slot as usize * endpoints as usize;
-        let row = &mut cores[from..from + endpoints as usize];
-        copy_row(painters, slot, row);
+        out.push(row_for(painters, slot));
     }
 }
 
-/// Writes a slot's cores into a row that names none, from the first worker that has them.
-fn copy_row(painters: &[Painter], slot: u16, row: &mut [Option<u16>])
+/// The slot's row, from the first worker that has it.
+fn row_for(painters: &[Painter], slot: u16) -> &[Option<u16>]
     requires painted { (table : List (List Flow)) × (slot < length table) × All (MayPaint table) painters.now }
     requires has { list_any (has_row slot) painters.now ≡ true }
-    requires room { All (λ painter. endpoints_of painter.net ≤ length row.old) painters.now }
-    requires none { NamesNone (core_in row.old) }
-    ensures { (net : Network) (table : List (List Flow)) → All (MayPaint table) painters.now → All (λ painter. painter.net ≡ net) painters.now → slot < length table → HasItsCores net (slot_in table slot) (core_in row.new) }
+    ensures cores { (net : Network) (table : List (List Flow)) → All (MayPaint table) painters.now → All (λ painter. painter.net ≡ net) painters.now → slot < length table → HasItsCores net (slot_in table slot) (core_in result.now) }
+    ensures len { (room : ℕ) → All (λ painter. endpoints_of painter.net ≤ room) painters.now → length result.now ≤ room }
 {
     for painter in painters {
-        if painter.copy_row(slot, row) {
-            return;
+        if let Some(row) = painter.row(slot) {
+            return row;
         }
     }
+    &[]
 }

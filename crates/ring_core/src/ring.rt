@@ -314,18 +314,7 @@ fn take_list(edge: &mut Edge, list: &mut DemandList)
     ensures room { edge.new.room ≡ edge.old.room }
 {
     while let Some(piece) = edge.take() {
-        append_items(list, &piece.items);
-    }
-}
-
-/// Appends the items, for which there is room.
-fn append_items(list: &mut DemandList, items: &[Item])
-    requires { length items.now ≤ list.old.spare }
-    ensures items { list.new.items ≡ list.old.items ++ items.now }
-    ensures spare { list.new.spare + length items.now ≡ list.old.spare }
-{
-    for item in items {
-        list.push(*item);
+        list.append(&piece.items);
     }
 }
 

@@ -39,7 +39,7 @@ not_listed (item ∷ list) flow none =
     All-cons (λ x. x.flow ≢ flow) item list differs (not_listed list flow parts.1)
 
 -- a flow that opens is no item's
-others_open : (batch : List Entry) (list : List Item) → OpensNewFlows batch list → All (OpensOthers batch) list
+pub others_open : (batch : List Entry) (list : List Item) → OpensNewFlows batch list → All (OpensOthers batch) list
 others_open batch list opens = λ k d below j e within yes same.
     not_listed list _ (not-true (is_listed list _) (sym (opens j e within) ∙ yes)) k d below (sym same)
 

@@ -12,11 +12,11 @@ use Rattle.slot_batches.specs.Feeding.{IsInOrder}
 use Rattle.slot_batches.specs.NextList.{AnIdleListStays}
 use Rattle.slot_batches.proofs.ListOrder.{sort_by-in_order}
 
-abbrev NeedsNone : List Item → Type 0
+abbrev pub NeedsNone : List Item → Type 0
 NeedsNone list = All (λ item. item.need ≡ 0) list
 
 module _ (bar : Bar) where
-  none_chosen : (slot : List Flow) (list : List Item) → NeedsNone list → chosen_after bar slot list ≡ slot
+  pub none_chosen : (slot : List Flow) (list : List Item) → NeedsNone list → chosen_after bar slot list ≡ slot
   none_chosen slot [] none = refl
   none_chosen slot (item ∷ list) none =
       let no_need : nat_lt 0 item.need ≡ false = ap (nat_lt 0) (All-head (λ x. x.need ≡ 0) item list none) in

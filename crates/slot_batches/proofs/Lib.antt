@@ -22,5 +22,6 @@ pub mod ReadLemmas
 pub mod StandsLemmas
 pub mod MarkLemmas
 pub mod IdleLemmas
+pub mod PassedOver
 pub mod RestLemmas
 pub mod DoubtLemmas

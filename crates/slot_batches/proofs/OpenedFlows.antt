@@ -30,7 +30,7 @@ floor_zero : (n : ℕ) (list : List Item) → n ≤ 0 → Floor last_of n list
 floor_zero n [] none = tt
 floor_zero n (item ∷ list) none = (omega arith, floor_zero n list none)
 
-rises-opened : (batch : List Entry) → Rises last_of (opened batch)
+pub rises-opened : (batch : List Entry) → Rises last_of (opened batch)
 rises-opened [] = tt
 rises-opened (entry ∷ batch) =
     cond_both entry.opens (entry ∷ filter (λ e. e.opens) batch) (filter (λ e. e.opens) batch)
@@ -117,7 +117,7 @@ taken_up_rest batch (first ∷ fed) rest =
       | false ↦ (later.0, ap (λ (zs : List Item). with_batch batch first ∷ zs) later.1)
     ]
 
-all_served : (n : ℕ) (list : List Item) → 0 < n → Floor last_of n list → (filter was_served list ≡ list) × (filter (λ item. not (was_served item)) list ≡ [])
+pub all_served : (n : ℕ) (list : List Item) → 0 < n → Floor last_of n list → (filter was_served list ≡ list) × (filter (λ item. not (was_served item)) list ≡ [])
 all_served n [] positive floor = (refl, refl)
 all_served n (item ∷ list) positive floor =
     let hit : was_served item ≡ true = lt-ltb 0 item.last (omega (arith, floor.0)) in

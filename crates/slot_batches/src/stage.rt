@@ -10,7 +10,7 @@ use crate::marks::mark_entries;
 use crate::opening::{open_due, with_entry};
 use crate::piece::{Piece, first_items};
 use crate::resting::resting;
-use greedy_rules::{Batch, Item, SlotTable};
+use greedy_rules::{Batch, DemandList, Item, SlotTable};
 use no_memory::NoMemory;
 use std::alloc::Global;
 use std::marker::Model;
@@ -174,6 +174,23 @@ impl Stage {
             result.now ≡ settled batch (first_slot_of self.now) (batch_size_of self.now) fed finished }
     {
         &self.filling.waiting
+    }
+
+    /// Hands the items over that wait, as a list with the room that this one had. Where both have as much room they are not
+    /// copied.
+    pub fn give(&mut self, list: &mut DemandList)
+        requires { length self.old.fill.waiting ≤ length list.old.items + list.old.spare }
+        ensures items { list.new.items ≡ self.old.fill.waiting }
+        ensures spare { length list.new.items + list.new.spare ≡ length list.old.items + list.old.spare }
+        ensures endpoints { endpoints_of self.new ≡ endpoints_of self.old }
+        ensures b { batch_size_of self.new ≡ batch_size_of self.old }
+    {
+        if list.room() == self.filling.waiting.capacity() {
+            list.exchange(&mut self.filling.waiting);
+        } else {
+            list.clear();
+            list.append(&self.filling.waiting);
+        }
     }
 
     /// The slots of the batch, counted from 0.

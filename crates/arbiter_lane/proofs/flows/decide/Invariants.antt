@@ -1,4 +1,4 @@
-use Rattle.std.proofs.Common.{◌≡◌, ℕ, take, false}
+use Rattle.std.proofs.Common.{take}
 use Rattle.arbiter_lane.specs.Lines.{Become, DecidesSlots, slots_shown, slots_lost}
 use Rattle.arbiter_lane.specs.Parts.{AreMarked}
 use Rattle.arbiter_lane.proofs.flows.decide.Given as goal
@@ -6,6 +6,5 @@ use Rattle.arbiter_lane.proofs.flows.decide.Given as goal
 abbrev pub invariant-loop-number : goal.invariant-loop-number
 invariant-loop-number l = record {
   decided : Become (λ dst. DecidesSlots (slots_shown (take l.number-index l.found) dst) (slots_lost (take l.number-index l.found) dst)) l.fn.lines l.lines;
-  none_lost : l.lost ≡ false → (dst : ℕ) → slots_lost (take l.number-index l.found) dst ≡ 0;
   marked : AreMarked l.fn.risen l.fn.lines → AreMarked l.risen l.lines;
 }

@@ -3,14 +3,13 @@ use Rattle.std.proofs.Math.Seq.{take-length}
 use Rattle.fcp_framing.specs.declared.packet.Demand.{Demand as DemandItem}
 use Rattle.endpoint_history.specs.Confirmed.{total_named}
 use Rattle.arbiter_lane.specs.Lines.{Become, RisesTo}
-use Rattle.arbiter_lane.proofs.Changes.{neither, RisesTo-next, RisesTo-still}
+use Rattle.arbiter_lane.proofs.Changes.{RisesTo-next}
 use Rattle.arbiter_lane.proofs.flows.raise.Goals as goal
 
 pub loop-demand-preserved : goal.loop-demand-preserved
 loop-demand-preserved c = record {
-  raised = RisesTo-next c.args.demands.now c.loop-demand.demand-index (record { dst = 0; total = 0 }) c.args.lines.now c.loop-demand.lines c.raise_one-rises.new.lines c.loop-demand-test.true c.loop-demand.invariant.raised c.raise_one-rises.ensures.raised;
-  unrisen = λ none. let parts = neither c.loop-demand.any c.raise_one-rises.result none in RisesTo-still c.args.lines.now c.loop-demand.lines c.raise_one-rises.new.lines (c.loop-demand.invariant.unrisen parts.0) (c.raise_one-rises.ensures.unrisen parts.1);
-  marked = λ before. c.raise_one-rises.ensures.marked (c.loop-demand.invariant.marked before);
+  raised = RisesTo-next c.args.demands.now c.loop-demand.demand-index (record { dst = 0; total = 0 }) c.args.lines.now c.loop-demand.lines c.raise_one.new.lines c.loop-demand-test.true c.loop-demand.invariant.raised c.raise_one.ensures.raised;
+  marked = λ before. c.raise_one.ensures.marked (c.loop-demand.invariant.marked before);
 }
 
 pub returns-clause-raised : goal.returns-clause-raised

@@ -1,4 +1,4 @@
-use Rattle.std.proofs.Common.{◌≡◌, take, false}
+use Rattle.std.proofs.Common.{take}
 use Rattle.arbiter_lane.specs.Lines.{Become, RisesTo}
 use Rattle.arbiter_lane.specs.Parts.{AreMarked}
 use Rattle.endpoint_history.specs.Confirmed.{total_named}
@@ -7,6 +7,5 @@ use Rattle.arbiter_lane.proofs.flows.raise.Given as goal
 abbrev pub invariant-loop-demand : goal.invariant-loop-demand
 invariant-loop-demand l = record {
   raised : Become (λ dst. RisesTo (total_named dst (take l.demand-index l.demands))) l.fn.lines l.lines;
-  unrisen : l.any ≡ false → Become (λ dst. RisesTo 0) l.fn.lines l.lines;
   marked : AreMarked l.fn.risen l.fn.lines → AreMarked l.risen l.lines;
 }

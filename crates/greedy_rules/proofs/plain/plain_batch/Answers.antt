@@ -7,7 +7,6 @@ use Rattle.greedy_rules.specs.Slot.{Bar, greedy_slot}
 use Rattle.greedy_rules.specs.declared.limits.Limits.{Limits}
 use Rattle.greedy_rules.specs.Limits.{is_barred}
 use Rattle.greedy_rules.specs.Walk.{HavePlaces}
-use Rattle.greedy_rules.specs.Schedule.{slot_in}
 use Rattle.greedy_rules.specs.Allocation.{served, after_slot, batch_slots, list_through, list_after_slots, slots_of}
 use Rattle.greedy_rules.proofs.BatchSlots.{slots_more, list_more, empty_more, all_taken}
 use Rattle.greedy_rules.proofs.NeedLemmas.{once-after_slots, below-after_slots, listed-after_slots, listed-after_batch, balance}
@@ -33,15 +32,8 @@ loop-offset-init c =
       once = c.in_ok-apply.ensures.once;
       below = subst (AreBelow c.args.out.now.endpoints) (sym c.in_ok-apply.ensures.items)
           (below-after_batch c.args.out.now.endpoints c.args.batch.now.entries c.args.list.now.items c.requires.endpoints);
+      row = omega (arith, c.in_ok-sends.ensures.len, c.endpoints-2.ensures, c.clear.ensures.endpoints);
     }
-
-pub fill_place-requires-clause-empty : goal.fill_place-requires-clause-empty
-fill_place-requires-clause-empty c =
-    let out = c.loop-offset.out.slots in
-    let within : c.loop-offset.offset < length out = omega arith in
-    let place : c.from.result ≡ c.loop-offset.offset = omega (arith, c.from.ensures) in
-    ap (slot_in out) place
-    ∙ (empty_more c.loop-offset.offset (length c.args.out.now.slots) out [] within (omega arith) c.loop-offset.invariant.empty).0
 
 pub loop-offset-preserved : goal.loop-offset-preserved
 loop-offset-preserved c =
@@ -71,6 +63,7 @@ loop-offset-preserved c =
       spare = omega (arith, ap length items, length-map list (served (c.args.first_slot + offset) chosen), c.fill_place.ensures.spare, c.loop-offset.invariant.spare);
       once = rw items (once-after_slot bar (c.args.first_slot + offset) list c.loop-offset.invariant.once);
       below = rw items (below-after_slot c.args.out.now.endpoints bar (c.args.first_slot + offset) list c.loop-offset.invariant.below);
+      row = c.loop-offset.invariant.row;
     }
 
 -- the list that the sort leaves

@@ -17,4 +17,5 @@ invariant-loop-offset l = record {
   spare : length l.list.items + l.list.spare ≡ length l.fn.list.items + l.fn.list.spare;
   once : HasEachFlowOnce l.list.items;
   below : AreBelow l.fn.out.endpoints l.list.items;
+  row : l.sends.len ≡ l.fn.out.endpoints;
 }

@@ -3,4 +3,4 @@ use Rattle.line_marks.proofs.BitLemmas.{bit_is_set}
 use Rattle.line_marks.proofs.Marks.set.Goals as goal
 
 pub returns : goal.returns
-returns c = bit_is_set c.args.self.now.words c.args.at (search rules)
+returns c = rw (← c.self.view_is) (bit_is_set c.self.inside.words c.args.at (search rules))

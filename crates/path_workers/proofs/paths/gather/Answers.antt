@@ -1,40 +1,39 @@
-use Rattle.std.proofs.Common.{◌≡◌, ◌≤◌, ◌+◌, ◌-◌, ◌*◌, ℕ, List, Option, length, sym, ap, ◌∙◌, subst, arith, inl, inr}
-use borrow.Rule.Slice.PartMut.{put_mid}
+use Rattle.std.proofs.Common.{◌≡◌, ◌+◌, ℕ, List, [], ◌∷◌, ◌++◌, Option, length, get_or, sym, ap, ◌∙◌, subst, arith, inl, inr}
 use Rattle.std.proofs.lemmas.Bool.{cases_eq}
-use Rattle.std.proofs.lemmas.Nat.{row_fits}
+use Rattle.std.proofs.lemmas.List.{get_or_push, get_or_past, get_or_append_left, length_push}
 use Rattle.greedy_rules.specs.Schedule.{slot_in}
 use Rattle.edge_colouring.specs.Cores.{core_in}
-use Rattle.path_workers.specs.CoreTable.{row_of}
+use Rattle.path_workers.specs.CoreTable.{CoreSlots, core_of}
 use Rattle.path_workers.specs.Coloured.{HasItsCores}
-use Rattle.path_workers.proofs.RowLemmas.{length-row, row_same, row_other}
 use Rattle.path_workers.proofs.paths.gather.Goals as goal
 
 pub loop-slot-preserved : goal.loop-slot-preserved
 loop-slot-preserved c =
     let slot = c.loop-slot.slot in
-    let endpoints = c.args.endpoints in
-    let old = c.loop-slot.cores in
-    let row = c.copy_row.new.row in
-    let k : ℕ = (slot * endpoints + endpoints) - slot * endpoints in
-    let size : k ≡ endpoints = omega arith in
-    let fits : slot * endpoints + endpoints ≤ length old =
-    omega (arith, row_fits slot endpoints c.args.slots endpoints c.loop-slot-test.true (omega arith), c.requires.slot_room, c.loop-slot.auto.cores) in
-    let within : slot * endpoints ≤ length old = omega (arith, fits) in
-    let whole : length row ≡ endpoints = c.copy_row.auto.row ∙ length-row endpoints k (slot * endpoints) old size fits in
+    let rows : List (List (Option ℕ)) = c.loop-slot.out.rows in
+    let row : List (Option ℕ) = c.row_for.result.now in
+    let pushed : c.push.new.self.rows ≡ rows ++ row ∷ [] = ap (λ (t : CoreSlots). t.rows) c.push.ensures in
+    let place : (at : ℕ) → core_of c.push.new.self at ≡ core_in (get_or (rows ++ row ∷ []) at []) = λ at. ap (λ (xs : List (List (Option ℕ))). core_in (get_or xs at [])) pushed in
     record {
       coloured = λ net table may nets len at below. elim (cases_eq at slot) [
         | inl same ↦
-            subst (λ (n : ℕ). HasItsCores net (slot_in table n) (core_in (row_of endpoints (put_mid (slot * endpoints) k old row) n))) (sym same)
-            (subst (λ (cores : List (Option ℕ)). HasItsCores net (slot_in table slot) (core_in cores)) (sym (row_same endpoints slot k old row size whole within))
-            (c.copy_row.ensures net table may nets (omega (arith, len, c.loop-slot-test.true))))
+            subst (HasItsCores net (slot_in table at)) (sym (place at ∙ ap core_in (get_or_push rows row [] at (omega (arith, same, c.loop-slot.invariant.count)))))
+            (subst (λ (n : ℕ). HasItsCores net (slot_in table n) (core_in row)) (sym same) (c.row_for.ensures.cores net table may nets (omega (arith, len, c.loop-slot-test.true))))
         | inr other ↦
-            subst (λ (cores : List (Option ℕ)). HasItsCores net (slot_in table at) (core_in cores)) (sym (row_other endpoints slot k at old row size whole within other))
-            (c.loop-slot.invariant.coloured net table may nets len at (omega (arith, below)))
+            subst (HasItsCores net (slot_in table at)) (sym (place at ∙ ap core_in (get_or_append_left rows (row ∷ []) [] at (omega (arith, below, other, c.loop-slot.invariant.count)))))
+            (c.loop-slot.invariant.coloured net table may nets len at (omega (arith, below, other)))
       ];
-      past = λ at above source.
-          ap (λ (cores : List (Option ℕ)). core_in cores source) (row_other endpoints slot k at old row size whole within (λ same. omega (arith, above)))
-          ∙ c.loop-slot.invariant.past at (omega (arith, above)) source;
+      count = ap (λ (xs : List (List (Option ℕ))). length xs) pushed ∙ (length_push rows row ∙ ap (λ (n : ℕ). n + 1) c.loop-slot.invariant.count);
+      slots = ap (λ (t : CoreSlots). t.slots) c.push.ensures ∙ c.loop-slot.invariant.slots;
+      endpoints = ap (λ (t : CoreSlots). t.endpoints) c.push.ensures ∙ c.loop-slot.invariant.endpoints;
     }
 
 pub returns-clause-coloured : goal.returns-clause-coloured
 returns-clause-coloured c net table may nets len at below = c.loop-slot.invariant.coloured net table may nets len at (omega (arith, below, c.loop-slot-test.false))
+
+pub returns-clause-past : goal.returns-clause-past
+returns-clause-past c at above source =
+    ap (λ (row : List (Option ℕ)). core_in row source) (get_or_past c.loop-slot.out.rows at [] (omega (arith, above, c.loop-slot.invariant.count, c.loop-slot-test.false)))
+
+pub push-requires-clause-endpoint_room : goal.push-requires-clause-endpoint_room
+push-requires-clause-endpoint_room c = omega (arith, c.row_for.ensures.len c.args.out.now.endpoints c.requires.endpoint_room, c.loop-slot.invariant.endpoints)

@@ -1,7 +1,6 @@
-use Rattle.std.proofs.Common.{◌≡◌, ◌≢◌, ℕ, ◌*◌, ◌-◌, ◌<◌, [], ◌∷◌, ◌||◌, Some, IfSome, slice_get, take, false, sym, ◌∙◌, ap, subst, arith}
+use Rattle.std.proofs.Common.{◌≡◌, ◌≢◌, ℕ, ◌*◌, ◌-◌, ◌<◌, [], ◌∷◌, Some, IfSome, slice_get, take, false, sym, ◌∙◌, ap, subst, arith}
 use Rattle.std.specs.Option.{option_map}
 use Rattle.std.specs.Vec.{with_items}
-use Rattle.std.proofs.lemmas.Bool.{or_parts}
 use Rattle.fcp_framing.specs.declared.packet.Down.{Down}
 use Rattle.fcp_framing.specs.Spelling.{IsAllocation, SpellsDown, down_bytes}
 use Rattle.endpoint_history.specs.Packets.{Telling as TellingOf}
@@ -59,11 +58,11 @@ returns-then-self-eq0-clause-stands c = λ history allocations stands.
 
 -- ---- the slots are told
 
-pub tell-loses-requires-clause-few : goal.tell-loses-requires-clause-few
-tell-loses-requires-clause-few c = c.slots_told-told.ensures.few
+pub tell-requires-clause-few : goal.tell-requires-clause-few
+tell-requires-clause-few c = c.slots_told-told.ensures.few
 
-pub tell-loses-requires-clause-in_flight : goal.tell-loses-requires-clause-in_flight
-tell-loses-requires-clause-in_flight c = λ dst line here.
+pub tell-requires-clause-in_flight : goal.tell-requires-clause-in_flight
+tell-requires-clause-in_flight c = λ dst line here.
     let was : LaneState = the_view c.self.inside in
     let begun : 0 < was.epoch = above was.epoch c.if-self-eq0.false in
     let allocated = subst (λ (l : LaneState). AreAllocated l c.args.round c.args.told.now.items) (sym c.self.view_is) c.requires.allocated in
@@ -76,24 +75,24 @@ encode_alloc-requires c =
     let was : LaneState = the_view c.self.inside in
     let before = c.self.invariant in
     let slots = c.args.told.now.items in
-    let down = c.tell-loses.new.down in
+    let down = c.tell.new.down in
     let content : TellingOf = record { batch = down.batch; told = down.told.items } in
-    let lines = (with_items c.self.inside.lines c.tell-loses.new.lines).items in
+    let lines = (with_items c.self.inside.lines c.tell.new.lines).items in
     let told =
-    told-from was c.args.round slots c.saturating_sub-batch.result c.slots_told-told.result.now c.tell-loses.new.sent lines c.tell-loses.result content
-    (c.saturating_sub-batch.ensures ∙ ap (λ g. c.args.round - 2 * g) c.from.ensures) (c.slots_told-told.ensures.slots ∙ ap (λ (l : LaneState). slots_told l c.args.round slots) (sym c.self.view_is)) c.slots_told-told.ensures.few c.tell-loses.ensures.sent c.tell-loses.ensures.content c.tell-loses.ensures.version c.tell-loses.ensures.newest
-    (Become-written (λ dst. LosesSlots (lost_by was.sent c.slots_told-told.result.now dst)) c.self.inside.lines c.deref_mut.result.now c.tell-loses.new.lines c.deref_mut.ensures.value c.tell-loses.ensures.lines) c.tell-loses.ensures.none_lost in
+    told-from was c.args.round slots c.saturating_sub-batch.result c.slots_told-told.result.now c.tell.new.sent lines content
+    (c.saturating_sub-batch.ensures ∙ ap (λ g. c.args.round - 2 * g) c.from.ensures) (c.slots_told-told.ensures.slots ∙ ap (λ (l : LaneState). slots_told l c.args.round slots) (sym c.self.view_is)) c.slots_told-told.ensures.few c.tell.ensures.sent c.tell.ensures.content c.tell.ensures.version c.tell.ensures.newest
+    (Become-written (λ dst. LosesSlots (lost_by was.sent c.slots_told-told.result.now dst)) c.self.inside.lines c.deref_mut.result.now c.tell.new.lines c.deref_mut.ensures.value c.tell.ensures.lines) in
     let begun : 0 < was.epoch = above was.epoch c.if-self-eq0.false in
     let are = subst (λ (l : LaneState). AreSlots l.endpoints l.b l.endpoint slots) (sym c.self.view_is) c.requires.slots in
     let header : c.put_header.new.down ≡ packet_with was 0 0 [] = c.put_header.ensures.header in
-    let down_is : down ≡ packet_with was c.tell-loses.new.sent.outstanding.newest down.batch down.told.items =
-    c.tell-loses.ensures.down ∙ ap (λ (d : Down). record d { seq = c.tell-loses.new.sent.outstanding.newest; batch = down.batch; told = down.told }) header in (
+    let down_is : down ≡ packet_with was c.tell.new.sent.outstanding.newest down.batch down.told.items =
+    c.tell.ensures.down ∙ ap (λ (d : Down). record d { seq = c.tell.new.sent.outstanding.newest; batch = down.batch; told = down.told }) header in (
       was.endpoints,
       was.b,
       subst (IsAllocation was.endpoints was.b) (sym down_is)
-          (rules-made was c.args.round slots c.tell-loses.new.sent lines c.tell-loses.result content before.1.0 before.1.1 before.0 begun
+          (rules-made was c.args.round slots c.tell.new.sent lines content before.1.0 before.1.1 before.0 begun
           c.put_header.ensures.mask c.put_header.ensures.width
-          c.tell-loses.ensures.few are told before.1.2 before.1.3),
+          c.tell.ensures.few are told before.1.2 before.1.3),
     )
 
 pub invariant_of-self-2 : goal.invariant_of-self-2
@@ -101,31 +100,29 @@ invariant_of-self-2 c =
     let was : LaneState = the_view c.self.inside in
     let before = c.self.invariant in
     let slots = c.args.told.now.items in
-    let down = c.tell-loses.new.down in
+    let down = c.tell.new.down in
     let content : TellingOf = record { batch = down.batch; told = down.told.items } in
-    let lines = (with_items c.self.inside.lines c.tell-loses.new.lines).items in
+    let lines = (with_items c.self.inside.lines c.tell.new.lines).items in
     let told =
-    told-from was c.args.round slots c.saturating_sub-batch.result c.slots_told-told.result.now c.tell-loses.new.sent lines c.tell-loses.result content
-    (c.saturating_sub-batch.ensures ∙ ap (λ g. c.args.round - 2 * g) c.from.ensures) (c.slots_told-told.ensures.slots ∙ ap (λ (l : LaneState). slots_told l c.args.round slots) (sym c.self.view_is)) c.slots_told-told.ensures.few c.tell-loses.ensures.sent c.tell-loses.ensures.content c.tell-loses.ensures.version c.tell-loses.ensures.newest
-    (Become-written (λ dst. LosesSlots (lost_by was.sent c.slots_told-told.result.now dst)) c.self.inside.lines c.deref_mut.result.now c.tell-loses.new.lines c.deref_mut.ensures.value c.tell-loses.ensures.lines) c.tell-loses.ensures.none_lost in
+    told-from was c.args.round slots c.saturating_sub-batch.result c.slots_told-told.result.now c.tell.new.sent lines content
+    (c.saturating_sub-batch.ensures ∙ ap (λ g. c.args.round - 2 * g) c.from.ensures) (c.slots_told-told.ensures.slots ∙ ap (λ (l : LaneState). slots_told l c.args.round slots) (sym c.self.view_is)) c.slots_told-told.ensures.few c.tell.ensures.sent c.tell.ensures.content c.tell.ensures.version c.tell.ensures.newest
+    (Become-written (λ dst. LosesSlots (lost_by was.sent c.slots_told-told.result.now dst)) c.self.inside.lines c.deref_mut.result.now c.tell.new.lines c.deref_mut.ensures.value c.tell.ensures.lines) in
     let begun : 0 < was.epoch = above was.epoch c.if-self-eq0.false in
     let are = subst (λ (l : LaneState). AreSlots l.endpoints l.b l.endpoint slots) (sym c.self.view_is) c.requires.slots in
     let allocated = subst (λ (l : LaneState). AreAllocated l c.args.round slots) (sym c.self.view_is) c.requires.allocated in
     let once : was.is_made ≡ false = ap (λ (l : LaneState). l.is_made) c.self.view_is ∙ c.requires.once in
     let rounds : was.round < 100000 = omega (arith, ap (λ (l : LaneState). l.round) c.self.view_is, c.requires.round, c.requires.rounds) in
-    let has_risen = was.has_risen || c.tell-loses.result in
     let done = told.done (numbers was.g before.1.0) before.1.2.sent in (
-      sound-made c.lanes_count_slots.ensures.making c.lanes_count_slots.ensures.sums was c.args.round slots c.tell-loses.new.sent lines has_risen before.1.0 before.1.1 once rounds begun told.few are allocated told.version told.newest done told.change
-          (λ h. let parts = or_parts was.has_risen c.tell-loses.result h in (parts.0, told.none_lost parts.1)) before.1.2 before.1.3 before.0,
+      sound-made c.lanes_count_slots.ensures.making c.lanes_count_slots.ensures.sums was c.args.round slots c.tell.new.sent lines before.1.0 before.1.1 once rounds begun told.few are allocated told.version told.newest done told.change before.1.2 before.1.3 before.0,
       (
         MakesDown c.args.round slots ∷ before.1.0,
         before.1.1,
-        stands-made c.lanes_count_slots.ensures.making was c.args.round slots c.tell-loses.new.sent lines has_risen before.1.0 before.1.1 before.0.sent_version told.version begun done told.change before.1.2,
-        tells-made was c.args.round slots c.tell-loses.new.sent lines has_risen before.1.0 before.1.1 before.0.sent_version begun are before.1.2 before.1.3,
+        stands-made c.lanes_count_slots.ensures.making was c.args.round slots c.tell.new.sent lines before.1.0 before.1.1 before.0.sent_version told.version begun done told.change before.1.2,
+        tells-made was c.args.round slots c.tell.new.sent lines before.1.0 before.1.1 before.0.sent_version begun are before.1.2 before.1.3,
       ),
       before.2,
-      marked-written c.tell-loses.new.risen c.self.inside.lines c.deref_mut.result.now c.tell-loses.new.lines c.deref_mut.ensures.value c.tell-loses.ensures.lines.as_many
-          (c.tell-loses.ensures.marked (subst (AreMarked c.self.inside.risen) (sym c.deref_mut.ensures.value) before.3)),
+      marked-written c.tell.new.risen c.self.inside.lines c.deref_mut.result.now c.tell.new.lines c.deref_mut.ensures.value c.tell.ensures.lines.as_many
+          (c.tell.ensures.marked (subst (AreMarked c.self.inside.risen) (sym c.deref_mut.ensures.value) before.3)),
     )
 
 pub returns-clause-packet : goal.returns-clause-packet
@@ -133,21 +130,21 @@ returns-clause-packet c = λ history allocations stood.
     let was : LaneState = the_view c.self.inside in
     let before = c.self.invariant in
     let slots = c.args.told.now.items in
-    let down = c.tell-loses.new.down in
+    let down = c.tell.new.down in
     let content : TellingOf = record { batch = down.batch; told = down.told.items } in
-    let lines = (with_items c.self.inside.lines c.tell-loses.new.lines).items in
+    let lines = (with_items c.self.inside.lines c.tell.new.lines).items in
     let told =
-    told-from was c.args.round slots c.saturating_sub-batch.result c.slots_told-told.result.now c.tell-loses.new.sent lines c.tell-loses.result content
-    (c.saturating_sub-batch.ensures ∙ ap (λ g. c.args.round - 2 * g) c.from.ensures) (c.slots_told-told.ensures.slots ∙ ap (λ (l : LaneState). slots_told l c.args.round slots) (sym c.self.view_is)) c.slots_told-told.ensures.few c.tell-loses.ensures.sent c.tell-loses.ensures.content c.tell-loses.ensures.version c.tell-loses.ensures.newest
-    (Become-written (λ dst. LosesSlots (lost_by was.sent c.slots_told-told.result.now dst)) c.self.inside.lines c.deref_mut.result.now c.tell-loses.new.lines c.deref_mut.ensures.value c.tell-loses.ensures.lines) c.tell-loses.ensures.none_lost in
+    told-from was c.args.round slots c.saturating_sub-batch.result c.slots_told-told.result.now c.tell.new.sent lines content
+    (c.saturating_sub-batch.ensures ∙ ap (λ g. c.args.round - 2 * g) c.from.ensures) (c.slots_told-told.ensures.slots ∙ ap (λ (l : LaneState). slots_told l c.args.round slots) (sym c.self.view_is)) c.slots_told-told.ensures.few c.tell.ensures.sent c.tell.ensures.content c.tell.ensures.version c.tell.ensures.newest
+    (Become-written (λ dst. LosesSlots (lost_by was.sent c.slots_told-told.result.now dst)) c.self.inside.lines c.deref_mut.result.now c.tell.new.lines c.deref_mut.ensures.value c.tell.ensures.lines) in
     let begun : 0 < was.epoch = above was.epoch c.if-self-eq0.false in
     let stands = subst (λ (l : LaneState). StandsFor l history allocations) (sym c.self.view_is) stood in
     let header : c.put_header.new.down ≡ packet_with was 0 0 [] = c.put_header.ensures.header in
-    let down_is : down ≡ packet_with was c.tell-loses.new.sent.outstanding.newest down.batch down.told.items =
-    c.tell-loses.ensures.down ∙ ap (λ (d : Down). record d { seq = c.tell-loses.new.sent.outstanding.newest; batch = down.batch; told = down.told }) header in
-    let made = packet-made was history allocations c.args.round slots c.tell-loses.new.sent content before.0.heard_version before.0.sent_version begun (told.done (numbers was.g history) stands.sent) (told.says (numbers was.g history) stands.sent) stands in
+    let down_is : down ≡ packet_with was c.tell.new.sent.outstanding.newest down.batch down.told.items =
+    c.tell.ensures.down ∙ ap (λ (d : Down). record d { seq = c.tell.new.sent.outstanding.newest; batch = down.batch; told = down.told }) header in
+    let made = packet-made was history allocations c.args.round slots c.tell.new.sent content before.0.heard_version before.0.sent_version begun (told.done (numbers was.g history) stands.sent) (told.says (numbers was.g history) stands.sent) stands in
     ap Some (c.encode_alloc.ensures.bytes ∙ ap down_bytes down_is)
-    ∙ (sym (bytes-made (framed_down was.endpoint) (packet_down was.g history c.args.round slots) (packet_with was c.tell-loses.new.sent.outstanding.newest down.batch down.told.items) made)
+    ∙ (sym (bytes-made (framed_down was.endpoint) (packet_down was.g history c.args.round slots) (packet_with was c.tell.new.sent.outstanding.newest down.batch down.told.items) made)
     ∙ ap (λ (l : LaneState). option_map (λ (packet : DownPacket). down_bytes (framed_down l.endpoint packet)) (packet_down l.g history c.args.round slots)) c.self.view_is)
 
 pub returns-clause-spelled : goal.returns-clause-spelled
@@ -155,41 +152,41 @@ returns-clause-spelled c = λ history allocations stood.
     let was : LaneState = the_view c.self.inside in
     let before = c.self.invariant in
     let slots = c.args.told.now.items in
-    let down = c.tell-loses.new.down in
+    let down = c.tell.new.down in
     let content : TellingOf = record { batch = down.batch; told = down.told.items } in
-    let lines = (with_items c.self.inside.lines c.tell-loses.new.lines).items in
+    let lines = (with_items c.self.inside.lines c.tell.new.lines).items in
     let told =
-    told-from was c.args.round slots c.saturating_sub-batch.result c.slots_told-told.result.now c.tell-loses.new.sent lines c.tell-loses.result content
-    (c.saturating_sub-batch.ensures ∙ ap (λ g. c.args.round - 2 * g) c.from.ensures) (c.slots_told-told.ensures.slots ∙ ap (λ (l : LaneState). slots_told l c.args.round slots) (sym c.self.view_is)) c.slots_told-told.ensures.few c.tell-loses.ensures.sent c.tell-loses.ensures.content c.tell-loses.ensures.version c.tell-loses.ensures.newest
-    (Become-written (λ dst. LosesSlots (lost_by was.sent c.slots_told-told.result.now dst)) c.self.inside.lines c.deref_mut.result.now c.tell-loses.new.lines c.deref_mut.ensures.value c.tell-loses.ensures.lines) c.tell-loses.ensures.none_lost in
+    told-from was c.args.round slots c.saturating_sub-batch.result c.slots_told-told.result.now c.tell.new.sent lines content
+    (c.saturating_sub-batch.ensures ∙ ap (λ g. c.args.round - 2 * g) c.from.ensures) (c.slots_told-told.ensures.slots ∙ ap (λ (l : LaneState). slots_told l c.args.round slots) (sym c.self.view_is)) c.slots_told-told.ensures.few c.tell.ensures.sent c.tell.ensures.content c.tell.ensures.version c.tell.ensures.newest
+    (Become-written (λ dst. LosesSlots (lost_by was.sent c.slots_told-told.result.now dst)) c.self.inside.lines c.deref_mut.result.now c.tell.new.lines c.deref_mut.ensures.value c.tell.ensures.lines) in
     let begun : 0 < was.epoch = above was.epoch c.if-self-eq0.false in
     let stands = subst (λ (l : LaneState). StandsFor l history allocations) (sym c.self.view_is) stood in
     let header : c.put_header.new.down ≡ packet_with was 0 0 [] = c.put_header.ensures.header in
-    let down_is : down ≡ packet_with was c.tell-loses.new.sent.outstanding.newest down.batch down.told.items =
-    c.tell-loses.ensures.down ∙ ap (λ (d : Down). record d { seq = c.tell-loses.new.sent.outstanding.newest; batch = down.batch; told = down.told }) header in
-    let made = packet-made was history allocations c.args.round slots c.tell-loses.new.sent content before.0.heard_version before.0.sent_version begun (told.done (numbers was.g history) stands.sent) (told.says (numbers was.g history) stands.sent) stands in
+    let down_is : down ≡ packet_with was c.tell.new.sent.outstanding.newest down.batch down.told.items =
+    c.tell.ensures.down ∙ ap (λ (d : Down). record d { seq = c.tell.new.sent.outstanding.newest; batch = down.batch; told = down.told }) header in
+    let made = packet-made was history allocations c.args.round slots c.tell.new.sent content before.0.heard_version before.0.sent_version begun (told.done (numbers was.g history) stands.sent) (told.says (numbers was.g history) stands.sent) stands in
     let are = subst (λ (l : LaneState). AreSlots l.endpoints l.b l.endpoint slots) (sym c.self.view_is) c.requires.slots in
     let rules =
-    rules-made was c.args.round slots c.tell-loses.new.sent lines c.tell-loses.result content before.1.0 before.1.1 before.0 begun
+    rules-made was c.args.round slots c.tell.new.sent lines content before.1.0 before.1.1 before.0 begun
     c.put_header.ensures.mask c.put_header.ensures.width
-    c.tell-loses.ensures.few are told before.1.2 before.1.3 in
+    c.tell.ensures.few are told before.1.2 before.1.3 in
     let bytes = take c.encode_alloc.result c.encode_alloc.new.buf in
     let spells = subst (SpellsDown was.endpoints was.b bytes) down_is (c.encode_alloc.ensures.spelled was.endpoints was.b (subst (IsAllocation was.endpoints was.b) (sym down_is) rules)) in
     subst (λ (l : LaneState). IfSome (packet_down l.g history c.args.round slots) (λ packet. SpellsDown l.endpoints l.b bytes (framed_down l.endpoint packet))) c.self.view_is
-    (true-of (SpellsDown was.endpoints was.b bytes) (framed_down was.endpoint) (packet_down was.g history c.args.round slots) (packet_with was c.tell-loses.new.sent.outstanding.newest down.batch down.told.items) made spells)
+    (true-of (SpellsDown was.endpoints was.b bytes) (framed_down was.endpoint) (packet_down was.g history c.args.round slots) (packet_with was c.tell.new.sent.outstanding.newest down.batch down.told.items) made spells)
 
 pub returns-clause-stands : goal.returns-clause-stands
 returns-clause-stands c = λ history allocations stood.
     let was : LaneState = the_view c.self.inside in
     let before = c.self.invariant in
     let slots = c.args.told.now.items in
-    let down = c.tell-loses.new.down in
+    let down = c.tell.new.down in
     let content : TellingOf = record { batch = down.batch; told = down.told.items } in
-    let lines = (with_items c.self.inside.lines c.tell-loses.new.lines).items in
+    let lines = (with_items c.self.inside.lines c.tell.new.lines).items in
     let told =
-    told-from was c.args.round slots c.saturating_sub-batch.result c.slots_told-told.result.now c.tell-loses.new.sent lines c.tell-loses.result content
-    (c.saturating_sub-batch.ensures ∙ ap (λ g. c.args.round - 2 * g) c.from.ensures) (c.slots_told-told.ensures.slots ∙ ap (λ (l : LaneState). slots_told l c.args.round slots) (sym c.self.view_is)) c.slots_told-told.ensures.few c.tell-loses.ensures.sent c.tell-loses.ensures.content c.tell-loses.ensures.version c.tell-loses.ensures.newest
-    (Become-written (λ dst. LosesSlots (lost_by was.sent c.slots_told-told.result.now dst)) c.self.inside.lines c.deref_mut.result.now c.tell-loses.new.lines c.deref_mut.ensures.value c.tell-loses.ensures.lines) c.tell-loses.ensures.none_lost in
+    told-from was c.args.round slots c.saturating_sub-batch.result c.slots_told-told.result.now c.tell.new.sent lines content
+    (c.saturating_sub-batch.ensures ∙ ap (λ g. c.args.round - 2 * g) c.from.ensures) (c.slots_told-told.ensures.slots ∙ ap (λ (l : LaneState). slots_told l c.args.round slots) (sym c.self.view_is)) c.slots_told-told.ensures.few c.tell.ensures.sent c.tell.ensures.content c.tell.ensures.version c.tell.ensures.newest
+    (Become-written (λ dst. LosesSlots (lost_by was.sent c.slots_told-told.result.now dst)) c.self.inside.lines c.deref_mut.result.now c.tell.new.lines c.deref_mut.ensures.value c.tell.ensures.lines) in
     let begun : 0 < was.epoch = above was.epoch c.if-self-eq0.false in
     let stands = subst (λ (l : LaneState). StandsFor l history allocations) (sym c.self.view_is) stood in
-    stands-made c.lanes_count_slots.ensures.making was c.args.round slots c.tell-loses.new.sent lines (was.has_risen || c.tell-loses.result) history allocations before.0.sent_version told.version begun (told.done (numbers was.g history) stands.sent) told.change stands
+    stands-made c.lanes_count_slots.ensures.making was c.args.round slots c.tell.new.sent lines history allocations before.0.sent_version told.version begun (told.done (numbers was.g history) stands.sent) told.change stands

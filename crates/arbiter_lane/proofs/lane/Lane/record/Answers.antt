@@ -4,7 +4,7 @@ use Rattle.std.specs.Vec.{with_items}
 use Rattle.endpoint_history.specs.Entries.{entry_of}
 use Rattle.endpoint_history.specs.Lane.{Records}
 use Rattle.arbiter_lane.specs.Lines.{IsEntered}
-use Rattle.arbiter_lane.specs.Parts.{CanRise, AreMarked, HaveNotRisen, entries_on}
+use Rattle.arbiter_lane.specs.Parts.{CanRise, AreMarked, entries_on}
 use Rattle.arbiter_lane.specs.State.{LaneState}
 use Rattle.arbiter_lane.specs.Standing.{StandsFor}
 use Rattle.arbiter_lane.specs.contracts.lane.Lane.{the_view}
@@ -15,9 +15,6 @@ use Rattle.arbiter_lane.proofs.lane.Lane.record.Goals as goal
 
 pub record-requires-clause-can_rise : goal.record-requires-clause-can_rise
 record-requires-clause-can_rise c = subst CanRise (sym c.deref_mut.ensures.value) (can_rise (the_view c.self.inside) c.self.invariant.0)
-
-pub record-requires-clause-unrisen : goal.record-requires-clause-unrisen
-record-requires-clause-unrisen c = λ unrisen. subst HaveNotRisen (sym c.deref_mut.ensures.value) (λ dst line here. (c.self.invariant.0.flows dst line here).unrisen unrisen)
 
 pub record-requires-clause-marked : goal.record-requires-clause-marked
 record-requires-clause-marked c = subst (AreMarked c.self.inside.risen) (sym c.deref_mut.ensures.value) c.self.invariant.3

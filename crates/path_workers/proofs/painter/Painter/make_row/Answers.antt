@@ -9,7 +9,7 @@ use Rattle.clos_topology.specs.RackGraph.{rack_edges}
 use Rattle.edge_colouring.specs.Degrees.{HasDegreesWithin}
 use Rattle.edge_colouring.specs.Colouring.{IsColouring, MakesClean}
 use Rattle.edge_colouring.specs.Cores.{core_in}
-use Rattle.path_workers.specs.CoreTable.{row_of}
+use Rattle.path_workers.specs.Painters.{row_of}
 use Rattle.path_workers.specs.Coloured.{HasItsCores}
 use Rattle.path_workers.proofs.RowLemmas.{no_excess, at_ok, row_coloured, length-row}
 use Rattle.path_workers.proofs.PainterLemmas.{idle_row, regraphed, repainted, written_row, other_row}
@@ -35,7 +35,7 @@ copy_from_slice-requires c =
     let fits : from + count ≤ length c.deref_mut.result.now =
     omega (
       arith,
-      row_fits c.args.slot count (room + 1) (endpoints_of c.args.self.now.net) (omega (arith, c.requires.slot, c.requires.may.colourable.count)) (omega (arith, c.endpoints-endpoints.ensures.number)),
+      row_fits c.args.slot count room (endpoints_of c.args.self.now.net) (omega (arith, c.requires.slot, c.requires.may.colourable.count)) (omega (arith, c.endpoints-endpoints.ensures.number)),
       s.rows,
       c.deref_mut.ensures.len,
     ) in
@@ -72,7 +72,7 @@ row_within c =
     let s = c.requires.may.painted.sized in
     omega (
       arith,
-      row_fits c.args.slot c.endpoints-endpoints.result (room + 1) (endpoints_of c.args.self.now.net) (omega (arith, c.requires.slot, c.requires.may.colourable.count)) (omega (arith, c.endpoints-endpoints.ensures.number)),
+      row_fits c.args.slot c.endpoints-endpoints.result room (endpoints_of c.args.self.now.net) (omega (arith, c.requires.slot, c.requires.may.colourable.count)) (omega (arith, c.endpoints-endpoints.ensures.number)),
       s.rows,
       c.deref_mut.ensures.len,
     )

@@ -1,22 +1,20 @@
-use Rattle.std.proofs.Common.{◌≡◌, ◌<◌, ℕ, List, Option, All, length, Vec, vec_len, get_or, sym, ap, ◌∙◌, subst, arith}
+use Rattle.std.proofs.Common.{◌≡◌, ◌<◌, ℕ, List, All, length, Vec, vec_len, get_or, sym, ap, ◌∙◌, subst, arith}
 use Rattle.std.specs.List.{list_any}
-use Rattle.std.specs.Vec.{with_items}
-use Rattle.std.proofs.lemmas.List.{with_items_is}
 use Rattle.crossbeam_queue.specs.Passes.{view}
 use Rattle.greedy_rules.specs.declared.flows.Flow.{Flow}
 use Rattle.greedy_rules.specs.Schedule.{slot_in}
 use Rattle.clos_topology.specs.Network.{Network, endpoints_of}
-use Rattle.edge_colouring.specs.Cores.{core_in}
 use Rattle.path_workers.specs.declared.jobs.Job.{Job}
 use Rattle.path_workers.specs.declared.jobs.Hand.{Hand}
 use Rattle.path_workers.specs.declared.painter.Painter.{Painter}
 use Rattle.path_workers.specs.PathWork.{PathWork}
-use Rattle.path_workers.specs.CoreTable.{row_of}
+use Rattle.path_workers.specs.CoreTable.{core_of}
 use Rattle.path_workers.specs.Coloured.{HasItsCores}
 use Rattle.path_workers.specs.Painters.{MayAllPaint, HasPainted, MayPaint, has_row}
 use Rattle.path_workers.proofs.CrewLemmas.{colourable, crew_ready, all_may}
 use Rattle.path_workers.proofs.PlayLemmas.{at_rest_again, jobs_counted}
 use Rattle.path_workers.proofs.paths.Paths.colour_slots.Given.{Over}
+use Rattle.path_workers.proofs.paths.Paths.colour_slots.Goals.{After-gather}
 use Rattle.path_workers.proofs.paths.Paths.colour_slots.Goals as goal
 
 -- the workers before they play
@@ -33,7 +31,7 @@ play-painters-requires-clause-may g c κs within =
     may
 
 -- and once they have played
-painted : (g : Over) (c : goal.After-deref_mut-2 g) → All (HasPainted c.self.inside.net c.self.inside.slots c.args.slots.now.slots) c.play-painters.result.0.items
+painted : (g : Over) (c : goal.After-gather-arg-1 g) → All (HasPainted c.self.inside.net c.self.inside.slots c.args.slots.now.slots) c.play-painters.result.0.items
 painted g c =
     let net : Network = c.self.inside.net in
     let room : ℕ = c.self.inside.slots in
@@ -60,10 +58,9 @@ gather-requires-clause-endpoint_room g c k d below =
       ap endpoints_of here.sized.same_net,
       ap (λ (w : PathWork). endpoints_of w.net) c.self.view_is,
       c.requires.endpoint_room,
-      ap (λ (t : _). t.endpoints) c.out.view_is,
     )
 
-painted_then : (g : Over) (c : goal.After-out-2-1 g) → All (HasPainted c.self.inside.net c.self.inside.slots c.args.slots.now.slots) c.play-painters.result.0.items
+painted_then : (g : Over) (c : After-gather g) → All (HasPainted c.self.inside.net c.self.inside.slots c.args.slots.now.slots) c.play-painters.result.0.items
 painted_then g c =
     let net : Network = c.self.inside.net in
     let room : ℕ = c.self.inside.slots in
@@ -84,8 +81,7 @@ invariant_of-self g c =
     }
 
 -- a slot of the table has its cores
-coloured : (g : Over) (c : goal.After-out-2-1 g) (at : ℕ) → at < length c.args.slots.now.slots
-    → HasItsCores c.args.self.now.net (slot_in c.args.slots.now.slots at) (core_in (row_of c.out.inside.endpoints (with_items c.out.inside.cores c.gather.new.cores).items at))
+coloured : (g : Over) (c : After-gather g) (at : ℕ) → at < length c.args.slots.now.slots → HasItsCores c.args.self.now.net (slot_in c.args.slots.now.slots at) (core_of c.gather.new.out at)
 coloured g c at below =
     let slots : List (List Flow) = c.args.slots.now.slots in
     let net : Network = c.args.self.now.net in
@@ -94,9 +90,7 @@ coloured g c at below =
     let may : All (MayPaint slots) c.deref.result.now = subst (All (MayPaint slots)) (sym shown) (all_may _ _ slots c.play-painters.result.0.items can (painted_then g c)) in
     let nets : All (λ (p : Painter). p.net ≡ net) c.deref.result.now =
     subst (All (λ (p : Painter). p.net ≡ net)) (sym shown) (λ k d under. (painted_then g c k d under).sized.same_net ∙ ap (λ (w : PathWork). w.net) c.self.view_is) in
-    let cores = with_items_is c.out.inside.cores c.gather.new.cores (omega (arith, c.gather.auto.cores, c.deref_mut-2.ensures.len)) in
-    subst (λ (cs : List (Option ℕ)). HasItsCores net (slot_in slots at) (core_in (row_of c.out.inside.endpoints cs at))) (sym cores)
-    (c.gather.ensures.coloured net slots may nets (sym c.slots.ensures.count) at (omega (arith, below, c.slots.ensures.count)))
+    c.gather.ensures.coloured net slots may nets (sym c.slots.ensures.count) at (omega (arith, below, c.slots.ensures.count))
 
 pub returns-clause-clean : goal.returns-clause-clean
 returns-clause-clean g c = λ at below. (coloured g c at below).clean
@@ -105,9 +99,7 @@ pub returns-clause-others : goal.returns-clause-others
 returns-clause-others g c = λ at below. (coloured g c at below).others
 
 pub returns-clause-past : goal.returns-clause-past
-returns-clause-past g c at above source =
-    ap (λ (cores : List (Option ℕ)). core_in (row_of c.out.inside.endpoints cores at) source) (with_items_is c.out.inside.cores c.gather.new.cores (omega (arith, c.gather.auto.cores, c.deref_mut-2.ensures.len)))
-    ∙ c.gather.ensures.past at (omega (arith, above, c.slots.ensures.count)) source
+returns-clause-past g c at above = c.gather.ensures.past at (omega (arith, above, c.slots.ensures.count))
 
 pub returns-clause-jobs : goal.returns-clause-jobs
 returns-clause-jobs g c =
