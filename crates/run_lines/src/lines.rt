@@ -1,6 +1,8 @@
 // The lines of batches and of slots.
-ghost use Rattle.std.specs.Prelude.{◌≡◌, ◌<◌, ◌≤◌, ◌+◌, ◌^◌, length, map, take, drop};
+ghost use Rattle.std.specs.Prelude.{◌≡◌, ◌<◌, ◌≤◌, ◌+◌, ◌^◌, ◌||◌, length, map, take, drop, false, is_some};
+ghost use Rattle.std.specs.List.{fold};
 ghost use Rattle.greedy_rules.specs.Schedule.{slot_in};
+ghost use Rattle.greedy_rules.specs.SlotTable.{flows_from};
 ghost use Rattle.path_workers.specs.CoreTable.{core_of};
 ghost use Rattle.window_engine.specs.Scheduled.{cores_from};
 ghost use Rattle.run_lines.specs.Output.{Passes};
@@ -22,6 +24,9 @@ pub(crate) fn put_entries<K: Sink>(
 ) -> Result<(), Stop>
     ensures { Passes output.old output.new (text_of (map (entry_line round) batch.now.entries)) result }
 {
+    if batch.is_empty() {
+        return Ok(());
+    }
     let number = Numeral::new(round);
     for at in 0..batch.len() {
         output.put_entry(&number, batch.entry(at))?;
@@ -49,26 +54,62 @@ fn put_source<K: Sink>(
     }
 }
 
-/// The packets of one slot, by source.
+/// Whether one of these sources sends. There is no early end, so many places are read at once.
+fn has_sender(row: &[Option<u16>]) -> bool
+    ensures { result ≡ fold (λ sends to. sends || is_some to) false row.now }
+{
+    row.iter().fold(false, |sends, to| sends | to.is_some())
+}
+
+/// The packets of the sources from this one on in the slot of this number.
+fn put_sources<K: Sink>(
+    output: &mut Output<'_, K>,
+    cores: &CoreTable,
+    place: u16,
+    number: &Numeral,
+    first: u16,
+    row: &[Option<u16>],
+) -> Result<(), Stop>
+    requires core_place { place < cores.now.slots }
+    requires core_sources { first + length row.now ≤ cores.now.endpoints }
+    ensures { Passes output.old output.new
+        (text_of (map (slot_line number.now (core_of cores.now place)) (flows_from first row.now))) result }
+{
+    if !has_sender(row) {
+        return Ok(());
+    }
+    let _endpoints = cores.endpoints();
+    for at in 0..row.len() {
+        put_source(output, cores, place, number, first + at as u16, row[at])?;
+    }
+    Ok(())
+}
+
+/// The packets of the slot of this number, by source; the sources are passed over by sixteens where none sends.
 fn put_slot<K: Sink>(
     output: &mut Output<'_, K>,
     table: &SlotTable,
     cores: &CoreTable,
     place: u16,
-    number: &Numeral,
+    number: u32,
 ) -> Result<(), Stop>
     requires place { place < length table.now.slots }
     requires core_place { place < cores.now.slots }
     requires core_endpoints { table.now.endpoints ≤ cores.now.endpoints }
     ensures { Passes output.old output.new
-        (text_of (map (slot_line number.now (core_of cores.now place)) (slot_in table.now.slots place))) result }
+        (text_of (map (slot_line number (core_of cores.now place)) (slot_in table.now.slots place))) result }
 {
     if table.is_idle(place) {
         return Ok(());
     }
+    let number = Numeral::new(number);
     let row = table.row(place);
-    for src in 0..table.endpoints() {
-        put_source(output, cores, place, number, src, row[src as usize])?;
+    let _endpoints = table.endpoints();
+    let mut src = 0;
+    while src < row.len() {
+        let end = (src + 16).min(row.len());
+        put_sources(output, cores, place, &number, src as u16, &row[src..end])?;
+        src = end;
     }
     Ok(())
 }
@@ -91,8 +132,7 @@ pub fn put_slots<K: Sink>(
         (text_of (slots_lines (cores_from base cores.now) (base + from) (take count (drop from table.now.slots)))) result }
 {
     for place in from..from + count {
-        let number = Numeral::new(base + u32::from(place));
-        put_slot(output, table, cores, place, &number)?;
+        put_slot(output, table, cores, place, base + u32::from(place))?;
     }
     Ok(())
 }

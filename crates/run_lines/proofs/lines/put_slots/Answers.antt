@@ -27,10 +27,10 @@ returns-in_err-put_slot g c =
     let within : c.args.count ≤ length slots = omega (arith, length-drop from c.args.table.now.slots, c.requires.count) in
     let is : from + at ≡ place = omega arith in
     let slot : slot_in c.args.table.now.slots place ≡ slot_in slots at = ap (slot_in c.args.table.now.slots) (sym is) ∙ sym (get_or-drop from c.args.table.now.slots at []) in
-    let number : c.new-number.result ≡ base + from + at = omega (arith, c.from.ensures, c.new-number.ensures) in
+    let number : base + c.from.result ≡ base + from + at = omega (arith, c.from.ensures) in
     let back : place ≡ base + from + at - base = omega arith in
     let named : own ≡ cores (base + from + at) = ap (core_of c.args.cores.now) back in
-    Passes-broken _ c.loop-place.invariant c.in_err-put_slot.ensures c.from_residual.ensures.1 (slots_whole cores (base + from) c.new-number.result c.args.count slots at (slot_in c.args.table.now.slots place) own below within slot number named)
+    Passes-broken _ c.loop-place.invariant c.in_err-put_slot.ensures c.from_residual.ensures.1 (slots_whole cores (base + from) (base + c.from.result) c.args.count slots at (slot_in c.args.table.now.slots place) own below within slot number named)
 
 pub loop-place-preserved : goal.loop-place-preserved
 loop-place-preserved g c =
@@ -44,9 +44,9 @@ loop-place-preserved g c =
     let within : at < length slots = omega (arith, length-drop from c.args.table.now.slots, c.requires.count) in
     let is : from + at ≡ place = omega arith in
     let slot : slot_in c.args.table.now.slots place ≡ slot_in slots at = ap (slot_in c.args.table.now.slots) (sym is) ∙ sym (get_or-drop from c.args.table.now.slots at []) in
-    let number : c.new-number.result ≡ base + from + at = omega (arith, c.from.ensures, c.new-number.ensures) in
+    let number : base + c.from.result ≡ base + from + at = omega (arith, c.from.ensures) in
     let back : place ≡ base + from + at - base = omega arith in
     let named : own ≡ cores (base + from + at) = ap (core_of c.args.cores.now) back in
     let next : place + 1 - from ≡ at + 1 = omega arith in
     Passes-after c.loop-place.invariant c.in_ok-put_slot.ensures (ap (λ (n : ℕ). text_of (slots_lines cores (base + from) (take n slots))) next
-    ∙ slots_step cores (base + from) c.new-number.result slots at (slot_in c.args.table.now.slots place) own within slot number named)
+    ∙ slots_step cores (base + from) (base + c.from.result) slots at (slot_in c.args.table.now.slots place) own within slot number named)
