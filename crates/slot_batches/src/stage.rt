@@ -182,8 +182,7 @@ impl Stage {
         requires { length self.old.fill.waiting ≤ length list.old.items + list.old.spare }
         ensures items { list.new.items ≡ self.old.fill.waiting }
         ensures spare { length list.new.items + list.new.spare ≡ length list.old.items + list.old.spare }
-        ensures endpoints { endpoints_of self.new ≡ endpoints_of self.old }
-        ensures b { batch_size_of self.new ≡ batch_size_of self.old }
+        ensures stays { self.new ≡ record self.old { fill = record self.old.fill { waiting = self.new.fill.waiting } } }
     {
         if list.room() == self.filling.waiting.capacity() {
             list.exchange(&mut self.filling.waiting);
