@@ -1,5 +1,5 @@
 -- The links of one direction between racks and cores, slot by slot (oversubscribed racks, this project's own profile).
-use Rattle.std.specs.Prelude.{◌≡◌, ◌<◌, ℕ, ◌+◌, ◌*◌, List, length, Bool, ◌==◌, ◌&&◌, nat_lt, if◌then◌else◌}
+use Rattle.std.specs.Prelude.{◌≡◌, ◌<◌, ◌≤◌, ℕ, ◌+◌, ◌*◌, List, length, Bool, ◌==◌, ◌&&◌, nat_lt, if◌then◌else◌}
 use Rattle.std.specs.List.{slice_index_or}
 use Rattle.endpoint_bitmaps.specs.Slots.{has_slot}
 
@@ -15,3 +15,8 @@ HasTakenLinks rack slots old new = (at slot : ℕ) → slot < 64 → taken_in ne
 pub record ShowsLeft (cores : ℕ) (counts words : List ℕ) : Type 0 where
   pub count : length counts ≡ length words * 64
   pub each : (rack slot : ℕ) → rack < length words → slot < 64 → has_slot (slice_index_or words rack 0) slot ≡ nat_lt (taken_in counts rack slot) cores
+
+-- only racks below this one have taken links
+pub record IsUsed (racks : ℕ) (counts : List ℕ) : Type 0 where
+  pub within : racks * 64 ≤ length counts
+  pub rest : (place : ℕ) → racks * 64 ≤ place → slice_index_or counts place 0 ≡ 0

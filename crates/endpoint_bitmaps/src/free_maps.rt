@@ -2,7 +2,7 @@ ghost use Rattle.std.specs.Prelude.{◌≡◌, ◌≢◌, ◌<◌, ◌≤◌, �
 ghost use Rattle.std.specs.List.{slice_index_or};
 ghost use Rattle.greedy_rules.specs.Limits.{AreLimits};
 ghost use Rattle.endpoint_bitmaps.specs.Slots.{has_slot, count_below, is_among_lowest, NoneFrom};
-ghost use Rattle.endpoint_bitmaps.specs.Links.{HasTakenLinks, ShowsLeft};
+ghost use Rattle.endpoint_bitmaps.specs.Links.{HasTakenLinks, ShowsLeft, IsUsed};
 ghost use Rattle.endpoint_bitmaps.specs.Fit.{AreRacks, naming};
 ghost use Rattle.endpoint_bitmaps.specs.FreeSlots.{may_send, may_receive, IsFreeBelow, HasNoneBetween, is_common, NoneMaySend, HasTaken};
 
@@ -29,13 +29,14 @@ pub struct FreeMaps {
 impl Model for FreeMaps {
     ghost use Rattle.std.specs.Prelude.{◌≡◌, vec_len};
     ghost use Rattle.endpoint_bitmaps.specs.Fit.{Fit, naming};
+    ghost use Rattle.endpoint_bitmaps.specs.Links.{IsUsed};
     ghost use Rattle.endpoint_bitmaps.specs.FreeSlots.{FreeSlots};
 
     ghost Value = { FreeSlots };
 
     ghost view = { λ m. record { endpoints = vec_len m.senders; limits = m.limits; to_send = m.senders.items; to_receive = m.receivers.items; leaving = m.leaving.taken.items; entering = m.entering.taken.items } };
 
-    ghost invariant = { λ m. Fit m.limits m.senders.items m.receivers.items m.racks.items m.leaving.taken.items m.leaving.left.items m.entering.taken.items m.entering.left.items × (m.sending ≡ naming m.senders.items) };
+    ghost invariant = { λ m. Fit m.limits m.senders.items m.receivers.items m.racks.items m.leaving.taken.items m.leaving.left.items m.entering.taken.items m.entering.left.items × (m.sending ≡ naming m.senders.items) × IsUsed m.leaving.used m.leaving.taken.items × IsUsed m.entering.used m.entering.taken.items };
 }
 
 impl FreeMaps {
@@ -174,6 +175,10 @@ fn take_links(
     requires entering { ShowsLeft cores entering.old.taken.items entering.old.left.items }
     requires leaving_left { (from == to) ≡ false → (slot : ℕ) → has_slot slots slot ≡ true → has_slot (slice_index_or leaving.old.left.items from 0) slot ≡ true }
     requires entering_left { (from == to) ≡ false → (slot : ℕ) → has_slot slots slot ≡ true → has_slot (slice_index_or entering.old.left.items to 0) slot ≡ true }
+    requires leaving_used { IsUsed leaving.old.used leaving.old.taken.items }
+    requires entering_used { IsUsed entering.old.used entering.old.taken.items }
+    ensures leaving_used { IsUsed leaving.new.used leaving.new.taken.items }
+    ensures entering_used { IsUsed entering.new.used entering.new.taken.items }
     ensures leaving_racks { vec_len leaving.new.left ≡ vec_len leaving.old.left }
     ensures entering_racks { vec_len entering.new.left ≡ vec_len entering.old.left }
     ensures leaving_shown { ShowsLeft cores leaving.new.taken.items leaving.new.left.items }

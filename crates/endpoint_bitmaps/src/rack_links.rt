@@ -1,17 +1,18 @@
-ghost use Rattle.std.specs.Prelude.{◌≡◌, ◌<◌, ◌≤◌, ◌==◌, ℕ, IfOk, vec_len, true};
+ghost use Rattle.std.specs.Prelude.{◌≡◌, ◌<◌, ◌≤◌, ◌==◌, ℕ, IfOk, vec_len, true, length, replicate};
 ghost use Rattle.std.specs.List.{slice_index_or};
 ghost use Rattle.endpoint_bitmaps.specs.Slots.{has_slot};
-ghost use Rattle.endpoint_bitmaps.specs.Links.{taken_in, HasTakenLinks, ShowsLeft};
+ghost use Rattle.endpoint_bitmaps.specs.Links.{taken_in, HasTakenLinks, ShowsLeft, IsUsed};
 
 use no_memory::NoMemory;
 use std::alloc::Global;
 
 /// The links of one direction between racks and cores, in each slot of a batch: how many a rack has taken, rack after rack
-/// and 64 slots each, and as bits in which slots it has one left.
+/// and 64 slots each, and as bits in which slots it has one left. Only racks below `used` have taken any.
 #[derive(Debug, Drop)]
 pub(crate) struct RackLinks {
     pub(crate) taken: Vec<u8>,
     pub(crate) left: Vec<u64>,
+    pub(crate) used: usize,
 }
 
 impl RackLinks {
@@ -19,10 +20,12 @@ impl RackLinks {
     pub(crate) fn open(alloc: Global, racks: u16) -> Result<RackLinks, NoMemory>
         ensures racks { IfOk result (λ links. vec_len links.left ≡ racks) }
         ensures left { IfOk result (λ links. ShowsLeft 0 links.taken.items links.left.items) }
+        ensures used { IfOk result (λ links. IsUsed links.used links.taken.items) }
     {
         Ok(RackLinks {
             taken: vec![in alloc; 0; racks as usize * 64]?,
             left: vec![in alloc; 0; racks as usize]?,
+            used: 0,
         })
     }
 
@@ -30,11 +33,14 @@ impl RackLinks {
     pub(crate) fn clear(&mut self, cores: u16)
         requires some { 1 ≤ cores }
         requires count { (before : ℕ) × ShowsLeft before self.old.taken.items self.old.left.items }
+        requires used { IsUsed self.old.used self.old.taken.items }
         ensures racks { vec_len self.new.left ≡ vec_len self.old.left }
         ensures none { (rack slot : ℕ) → taken_in self.new.taken.items rack slot ≡ 0 }
         ensures left { ShowsLeft cores self.new.taken.items self.new.left.items }
+        ensures used { IsUsed self.new.used self.new.taken.items }
     {
-        self.taken.fill(0);
+        clear_used(&mut self.taken, self.used);
+        self.used = 0;
         self.left.fill(u64::MAX);
     }
 
@@ -44,10 +50,13 @@ impl RackLinks {
         requires rack { rack < vec_len self.old.left }
         requires shows { ShowsLeft cores self.old.taken.items self.old.left.items }
         requires left { (slot : ℕ) → has_slot slots slot ≡ true → has_slot (slice_index_or self.old.left.items rack 0) slot ≡ true }
+        requires used { IsUsed self.old.used self.old.taken.items }
         ensures racks { vec_len self.new.left ≡ vec_len self.old.left }
         ensures taken { HasTakenLinks rack (has_slot slots) self.old.taken.items self.new.taken.items }
         ensures shows { ShowsLeft cores self.new.taken.items self.new.left.items }
+        ensures used { IsUsed self.new.used self.new.taken.items }
     {
+        self.used = self.used.max(rack as usize + 1);
         let mut rest = slots;
         while rest != 0 {
             self.take_one(rack, rest.trailing_zeros(), cores);
@@ -61,9 +70,11 @@ impl RackLinks {
         requires slot { slot < 64 }
         requires shows { ShowsLeft cores self.old.taken.items self.old.left.items }
         requires left { has_slot (slice_index_or self.old.left.items rack 0) slot ≡ true }
+        requires used { (rack < self.old.used) × IsUsed self.old.used self.old.taken.items }
         ensures racks { vec_len self.new.left ≡ vec_len self.old.left }
         ensures taken { HasTakenLinks rack (λ at. at == slot) self.old.taken.items self.new.taken.items }
         ensures shows { ShowsLeft cores self.new.taken.items self.new.left.items }
+        ensures used { (self.new.used ≡ self.old.used) × IsUsed self.new.used self.new.taken.items }
     {
         let place = rack as usize * 64 + slot as usize;
         self.taken[place] += 1;
@@ -71,4 +82,12 @@ impl RackLinks {
             self.left[rack as usize] &= !(1 << slot);
         }
     }
+}
+
+/// Sets the counts to 0, where only those of racks below `used` are not.
+fn clear_used(counts: &mut [u8], used: usize)
+    requires { IsUsed used counts.old }
+    ensures { counts.new ≡ replicate (length counts.old) 0 }
+{
+    counts[..used * 64].fill(0);
 }

@@ -23,4 +23,6 @@ loop-rest-preserved c =
       taking_more c.args.cores c.args.rack c.args.slots c.loop-rest.rest was.taken.items before.taken.items before.left.items now.taken.items now.left.items fits c.loop-rest-test.true
           c.loop-rest.invariant.0 c.take_one.ensures.taken c.take_one.ensures.shows,
       omega (arith, c.take_one.ensures.racks, before.left.ok, now.left.ok, c.loop-rest.invariant.1),
+      omega (arith, c.take_one.ensures.used.0, c.loop-rest.invariant.2),
+      c.take_one.ensures.used.1,
     )
