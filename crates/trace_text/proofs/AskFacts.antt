@@ -1,6 +1,6 @@
 -- Asks that rise by their ranks, and the part of them that one source asks for in one round.
-use Rattle.std.proofs.Common.{◌≡◌, ℕ, zero, suc, ◌+◌, ◌-◌, ◌*◌, ◌<◌, ◌≤◌, List, [], ◌∷◌, ◌++◌, length, get_or, map, Bool, true, false, cond, All, refl, sym, ap, subst, ◌∙◌, arith, length-append}
-use Rattle.std.proofs.Math.Seq.{get_or-append_seam}
+use Rattle.std.proofs.Common.{◌≡◌, ℕ, zero, suc, ◌+◌, ◌-◌, ◌*◌, ◌<◌, ◌≤◌, List, [], ◌∷◌, ◌++◌, length, get_or, drop, map, Bool, true, false, cond, All, refl, sym, ap, subst, ◌∙◌, arith, length-append}
+use Rattle.std.proofs.Math.Seq.{drop-cons, get_or-append_seam}
 use Rattle.std.specs.Prelude.{◌==◌, ◌&&◌, nat_lt, filter, sum_by}
 use Rattle.std.specs.List.{range_with_len}
 use Rattle.std.specs.List.Sorted.{IsNonDecreasingBy}
@@ -90,6 +90,13 @@ rising-sorted low (ask ∷ asks) rising zero zero d le lt = omega arith
 rising-sorted low (ask ∷ asks) rising zero (suc j) d le lt = let above = rising-at (rank_of ask + 1) asks rising.1 j d (omega arith) in omega arith
 rising-sorted low (ask ∷ asks) rising (suc i) zero d le lt = absurd (omega arith)
 rising-sorted low (ask ∷ asks) rising (suc i) (suc j) d le lt = rising-sorted (rank_of ask + 1) asks rising.1 i j d (omega arith) (omega arith)
+
+-- from one ask on they rise, if it is no lower and those after it are above it
+pub rising-before : (low at : ℕ) (asks : List Ask) (d : Ask) → at < length asks → low ≤ rank_of (get_or asks at d) → (above : ℕ) → above ≡ rank_of (get_or asks at d) + 1 → IsRisingFrom above (drop (at + 1) asks)
+    → IsRisingFrom low (drop at asks)
+rising-before low at asks d within least above is rest =
+    let next : suc at ≡ at + 1 = omega arith in
+    subst (IsRisingFrom low) (sym (drop-cons asks at d within ∙ ap (λ k. get_or asks at d ∷ drop k asks) next)) (least, subst (λ k. IsRisingFrom k (drop (at + 1) asks)) is rest)
 
 -- an ask has the ranks of its round and source
 block-rank : (round src : ℕ) (ask : Ask) → src < 256 → ask.src < 256 → ask.dst < 256

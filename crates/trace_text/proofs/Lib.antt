@@ -11,6 +11,7 @@ mod HexFacts
 mod RankFacts
 mod EventFacts
 mod AskFacts
+mod FlowFacts
 mod ContentFacts
 mod TraceFacts
 mod ValidFacts

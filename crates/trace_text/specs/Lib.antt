@@ -5,6 +5,7 @@ pub mod Earlier
 pub mod Faults
 pub mod Ranks
 pub mod Asks
+pub mod FlowSums
 pub mod Events
 pub mod Standing
 pub mod Records

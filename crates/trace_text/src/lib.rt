@@ -7,6 +7,7 @@ mod csv_records;
 mod events;
 mod fault;
 mod fields;
+mod flow_sums;
 mod kind;
 mod line;
 mod make;

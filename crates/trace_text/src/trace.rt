@@ -12,7 +12,7 @@ use crate::events::{
     Boot, EventRows, GivenFate, RawPacket, boot_rank, bytes_are_below_256, fate_rank, packet_of,
     raws_of,
 };
-use crate::order::{Ranked, between, first_of, gather, of_round, sort, starts_of};
+use crate::order::{between, between_near, first_near, of_round, settle, sort, starts_of};
 use clos_topology::Net;
 use loss_world::Fate;
 use no_memory::NoMemory;
@@ -73,7 +73,7 @@ impl Trace {
         alloc: Global,
         net: Net,
         rounds: u32,
-        mut asks: Vec<Ask>,
+        asks: Vec<Ask>,
         events: EventRows,
     ) -> Result<Trace, NoMemory>
         requires net { IsNetwork net }
@@ -92,8 +92,7 @@ impl Trace {
             mut raws,
             bytes,
         } = events;
-        asks.sort_unstable_by_key(|ask| ask.rank());
-        let asks = gather(alloc, &asks)?;
+        let asks = settle(alloc, &asks)?;
         let ask_starts = starts_of(alloc, rounds, ASK_RANKS, &asks)?;
         sort(&mut fates)?;
         let fate_starts = starts_of(alloc, rounds, FATE_RANKS, &fates)?;
@@ -173,9 +172,18 @@ impl Trace {
         requires src { src < endpoints_of self.now.net }
         ensures { result.now ≡ map (ask_for round src) (asked_at self.now round src) }
     {
+        self.asks_near(round, src, 0).0
+    }
+
+    /// The same, which are looked for at this place of the round's asks first; and the place after them.
+    pub fn asks_near(&self, round: u32, src: u16, near: usize) -> (&[Ask], usize)
+        requires round { round < self.now.rounds }
+        requires src { src < endpoints_of self.now.net }
+        ensures { result.0.now ≡ map (ask_for round src) (asked_at self.now round src) }
+    {
         let asks = of_round(&self.asks, &self.ask_starts, round);
         let low = (u64::from(round) * 256 + u64::from(src)) * 256;
-        between(asks, low, low + 256)
+        between_near(asks, low, low + 256, near)
     }
 
     /// What befalls the packet that goes up from the endpoint in the round, or down to it; None where no row names it.
@@ -184,11 +192,27 @@ impl Trace {
         requires endpoint { endpoint < endpoints_of self.now.net }
         ensures { result ≡ fate_at self.now round endpoint up }
     {
+        self.fate_near(round, endpoint, up, 0).0
+    }
+
+    /// The same, which is looked for at this place of the round's fates first; and the place after it.
+    pub fn fate_near(
+        &self,
+        round: u32,
+        endpoint: u16,
+        up: bool,
+        near: usize,
+    ) -> (Option<Fate>, usize)
+        requires round { round < self.now.rounds }
+        requires endpoint { endpoint < endpoints_of self.now.net }
+        ensures { result.0 ≡ fate_at self.now round endpoint up }
+    {
         let rank = fate_rank(round, endpoint, up);
         let fates = of_round(&self.fates, &self.fate_starts, round);
-        match first_of(fates, rank) {
-            Some(given) => Some(given.fate),
-            None => None,
+        let (given, next) = first_near(fates, rank, near);
+        match given {
+            Some(given) => (Some(given.fate), next),
+            None => (None, next),
         }
     }
 

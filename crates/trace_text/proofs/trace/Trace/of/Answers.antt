@@ -1,7 +1,6 @@
-use Rattle.std.proofs.Common.{◌≡◌, length, sym, subst, ◌∙◌, arith, rules}
-use Rattle.std.proofs.lemmas.List.Sorted.{All-permutation, IsNonDecreasingBy-from_sort_by_key, sum_by-IsPermutation, length_permutation}
+use Rattle.std.proofs.Common.{◌≡◌, length, sym, subst, arith}
+use Rattle.std.proofs.lemmas.List.Sorted.{length_permutation}
 use Rattle.clos_topology.specs.Network.{endpoints_of}
-use Rattle.trace_text.specs.Asks.{rank_of, slots_asked, IsAmong}
 use Rattle.trace_text.specs.Valid.{IsTrace}
 use Rattle.trace_text.proofs.AskFacts.{rising-sorted, among-more}
 use Rattle.trace_text.proofs.ContentFacts.{content_by-same}
@@ -9,20 +8,11 @@ use Rattle.trace_text.proofs.EventFacts.{among-permuted, events-ordered}
 use Rattle.trace_text.proofs.ValidFacts.{asked-le, content_by-sound}
 use Rattle.trace_text.proofs.trace.Trace.of.Goals as goal
 
-pub gather-requires-clause-sorted : goal.gather-requires-clause-sorted
-gather-requires-clause-sorted c =
-    rw c.deref.ensures.value
-    (IsNonDecreasingBy-from_sort_by_key rank_of c.sort_unstable_by_key.new.self.items c.sort_unstable_by_key.ensures.sorted (λ a r q k. search rules))
+pub settle-requires-clause-small : goal.settle-requires-clause-small
+settle-requires-clause-small c = rw c.deref.ensures.value (among-more (endpoints_of c.args.net) 256 c.args.asks.items c.requires.net.most_endpoints c.requires.among)
 
-pub gather-requires-clause-small : goal.gather-requires-clause-small
-gather-requires-clause-small c =
-    rw c.deref.ensures.value
-    (among-more (endpoints_of c.args.net) 256 _ c.requires.net.most_endpoints (All-permutation (IsAmong (endpoints_of c.args.net)) _ _ c.sort_unstable_by_key.ensures.permutation c.requires.among))
-
-pub gather-requires-clause-bounded : goal.gather-requires-clause-bounded
-gather-requires-clause-bounded c = λ round src dst.
-    rw (c.deref.ensures.value, sum_by-IsPermutation (slots_asked round src dst) _ _ c.sort_unstable_by_key.ensures.permutation)
-    (omega (arith, asked-le round src dst c.args.asks.items, c.requires.bounded src dst))
+pub settle-requires-clause-bounded : goal.settle-requires-clause-bounded
+settle-requires-clause-bounded c = λ round src dst. rw c.deref.ensures.value (omega (arith, asked-le round src dst c.args.asks.items, c.requires.bounded src dst))
 
 pub starts_of-requires-clause-sorted : goal.starts_of-requires-clause-sorted
 starts_of-requires-clause-sorted c = rw c.deref-2.ensures.value (rising-sorted 0 c.in_ok-asks.asks.items c.in_ok-asks.ensures.rising)
@@ -34,8 +24,7 @@ pub returns-clause-content : goal.returns-clause-content
 returns-clause-content c =
     let events = c.args.events in
     content_by-same c.args.net c.args.rounds _ _ _ _
-    (λ round src dst. c.in_ok-asks.ensures.sums round src dst
-    ∙ rw c.deref.ensures.value (sum_by-IsPermutation (slots_asked round src dst) _ _ c.sort_unstable_by_key.ensures.permutation))
+    (rw c.deref.ensures.value at c.in_ok-asks.ensures.sums)
     (events-ordered events.fates.items c.sort.new.items.items events.boots.items c.sort-2.new.items.items events.raws.items c.sort-3.new.items.items events.bytes.items
     c.in_ok-sort.ensures.stable c.in_ok-sort-2.ensures.stable c.in_ok-sort-3.ensures.stable)
 
@@ -54,8 +43,7 @@ invariant_of-result c =
       record {
         few = few;
         rising = c.in_ok-asks.ensures.rising;
-        among = c.in_ok-asks.ensures.among (endpoints_of c.args.net)
-            (rw c.deref.ensures.value (All-permutation (IsAmong (endpoints_of c.args.net)) _ _ c.sort_unstable_by_key.ensures.permutation c.requires.among));
+        among = c.in_ok-asks.ensures.among (endpoints_of c.args.net) (rw c.deref.ensures.value c.requires.among);
         begin = rw c.deref-2.ensures.value at c.in_ok-ask_starts.ensures;
       },
       record {
@@ -71,8 +59,7 @@ invariant_of-result c =
       subst IsTrace
           (sym
           (content_by-same c.args.net c.args.rounds _ _ _ _
-          (λ round src dst. c.in_ok-asks.ensures.sums round src dst
-          ∙ rw c.deref.ensures.value (sum_by-IsPermutation (slots_asked round src dst) _ _ c.sort_unstable_by_key.ensures.permutation))
+          (rw c.deref.ensures.value at c.in_ok-asks.ensures.sums)
           (events-ordered events.fates.items c.sort.new.items.items events.boots.items c.sort-2.new.items.items events.raws.items c.sort-3.new.items.items events.bytes.items
           c.in_ok-sort.ensures.stable c.in_ok-sort-2.ensures.stable c.in_ok-sort-3.ensures.stable)))
           (content_by-sound c.args.net c.args.rounds c.args.asks.items events.fates.items events.boots.items events.raws.items events.bytes.items c.requires.net c.requires.some c.requires.few

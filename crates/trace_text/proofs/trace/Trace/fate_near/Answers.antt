@@ -8,7 +8,7 @@ use Rattle.trace_text.specs.declared.events.GivenFate.{GivenFate}
 use Rattle.trace_text.proofs.ContentFacts.{fate_at-content_by}
 use Rattle.trace_text.proofs.EventFacts.{fate-first, fate-within}
 use Rattle.trace_text.proofs.RankFacts.{within-round}
-use Rattle.trace_text.proofs.trace.Trace.fate.Goals as goal
+use Rattle.trace_text.proofs.trace.Trace.fate_near.Goals as goal
 
 pub of_round-fates-requires-clause-sorted : goal.of_round-fates-requires-clause-sorted
 of_round-fates-requires-clause-sorted c = rw c.deref.ensures.value c.self.invariant.1.fates_rise
@@ -28,7 +28,7 @@ returns-in-Some c =
     let few = c.self.invariant.0.few in
     let part = rw (c.deref.ensures.value, c.deref-2.ensures.value) at c.of_round-fates.ensures.part in
     let rank = (round * 256 + c.args.endpoint) * 2 + way_number c.args.up in
-    let found = rw c.fate_rank-rank.ensures at c.in-Some.ensures in
+    let found = rw c.fate_rank-rank.ensures at (rw c.in-Some.is at c.first_near-next.ensures) in
     let inside = fate-within round c.args.endpoint c.args.up (omega arith) in
     rw (← c.self.view_is)
     (sym (fate_at-content_by t.net t.rounds (λ round src dst. sum_by (slots_asked round src dst) t.asks.items) (events_kept t.fates.items t.boots.items t.raws.items t.bytes.items) c.args.round c.args.endpoint c.args.up low low2
@@ -45,7 +45,7 @@ returns-in-None c =
     let few = c.self.invariant.0.few in
     let part = rw (c.deref.ensures.value, c.deref-2.ensures.value) at c.of_round-fates.ensures.part in
     let rank = (round * 256 + c.args.endpoint) * 2 + way_number c.args.up in
-    let found = rw c.fate_rank-rank.ensures at c.in-None.ensures in
+    let found = rw c.fate_rank-rank.ensures at (rw c.in-None.is at c.first_near-next.ensures) in
     let inside = fate-within round c.args.endpoint c.args.up (omega arith) in
     rw (← c.self.view_is)
     (sym (fate_at-content_by t.net t.rounds (λ round src dst. sum_by (slots_asked round src dst) t.asks.items) (events_kept t.fates.items t.boots.items t.raws.items t.bytes.items) c.args.round c.args.endpoint c.args.up low low2
