@@ -1,7 +1,6 @@
 //! The sender's side.
-ghost use Rattle.std.specs.Prelude.{◌≡◌, ℕ, ◌+◌, ◌^◌, ◌<◌, ◌≤◌, ◌↔◌, List, [], ◌∷◌, ◌++◌, Some, IsTrue, IfOk, take, drop};
+ghost use Rattle.std.specs.Prelude.{◌≡◌, ℕ, ◌+◌, ◌^◌, ◌<◌, ◌≤◌, ◌↔◌, List, [], ◌∷◌, ◌++◌, Some, IsTrue, IfOk, length, take, drop, vec_len, vec_capacity};
 ghost use Rattle.std.specs.Bool.{OnFalse};
-ghost use Rattle.std.specs.VecDeque.{deque_len, deque_capacity};
 ghost use Rattle.arrayvec.specs.ArrayVec.{array_vec_len};
 ghost use Rattle.ack_window.specs.Acknowledgement.{decision_by};
 ghost use Rattle.ack_window.specs.Kept.{RisesWithin};
@@ -14,7 +13,6 @@ use crate::acknowledgement::Acknowledgement;
 use crate::{NoMemory, span};
 use arrayvec::ArrayVec;
 use std::alloc::Global;
-use std::collections::VecDeque;
 use std::marker::Model;
 
 /// A number that an acknowledgement decides, with the content that was sent with it.
@@ -32,21 +30,20 @@ pub struct Unresolved<T> {
     pub content: T,
 }
 
-/// The numbers sent to the other side, counted from 1, with the contents of those that are still unresolved: a ring of one
-/// number and one content each.
+/// The numbers sent to the other side, counted from 1, with the contents of those that are still unresolved. Most are decided
+/// soon, so that the same places are written again and again.
 #[derive(Drop)]
 pub struct SendWindow<T> {
     version: u8,
     newest: u32,
-    unresolved: VecDeque<Unresolved<T>>,
+    unresolved: Vec<Unresolved<T>>,
 }
 
 /// How many numbers may be unresolved at once, in any version: a span of 128 and the oldest.
 const MOST_UNRESOLVED: usize = 129;
 
 impl<T> Model for SendWindow<T> {
-    ghost use Rattle.std.specs.Prelude.{◌≡◌};
-    ghost use Rattle.std.specs.VecDeque.{deque_capacity};
+    ghost use Rattle.std.specs.Prelude.{◌≡◌, vec_capacity};
     ghost use Rattle.ack_window.specs.Kept.{IsKept};
     ghost use Rattle.ack_window.specs.Versions.{reorder_of, span_of};
     ghost use Rattle.ack_window.specs.Windows.{Sender};
@@ -60,7 +57,7 @@ impl<T> Model for SendWindow<T> {
 
     ghost invariant = { λ window.
         IsKept (reorder_of window.version) (span_of window.version) window.newest window.unresolved.items
-        × (deque_capacity window.unresolved ≡ 129) };
+        × (vec_capacity window.unresolved ≡ 129) };
 }
 
 impl<T> SendWindow<T> {
@@ -69,7 +66,7 @@ impl<T> SendWindow<T> {
         ensures version { IfOk result (λ window. window.version ≡ version) }
         ensures stands { IfOk result (λ window. HasDone window []) }
     {
-        let unresolved = VecDeque::with_capacity(alloc, MOST_UNRESOLVED)?;
+        let unresolved = Vec::with_capacity(alloc, MOST_UNRESOLVED)?;
         Ok(SendWindow {
             version,
             newest: 0,
@@ -85,7 +82,7 @@ impl<T> SendWindow<T> {
             (IsTrue result ↔ MaySendNew (span_of self.now.version)
             (outstanding_of (reorder_of self.now.version) (span_of self.now.version) history)) }
     {
-        match self.unresolved.front() {
+        match self.unresolved.first() {
             Some(oldest) => self.newest - oldest.number < span(self.version),
             None => true,
         }
@@ -99,7 +96,7 @@ impl<T> SendWindow<T> {
             HasDone self.now history →
             newest_content history ≡ Some result.1.now }
     {
-        let last = self.unresolved.back().unwrap();
+        let last = self.unresolved.last().unwrap();
         (self.newest, &last.content)
     }
 
@@ -117,7 +114,7 @@ impl<T> SendWindow<T> {
         let number = self.newest + 1;
         self.newest = number;
         self.unresolved
-            .push_back_reserved(Unresolved { number, content });
+            .push_reserved(Unresolved { number, content });
         number
     }
 }
@@ -156,17 +153,17 @@ impl<T: Drop> SendWindow<T> {
 /// Moves each number that the acknowledgement decides to `found`. At most the reorder window and one
 /// more of those that it looks at stay.
 fn decide<T: Drop>(
-    unresolved: &mut VecDeque<Unresolved<T>>,
+    unresolved: &mut Vec<Unresolved<T>>,
     version: u8,
     ack: Acknowledgement,
     found: &mut ArrayVec<Decided<T>, 129>,
 )
     requires rising { RisesWithin 0 (2 ^ 32) unresolved.old.items }
-    requires room { array_vec_len found.old + deque_len unresolved.old ≤ 129 }
+    requires room { array_vec_len found.old + vec_len unresolved.old ≤ 129 }
     ensures found { found.new.items ≡
         found.old.items ++ decided_in (decision_by (reorder_of version) (span_of version) ack) unresolved.old.items }
     ensures left { unresolved.new.items ≡ left_in (decision_by (reorder_of version) (span_of version) ack) unresolved.old.items }
-    ensures capacity { deque_capacity unresolved.new ≡ deque_capacity unresolved.old }
+    ensures capacity { vec_capacity unresolved.new ≡ vec_capacity unresolved.old }
 {
     let mut at = 0;
     'numbers: while is_within(unresolved, at, ack.high) {
@@ -175,10 +172,10 @@ fn decide<T: Drop>(
 }
 
 /// Whether there is a number at this place, and it is at most `high`.
-fn is_within<T>(unresolved: &VecDeque<Unresolved<T>>, at: usize, high: u32) -> bool
-    requires { RisesWithin 0 (2 ^ 32) (drop at unresolved.now.items) }
-    ensures within { IsTrue result → at < deque_len unresolved.now }
-    ensures past { OnFalse result (RisesWithin (high + 1) (2 ^ 32) (drop at unresolved.now.items)) }
+fn is_within<T>(unresolved: &[Unresolved<T>], at: usize, high: u32) -> bool
+    requires { RisesWithin 0 (2 ^ 32) (drop at unresolved.now) }
+    ensures within { IsTrue result → at < length unresolved.now }
+    ensures past { OnFalse result (RisesWithin (high + 1) (2 ^ 32) (drop at unresolved.now)) }
 {
     match unresolved.get(at) {
         Some(sent) => sent.number <= high,
@@ -188,28 +185,28 @@ fn is_within<T>(unresolved: &VecDeque<Unresolved<T>>, at: usize, high: u32) -> b
 
 /// Moves the number at this place to `found` where the acknowledgement decides it, and answers the place of the next number.
 fn judge<T: Drop>(
-    unresolved: &mut VecDeque<Unresolved<T>>,
+    unresolved: &mut Vec<Unresolved<T>>,
     at: usize,
     version: u8,
     ack: Acknowledgement,
     found: &mut ArrayVec<Decided<T>, 129>,
 ) -> usize
-    requires within { at < deque_len unresolved.old }
+    requires within { at < vec_len unresolved.old }
     requires room { array_vec_len found.old < 129 }
     ensures found { found.new.items ≡
         found.old.items ++ decided_in (decision_by (reorder_of version) (span_of version) ack) (take 1 (drop at unresolved.old.items)) }
     ensures kept { take result unresolved.new.items ≡
         take at unresolved.old.items ++ left_in (decision_by (reorder_of version) (span_of version) ack) (take 1 (drop at unresolved.old.items)) }
     ensures rest { drop result unresolved.new.items ≡ drop (at + 1) unresolved.old.items }
-    ensures less { deque_len unresolved.new + at + 1 ≡ deque_len unresolved.old + result }
-    ensures room { array_vec_len found.new + deque_len unresolved.new
-        ≤ array_vec_len found.old + deque_len unresolved.old }
-    ensures place { result ≤ deque_len unresolved.new }
-    ensures capacity { deque_capacity unresolved.new ≡ deque_capacity unresolved.old }
+    ensures less { vec_len unresolved.new + at + 1 ≡ vec_len unresolved.old + result }
+    ensures room { array_vec_len found.new + vec_len unresolved.new
+        ≤ array_vec_len found.old + vec_len unresolved.old }
+    ensures place { result ≤ vec_len unresolved.new }
+    ensures capacity { vec_capacity unresolved.new ≡ vec_capacity unresolved.old }
 {
     match ack.decision(version, unresolved[at].number) {
         Some(decision) => {
-            let Unresolved { number, content } = unresolved.remove(at).unwrap();
+            let Unresolved { number, content } = unresolved.remove(at);
             found.push(Decided {
                 number,
                 lost: decision.is_lost(),

@@ -14,6 +14,13 @@ use lane_rounds::{AskList, Events, RawList};
 use slot_publisher::Publisher;
 use trace_text::Trace;
 
+/// Where the next endpoint's asks and fates of a round are looked for first.
+#[derive(Clone, Copy, Debug, Default)]
+pub(crate) struct Near {
+    asks: usize,
+    fates: usize,
+}
+
 /// Writes what the trace says of the round and endpoint. The sources are those of the round's raw packets.
 pub(crate) fn fill_events(
     events: &mut Events,
@@ -21,6 +28,7 @@ pub(crate) fn fill_events(
     round: u32,
     endpoint: u16,
     sources: &[Option<u16>],
+    near: &mut Near,
 ) -> Result<(), NoMemory>
     requires round { round < trace.now.rounds }
     requires endpoint { endpoint < endpoints_of trace.now.net }
@@ -29,23 +37,30 @@ pub(crate) fn fill_events(
 {
     events.boots = trace.boots(round, endpoint);
     events.version = trace.boot_version(round, endpoint).unwrap_or(1);
-    events.up = trace.fate(round, endpoint, true);
-    events.down = trace.fate(round, endpoint, false);
-    fill_asks(&mut events.asks, trace, round, endpoint)?;
+    (events.down, near.fates) = trace.fate_near(round, endpoint, false, near.fates);
+    (events.up, near.fates) = trace.fate_near(round, endpoint, true, near.fates);
+    near.asks = fill_asks(&mut events.asks, trace, round, endpoint, near.asks)?;
     fill_raw(&mut events.raw, trace, round, endpoint, sources)
 }
 
-/// Writes what the endpoint asks for in the round.
-fn fill_asks(asks: &mut AskList, trace: &Trace, round: u32, endpoint: u16) -> Result<(), NoMemory>
+/// Writes what the endpoint asks for in the round, which is looked for at this place first, and answers the place after it.
+fn fill_asks(
+    asks: &mut AskList,
+    trace: &Trace,
+    round: u32,
+    endpoint: u16,
+    near: usize,
+) -> Result<usize, NoMemory>
     requires round { round < trace.now.rounds }
     requires endpoint { endpoint < endpoints_of trace.now.net }
     ensures { OnOk result (asks.new ≡ asked_at trace.now round endpoint) }
 {
     asks.clear();
-    for ask in trace.asks_by(round, endpoint) {
+    let (own, next) = trace.asks_near(round, endpoint, near);
+    for ask in own {
         asks.push(ask.dst, ask.slots)?;
     }
-    Ok(())
+    Ok(next)
 }
 
 /// Writes the round's raw packets that have the endpoint as their source, each with its place.

@@ -9,7 +9,7 @@ ghost use Rattle.replay_rounds.specs.Played.{departure};
 ghost use Rattle.replay_rounds.specs.Collecting.{blank_round, framed_answer, framed_in, published_by, setting_by, source_of, sources_in, with_endpoint, with_numbers, with_round, MayBeTold};
 
 use crate::NoMemory;
-use crate::handed::{fill_events, fill_told};
+use crate::handed::{Near, fill_events, fill_told};
 use crate::laws::rounds_may_be_played;
 use crate::played::{Departure, Played};
 use arrayvec::ArrayVec;
@@ -58,6 +58,7 @@ pub(crate) struct RoundInPlay {
     // The number of the refusal of each raw packet, if one refuses it so far.
     answers: Vec<Option<u8>>,
     departures: Vec<Departure>,
+    near: Near,
 }
 
 impl Model for RoundInPlay {
@@ -96,6 +97,7 @@ impl RoundInPlay {
             sources,
             answers,
             departures: Vec::new(alloc),
+            near: Near::default(),
         })
     }
 
@@ -130,6 +132,7 @@ impl RoundInPlay {
             self.round,
             endpoint,
             &self.sources,
+            &mut self.near,
         )?;
         fill_told(&mut buffers.told, publisher, g, self.round, endpoint);
         buffers.sent.clear();

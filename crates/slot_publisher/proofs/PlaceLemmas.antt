@@ -24,22 +24,22 @@ same_place room endpoint slot other at slot_in_row at_in_row same = elim (cases_
   | inr (inr after) ↦ absurd (omega (arith, row_fits other room endpoint room after (omega arith)))
 ]
 
--- what a write at a slot's place of an endpoint leaves in the row of that endpoint, and in the others
-pub put_here : (spec : ℕ → Option Hop) (room slot at : ℕ) (hops : List (Option Hop)) (hop : Option Hop) → slot < room → at * room + slot < length hops → hop ≡ spec slot
-    → ((other : ℕ) → other < slot → hop_in room hops other at ≡ spec other)
-    → (other : ℕ) → other < slot + 1 → hop_in room (set hops (at * room + slot) hop) other at ≡ spec other
-put_here spec room slot at hops hop in_row within is below other up_to = elim (cases_eq other slot) [
+-- what a write at a slot's place of an endpoint leaves at that slot's places, and at those of others
+pub put_here : (spec : ℕ → Option Hop) (room slot at : ℕ) (hops : List (Option Hop)) (hop : Option Hop) → slot < room → at * room + slot < length hops → hop ≡ spec at
+    → ((other : ℕ) → other < at → hop_in room hops slot other ≡ spec other)
+    → (other : ℕ) → other < at + 1 → hop_in room (set hops (at * room + slot) hop) slot other ≡ spec other
+put_here spec room slot at hops hop in_row within is below other up_to = elim (cases_eq other at) [
   | inl here ↦
-      ap (λ (s : ℕ). hop_in room (set hops (at * room + slot) hop) s at) here
+      ap (λ (e : ℕ). hop_in room (set hops (at * room + slot) hop) slot e) here
       ∙ (get_or-set_same hops (at * room + slot) hop None within
       ∙ (is ∙ ap spec (sym here)))
-  | inr apart ↦ get_or-set_other hops (at * room + slot) (at * room + other) hop None (λ same. apart (omega arith)) ∙ below other (omega arith)
+  | inr apart ↦ get_or-set_other hops (at * room + slot) (other * room + slot) hop None (λ same. apart (same_place room other slot at slot in_row in_row same).0) ∙ below other (omega arith)
 ]
 
-pub put_others : (room slot at : ℕ) (hops : List (Option Hop)) (hop : Option Hop) (other endpoint : ℕ) → slot < room → other < room → endpoint ≢ at
+pub put_others : (room slot at : ℕ) (hops : List (Option Hop)) (hop : Option Hop) (other endpoint : ℕ) → slot < room → other < room → other ≢ slot
     → hop_in room (set hops (at * room + slot) hop) other endpoint ≡ hop_in room hops other endpoint
 put_others room slot at hops hop other endpoint in_row other_in_row apart =
-    get_or-set_other hops (at * room + slot) (endpoint * room + other) hop None (λ same. apart (same_place room endpoint other at slot other_in_row in_row same).0)
+    get_or-set_other hops (at * room + slot) (endpoint * room + other) hop None (λ same. apart (same_place room endpoint other at slot other_in_row in_row same).1)
 
 pub slots_of_places-none : (endpoints room b : ℕ) (hops : List (Option Hop)) → slots_of_places endpoints room (0 * b) hops ≡ []
 unfolding slots_of_places

@@ -132,7 +132,7 @@ impl Publisher {
     }
 }
 
-/// Writes each endpoint's row of `room` places: what it sends in every slot.
+/// Writes each endpoint's row of `room` places, slot by slot: what it sends in every slot.
 fn put_rows(slots: &SlotTable, cores: &CoreTable, room: usize, hops: &mut [Option<Hop>])
     requires room { length slots.now.slots ≤ room }
     requires places { slots.now.endpoints * room ≡ length hops.old }
@@ -146,33 +146,28 @@ fn put_rows(slots: &SlotTable, cores: &CoreTable, room: usize, hops: &mut [Optio
         hop_in room hops.new slot endpoint ≡ hop_in_slot (core_of cores.now slot) (slot_in slots.now.slots slot) endpoint }
     ensures hops { All (IsHop slots.now.endpoints) hops.new }
 {
-    for endpoint in 0..slots.endpoints() {
-        put_row(slots, cores, endpoint, room, hops);
+    for slot in 0..slots.slots() {
+        put_slot(slots, cores, slot, room, hops);
     }
 }
 
-/// Writes an endpoint's row, whose places lie side by side.
-fn put_row(
-    slots: &SlotTable,
-    cores: &CoreTable,
-    endpoint: u16,
-    room: usize,
-    hops: &mut [Option<Hop>],
-)
-    requires endpoint { endpoint < slots.now.endpoints }
-    requires room { length slots.now.slots ≤ room }
+/// Writes a slot's place in the row of each endpoint.
+fn put_slot(slots: &SlotTable, cores: &CoreTable, slot: u16, room: usize, hops: &mut [Option<Hop>])
+    requires slot { slot < length slots.now.slots }
+    requires room { slot < room }
     requires places { slots.now.endpoints * room ≡ length hops.old }
-    requires core_slots { length slots.now.slots ≤ cores.now.slots }
+    requires core_slots { slot < cores.now.slots }
     requires core_endpoints { slots.now.endpoints ≤ cores.now.endpoints }
+    requires each { IsSlotOf slots.now.endpoints (slot_in slots.now.slots slot) }
     requires cores { NamesCores slots.now.slots cores.now }
     requires hops { All (IsHop slots.now.endpoints) hops.old }
-    ensures here { (slot : ℕ) →
-        slot < length slots.now.slots →
+    ensures here { (endpoint : ℕ) →
+        endpoint < slots.now.endpoints →
         hop_in room hops.new slot endpoint ≡ hop_in_slot (core_of cores.now slot) (slot_in slots.now.slots slot) endpoint }
-    ensures others { (slot other : ℕ) → slot < room → other ≢ endpoint → hop_in room hops.new slot other ≡ hop_in room hops.old slot other }
+    ensures others { (other endpoint : ℕ) → other < room → other ≢ slot → hop_in room hops.new other endpoint ≡ hop_in room hops.old other endpoint }
     ensures hops { All (IsHop slots.now.endpoints) hops.new }
 {
-    for slot in 0..slots.slots() {
+    for endpoint in 0..slots.endpoints() {
         hops[endpoint as usize * room + slot as usize] = hop_of(slots, cores, slot, endpoint);
     }
 }

@@ -19,8 +19,8 @@ numbers-preserved g c =
 
 pub returns-clause-found : goal.returns-clause-found
 returns-clause-found g c =
-    (HasJudged-all _ _ _ _ c.numbers.found.items _ c.numbers.unresolved.items c.numbers.at (2 ^ 32) c.numbers.invariant.0 (OnFalse_at c.numbers-test.false c.is_within.ensures.past)).0
+    (HasJudged-all _ _ _ _ c.numbers.found.items _ c.numbers.unresolved.items c.numbers.at (2 ^ 32) c.numbers.invariant.0 (rw c.deref.ensures.value at (OnFalse_at c.numbers-test.false c.is_within.ensures.past))).0
 
 pub returns-clause-left : goal.returns-clause-left
 returns-clause-left g c =
-    (HasJudged-all _ _ _ _ c.numbers.found.items _ c.numbers.unresolved.items c.numbers.at (2 ^ 32) c.numbers.invariant.0 (OnFalse_at c.numbers-test.false c.is_within.ensures.past)).1
+    (HasJudged-all _ _ _ _ c.numbers.found.items _ c.numbers.unresolved.items c.numbers.at (2 ^ 32) c.numbers.invariant.0 (rw c.deref.ensures.value at (OnFalse_at c.numbers-test.false c.is_within.ensures.past))).1

@@ -8,7 +8,7 @@ use Rattle.replay_rounds.proofs.handed.fill_asks.Goals as goal
 
 pub loop-ask-preserved : goal.loop-ask-preserved
 loop-ask-preserved c =
-    let asks : List Ask = c.asks_by-ask-items.result.now in
+    let asks : List Ask = c.asks_near-next.result.0.now in
     let none : Ask = record { round = 0; src = 0; dst = 0; slots = 0 } in
     c.in_ok-push.ensures.ok
     ∙ (ap (λ (asked : List (ℕ × ℕ)). asked ++ asked_of (slice_index_or asks c.loop-ask.ask-index none) ∷ []) c.loop-ask.invariant
@@ -17,5 +17,5 @@ loop-ask-preserved c =
 pub returns : goal.returns
 returns c =
     c.loop-ask.invariant
-    ∙ (ap (map asked_of) (take_all c.loop-ask.ask-index c.asks_by-ask-items.result.now c.loop-ask-test.false ∙ c.asks_by-ask-items.ensures)
+    ∙ (ap (map asked_of) (take_all c.loop-ask.ask-index c.asks_near-next.result.0.now c.loop-ask-test.false ∙ c.asks_near-next.ensures)
     ∙ asked_back c.args.round c.args.endpoint (asked_at c.args.trace.now c.args.round c.args.endpoint))

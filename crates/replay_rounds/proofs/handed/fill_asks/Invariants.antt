@@ -3,4 +3,4 @@ use Rattle.replay_rounds.proofs.RowLemmas.{asked_of}
 use Rattle.replay_rounds.proofs.handed.fill_asks.Given as goal
 
 abbrev pub invariant-loop-ask : goal.invariant-loop-ask
-invariant-loop-ask l = l.asks ≡ map asked_of (take l.ask-index l.ask-items)
+invariant-loop-ask l = l.asks ≡ map asked_of (take l.ask-index l.own)

@@ -8,8 +8,8 @@ use Rattle.ack_window.proofs.Sending.{IsKept-push, length-may_send, StandsForSen
 use Rattle.ack_window.proofs.Spans.{reorder-span, span-most}
 use Rattle.ack_window.proofs.send_window.SendWindow.push.Goals as goal
 
-pub push_back_reserved-requires : goal.push_back_reserved-requires
-push_back_reserved-requires g c =
+pub push_reserved-requires : goal.push_reserved-requires
+push_reserved-requires g c =
     let may = subst (λ (w : Sender g.row.T.Denot). MaySend w) (sym c.self.view_is) c.requires.may_send in
     let some = reorder-span c.self.inside.version in
     let most = span-most c.self.inside.version in
@@ -23,9 +23,9 @@ invariant_of-self g c =
     let may = subst (λ (w : Sender g.row.T.Denot). MaySend w) (sym c.self.view_is) c.requires.may_send in
     let kept = IsKept-push (reorder_of c.self.inside.version) (span_of c.self.inside.version) c.self.inside.newest c.args.content c.self.inside.unresolved.items c.self.invariant.0 may in
     let room = c.self.invariant.1 in
-    let same = c.push_back_reserved.ensures.capacity in (
+    let same = c.push_reserved.ensures.capacity in (
       subst (λ (xs : List (Unresolved g.row.T.Denot)). IsKept (reorder_of c.self.inside.version) (span_of c.self.inside.version) (c.self.inside.newest + 1) xs)
-          (sym {A = List (Unresolved g.row.T.Denot)} c.push_back_reserved.ensures.items) kept,
+          (sym {A = List (Unresolved g.row.T.Denot)} c.push_reserved.ensures.items) kept,
       omega arith,
     )
 
@@ -34,5 +34,5 @@ returns-clause-stands g c = λ history stands.
     let before = subst (λ (w : Sender g.row.T.Denot). HasDone w history) (sym c.self.view_is) stands in
     let may = subst (λ (w : Sender g.row.T.Denot). MaySend w) (sym c.self.view_is) c.requires.may_send in
     subst (λ (xs : List (Unresolved g.row.T.Denot)). StandsForSends (reorder_of c.self.inside.version) (span_of c.self.inside.version) (record { newest = c.self.inside.newest + 1; unresolved = xs }) (Sends c.args.content ∷ history))
-    (sym {A = List (Unresolved g.row.T.Denot)} c.push_back_reserved.ensures.items)
+    (sym {A = List (Unresolved g.row.T.Denot)} c.push_reserved.ensures.items)
     (StandsForSends-send (reorder_of c.self.inside.version) (span_of c.self.inside.version) _ c.args.content history before may)
