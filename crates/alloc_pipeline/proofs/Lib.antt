@@ -1,2 +1,3 @@
 pub mod WholeLists
+pub mod Weaving
 pub mod RingLemmas

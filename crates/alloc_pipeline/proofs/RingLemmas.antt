@@ -1,5 +1,7 @@
 -- The batches of a window, one after another: what is done, and what is left to do.
-use Rattle.std.proofs.Common.{◌≡◌, ◌<◌, ◌≤◌, ◌+◌, ◌-◌, ◌*◌, ℕ, List, [], ◌∷◌, ◌++◌, length, get_or, take, drop, replicate, refl, sym, ap, ◌∙◌, subst, arith}
+use Rattle.std.proofs.Common.{◌≡◌, ◌<◌, ◌≤◌, ◌+◌, ◌-◌, ◌*◌, ℕ, List, [], ◌∷◌, ◌++◌, length, get_or, take, drop, replicate, false, true, not, ◌==◌, refl, sym, ap, ◌∙◌, subst, arith}
+use Rattle.std.proofs.lemmas.Bool.{and_parts, eqb-true, not-true}
+use Rattle.std.proofs.lemmas.List.Elements.{All-weaker}
 use Rattle.std.proofs.lemmas.Nat.{mul-le}
 use Rattle.std.proofs.lemmas.List.{append_assoc, append-nil, length-append, length-take, length-replicate, take_at, drop_at, drop_more, take-append-drop}
 use Rattle.greedy_rules.specs.declared.flows.Flow.{Flow}
@@ -11,6 +13,10 @@ use Rattle.greedy_rules.specs.Allocation.{batch_slots, list_after_slots}
 use Rattle.greedy_rules.specs.Schedule.{first_slot, slots_then, list_then, schedule_from, rest_from}
 use Rattle.greedy_rules.specs.Fronts.{EveryBatchHasItsSlots}
 use Rattle.greedy_rules.specs.Recorded.{Applies, MayBeApplied}
+use Rattle.greedy_rules.specs.Room.{FlowsFitPairs}
+use Rattle.slot_batches.specs.Marks.{WindowMarks, has_mark}
+use Rattle.slot_batches.specs.Woven.{picked, woven, OnlyOpen, HaveNoEntry, NeedNothing, ItemsMayBeSetAside, ListedFlowsAreOpen}
+use Rattle.alloc_pipeline.specs.Picked.{is_aside}
 use Rattle.slot_batches.specs.NextList.{IsListBefore, EveryBatchLeavesAList, EveryBatchKeepsItsFlows}
 
 -- the first p batches of a window are allocated: the list and the slots are where the others go on
@@ -45,25 +51,6 @@ next_is batches p batch below is = drop_more batches p batch below ∙ ap (λ (x
 pub next_applies : (endpoints b first p n : ℕ) (batches : List DemandBatch) (initial list : List Item) (slots : List (List Flow)) (batch : DemandBatch) → IsDone endpoints b first p n batches initial list slots
     → drop p batches ≡ batch ∷ drop (p + 1) batches → Applies endpoints batch list × MayBeApplied endpoints b (first + p + 1) (list_then b (first + p) batch list) (drop (p + 1) batches)
 next_applies endpoints b first p n batches initial list slots batch done split = subst (MayBeApplied endpoints b (first + p) list) split done.may
-
--- lists only grow
-grows : (b k : ℕ) (list : List Item) (batches : List DemandBatch) → EveryBatchKeepsItsFlows → length list ≤ length (rest_from b k list batches)
-grows b k list [] flows = omega arith
-grows b k list (batch ∷ batches) flows =
-    omega (arith, flows (is_barred batch.limits) (first_slot b k) b batch.entries list, grows b (k + 1) (list_then b k batch list) batches flows)
-
--- so there is room for the list that the next one leaves
-pub room_after : (endpoints b first p n number size room : ℕ) (batches : List DemandBatch) (initial list : List Item) (slots : List (List Flow)) (batch : DemandBatch) → EveryBatchKeepsItsFlows → IsDone endpoints b first p n batches initial list slots
-    → drop p batches ≡ batch ∷ drop (p + 1) batches → length (rest_from b first initial batches) ≤ room → length (list_after_slots (is_barred batch.limits) number size (after_batch batch.entries list)) ≤ room
-room_after endpoints b first p n number size room batches initial list slots batch flows done split fits =
-    omega (
-      arith,
-      fits,
-      flows (is_barred batch.limits) number size batch.entries list,
-      flows (is_barred batch.limits) (first_slot b (first + p)) b batch.entries list,
-      grows b (first + p + 1) (list_then b (first + p) batch list) (drop (p + 1) batches) flows,
-      ap length (ap (rest_from b (first + p) list) (sym split) ∙ done.rest),
-    )
 
 next_place : (p b : ℕ) → (p + 1) * b ≡ p * b + b
 next_place p b = grind arith
@@ -129,4 +116,65 @@ all_done endpoints b first p n batches initial list slots done ended =
           ∙ (ap (λ (xs : List (List Flow)). xs ++ drop (p * b) slots) front
           ∙ ap (λ (xs : List (List Flow)). schedule_from b first initial batches ++ xs) (done.empty ∙ ap (λ (m : ℕ). replicate m none) left));
       next = subst (λ (m : ℕ). IsListBefore (first_slot b (first + m)) list) ended done.before;
+    }
+
+-- a list that a batch may be applied to has no more items than there are pairs of endpoints, and so has what batches leave of it
+module _ (endpoints b : ℕ) (fit : FlowsFitPairs) (flows : EveryBatchKeepsItsFlows) where
+  few_left : (k : ℕ) (list : List Item) (batches : List DemandBatch) → length list ≤ endpoints * endpoints → MayBeApplied endpoints b k list batches
+      → length (rest_from b k list batches) ≤ endpoints * endpoints
+  few_left k list [] few may = few
+  few_left k list (batch ∷ batches) few may =
+      let now = fit endpoints batch.entries list may.0.rises may.0.opens may.0.once may.0.below in
+      let more = flows (is_barred batch.limits) (first_slot b k) b batch.entries list in
+      few_left (k + 1) (list_then b k batch list) batches (omega (arith, now, more)) may.1
+
+  pub few_found : (k : ℕ) (list : List Item) (batches : List DemandBatch) → 0 < length batches → MayBeApplied endpoints b k list batches → length list ≤ endpoints * endpoints
+  few_found k list [] some may = absurd (omega arith)
+  few_found k list (batch ∷ batches) some may = let now = fit endpoints batch.entries list may.0.rises may.0.opens may.0.once may.0.below in omega (arith, now)
+
+  pub few_rest : (k : ℕ) (list : List Item) (batches : List DemandBatch) → 0 < length batches → MayBeApplied endpoints b k list batches
+      → length (rest_from b k list batches) ≤ endpoints * endpoints
+  few_rest k list batches some may = few_left k list batches (few_found k list batches some may) may
+
+-- a window leaves a list that the next one may be applied to
+pub next_window : (endpoints b k : ℕ) (list : List Item) (batches : List DemandBatch) → EveryBatchLeavesAList → MayBeApplied endpoints b k list batches → IsListBefore (first_slot b k) list
+    → IsListBefore (first_slot b (k + length batches)) (rest_from b k list batches)
+next_window endpoints b k list [] leaves may before = subst (λ (n : ℕ). IsListBefore (first_slot b n) list) (omega arith) before
+next_window endpoints b k list (batch ∷ batches) leaves may before =
+    let then : List Item = list_then b k batch list in
+    let place : first_slot b k + b ≡ first_slot b (k + 1) = omega (arith, next_place k b) in
+    let after : IsListBefore (first_slot b (k + 1)) then =
+    subst (λ (n : ℕ). IsListBefore n then) place (leaves (is_barred batch.limits) (first_slot b k) b batch.entries list (omega arith) may.0.rises may.0.opens before) in
+    subst (λ (n : ℕ). IsListBefore (first_slot b n) (rest_from b (k + 1) then batches)) (omega arith) (next_window endpoints b (k + 1) then batches leaves may.1 after)
+
+-- what was picked of a window's list, for its batches
+pub record IsPicked (endpoints b first : ℕ) (marks : WindowMarks) (list found : List Item) (batches : List DemandBatch) : Type 0 where
+  pub may : MayBeApplied endpoints b first found batches
+  pub before : IsListBefore (first_slot b first) found
+  pub few : length (rest_from b first found batches) ≤ endpoints * endpoints
+  pub slots : schedule_from b first found batches ≡ schedule_from b first list batches
+  pub rest : woven (is_aside marks) list (rest_from b first found batches) ≡ rest_from b first list batches
+  pub few_whole : length (rest_from b first list batches) ≤ endpoints * endpoints
+
+need_nothing : (endpoints b first : ℕ) (marks : WindowMarks) (list : List Item) (batches : List DemandBatch) → ListedFlowsAreOpen → MayBeApplied endpoints b first list batches
+    → ((flow : Flow) → has_mark marks flow ≡ false → OnlyOpen batches flow) → NeedNothing (is_aside marks) batches list
+need_nothing endpoints b first marks list batches listed may unmarked =
+    All-weaker (λ item. OnlyOpen batches item.flow → HaveNoEntry batches item.flow) (λ item. is_aside marks item ≡ true → (item.need ≡ 0) × HaveNoEntry batches item.flow)
+    (λ item none out. let parts = and_parts (item.need == 0) (not (has_mark marks item.flow)) out in (eqb-true _ _ parts.0, none (unmarked item.flow (not-true _ parts.1)))) list
+    (listed endpoints b first list batches may)
+
+pub picked_window : (endpoints b first : ℕ) (marks : WindowMarks) (list items found : List Item) (batches : List DemandBatch) → FlowsFitPairs → EveryBatchKeepsItsFlows → ItemsMayBeSetAside → ListedFlowsAreOpen
+    → 0 < length batches → MayBeApplied endpoints b first list batches → IsListBefore (first_slot b first) list → ((flow : Flow) → has_mark marks flow ≡ false → OnlyOpen batches flow)
+    → items ≡ list → found ≡ picked (is_aside marks) items → IsPicked endpoints b first marks list found batches
+picked_window endpoints b first marks list items found batches fit flows set_aside listed some may before unmarked items_are found_are =
+    let law = set_aside endpoints b first (is_aside marks) list batches before may (need_nothing endpoints b first marks list batches listed may unmarked) in
+    let is : found ≡ picked (is_aside marks) list = found_are ∙ ap (picked (is_aside marks)) items_are in
+    let may_found : MayBeApplied endpoints b first found batches = subst (λ (xs : List Item). MayBeApplied endpoints b first xs batches) (sym is) law.may in
+    record {
+      may = may_found;
+      before = subst (IsListBefore (first_slot b first)) (sym is) law.before;
+      few = few_rest endpoints b fit flows first found batches some may_found;
+      slots = ap (λ (xs : List Item). schedule_from b first xs batches) is ∙ law.slots;
+      rest = ap (λ (xs : List Item). woven (is_aside marks) list (rest_from b first xs batches)) is ∙ law.rest;
+      few_whole = few_rest endpoints b fit flows first list batches some may;
     }

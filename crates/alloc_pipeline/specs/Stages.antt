@@ -1,5 +1,5 @@
 -- Two stages that take turns with the batches of a window (this project's own profile).
-use Rattle.std.specs.Prelude.{◌≡◌, ℕ, ◌+◌, ◌-◌, List, [], ◌++◌, length, take, replicate, Bool, true, if◌then◌else◌, All}
+use Rattle.std.specs.Prelude.{◌≡◌, ℕ, ◌+◌, ◌-◌, List, [], ◌++◌, length, take, replicate, Bool, true, if◌then◌else◌}
 use Rattle.greedy_rules.specs.declared.flows.Flow.{Flow}
 use Rattle.greedy_rules.specs.declared.flows.Item.{Item}
 use Rattle.greedy_rules.specs.Batches.{DemandBatch}
@@ -23,10 +23,6 @@ HasEnded holds stage = holds ≡ true → (batch : DemandBatch) × (fed : List I
 -- the demand list as it stands: what the front one left, or the list that the window finds
 abbrev pub held : Bool → StageState → Demands → List Item
 held holds stage list = if holds then stage.fill.waiting else list.items
-
--- where it is said so, no item of the list needs a slot
-abbrev pub IsIdleWhere : Bool → List Item → Type 0
-IsIdleWhere said list = said ≡ true → All (λ item. item.need ≡ 0) list
 
 -- the list that a batch leaves, whose first slot has this number
 abbrev pub list_left : DemandBatch → ℕ → ℕ → List Item → List Item

@@ -16,7 +16,7 @@ use greedy_rules::{Batch, Item, SlotTable};
 use slot_batches::{Stage, lists_may_be_fed};
 
 /// The bits of all that the items need: none only where no item needs a slot.
-fn needs_of(items: &[Item]) -> u32
+pub(crate) fn needs_of(items: &[Item]) -> u32
     ensures { result ≡ 0 → All (λ item. item.need ≡ 0) items.now }
 {
     let mut needs = 0;
@@ -27,7 +27,7 @@ fn needs_of(items: &[Item]) -> u32
 }
 
 /// Whether no item needs a slot.
-pub(crate) fn needs_none(items: &[Item]) -> bool
+fn needs_none(items: &[Item]) -> bool
     ensures { result ≡ true → All (λ item. item.need ≡ 0) items.now }
 {
     for few in items.chunks(64) {
@@ -38,21 +38,15 @@ pub(crate) fn needs_none(items: &[Item]) -> bool
     true
 }
 
-/// Whether the first of the items was served in some slot, where there are any.
-pub(crate) fn begins_served(items: &[Item]) -> bool
-    ensures { result ≡ true → (item : Item) → slice_get items.now 0 ≡ Some item → was_served item ≡ true }
+/// Whether the batch changes nothing: no item needs a slot, and no entry comes.
+pub(crate) fn is_idle(items: &[Item], batch: &Batch) -> bool
+    ensures needs_none { result ≡ true → All (λ item. item.need ≡ 0) items.now }
+    ensures no_entry { result ≡ true → batch.now.entries ≡ [] }
 {
-    match items.first() {
-        Some(item) => item.last > 0,
-        None => true,
+    if !batch.is_empty() {
+        return false;
     }
-}
-
-/// Whether each of the items was last served in this slot or a later one.
-pub(crate) fn are_served(items: &[Item], first_slot: u32) -> bool
-    ensures { result ≡ true → All (λ item. first_slot ≤ item.last) items.now }
-{
-    items.iter().all(|item| item.last >= first_slot)
+    needs_none(items)
 }
 
 /// Lets the stage, which is fed these items, fill the slots of a batch, and copies them.

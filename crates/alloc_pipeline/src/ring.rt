@@ -4,12 +4,14 @@ ghost use Rattle.greedy_rules.specs.Recorded.{MayBeApplied};
 ghost use Rattle.slot_batches.specs.NextList.{IsListBefore};
 ghost use Rattle.alloc_pipeline.specs.Ring.{IsRing};
 ghost use Rattle.alloc_pipeline.specs.Stages.{AreFor};
+ghost use Rattle.alloc_pipeline.specs.Picked.{HasRoomFor};
 
+use crate::picked::Picked;
 use crate::stages::Stages;
 use fp_edge::Gate;
-use greedy_rules::{Batch, DemandList, SlotTable, schedules_go_on};
+use greedy_rules::{Batch, DemandList, SlotTable, flows_fit_pairs, schedules_go_on};
 use no_memory::NoMemory;
-use slot_batches::every_batch_leaves_a_list;
+use slot_batches::{every_batch_leaves_a_list, items_may_be_set_aside};
 use std::alloc::Global;
 use std::marker::Model;
 
@@ -21,18 +23,20 @@ pub struct Ring {
     b: u8,
     endpoints: u16,
     stages: Stages,
+    picked: Picked,
 }
 
 impl Model for Ring {
     ghost use Rattle.std.specs.Prelude.{◌≡◌, ◌<◌, ◌≤◌, false};
     ghost use Rattle.alloc_pipeline.specs.Stages.{AreFor};
+    ghost use Rattle.alloc_pipeline.specs.Picked.{HasRoomFor};
     ghost use Rattle.alloc_pipeline.specs.Ring.{RingWork};
 
     ghost Value = { RingWork };
 
     ghost view = { λ r. record { endpoints = r.endpoints; batches = r.batches; b = r.b } };
 
-    ghost invariant = { λ r. AreFor r.endpoints r.b r.stages × (r.stages.holds ≡ false) × (r.stages.idle ≡ false) × ((0 < r.b) × (r.b ≤ 64)) × (r.batches ≤ 16) };
+    ghost invariant = { λ r. AreFor r.endpoints r.b r.stages × (r.stages.holds ≡ false) × HasRoomFor r.endpoints r.picked × ((0 < r.b) × (r.b ≤ 64)) × (r.batches ≤ 16) };
 }
 
 impl Ring {
@@ -54,6 +58,7 @@ impl Ring {
             b,
             endpoints,
             stages: Stages::open(alloc, endpoints, b)?,
+            picked: Picked::open(alloc, endpoints)?,
         })
     }
 
@@ -85,8 +90,60 @@ impl Ring {
     {
         let _ = rt;
         let _ = gate;
-        allocate_batches(&mut self.stages, list, first_batch, batches, self.b, out);
+        allocate_window(
+            &mut self.stages,
+            &mut self.picked,
+            list,
+            first_batch,
+            batches,
+            self.b,
+            out,
+        );
     }
+}
+
+/// The batches over what of the list may change, where that is little of it, and else over the whole list.
+fn allocate_window(
+    stages: &mut Stages,
+    picked: &mut Picked,
+    list: &mut DemandList,
+    first_batch: u32,
+    batches: &[Batch],
+    b: u8,
+    out: &mut SlotTable,
+)
+    requires b { (0 < b) × (b ≤ 64) }
+    requires count { length batches.now ≤ 16 }
+    requires sizes { AreFor out.old.endpoints b stages.old }
+    requires none { stages.old.holds ≡ false }
+    requires memory { HasRoomFor out.old.endpoints picked.old }
+    requires may { MayBeApplied out.old.endpoints b first_batch list.old.items batches.now }
+    requires before { IsListBefore (first_slot b first_batch) list.old.items }
+    requires numbers { first_slot b (first_batch + length batches.now) ≤ 2 ^ 32 }
+    requires room { length (rest_from b first_batch list.old.items batches.now) ≤ length list.old.items + list.old.spare }
+    requires places { length batches.now * b ≤ length out.old.slots }
+    ensures sizes { AreFor out.old.endpoints b stages.new }
+    ensures none { stages.new.holds ≡ false }
+    ensures memory { HasRoomFor out.old.endpoints picked.new }
+    ensures list { list.new.items ≡ rest_from b first_batch list.old.items batches.now }
+    ensures spare { length list.new.items + list.new.spare ≡ length list.old.items + list.old.spare }
+    ensures next { IsListBefore (first_slot b (first_batch + length batches.now)) list.new.items }
+    ensures slots { out.new.slots ≡ schedule_from b first_batch list.old.items batches.now ++ replicate (length out.old.slots - length batches.now * b) [] }
+    ensures endpoints { out.new.endpoints ≡ out.old.endpoints }
+{
+    if batches.is_empty() {
+        out.clear();
+        return;
+    }
+    every_batch_leaves_a_list();
+    flows_fit_pairs();
+    if !picked.pick(list.items(), batches) {
+        allocate_batches(stages, list, first_batch, batches, b, out);
+        return;
+    }
+    items_may_be_set_aside();
+    allocate_batches(stages, &mut picked.items, first_batch, batches, b, out);
+    picked.weave_into(list);
 }
 
 /// The batches one after the other, by the stages in turn.
@@ -102,7 +159,6 @@ fn allocate_batches(
     requires count { length batches.now ≤ 16 }
     requires sizes { AreFor out.old.endpoints b stages.old }
     requires none { stages.old.holds ≡ false }
-    requires unknown { stages.old.idle ≡ false }
     requires may { MayBeApplied out.old.endpoints b first_batch list.old.items batches.now }
     requires before { IsListBefore (first_slot b first_batch) list.old.items }
     requires numbers { first_slot b (first_batch + length batches.now) ≤ 2 ^ 32 }
@@ -110,7 +166,6 @@ fn allocate_batches(
     requires places { length batches.now * b ≤ length out.old.slots }
     ensures sizes { AreFor out.old.endpoints b stages.new }
     ensures none { stages.new.holds ≡ false }
-    ensures unknown { stages.new.idle ≡ false }
     ensures list { list.new.items ≡ rest_from b first_batch list.old.items batches.now }
     ensures spare { length list.new.items + list.new.spare ≡ length list.old.items + list.old.spare }
     ensures next { IsListBefore (first_slot b (first_batch + length batches.now)) list.new.items }
@@ -132,5 +187,4 @@ fn allocate_batches(
         );
     }
     stages.give(list);
-    stages.idle = false;
 }

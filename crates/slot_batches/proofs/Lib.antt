@@ -22,6 +22,7 @@ pub mod ReadLemmas
 pub mod StandsLemmas
 pub mod MarkLemmas
 pub mod IdleLemmas
-pub mod PassedOver
+pub mod WeaveLemmas
+pub mod SetAside
 pub mod RestLemmas
 pub mod DoubtLemmas

@@ -5,6 +5,7 @@ pub mod Room
 pub mod Examples
 pub mod Feeding
 pub mod NextList
+pub mod Woven
 pub mod Progress
 pub mod FeedingExamples
 pub mod Marks

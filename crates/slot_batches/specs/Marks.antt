@@ -1,5 +1,5 @@
 -- Marks for the flows of a batch's entries: a flow without a mark has none (this project's own profile).
-use Rattle.std.specs.Prelude.{◌≡◌, ℕ, ◌+◌, ◌%◌, List, length, Bool, true, not, ◌&&◌, ◌||◌, nat_lt, All}
+use Rattle.std.specs.Prelude.{◌≡◌, ℕ, ◌+◌, ◌*◌, ◌/◌, ◌%◌, List, length, Bool, true, not, ◌&&◌, ◌||◌, nat_lt, All}
 use Rattle.std.specs.List.{slice_index_or}
 use Rattle.greedy_rules.specs.declared.flows.Flow.{Flow}
 use Rattle.greedy_rules.specs.declared.flows.Entry.{Entry}
@@ -27,3 +27,25 @@ is_marked words flow = has_bit words (source_place flow) (mark_bit flow) && has_
 -- the flow of each entry has its mark
 abbrev pub AreMarked : List Entry → List ℕ → Type 0
 AreMarked entries words = All (λ entry. is_marked words entry.flow ≡ true) entries
+
+-- in the marks of a window each flow has a bit of its own, in one of four words of its source
+abbrev pub own_place : Flow → ℕ
+own_place flow = flow.src * 4 + flow.dst / 64
+
+abbrev pub own_bit : Flow → ℕ
+own_bit flow = flow.dst % 64
+
+abbrev pub has_own_bit : List ℕ → Flow → Bool
+has_own_bit words flow = has_bit words (own_place flow) (own_bit flow)
+
+-- the flow of each entry has its own bit
+abbrev pub HaveOwnBits : List Entry → List ℕ → Type 0
+HaveOwnBits entries words = All (λ entry. has_own_bit words entry.flow ≡ true) entries
+
+-- what contracts see of the marks of a window: their words, and whether there are any
+pub record WindowMarks : Type 0 where
+  pub words : List ℕ
+  pub some : Bool
+
+abbrev pub has_mark : WindowMarks → Flow → Bool
+has_mark marks flow = marks.some && has_own_bit marks.words flow

@@ -1,12 +1,12 @@
 -- What a list has that a batch can be fed, and the list has again that the batch leaves (this project's own profile).
-use Rattle.std.specs.Prelude.{◌≡◌, ◌<◌, ◌≤◌, ℕ, ◌+◌, List, [], ◌++◌, length, replicate, All, true, Some, slice_get}
+use Rattle.std.specs.Prelude.{◌≡◌, ◌<◌, ℕ, ◌+◌, List, [], length, replicate, All}
 use Rattle.greedy_rules.specs.declared.flows.Item.{Item}
 use Rattle.greedy_rules.specs.declared.flows.Entry.{Entry}
 use Rattle.greedy_rules.specs.Batches.{IsBatch}
 use Rattle.greedy_rules.specs.Slot.{Bar}
 use Rattle.greedy_rules.specs.Demands.{HasEachFlowOnce, OpensNewFlows, opened, after_batch}
 use Rattle.greedy_rules.specs.Allocation.{batch_slots, list_after_slots}
-use Rattle.slot_batches.specs.Feeding.{IsInOrder, was_served}
+use Rattle.slot_batches.specs.Feeding.{IsInOrder}
 
 -- the list before the slot of this number
 pub record IsListBefore (number : ℕ) (list : List Item) : Type 0 where
@@ -30,12 +30,3 @@ abbrev pub AnIdleListStays : Type 0
 AnIdleListStays =
     (bar : Bar) (number count : ℕ) (list : List Item) → IsInOrder list → All (λ item. item.need ≡ 0) list
     → (batch_slots bar number count (after_batch [] list) ≡ replicate count []) × (list_after_slots bar number count (after_batch [] list) ≡ list)
-
--- where no item needs a slot, every item was served and every entry opens its flow, the slots are those of the batch alone; and
--- where all that it opens was served in it, that follows the list
-abbrev pub AnIdleListIsPassedOver : Type 0
-AnIdleListIsPassedOver =
-    (bar : Bar) (number count : ℕ) (batch : List Entry) (list : List Item) → OpensNewFlows batch list → IsListBefore number list → All (λ entry. entry.opens ≡ true) batch
-    → All (λ item. item.need ≡ 0) list → ((item : Item) → slice_get list 0 ≡ Some item → was_served item ≡ true)
-    → (batch_slots bar number count (after_batch batch list) ≡ batch_slots bar number count (after_batch batch []))
-    × (All (λ item. number ≤ item.last) (list_after_slots bar number count (after_batch batch [])) → list_after_slots bar number count (after_batch batch list) ≡ list ++ list_after_slots bar number count (after_batch batch []))

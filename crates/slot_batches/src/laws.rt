@@ -4,7 +4,8 @@ ghost use Rattle.slot_batches.specs.Room.{ServedFitPlaces};
 ghost use Rattle.slot_batches.specs.Examples.{TheFirstFlowTakesBothSlots, ThreeFlowsShareTwoSlots, TheLowestFreePlaceIsTaken};
 ghost use Rattle.slot_batches.specs.FeedingExamples.{AnOpenedFlowWaitsForAServedOne, AnOpenedFlowGoesBeforeAServedOne, TheItemWithoutASlotStandsFirst};
 ghost use Rattle.slot_batches.specs.Feeding.{FeedingAppliesTheBatch, ServedItemsFollow, AnItemIsServedOrAsItWas};
-ghost use Rattle.slot_batches.specs.NextList.{EveryBatchLeavesAList, EveryBatchKeepsItsFlows, AnIdleListStays, AnIdleListIsPassedOver};
+ghost use Rattle.slot_batches.specs.NextList.{EveryBatchLeavesAList, EveryBatchKeepsItsFlows, AnIdleListStays};
+ghost use Rattle.slot_batches.specs.Woven.{ItemsMayBeSetAside, ListedFlowsAreOpen};
 ghost use Rattle.slot_batches.specs.Stands.{ListsMayBeFed};
 ghost use Rattle.slot_batches.specs.Pieces.{EndedListsGiveTheirPieces};
 ghost use Rattle.slot_batches.specs.Settled.{SettledItemsStay, EarlyPiecesAreOfTheList};
@@ -51,11 +52,16 @@ pub fn every_batch_leaves_a_list()
     ensures flows { EveryBatchKeepsItsFlows }
 {}
 
-/// A law over every list in order whose items need no slot: a batch without entries leaves it as it is, and has no packet; and
-/// one whose entries all open their flows has the packets that it has alone, where the items were served.
+/// A law over every list in order whose items need no slot: a batch without entries leaves it as it is, and has no packet.
 pub fn idle_lists_stay()
-    ensures stays { AnIdleListStays }
-    ensures passed_over { AnIdleListIsPassedOver }
+    ensures { AnIdleListStays }
+{}
+
+/// A law over every window of batches: the items of the list that need no slot and have no entry in it may be set aside, and
+/// come between the others again once the batches have run over those; and a flow of the list is not opened again.
+pub fn items_may_be_set_aside()
+    ensures woven { ItemsMayBeSetAside }
+    ensures listed { ListedFlowsAreOpen }
 {}
 
 /// A law over every list before a batch whose entries open the flows that are new to it: it may be fed, item by item.

@@ -2,6 +2,7 @@
 #![tactic(auto)]
 
 mod filling;
+mod flow_marks;
 mod laws;
 mod marks;
 mod opening;
@@ -10,15 +11,16 @@ mod resting;
 mod served;
 mod stage;
 
+pub use flow_marks::FlowMarks;
 pub use laws::{
     each_item_takes_its_lowest_free_places, early_pieces_are_of_the_list,
     every_batch_leaves_a_list, feeding_applies_the_batch, feeding_examples,
-    flow_by_flow_is_slot_by_slot, idle_lists_stay, lists_may_be_fed, served_fit_places,
-    served_items_follow, small_batches,
+    flow_by_flow_is_slot_by_slot, idle_lists_stay, items_may_be_set_aside, lists_may_be_fed,
+    served_fit_places, served_items_follow, small_batches,
 };
 pub use no_memory::NoMemory;
 pub use piece::Piece;
-pub use stage::Stage;
+pub use stage::{Stage, give_items};
 
 #[cfg(test)]
 mod tests;

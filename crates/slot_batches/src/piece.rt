@@ -1,4 +1,5 @@
-ghost use Rattle.std.specs.Prelude.{◌≡◌, take};
+ghost use Rattle.std.specs.Prelude.{◌≡◌, ◌≤◌, [], false, length};
+ghost use Rattle.slot_batches.specs.Pieces.{part_of};
 
 use arrayvec::ArrayVec;
 use greedy_rules::Item;
@@ -12,13 +13,38 @@ pub struct Piece {
     pub end: bool,
 }
 
-/// The first 64 items, or all where there are fewer.
-pub(crate) fn first_items(items: &[Item]) -> ArrayVec<Item, 64>
-    ensures { result.items ≡ take 64 items.now }
-{
-    let mut first = ArrayVec::new();
-    for item in &items[..items.len().min(64)] {
-        first.push(*item);
+impl Piece {
+    /// A piece without items, to be filled.
+    pub fn empty() -> Piece
+        ensures { part_of result ≡ record { stage = 0; from = 0; items = []; end = false } }
+    {
+        Piece {
+            stage: 0,
+            from: 0,
+            items: ArrayVec::new(),
+            end: false,
+        }
     }
-    first
+
+    /// Becomes the piece of these items, at most 64.
+    pub fn fill(&mut self, stage: u32, from: u32, items: &[Item], end: bool)
+        requires { length items.now ≤ 64 }
+        ensures { part_of self.new ≡ record { stage = stage; from = from; items = items.now; end = end } }
+    {
+        copy_items(&mut self.items, items);
+        self.stage = stage;
+        self.from = from;
+        self.end = end;
+    }
+}
+
+/// Makes the items these, at most 64: what stands is written over, and the rest is appended.
+fn copy_items(list: &mut ArrayVec<Item, 64>, items: &[Item])
+    requires { length items.now ≤ 64 }
+    ensures { list.new.items ≡ items.now }
+{
+    list.truncate(items.len());
+    let (front, rest) = items.split_at(list.len());
+    list.as_mut_slice().copy_from_slice(front);
+    let _ = list.try_extend_from_slice(rest);
 }

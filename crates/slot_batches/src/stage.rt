@@ -1,4 +1,4 @@
-ghost use Rattle.std.specs.Prelude.{◌≡◌, ◌<◌, ◌≤◌, ◌+◌, ◌^◌, ℕ, List, [], ◌∷◌, ◌++◌, length, take, Bool, true, false, None, IfOk, IsSome, All, option_map};
+ghost use Rattle.std.specs.Prelude.{◌≡◌, ◌<◌, ◌≤◌, ◌+◌, ◌^◌, ℕ, List, [], ◌∷◌, ◌++◌, length, take, Bool, true, false, Some, None, IfOk, IsSome, All, option_map, vec_capacity, if◌then◌else◌};
 ghost use Rattle.greedy_rules.specs.Batches.{DemandBatch, entry_of};
 ghost use Rattle.greedy_rules.specs.Demands.{need_with, AreBelow, opened};
 ghost use Rattle.slot_batches.specs.Stands.{endpoints_of, batch_size_of, first_slot_of, number_of, slots_of, left_to_give, IsSameWork, MayBeFed, Stands};
@@ -8,7 +8,7 @@ ghost use Rattle.slot_batches.specs.Pieces.{part_of, next_piece};
 use crate::filling::Filling;
 use crate::marks::mark_entries;
 use crate::opening::{open_due, with_entry};
-use crate::piece::{Piece, first_items};
+use crate::piece::Piece;
 use crate::resting::resting;
 use greedy_rules::{Batch, DemandList, Item, SlotTable};
 use no_memory::NoMemory;
@@ -36,6 +36,21 @@ impl Model for Stage {
     ghost view = { λ s. record { number = s.number; fill = fill_of s.filling; marks = s.marks.items; unopened = s.unopened; given = s.given; ends = s.ends } };
 
     ghost invariant = { λ s. IsWhole s.filling s.marks.items };
+}
+
+/// Hands the items over as a list with the room that this one had. Where both have as much room they are not copied.
+pub fn give_items(items: &mut Vec<Item>, list: &mut DemandList)
+    requires { length items.old.items ≤ length list.old.items + list.old.spare }
+    ensures items { list.new.items ≡ items.old.items }
+    ensures spare { length list.new.items + list.new.spare ≡ length list.old.items + list.old.spare }
+    ensures capacity { vec_capacity items.new ≡ vec_capacity items.old }
+{
+    if list.room() == items.capacity() {
+        list.exchange(items);
+    } else {
+        list.clear();
+        list.append(items);
+    }
 }
 
 impl Stage {
@@ -150,21 +165,37 @@ impl Stage {
         ensures work { IsSameWork (endpoints_of self.old) (batch_size_of self.old) (number_of self.old) (first_slot_of self.old) self.new }
         ensures slots { slots_of self.new ≡ slots_of self.old }
     {
+        let mut piece = Piece::empty();
+        self.emit_into(&mut piece).then_some(piece)
+    }
+
+    /// As `emit`, but writes the piece over this one, and answers whether there is one: where there is none, the piece stays as
+    /// it was.
+    pub fn emit_into(&mut self, piece: &mut Piece) -> bool
+        requires { (batch : DemandBatch) × (fed : List Item) × (finished : Bool) × (given : ℕ) × Stands batch fed finished given self.old }
+        ensures piece { (batch : DemandBatch) → (fed : List Item) → (finished : Bool) → (given : ℕ) →
+            Stands batch fed finished given self.old →
+            (if result then Some (part_of piece.new) else None) ≡ next_piece (number_of self.old) finished given (settled batch (first_slot_of self.old) (batch_size_of self.old) fed finished) }
+        ensures more { (batch : DemandBatch) → (fed : List Item) → (finished : Bool) → (given : ℕ) →
+            Stands batch fed finished given self.old →
+            result ≡ true →
+            Stands batch fed finished (given + 1) self.new }
+        ensures none { result ≡ false → (self.new ≡ self.old) × (piece.new ≡ piece.old) }
+        ensures fewer { result ≡ true → left_to_give self.new < left_to_give self.old }
+        ensures work { IsSameWork (endpoints_of self.old) (batch_size_of self.old) (number_of self.old) (first_slot_of self.old) self.new }
+        ensures slots { slots_of self.new ≡ slots_of self.old }
+    {
         let from = self.given;
         let waiting = &self.filling.waiting[from as usize..];
         let end = waiting.len() <= 64;
         if end && !self.ends {
-            return None;
+            return false;
         }
-        let items = first_items(waiting);
+        let items = &waiting[..waiting.len().min(64)];
+        piece.fill(self.number, from, items, end);
         self.given += items.len() as u32;
         self.ends &= !end;
-        Some(Piece {
-            stage: self.number,
-            from,
-            items,
-            end,
-        })
+        true
     }
 
     /// All that is settled of the list that the batch leaves, whether it was given in pieces or not.
@@ -184,12 +215,7 @@ impl Stage {
         ensures spare { length list.new.items + list.new.spare ≡ length list.old.items + list.old.spare }
         ensures stays { self.new ≡ record self.old { fill = record self.old.fill { waiting = self.new.fill.waiting } } }
     {
-        if list.room() == self.filling.waiting.capacity() {
-            list.exchange(&mut self.filling.waiting);
-        } else {
-            list.clear();
-            list.append(&self.filling.waiting);
-        }
+        give_items(&mut self.filling.waiting, list);
     }
 
     /// The slots of the batch, counted from 0.

@@ -3,7 +3,7 @@ use Rattle.std.proofs.lemmas.Nat.{mul-le}
 use Rattle.greedy_rules.specs.Schedule.{first_slot}
 use Rattle.slot_batches.specs.Stands.{batch_size_of}
 use Rattle.alloc_pipeline.specs.Stages.{AreFor, held}
-use Rattle.alloc_pipeline.proofs.RingLemmas.{next_is, one_more, places_for_next, room_after}
+use Rattle.alloc_pipeline.proofs.RingLemmas.{next_is, one_more, places_for_next}
 use Rattle.alloc_pipeline.proofs.ring.allocate_batches.Goals as goal
 
 pub overflow_add-number : goal.overflow_add-number
@@ -28,25 +28,13 @@ loop-place-preserved c =
     let within : p * b + b ≤ length c.loop-place.out.slots = omega (arith, places_for_next p (length batches) b (omega arith), c.requires.places, was.done.long) in
     let more =
     one_more endpoints b first p (length c.args.out.now.slots) ((first + p) * c.from.result + 1) (batch_size_of c.loop-place.stages.back) (p * c.from-in-loop-place.result) batches c.args.list.now.items
-    (held c.loop-place.stages.holds c.loop-place.stages.front c.loop-place.list) c.loop-place.out.slots batch c.schedules_go_on.ensures.count c.every_batch_leaves_a_list.ensures.next was.done split number size from within in
+    (held c.loop-place.stages.holds c.loop-place.stages.front c.args.list.now) c.loop-place.out.slots batch c.schedules_go_on.ensures.count c.every_batch_leaves_a_list.ensures.next was.done split number size from within in
     record {
       done = rw (now.list, now.slots) more;
-      spare = now.spare ∙ was.spare;
       ended = now.ended;
-      idle = now.idle;
       sizes = subst (λ (n : ℕ). AreFor n b c.allocate.new.self) was.endpoints (subst (λ (n : ℕ). AreFor c.loop-place.out.endpoints n c.allocate.new.self) size now.sizes);
       endpoints = now.endpoints ∙ was.endpoints;
     }
-
-pub allocate-requires-clause-room : goal.allocate-requires-clause-room
-allocate-requires-clause-room c =
-    let p : ℕ = c.loop-place.place in
-    let batches = c.args.batches.now in
-    let batch = c.index-batches-place.result in
-    let split = next_is batches p batch (omega arith) c.index-batches-place.is in
-    room_after c.args.out.now.endpoints c.args.b c.args.first_batch p (length c.args.out.now.slots) ((c.args.first_batch + p) * c.from.result + 1) (batch_size_of c.loop-place.stages.back)
-    (length c.loop-place.list.items + c.loop-place.list.spare) batches c.args.list.now.items (held c.loop-place.stages.holds c.loop-place.stages.front c.loop-place.list) c.loop-place.out.slots batch
-    c.every_batch_leaves_a_list.ensures.flows c.loop-place.invariant.done split (omega (arith, c.requires.room, c.loop-place.invariant.spare))
 
 pub returns-clause-sizes : goal.returns-clause-sizes
 returns-clause-sizes c =

@@ -1,88 +1,13 @@
-use Rattle.std.proofs.Common.{◌≡◌, ◌<◌, ◌≤◌, ◌+◌, min, cond, subst, ◌-◌, ℕ, List, length, take, drop, Bool, true, false, not, ◌&&◌, nat_le, Some, refl, sym, ap, ◌∙◌, arith}
-use Rattle.std.proofs.lemmas.Bool.Decides.{nat_tests}
-use Rattle.std.proofs.lemmas.List.{take_rest, length-drop, length-take}
-use Rattle.greedy_rules.specs.declared.flows.Item.{Item}
-use Rattle.slot_batches.specs.Pieces.{Part}
-use Rattle.slot_batches.specs.Stands.{StageState, left_to_give}
-use Rattle.slot_batches.proofs.PieceLemmas.{no_piece, some_piece, one_given}
+use Rattle.std.proofs.Common.{◌≡◌, Bool, true, false, Option, IsSome, refl, subst}
+use Rattle.std.specs.Bool.{then_some}
+use Rattle.slot_batches.specs.declared.piece.Piece.{Piece}
 use Rattle.slot_batches.proofs.stage.Stage.emit.Goals as goal
-use Rattle.slot_batches.proofs.stage.Stage.emit.Goals.{else-end-via-then-end+else-not-self, else-end-via-else-end}
 
--- what waits, as the code sees it
-rest_is : (deref waiting list : List Item) (from given : ℕ) → deref ≡ waiting → waiting ≡ list → from ≡ given → take (length deref - from) (drop from deref) ≡ drop given list
-rest_is deref waiting list from given is same at = take_rest deref from ∙ (ap (drop from) (is ∙ same) ∙ ap (λ (n : ℕ). drop n list) at)
-
-abbrev part : ℕ → ℕ → List Item → Bool → Part
-part stage from items end = record { stage = stage; from = from; items = items; end = end }
-
-by_end : (n : ℕ) (ends : Bool) → (n ≤ 64 → ⊥) → (nat_le n 64 && not ends) ≡ false
-by_end n ends many = grind (arith, nat_tests)
-
-pub returns-then-not-self-clause-piece : goal.returns-then-not-self-clause-piece
-returns-then-not-self-clause-piece c = λ batch fed finished given stands.
-    let now = c.args.self.now in
-    let rest = rest_is c.deref.result.now c.self.inside.filling.waiting.items now.fill.waiting c.self.inside.given now.given c.deref.ensures.value
-    (ap (λ (s : StageState). s.fill.waiting) c.self.view_is) (ap (λ (s : StageState). s.given) c.self.view_is) in
-    no_piece batch fed finished given now stands (omega (arith, c.if-end.true, ap length rest)) (ap (λ (s : StageState). s.ends) (sym c.self.view_is) ∙ c.if-not-self.true)
-
--- a piece comes, whichever way the code went
-comes : (n : ℕ) (ends : Bool) → ends ≡ true → (nat_le n 64 && not ends) ≡ false
-comes n ends is = grind (arith, nat_tests)
-
-pub returns-clause-piece : goal.returns-clause-piece
-returns-clause-piece c = λ batch fed finished given stands.
-    let now = c.args.self.now in
-    let inside = c.self.inside in
-    let view_is = c.self.view_is in
-    let rest : take (length c.deref.result.now - inside.given) (drop inside.given c.deref.result.now) ≡ drop now.given now.fill.waiting =
-    rest_is c.deref.result.now inside.filling.waiting.items now.fill.waiting inside.given now.given c.deref.ensures.value
-    (ap (λ (s : StageState). s.fill.waiting) view_is) (ap (λ (s : StageState). s.given) view_is) in
-    let gives : (nat_le (length (drop now.given now.fill.waiting)) 64 && not now.ends) ≡ false =
-    elim c.else-end.branch [
-      | else-end-via-then-end+else-not-self w ↦ comes (length (drop now.given now.fill.waiting)) now.ends (ap (λ (s : StageState). s.ends) (sym view_is) ∙ w.if-not-self.false)
-      | else-end-via-else-end w ↦ by_end (length (drop now.given now.fill.waiting)) now.ends (λ few. omega (arith, few, w.if-end.false, ap length rest))
-    ] in
-    ap (λ (s : StageState). Some (part s.number s.given c.first_items-items.result.items (nat_le (length (take (length c.deref.result.now - inside.given) (drop inside.given c.deref.result.now))) 64)))
-    view_is
-    ∙ some_piece batch fed finished given now stands gives c.first_items-items.result.items
-    (nat_le (length (take (length c.deref.result.now - inside.given) (drop inside.given c.deref.result.now))) 64)
-    (c.first_items-items.ensures ∙ ap (take 64) rest) (ap (λ (xs : List Item). nat_le (length xs) 64) rest)
-
--- less is left to give
-fewer_left : (n at taken : ℕ) (ends : Bool) → taken ≡ min 64 (n - at) → (nat_le (n - at) 64 && not ends) ≡ false
-    → (n - (at + taken)) + cond (ends && not (nat_le (n - at) 64)) 1 0 < (n - at) + cond ends 1 0
-fewer_left n at taken ends is gives = grind (arith, nat_tests)
-
-pub returns-clause-fewer : goal.returns-clause-fewer
-returns-clause-fewer c = λ some.
-    let inside = c.self.inside in
-    let waiting = inside.filling.waiting.items in
-    let at : ℕ = inside.given in
-    let n : ℕ = length waiting in
-    let rest : List Item = take (length c.deref.result.now - at) (drop at c.deref.result.now) in
-    let long : length rest ≡ n - at = ap length (rest_is c.deref.result.now waiting waiting at at c.deref.ensures.value refl refl) ∙ length-drop at waiting in
-    let gives : (nat_le (n - at) 64 && not inside.ends) ≡ false =
-    elim c.else-end.branch [
-      | else-end-via-then-end+else-not-self w ↦ comes (n - at) inside.ends w.if-not-self.false
-      | else-end-via-else-end w ↦ by_end (n - at) inside.ends (λ few. omega (arith, few, w.if-end.false, long))
-    ] in
-    subst (λ (m : ℕ). (n - (at + c.len.result)) + cond (inside.ends && not (nat_le m 64)) 1 0 < left_to_give c.args.self.now) (sym long)
-    (subst (λ (s : StageState). (n - (at + c.len.result)) + cond (inside.ends && not (nat_le (n - at) 64)) 1 0 < left_to_give s) c.self.view_is
-    (fewer_left n at c.len.result inside.ends (omega (arith, c.len.ensures.value, ap length c.first_items-items.ensures, length-take 64 rest, long)) gives))
+-- a piece comes where one was written
+written : (is : Bool) (piece : Piece) → IsSome (then_some is piece) → is ≡ true
+written true piece some = refl
+written false piece some = some
 
 pub returns-clause-more : goal.returns-clause-more
 returns-clause-more c = λ batch fed finished given stands some.
-    let now = c.args.self.now in
-    let inside = c.self.inside in
-    let view_is = c.self.view_is in
-    let rest : take (length c.deref.result.now - inside.given) (drop inside.given c.deref.result.now) ≡ drop now.given now.fill.waiting =
-    rest_is c.deref.result.now inside.filling.waiting.items now.fill.waiting inside.given now.given c.deref.ensures.value
-    (ap (λ (s : StageState). s.fill.waiting) view_is) (ap (λ (s : StageState). s.given) view_is) in
-    let gives : (nat_le (length (drop now.given now.fill.waiting)) 64 && not now.ends) ≡ false =
-    elim c.else-end.branch [
-      | else-end-via-then-end+else-not-self w ↦ comes (length (drop now.given now.fill.waiting)) now.ends (ap (λ (s : StageState). s.ends) (sym view_is) ∙ w.if-not-self.false)
-      | else-end-via-else-end w ↦ by_end (length (drop now.given now.fill.waiting)) now.ends (λ few. omega (arith, few, w.if-end.false, ap length rest))
-    ] in
-    one_given batch fed finished given now stands gives _ (ap (λ (s : StageState). s.fill) view_is) (ap (λ (s : StageState). s.marks) view_is) (ap (λ (s : StageState). s.unopened) view_is)
-    (omega (arith, ap (λ (s : StageState). s.given) view_is, c.len.ensures.value, ap length (c.first_items-items.ensures ∙ ap (take 64) rest)))
-    (ap (λ (xs : List Item). inside.ends && not (nat_le (length xs) 64)) rest ∙ ap (λ (s : StageState). s.ends && not (nat_le (length (drop now.given now.fill.waiting)) 64)) view_is)
+    c.emit_into.ensures.more batch fed finished given stands (written c.emit_into.result c.emit_into.new.piece (subst IsSome c.then_some.ensures some))

@@ -1,0 +1,123 @@
+-- A list that is woven, chunk by chunk and item by item.
+use Rattle.std.proofs.Common.{◌≡◌, ◌<◌, ◌≤◌, ◌+◌, ◌-◌, ℕ, zero, suc, List, [], ◌∷◌, ◌++◌, length, take, drop, get_or, Bool, true, false, not, ◌==◌, cond, All, refl, sym, ap, ◌∙◌, subst, arith, inl, inr}
+use Rattle.std.specs.List.{AllWithin}
+use Rattle.std.proofs.lemmas.Bool.{cond-true, cond-false, cases_Bool, ltb-true, ne_eqb}
+use Rattle.std.proofs.lemmas.Bool.Decides.{nat_tests}
+use Rattle.std.proofs.lemmas.List.Elements.{All-nil, All-cons, All-head, All-tail, All-filter, All-append, filter-append}
+use Rattle.std.proofs.Math.Seq.{take-add}
+use Rattle.std.proofs.lemmas.List.{append-nil, append_assoc, take-append-drop, take_rest, drop-drop}
+use Rattle.greedy_rules.specs.declared.flows.Item.{Item}
+use Rattle.slot_batches.specs.Feeding.{IsInOrder, was_served}
+use Rattle.slot_batches.specs.Woven.{picked, stays, weave, never_served, once_served, woven}
+
+-- an item that is set aside comes next
+pub next_aside : (aside : Item → Bool) (item : Item) (list rest : List Item) → aside item ≡ true → weave aside (item ∷ list) rest ≡ item ∷ weave aside list rest
+next_aside aside item list [] is = cond-true (aside item) (item ∷ weave aside list []) (weave aside list []) is
+next_aside aside item list (next ∷ rest) is =
+    cond-true (aside item) (item ∷ weave aside list (next ∷ rest)) (cond (stays item next) (next ∷ weave aside list rest) (weave aside list (next ∷ rest))) is
+
+-- so do all of a run
+pub run_aside : (aside : Item → Bool) (few list rest : List Item) → All (λ item. aside item ≡ true) few → weave aside (few ++ list) rest ≡ few ++ weave aside list rest
+run_aside aside [] list rest all = refl
+run_aside aside (item ∷ few) list rest all =
+    next_aside aside item (few ++ list) rest (All-head (λ x. aside x ≡ true) item few all)
+    ∙ ap (λ (xs : List Item). item ∷ xs) (run_aside aside few list rest (All-tail (λ x. aside x ≡ true) item few all))
+
+-- the items that were served begin where the others end
+pub parts_at : (xs : List Item) (k : ℕ) → k ≤ length xs → AllWithin (λ item. (item.last == 0) ≡ true) xs 0 k → AllWithin (λ item. (item.last == 0) ≡ false) xs k (length xs)
+    → (take k xs ≡ never_served xs) × (drop k xs ≡ once_served xs)
+parts_at [] zero within low high = (refl, refl)
+parts_at [] (suc k) within low high = absurd (omega arith)
+parts_at (x ∷ xs) zero within low high =
+    let served : was_served x ≡ true = (let h : (x.last == 0) ≡ false = high 0 x (omega arith) (omega arith) in grind (arith, nat_tests)) in
+    let rest = parts_at xs zero (omega arith) (λ i d from to. absurd (omega arith)) (λ i d from to. high (suc i) d (omega arith) (omega arith)) in (
+      rest.0 ∙ sym (cond-false (not (was_served x)) (x ∷ never_served xs) (never_served xs) (ap not served)),
+      ap (λ (ys : List Item). x ∷ ys) rest.1 ∙ sym (cond-true (was_served x) (x ∷ once_served xs) (once_served xs) served),
+    )
+parts_at (x ∷ xs) (suc k) within low high =
+    let new : was_served x ≡ false = (let h : (x.last == 0) ≡ true = low 0 x (omega arith) (omega arith) in grind (arith, nat_tests)) in
+    let rest = parts_at xs k (omega arith) (λ i d from to. low (suc i) d (omega arith) (omega arith)) (λ i d from to. high (suc i) d (omega arith) (omega arith)) in (
+      ap (λ (ys : List Item). x ∷ ys) rest.0 ∙ sym (cond-true (not (was_served x)) (x ∷ never_served xs) (never_served xs) (ap not new)),
+      rest.1 ∙ sym (cond-false (was_served x) (x ∷ once_served xs) (once_served xs) new),
+    )
+
+-- of items that are all set aside none is picked
+pub none_picked : (aside : Item → Bool) (items : List Item) → All (λ item. aside item ≡ true) items → picked aside items ≡ []
+none_picked aside [] all = refl
+none_picked aside (item ∷ items) all =
+    cond-false (not (aside item)) (item ∷ picked aside items) (picked aside items) (ap not (All-head (λ x. aside x ≡ true) item items all))
+    ∙ none_picked aside items (All-tail (λ x. aside x ≡ true) item items all)
+
+pub none_left : (xs : List Item) → length xs ≡ 0 → xs ≡ []
+none_left [] none = refl
+none_left (x ∷ xs) none = absurd (omega arith)
+
+parts_in_order : (xs : List Item) → IsInOrder xs → xs ≡ never_served xs ++ once_served xs
+parts_in_order [] up = refl
+parts_in_order (x ∷ xs) up =
+    elim (cases_Bool (was_served x)) [
+      | inl served ↦
+          let positive : 0 < x.last = ltb-true _ _ served in
+          let all = parts_at (x ∷ xs) zero (omega arith) (λ i d from to. absurd (omega arith))
+          (λ i d from to. let above : x.last ≤ (get_or (x ∷ xs) i d).last = up 0 i d (omega arith) to in ne_eqb _ _ (λ e. omega arith)) in
+          all.1 ∙ ap (λ (ys : List Item). ys ++ once_served (x ∷ xs)) all.0
+      | inr new ↦
+          ap (λ (ys : List Item). x ∷ ys) (parts_in_order xs (λ i j d le within. up (suc i) (suc j) d (omega arith) (omega arith)))
+          ∙ ap (λ b. cond (not b) (x ∷ never_served xs) (never_served xs) ++ cond b (x ∷ once_served xs) (once_served xs)) (sym new)
+    ]
+
+-- where all of the list is set aside and all of the rest was served, the rest follows the list
+all_aside : (aside : Item → Bool) (list : List Item) → picked aside list ≡ [] → All (λ item. aside item ≡ true) list
+all_aside aside [] none = All-nil (λ item. aside item ≡ true)
+all_aside aside (item ∷ list) none =
+    elim (cases_Bool (aside item)) [
+      | inl is ↦ All-cons (λ x. aside x ≡ true) item list is (all_aside aside list (sym (cond-false (not (aside item)) (item ∷ picked aside list) (picked aside list) (ap not is)) ∙ none))
+      | inr not_it ↦ (let some : item ∷ picked aside list ≡ [] = sym (cond-true (not (aside item)) (item ∷ picked aside list) (picked aside list) (ap not not_it)) ∙ none in absurd (cc))
+    ]
+
+followed : (aside : Item → Bool) (list rest : List Item) → All (λ item. aside item ≡ true) list → weave aside list rest ≡ list ++ rest
+followed aside list rest all = ap (λ (xs : List Item). weave aside xs rest) (sym (append-nil list)) ∙ run_aside aside list [] rest all
+
+pub rest_follows : (aside : Item → Bool) (list rest : List Item) → picked aside list ≡ [] → IsInOrder list → take 0 rest ≡ never_served rest → drop 0 rest ≡ once_served rest
+    → list ++ rest ≡ woven aside list rest
+rest_follows aside list rest none up no_new all_old =
+    let all = all_aside aside list none in
+    let first : weave aside (never_served list) (never_served rest) ≡ never_served list =
+    ap (weave aside (never_served list)) (sym no_new)
+    ∙ (followed aside (never_served list) [] (All-filter (λ item. not (was_served item)) (λ item. aside item ≡ true) list all) ∙ append-nil (never_served list)) in
+    let second : weave aside (once_served list) (once_served rest) ≡ once_served list ++ rest =
+    ap (weave aside (once_served list)) (sym all_old) ∙ followed aside (once_served list) rest (All-filter was_served (λ item. aside item ≡ true) list all) in
+    ap (λ (xs : List Item). xs ++ rest) (parts_in_order list up)
+    ∙ (append_assoc (never_served list) (once_served list) rest
+    ∙ sym (ap (λ (xs : List Item). xs ++ weave aside (once_served list) (once_served rest)) first ∙ ap (λ (xs : List Item). never_served list ++ xs) second))
+
+-- what holds of the items up to a place, and of so many from there on
+pub front_on : {X : Type 0} (P : X → Type 0) (xs : List X) (at more : ℕ) → All P (take at xs) → All P (take more (drop at xs)) → All P (take (at + more) xs)
+front_on P xs at more front next = subst (All P) (sym (take-add at more xs)) (All-append P (take at xs) (take more (drop at xs)) front next)
+
+-- items at the front that are set aside are not picked
+pub picked_past : (aside : Item → Bool) (items : List Item) (at n : ℕ) → All (λ item. aside item ≡ true) (take n (take (length items - at) (drop at items)))
+    → picked aside (drop at items) ≡ picked aside (drop (at + n) items)
+picked_past aside items at n all =
+    let rest : List Item = drop at items in
+    let here : All (λ item. aside item ≡ true) (take n rest) = subst (λ (xs : List Item). All (λ item. aside item ≡ true) (take n xs)) (take_rest items at) all in
+    ap (picked aside) (sym (take-append-drop n rest))
+    ∙ (filter-append (λ item. not (aside item)) (take n rest) (drop n rest)
+    ∙ (ap (λ (xs : List Item). xs ++ picked aside (drop n rest)) (none_picked aside (take n rest) here) ∙ ap (picked aside) (drop-drop n at items)))
+
+-- one item, and then the others
+pub picked_one : (aside : Item → Bool) (item : Item) (more : List Item) → picked aside (item ∷ more) ≡ picked aside (item ∷ []) ++ picked aside more
+picked_one aside item more = filter-append (λ x. not (aside x)) (item ∷ []) more
+
+pub at_most_one : (aside : Item → Bool) (item : Item) → length (picked aside (item ∷ [])) ≤ 1
+at_most_one aside item = elim (cases_Bool (aside item)) [
+  | inl is ↦ omega (arith, ap length (cond-false (not (aside item)) (item ∷ []) [] (ap not is)))
+  | inr not_it ↦ omega (arith, ap length (cond-true (not (aside item)) (item ∷ []) [] (ap not not_it)))
+]
+
+-- a run at the front that is set aside comes first
+pub run_past : (aside : Item → Bool) (items more rest : List Item) (n : ℕ) → All (λ item. aside item ≡ true) (take n items)
+    → weave aside (items ++ more) rest ≡ take n items ++ weave aside (drop n items ++ more) rest
+run_past aside items more rest n all =
+    ap (λ (xs : List Item). weave aside (xs ++ more) rest) (sym (take-append-drop n items))
+    ∙ (ap (λ (xs : List Item). weave aside xs rest) (append_assoc (take n items) (drop n items) more) ∙ run_aside aside (take n items) (drop n items ++ more) rest all)

@@ -1,0 +1,133 @@
+ghost use Rattle.std.specs.Prelude.{◌≡◌, ◌<◌, true, false, length, IfOk, All};
+ghost use Rattle.greedy_rules.specs.declared.flows.Flow.{Flow};
+ghost use Rattle.slot_batches.specs.Marks.{own_place, own_bit, has_own_bit, HaveOwnBits, has_mark};
+ghost use Rattle.slot_batches.specs.Woven.{OnlyOpen};
+
+use crate::marks::{has_bit, set_bit};
+use greedy_rules::{Batch, Flow, Item};
+use no_memory::NoMemory;
+use std::alloc::Global;
+use std::marker::Model;
+
+/// Marks of the flows that the batches of a window may change. Between 256 endpoints each flow has a bit of its own; past them
+/// a flow may be marked without an entry, never the other way round.
+#[derive(Debug, Drop)]
+pub struct FlowMarks {
+    words: Vec<u64>,
+    some: bool,
+}
+
+impl Model for FlowMarks {
+    ghost use Rattle.slot_batches.specs.Marks.{WindowMarks};
+
+    ghost Value = { WindowMarks };
+
+    ghost view = { λ m. record { words = m.words.items; some = m.some } };
+}
+
+/// Where the flow's bit stands.
+fn place(flow: Flow) -> usize
+    ensures { result ≡ own_place flow }
+{
+    flow.src as usize * 4 + flow.dst as usize / 64
+}
+
+/// Which bit of that word is the flow's.
+fn bit(flow: Flow) -> u32
+    ensures value { result ≡ own_bit flow }
+    ensures below { result < 64 }
+{
+    u32::from(flow.dst) % 64
+}
+
+/// Marks the flow, beside those that are marked.
+fn mark_flow(words: &mut [u64], flow: Flow)
+    ensures marked { has_own_bit words.new flow ≡ true }
+    ensures others { (other : Flow) → has_own_bit words.old other ≡ true → has_own_bit words.new other ≡ true }
+    ensures count { length words.new ≡ length words.old }
+{
+    set_bit(words, place(flow), bit(flow));
+}
+
+/// Marks the flows of the batch's entries, beside those that are marked.
+fn mark_batch(words: &mut [u64], batch: &Batch)
+    ensures marked { HaveOwnBits batch.now.entries words.new }
+    ensures others { (other : Flow) → has_own_bit words.old other ≡ true → has_own_bit words.new other ≡ true }
+    ensures count { length words.new ≡ length words.old }
+{
+    for at in 0..batch.len() {
+        mark_flow(words, batch.entry(at).flow);
+    }
+}
+
+/// Marks the flows of all entries of the batches, and no others between 256 endpoints.
+fn mark_all(words: &mut [u64], batches: &[Batch])
+    ensures { All (λ batch. HaveOwnBits batch.entries words.new) batches.now }
+{
+    words.fill(0);
+    for batch in batches {
+        mark_batch(words, batch);
+    }
+}
+
+/// 1 where the flow has a mark, and 0 where it has none.
+fn mark_of(words: &[u64], flow: Flow) -> u64
+    ensures { result ≡ 0 → has_own_bit words.now flow ≡ false }
+{
+    u64::from(has_bit(words, place(flow), bit(flow)))
+}
+
+/// The marks of the items' flows: 0 only where none of them has a mark.
+fn marks_of(words: &[u64], items: &[Item]) -> u64
+    ensures { result ≡ 0 → All (λ item. has_own_bit words.now item.flow ≡ false) items.now }
+{
+    let mut marks = 0;
+    for item in items {
+        marks |= mark_of(words, item.flow);
+    }
+    marks
+}
+
+impl FlowMarks {
+    /// With no flow marked. No later call takes memory.
+    pub fn open(alloc: Global) -> Result<FlowMarks, NoMemory>
+        ensures { IfOk result (λ marks. (flow : Flow) → has_mark marks flow ≡ false) }
+    {
+        Ok(FlowMarks {
+            words: vec![in alloc; 0; 1024]?,
+            some: false,
+        })
+    }
+
+    /// Marks the flows of these batches, but for those that the batches only open.
+    pub fn mark(&mut self, batches: &[Batch])
+        ensures { (flow : Flow) → has_mark self.new flow ≡ false → OnlyOpen batches.now flow }
+    {
+        self.some = !batches.iter().all(|batch| batch.only_opens());
+        if !self.some {
+            return;
+        }
+        mark_all(&mut self.words, batches);
+    }
+
+    /// Whether no flow has a mark.
+    pub fn is_empty(&self) -> bool
+        ensures { result ≡ true → (flow : Flow) → has_mark self.now flow ≡ false }
+    {
+        !self.some
+    }
+
+    /// Whether the flow has a mark.
+    pub fn is_marked(&self, flow: Flow) -> bool
+        ensures { result ≡ has_mark self.now flow }
+    {
+        self.some && has_bit(&self.words, place(flow), bit(flow))
+    }
+
+    /// Whether no item's flow has a mark.
+    pub fn miss_all(&self, items: &[Item]) -> bool
+        ensures { result ≡ true → All (λ item. has_mark self.now item.flow ≡ false) items.now }
+    {
+        !self.some || marks_of(&self.words, items) == 0
+    }
+}
