@@ -5,6 +5,7 @@ use Rattle.std.proofs.lemmas.Nat.{mod_below}
 use Rattle.slot_batches.specs.Pieces.{pieces}
 use Rattle.ring_core.specs.Windows.{Window, list_before_stage, pieces_before, worker_of, turns_below}
 use Rattle.ring_core.specs.Streams.{pieces_at, pieces_into}
+use Rattle.ring_core.specs.Edges.{sum_below}
 use Rattle.ring_core.proofs.StreamLemmas.{at_own, at_other, at_most, into_own, length-pieces}
 
 -- more stages bring no fewer pieces
@@ -33,10 +34,6 @@ into_most window worker s =
     omega (arith, on, few, length-append (pieces_into window worker s) (pieces_at window worker s))
 
 -- sums over the numbers below another
-abbrev pub sum_below : (ℕ → ℕ) → ℕ → ℕ
-sum_below f zero = 0
-sum_below f (suc n) = sum_below f n + f n
-
 pub sum_same : (f g : ℕ → ℕ) (n : ℕ) → ((i : ℕ) → i < n → g i ≡ f i) → sum_below g n ≡ sum_below f n
 sum_same f g zero same = refl
 sum_same f g (suc n) same = omega (arith, sum_same f g n (λ i below. same i (omega (arith, below))), same n (omega arith))

@@ -1,6 +1,6 @@
 -- A step of one edge among the edges of a ring.
-use Rattle.std.proofs.Common.{◌≡◌, ◌≢◌, ◌<◌, ◌≤◌, ◌+◌, ℕ, zero, suc, List, [], ◌∷◌, ◌++◌, length, get_or, set, Option, Some, None, slice_get, refl, sym, ap, ◌∙◌, subst, arith, inl, inr, length-set}
-use Rattle.std.specs.Prelude.{MatchOption, MatchResult, Result, Ok, Err}
+use Rattle.std.proofs.Common.{◌≡◌, ◌≢◌, ◌<◌, ◌≤◌, ◌+◌, ℕ, zero, suc, List, [], ◌∷◌, ◌++◌, length, drop, true, false, get_or, set, Option, Some, None, slice_get, refl, sym, ap, ◌∙◌, subst, arith, inl, inr, length-set}
+use Rattle.std.specs.Prelude.{is_some, MatchOption, MatchResult, Result, Ok, Err}
 use Rattle.std.proofs.lemmas.Bool.{cases_lt}
 use Rattle.std.proofs.lemmas.Option.{slice_get_read, same_Some}
 use Rattle.slot_batches.specs.declared.piece.Piece.{Piece}
@@ -9,7 +9,8 @@ use Rattle.ring_core.specs.States.{EdgeState}
 use Rattle.ring_core.specs.Windows.{Window}
 use Rattle.ring_core.specs.Streams.{EdgeInto, IsPieceAt, edge_stream}
 use Rattle.ring_core.specs.Ends.{one_taken, one_sent}
-use Rattle.ring_core.specs.Edges.{between, Holds, AllHold, taken_of, sent_of, room_of, taken_at, sent_at, room_at, ends_between, OthersStay, IsFoundEmpty, IsFoundFull}
+use Rattle.ring_core.specs.Edges.{between, Holds, IsOneTaken, IsOneSent, HasSent, AllHold, taken_of, sent_of, room_of, taken_at, sent_at, room_at, ends_between, OthersStay, IsFoundEmpty, IsFoundFull}
+use Rattle.ring_core.proofs.RoundLemmas.{by_first}
 use Rattle.ring_core.proofs.PlayLemmas.{get_set_same, get_set_other}
 
 module _ {A : Type 0} where
@@ -47,9 +48,9 @@ get_set_here (x ∷ xs) zero a below = refl
 get_set_here (x ∷ xs) (suc i) a below = get_set_here xs i a (omega arith)
 
 -- one edge
-took : (into : EdgeInto) (old new : EdgeState) (piece : Piece) → Holds into old → old.pieces ≡ part_of piece ∷ new.pieces → new.taken ≡ old.taken + 1 → new.sent ≡ old.sent → Holds into new × IsPieceAt into old.taken piece
-took into old new piece holds items taken sent =
-    let first = between_first old.taken old.sent (edge_stream into) new.pieces (part_of piece) (sym holds.pieces ∙ items) in
+took : (into : EdgeInto) (old new : EdgeState) (part : Part) → Holds into old → old.pieces ≡ part ∷ new.pieces → new.taken ≡ old.taken + 1 → new.sent ≡ old.sent → Holds into new × (slice_get (edge_stream into) old.taken ≡ Some part)
+took into old new part holds items taken sent =
+    let first = between_first old.taken old.sent (edge_stream into) new.pieces part (sym holds.pieces ∙ items) in
     let on : suc old.taken ≡ new.taken = omega arith in
     let same : old.sent ≡ new.sent = sym sent in (
       record {
@@ -60,16 +61,16 @@ took into old new piece holds items taken sent =
       first.1,
     )
 
-gave : (into : EdgeInto) (old new : EdgeState) (piece : Piece) → Holds into old → IsPieceAt into old.sent piece → new.pieces ≡ old.pieces ++ part_of piece ∷ [] → new.taken ≡ old.taken → new.sent ≡ old.sent + 1 → Holds into new
-gave into old new piece holds next items taken sent =
-    let more = between_more old.taken old.sent (edge_stream into) (part_of piece) holds.order next in
-    let inside = get_inside (edge_stream into) old.sent (part_of piece) next in
+gave : (into : EdgeInto) (old new : EdgeState) (part : Part) → Holds into old → slice_get (edge_stream into) old.sent ≡ Some part → new.pieces ≡ old.pieces ++ part ∷ [] → new.taken ≡ old.taken → new.sent ≡ old.sent + 1 → Holds into new
+gave into old new part holds next items taken sent =
+    let more = between_more old.taken old.sent (edge_stream into) part holds.order next in
+    let inside = get_inside (edge_stream into) old.sent part next in
     let on : suc old.sent ≡ new.sent = omega arith in
     let same : old.taken ≡ new.taken = sym taken in
     record {
       order = omega (arith, holds.order, taken, sent);
       within = omega (arith, inside, sent);
-      pieces = items ∙ (ap (λ (l : List Part). l ++ part_of piece ∷ []) holds.pieces ∙ (sym more ∙ (λ i. between (same i) (on i) (edge_stream into))));
+      pieces = items ∙ (ap (λ (l : List Part). l ++ part ∷ []) holds.pieces ∙ (sym more ∙ (λ i. between (same i) (on i) (edge_stream into))));
     }
 
 kept : (into : EdgeInto) (old new : EdgeState) → Holds into old → new.pieces ≡ old.pieces → new.taken ≡ old.taken → new.sent ≡ old.sent → Holds into new
@@ -78,6 +79,11 @@ kept into old new holds items taken sent = record {
   within = omega (arith, holds.within, sent);
   pieces = items ∙ (holds.pieces ∙ (λ i. between (sym taken i) (sym sent i) (edge_stream into)));
 }
+
+-- the first of some
+first_of : (xs : List Part) → 0 < length xs → (x : Part) × (xs ≡ x ∷ drop 1 xs)
+first_of [] some = absurd (omega arith)
+first_of (x ∷ xs) some = (x, refl)
 
 -- what a step of the edge tells
 abbrev pub TookOr : EdgeState → EdgeState → Option Piece → Type 0
@@ -139,11 +145,19 @@ module _ (window : Window) (edges : List EdgeState) (at : ℕ) (old new : EdgeSt
 
   pub took_all : (result : Option Piece) → TookOr old new result → new.sent ≡ old.sent → AllHold window (set edges at new)
   took_all None told sent = all_again (kept into old new holds told.0 told.2 sent)
-  took_all (Some piece) told sent = all_again (took into old new piece holds told.0 told.1 sent).0
+  took_all (Some piece) told sent = all_again (took into old new (part_of piece) holds told.0 told.1 sent).0
 
   pub gave_all : (result : Result (Unit {0}) Piece) (piece : Piece) → GaveOr old new piece result → new.taken ≡ old.taken → IsPieceAt into old.sent piece → AllHold window (set edges at new)
-  gave_all (Ok u) piece told taken next = all_again (gave into old new piece holds next told.0 taken told.1)
+  gave_all (Ok u) piece told taken next = all_again (gave into old new (part_of piece) holds next told.0 taken told.1)
   gave_all (Err refused) piece told taken next = all_again (kept into old new holds told.1 taken told.2)
+
+  pub one_taken_all : IsOneTaken old new → AllHold window (set edges at new)
+  one_taken_all told =
+      let first = first_of old.pieces told.some in
+      all_again (took into old new first.0 holds (first.1 ∙ ap (λ (l : List Part). first.0 ∷ l) (sym told.pieces)) told.taken told.sent).0
+
+  pub one_sent_all : (part : Part) → IsOneSent part old new → slice_get (edge_stream into) old.sent ≡ Some part → AllHold window (set edges at new)
+  one_sent_all part told next = all_again (gave into old new part holds next told.pieces told.taken told.sent)
 
   pub took_others : (after : ℕ) → new.sent ≡ old.sent → new.room ≡ old.room → OthersStay at after edges (set edges at new)
   took_others after sent room = record {
@@ -172,8 +186,24 @@ module _ (window : Window) (edges : List EdgeState) (at : ℕ) (old new : EdgeSt
       ((λ i. record { before = into; after = record { window = window; worker = after }; taken = taken i; sent = same_at sent_of after sent i }), (new_at sent_of ∙ (sent ∙ (none ∙ sym (old_at taken_of))), taken))
   took_ends after (Some piece) told sent =
       let taken : taken_at (set edges at new) at ≡ taken_at edges at + 1 = new_at taken_of ∙ (told.1 ∙ ap (λ (n : ℕ). n + 1) (sym (old_at taken_of))) in
-      let next = (took into old new piece holds told.0 told.1 sent).1 in
+      let next = (took into old new (part_of piece) holds told.0 told.1 sent).1 in
       (subst (λ (n : ℕ). IsPieceAt into n piece) (sym (old_at taken_of)) next, (λ i. record { before = into; after = record { window = window; worker = after }; taken = taken i; sent = same_at sent_of after sent i }))
+
+  pub one_taken_ends : (after : ℕ) → IsOneTaken old new → ends_between window (set edges at new) at after ≡ one_taken (ends_between window edges at after)
+  one_taken_ends after told =
+      let taken : taken_at (set edges at new) at ≡ taken_at edges at + 1 = new_at taken_of ∙ (told.taken ∙ ap (λ (n : ℕ). n + 1) (sym (old_at taken_of))) in
+      λ i. record { before = into; after = record { window = window; worker = after }; taken = taken i; sent = same_at sent_of after told.sent i }
+
+  pub one_sent_ends : (before : ℕ) (part : Part) → IsOneSent part old new → ends_between window (set edges at new) before at ≡ one_sent (ends_between window edges before at)
+  one_sent_ends before part told =
+      let sent : sent_at (set edges at new) at ≡ sent_at edges at + 1 = new_at sent_of ∙ (told.sent ∙ ap (λ (n : ℕ). n + 1) (sym (old_at sent_of))) in
+      λ i. record { before = record { window = window; worker = before }; after = into; taken = same_at taken_of before told.taken i; sent = sent i }
+
+  -- an edge that holds nothing
+  pub none_left : old.pieces ≡ [] → taken_at edges at ≡ sent_at edges at
+  none_left none =
+      let same : old.sent ≡ old.taken = omega (arith, between_length old.taken old.sent (edge_stream into) holds.order holds.within, ap length (sym holds.pieces ∙ none)) in
+      old_at taken_of ∙ (sym same ∙ sym (old_at sent_of))
 
   pub gave_ends : (before : ℕ) (result : Result (Unit {0}) Piece) (piece : Piece) → GaveOr old new piece result → new.taken ≡ old.taken → new.room ≡ old.room
       → MatchResult result
@@ -211,3 +241,22 @@ room_kept (e ∷ es) zero new zero same below = same
 room_kept (e ∷ es) zero new (suc k) same below = refl
 room_kept (e ∷ es) (suc at) new zero same below = refl
 room_kept (e ∷ es) (suc at) new (suc k) same below = room_kept es at new k same (omega arith)
+
+-- the piece was sent, or there was none
+pub sent_some : (old new : EdgeState) (p : Option Part) → HasSent old new p → true ≡ is_some p → (part : Part) × (p ≡ Some part) × IsOneSent part old new
+sent_some old new None told some = absurd (cc)
+sent_some old new (Some part) told some = (part, refl, told)
+
+pub sent_none : (old new : EdgeState) (p : Option Part) → HasSent old new p → false ≡ is_some p → (p ≡ None) × (new ≡ old)
+sent_none old new None told none = (refl, told)
+sent_none old new (Some part) told none = absurd (cc)
+
+-- written back as it was
+pub set_back : {X : Type 0} (xs : List X) (i : ℕ) (old new : X) → i < length xs → old ≡ get_or xs i old → new ≡ old → set xs i new ≡ xs
+set_back [] i old new below is same = absurd (omega arith)
+set_back (x ∷ xs) zero old new below is same = ap (λ (y : _). y ∷ xs) (same ∙ is)
+set_back (x ∷ xs) (suc i) old new below is same = ap (λ (l : List _). x ∷ l) (set_back xs i old new (omega arith) is same)
+
+-- the first piece of an edge is the next of its stream
+pub first_is_next : (into : EdgeInto) (edge : EdgeState) (part : Part) → Holds into edge → slice_get edge.pieces 0 ≡ Some part → slice_get (edge_stream into) edge.taken ≡ Some part
+first_is_next into edge part holds is = (between_first edge.taken edge.sent (edge_stream into) (drop 1 edge.pieces) part (sym holds.pieces ∙ by_first edge.pieces part is)).1

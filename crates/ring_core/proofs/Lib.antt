@@ -5,7 +5,9 @@ pub mod PushLemmas
 pub mod FeedLemmas
 pub mod BeginLemmas
 pub mod TurnLemmas
+pub mod RoundLemmas
 pub mod EdgeLemmas
+pub mod PlaceLemmas
 pub mod RingLemmas
 pub mod ListLemmas
 pub mod StartLemmas

@@ -1,5 +1,5 @@
 -- A worker that has played so far, and its next piece.
-use Rattle.std.proofs.Common.{◌≡◌, ◌≢◌, ◌<◌, ◌≤◌, ◌+◌, ℕ, zero, suc, cond, List, [], ◌∷◌, length, get_or, set, Option, Some, None, option_map, slice_get, refl, sym, ap, ◌∙◌, subst, arith, inl, inr}
+use Rattle.std.proofs.Common.{◌≡◌, ◌≢◌, ◌<◌, ◌≤◌, ◌+◌, ℕ, zero, suc, Bool, true, false, cond, List, [], ◌∷◌, length, get_or, set, Option, Some, None, option_map, slice_get, refl, sym, ap, ◌∙◌, subst, arith, inl, inr}
 use Rattle.std.specs.Prelude.{IfSome, IsSome, is_some}
 use Rattle.std.proofs.lemmas.Bool.{cases_lt}
 use Rattle.std.proofs.lemmas.Nat.{mul-le}
@@ -112,3 +112,9 @@ pub gave_or_not : (below : Type 0) (endpoints : ℕ) (window : Window) (stage fe
     → IfSome (option_map part_of r) (λ part. below × (piece_given_next window stage fed given ≡ Some part)) × StageIsAt endpoints window stage fed (cond (is_some (option_map part_of r)) (given + 1) given) new
 gave_or_not below endpoints win stage fed given new None inside is some none = (tt, none refl)
 gave_or_not below endpoints win stage fed given new (Some piece) inside is some none = ((inside, sym is), some refl)
+
+pub wrote_or_not : (below : Type 0) (endpoints : ℕ) (window : Window) (stage fed given : ℕ) (new : StageState) (wrote : Bool) (part : Part) → below → cond wrote (Some part) None ≡ piece_given_next window stage fed given
+    → (wrote ≡ true → StageIsAt endpoints window stage fed (given + 1) new) → (wrote ≡ false → StageIsAt endpoints window stage fed given new)
+    → IfSome (cond wrote (Some part) None) (λ p. below × (piece_given_next window stage fed given ≡ Some p)) × StageIsAt endpoints window stage fed (cond (is_some (cond wrote (Some part) None)) (given + 1) given) new
+wrote_or_not below endpoints win stage fed given new false part inside is some none = (tt, none refl)
+wrote_or_not below endpoints win stage fed given new true part inside is some none = ((inside, sym is), some refl)

@@ -122,6 +122,21 @@ module _ (endpoints : ℕ) (window : Window) (stage fed given : ℕ) (part : Par
       many_left : (n m : ℕ) → nat_le n m ≡ false → m < n
       many_left n m is = grind (arith, nat_tests)
 
+-- what the present stage gives next is the next of the stream out of the worker
+pub gives_next : (batches : List DemandBatch) (ends : Ends) (w : WorkerState) (fed given : ℕ) (piece : Part) → HasPlayed batches ends w fed given → w.stage < length batches
+    → piece_given_next ends.before.window w.stage fed given ≡ Some piece → EveryBatchLeavesAList → SettledItemsStay → EarlyPiecesAreOfTheList → slice_get (edge_stream ends.after) ends.sent ≡ Some piece
+gives_next batches ends w fed given piece played below gives leaves stay early =
+    let window : Window = ends.before.window in
+    let inside : w.stage < length window.batches = omega (arith, below, ap length played.window.batches_are) in
+    let after : EdgeInto = record { window = window; worker = worker_after w.workers w.number } in
+    let is = part_is w.endpoints window w.stage fed given piece played.window.may leaves stay early inside gives in
+    let own : worker_of window.workers (w.stage + 1) ≡ after.worker =
+    ap (λ (n : ℕ). worker_of n (w.stage + 1)) played.window.workers_are ∙ (ap (λ (n : ℕ). worker_of w.workers (n + 1)) played.stage ∙ next_own w.workers w.number w.place played.is_worker.number) in
+    let at : ends.sent ≡ length (pieces_into window after.worker (w.stage + 1)) + given = played.sent ∙ played.sent_is in
+    subst (λ (e : EdgeInto). slice_get (edge_stream e) ends.sent ≡ Some piece) (sym played.after)
+    (subst (λ (n : ℕ). slice_get (edge_stream after) n ≡ Some piece) (sym at)
+    (stream_has after (w.stage + 1) given own (omega (arith, inside)) played.given_within ∙ ap (λ (p : Part). Some p) (sym is)))
+
 module _ (batches : List DemandBatch) (ends : Ends) (w : WorkerState) (fed given : ℕ) (piece : Part) (played : HasPlayed batches ends w fed given) (held : w.held ≡ Some piece) where
   abbrev w_window : Window
   w_window = ends.before.window
@@ -132,14 +147,8 @@ module _ (batches : List DemandBatch) (ends : Ends) (w : WorkerState) (fed given
   -- it is the next of its stream
   pub pushes_next : EveryBatchLeavesAList → SettledItemsStay → EarlyPiecesAreOfTheList → slice_get (edge_stream ends.after) ends.sent ≡ Some piece
   pushes_next leaves stay early =
-      let after : EdgeInto = record { window = w_window; worker = worker_after w.workers w.number } in
-      let is = part_is w.endpoints w_window w.stage fed given piece played.window.may leaves stay early inside (held_is batches ends w fed given played piece held).1 in
-      let own : worker_of w_window.workers (w.stage + 1) ≡ after.worker =
-      ap (λ (n : ℕ). worker_of n (w.stage + 1)) played.window.workers_are ∙ (ap (λ (n : ℕ). worker_of w.workers (n + 1)) played.stage ∙ next_own w.workers w.number w.place played.is_worker.number) in
-      let at : ends.sent ≡ length (pieces_into w_window after.worker (w.stage + 1)) + given = played.sent ∙ played.sent_is in
-      subst (λ (e : EdgeInto). slice_get (edge_stream e) ends.sent ≡ Some piece) (sym played.after)
-      (subst (λ (n : ℕ). slice_get (edge_stream after) n ≡ Some piece) (sym at)
-      (stream_has after (w.stage + 1) given own (omega (arith, inside)) played.given_within ∙ ap (λ (p : Part). Some p) (sym is)))
+      let is = held_is batches ends w fed given played piece held in
+      gives_next batches ends w fed given piece played is.0 is.1 leaves stay early
 
   pub sent_short : EveryBatchKeepsItsFlows → FlowsFitPairs → w.sent + 1 < 2 ^ 32
   sent_short keeps pairs =

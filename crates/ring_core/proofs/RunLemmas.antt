@@ -6,21 +6,19 @@ use Rattle.greedy_rules.specs.Batches.{DemandBatch}
 use Rattle.greedy_rules.specs.Room.{FlowsFitPairs}
 use Rattle.slot_batches.specs.NextList.{EveryBatchKeepsItsFlows}
 use Rattle.slot_batches.specs.Pieces.{piece_count}
-use Rattle.ring_core.specs.States.{RingState}
-use Rattle.ring_core.specs.declared.turn.Turn.TheVariants.{Moved}
-use Rattle.ring_core.specs.Windows.{Window, turns_of, worker_after}
+use Rattle.ring_core.specs.States.{RingState, WorkerState}
+use Rattle.ring_core.specs.declared.turn.Turn.{Turn}
+use Rattle.ring_core.specs.declared.turn.Turn.TheVariants.{Moved, NoPiece, NoRoom, Done}
+use Rattle.ring_core.specs.Windows.{Window, pieces_before, turns_of, worker_after}
+use Rattle.ring_core.specs.Turns.{Answers}
 use Rattle.ring_core.specs.Streams.{pieces_into, edge_stream}
 use Rattle.ring_core.specs.Ends.{Ends}
-use Rattle.ring_core.specs.Edges.{taken_at, sent_at, taken_of, sent_of}
-use Rattle.ring_core.specs.Cores.{IsPlaying, IsFinished, HasJustBegun, AnswersIn, OthersWait, window_in}
+use Rattle.ring_core.specs.Edges.{taken_at, sent_at, sum_below, taken_of, sent_of}
+use Rattle.ring_core.specs.Cores.{IsPlaying, IsFinished, HasJustBegun, AnswersIn, HasRoomForTwo, OthersWait, positions, window_in}
 use Rattle.ring_core.proofs.WindowLemmas.{few_pieces}
 use Rattle.ring_core.proofs.StartLemmas.{first_count}
 use Rattle.ring_core.proofs.EndLemmas.{get_some, before_of, worker_at, ended, all_taken, all_sent}
-use Rattle.ring_core.proofs.CountLemmas.{sum_below, sum_none, sum_up, sum_same, sum_but_one, pieces_below, all_streams, turns_are, few_below}
-
--- all positions together
-abbrev pub positions : RingState → ℕ
-positions core = sum_below (taken_at core.edges) core.workers + sum_below (sent_at core.edges) core.workers
+use Rattle.ring_core.proofs.CountLemmas.{sum_none, sum_up, sum_same, sum_but_one, pieces_below, all_streams, turns_are, few_below}
 
 -- a turn that moves raises them by one
 pub one_more : (batches : List DemandBatch) (old new : RingState) (number : ℕ) → IsPlaying batches old → number < old.workers → OthersWait number old new → AnswersIn batches old new number Moved → positions new ≡ positions old + 1
@@ -43,6 +41,35 @@ one_more batches old new number playing below others told =
           let one : sent_at new.edges after ≡ sent_at old.edges after + 1 = omega (arith, there, sent) in
           omega (arith, sizes, sum_but_one (taken_at old.edges) (taken_at new.edges) number old.workers 0 below taken others.edges.taken, sum_but_one (sent_at old.edges) (sent_at new.edges) after old.workers 1 within one others.edges.sent)
     ]
+
+-- and one that does not leaves them
+pub no_more : (batches : List DemandBatch) (old new : RingState) (number : ℕ) → IsPlaying batches old → number < old.workers → OthersWait number old new → (turn : Turn) → AnswersIn batches old new number turn
+    → (turn ≡ Moved → ⊥) → positions new ≡ positions old
+no_more batches old new number playing below others turn told idle =
+    let after : ℕ = worker_after old.workers number in
+    let within : after < old.workers = mod_below (number + 1) old.workers playing.ring.some_workers in
+    let worker = get_some old.crew number (omega (arith, below, playing.ring.worker_count)) in
+    let sizes : positions new ≡ sum_below (taken_at new.edges) old.workers + sum_below (sent_at new.edges) old.workers =
+    ap (λ (n : ℕ). sum_below (taken_at new.edges) n + sum_below (sent_at new.edges) n) others.same.same_workers in
+    let there : sent_at new.edges (worker_after new.workers number) ≡ sent_at new.edges after = ap (λ (n : ℕ). sent_at new.edges (worker_after n number)) others.same.same_workers in
+    let ends = stays worker.0 _ _ _ _ turn (told worker.0 worker.1) idle in
+    let taken : taken_at new.edges number ≡ taken_at old.edges number + 0 = ap (λ (e : Ends). e.taken) ends ∙ (let q : taken_at old.edges number ≡ taken_at old.edges number + 0 = omega arith in q) in
+    let sent : sent_at new.edges (worker_after new.workers number) ≡ sent_at old.edges after = ap (λ (e : Ends). e.sent) ends in
+    let same : sent_at new.edges after ≡ sent_at old.edges after + 0 = omega (arith, there, sent) in
+    omega (arith, sizes, sum_but_one (taken_at old.edges) (taken_at new.edges) number old.workers 0 below taken others.edges.taken, sum_but_one (sent_at old.edges) (sent_at new.edges) after old.workers 0 within same others.edges.sent)
+  where
+    stays : (w : WorkerState) (a b : Ends) (empty full : ℕ → Type 0) (t : Turn) → Answers batches w a b empty full t → (t ≡ Moved → ⊥) → b ≡ a
+    stays w a b empty full Moved told not = absurd (not refl)
+    stays w a b empty full (NoPiece at) told not = told.3
+    stays w a b empty full (NoRoom at) told not = told.3
+    stays w a b empty full Done told not = told.1
+
+-- there is room for two again
+pub rooms_on : (batches : List DemandBatch) (old new : RingState) → window_in batches new ≡ window_in batches old → new.room ≡ old.room → HasRoomForTwo batches old → HasRoomForTwo batches new
+rooms_on batches old new window room rooms stage within =
+    let there : 2 * pieces_before (window_in batches old) stage ≤ old.room = rooms stage within in
+    let same : pieces_before (window_in batches new) stage ≡ pieces_before (window_in batches old) stage = ap (λ (w : Window). pieces_before w stage) window in
+    omega (arith, there, same, room)
 
 module _ (batches : List DemandBatch) (core : RingState) (playing : IsPlaying batches core) where
   abbrev window : Window

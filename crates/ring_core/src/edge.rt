@@ -1,37 +1,44 @@
-ghost use Rattle.std.specs.Prelude.{◌≡◌, ◌+◌, ◌<◌, ◌≤◌, ◌^◌, [], ◌∷◌, ◌++◌, length, nat_lt, MatchOption, MatchResult, IfOk};
+ghost use Rattle.std.specs.Prelude.{◌≡◌, ◌+◌, ◌-◌, ◌<◌, ◌≤◌, ◌^◌, List, [], ◌∷◌, ◌++◌, length, false, nat_lt, None, Some, MatchOption, MatchResult, IfOk, is_some, slice_get, if◌then◌else◌};
+ghost use Rattle.greedy_rules.specs.Batches.{DemandBatch};
 ghost use Rattle.slot_batches.specs.Pieces.{part_of};
+ghost use Rattle.ring_core.specs.Ends.{Ends, one_taken, one_sent};
+ghost use Rattle.ring_core.specs.Edges.{Holds, IsOneTaken, IsOneSent, HasTaken, HasSent};
+ghost use Rattle.ring_core.specs.Places.{place_behind};
+ghost use Rattle.ring_core.specs.Workers.{Plays, IsAt, IsSameWorker};
+ghost use Rattle.ring_core.specs.Turns.{piece_to_push};
 
 use crate::link::Link;
-use greedy_rules::{Batch, DemandList};
+use crate::worker::Worker;
+use greedy_rules::{Batch, DemandList, Item};
 use no_memory::NoMemory;
 use slot_batches::Piece;
 use std::alloc::Global;
-use std::collections::VecDeque;
 use std::marker::Model;
+use std::mem;
 use std::snapshot::Snapshot;
 
-/// An edge of fixed room: the pieces that were sent and not yet taken, and how many were taken and sent. A piece that is sent
-/// where none waits lies by itself, so that an edge that is emptied at once stays in one place.
+/// An edge of fixed room: the pieces that were sent and not yet taken, and how many were taken and sent. They lie one behind the
+/// other in places that go round and are written over and over; an edge that is emptied at once stays in its first place.
 #[derive(Drop)]
 pub(crate) struct Edge {
-    first: Option<Piece>,
-    others: VecDeque<Piece>,
+    places: Vec<Piece>,
+    first: usize,
+    len: usize,
     taken: u32,
     sent: u32,
 }
 
 impl Model for Edge {
-    ghost use Rattle.std.specs.Prelude.{◌≤◌, ◌++◌, length, map};
-    ghost use Rattle.std.specs.Option.{option_to_list};
-    ghost use Rattle.std.specs.VecDeque.{deque_capacity};
+    ghost use Rattle.std.specs.Prelude.{◌≤◌, ◌-◌, length, map};
     ghost use Rattle.slot_batches.specs.Pieces.{part_of};
+    ghost use Rattle.ring_core.specs.Places.{going_round};
     ghost use Rattle.ring_core.specs.States.{EdgeState};
 
     ghost Value = { EdgeState };
 
-    ghost view = { λ e. record { pieces = map part_of (option_to_list e.first ++ e.others.items); taken = e.taken; sent = e.sent; room = deque_capacity e.others } };
+    ghost view = { λ e. record { pieces = going_round e.first e.len (map part_of e.places.items); taken = e.taken; sent = e.sent; room = length e.places.items } };
 
-    ghost invariant = { λ e. length (option_to_list e.first ++ e.others.items) ≤ deque_capacity e.others };
+    ghost invariant = { λ e. (e.len ≤ length e.places.items) × (e.first ≤ length e.places.items - 1) };
 }
 
 impl Edge {
@@ -43,8 +50,9 @@ impl Edge {
         ensures sent { IfOk result (λ edge. edge.sent ≡ 0) }
     {
         Ok(Edge {
-            first: None,
-            others: VecDeque::with_capacity(alloc, room)?,
+            places: empty_places(alloc, room)?,
+            first: 0,
+            len: 0,
             taken: 0,
             sent: 0,
         })
@@ -57,24 +65,10 @@ impl Edge {
         ensures sent { self.new.sent ≡ 0 }
         ensures room { self.new.room ≡ self.old.room }
     {
-        self.first = None;
-        self.others.clear();
+        self.first = 0;
+        self.len = 0;
         self.taken = 0;
         self.sent = 0;
-    }
-
-    /// Whether a piece can be taken.
-    pub(crate) fn has_piece(&self) -> bool
-        ensures { result ≡ nat_lt self.now.taken self.now.sent }
-    {
-        self.taken < self.sent
-    }
-
-    /// Whether it has room for one more piece of so many.
-    pub(crate) fn has_room(&self, room: u32) -> bool
-        ensures { result ≡ nat_lt self.now.sent (self.now.taken + room) }
-    {
-        u64::from(self.sent) < u64::from(self.taken) + u64::from(room)
     }
 
     pub(crate) fn take(&mut self) -> Option<Piece>
@@ -85,26 +79,13 @@ impl Edge {
         ensures sent { self.new.sent ≡ self.old.sent }
         ensures room { self.new.room ≡ self.old.room }
     {
-        let piece = self.pop();
-        if piece.is_some() {
-            self.taken += 1;
+        if self.len == 0 {
+            return None;
         }
-        piece
-    }
-
-    /// Removes the first piece.
-    fn pop(&mut self) -> Option<Piece>
-        ensures popped { MatchOption result
-            ((self.new.pieces ≡ self.old.pieces) × (self.old.pieces ≡ []))
-            (λ piece. self.old.pieces ≡ part_of piece ∷ self.new.pieces) }
-        ensures taken { self.new.taken ≡ self.old.taken }
-        ensures sent { self.new.sent ≡ self.old.sent }
-        ensures room { self.new.room ≡ self.old.room }
-    {
-        if self.first.is_some() {
-            return self.first.take();
-        }
-        self.others.pop_front()
+        let first = self.first;
+        let piece = mem::replace(&mut self.places[first], Piece::empty());
+        self.drop_first();
+        Some(piece)
     }
 
     pub(crate) fn give(&mut self, piece: Piece) -> Result<(), Piece>
@@ -115,35 +96,150 @@ impl Edge {
         ensures taken { self.new.taken ≡ self.old.taken }
         ensures room { self.new.room ≡ self.old.room }
     {
-        if self.len() == self.others.capacity() {
+        if !self.has_place() {
             return Err(piece);
         }
-        self.push(piece);
+        let behind = place_behind(self.places.len(), self.first, self.len);
+        self.places[behind] = piece;
+        self.len += 1;
         self.sent += 1;
         Ok(())
     }
 
-    /// How many pieces it holds.
-    fn len(&self) -> usize
-        ensures value { result ≡ length self.now.pieces }
-        ensures within { result ≤ self.now.room }
+    /// Lets the worker hand on its next piece, which is written where it is to lie; answers whether there was one.
+    pub(crate) fn take_from(&mut self, worker: &mut Worker) -> bool
+        requires place { length self.old.pieces < self.old.room }
+        requires sent { self.old.sent + 1 < 2 ^ 32 }
+        requires plays { (batches : List DemandBatch) × (ends : Ends) × Plays batches ends worker.old × (worker.old.stage < length batches) }
+        ensures sent { (batches : List DemandBatch) → (ends : Ends) →
+            Plays batches ends worker.old →
+            worker.old.stage < length batches →
+            HasSent self.old self.new (piece_to_push ends worker.old) }
+        ensures plays { (batches : List DemandBatch) → (ends : Ends) →
+            Plays batches ends worker.old →
+            worker.old.stage < length batches →
+            Plays batches (if result then one_sent ends else ends) worker.new }
+        ensures piece { (batches : List DemandBatch) → (ends : Ends) →
+            Plays batches ends worker.old →
+            worker.old.stage < length batches →
+            result ≡ is_some (piece_to_push ends worker.old) }
+        ensures held { result ≡ false → worker.new.held ≡ None }
+        ensures same { result ≡ false → IsAt worker.old worker.new }
+        ensures worker { IsSameWorker worker.old worker.new }
     {
-        self.others.len() + usize::from(self.first.is_some())
+        let behind = place_behind(self.places.len(), self.first, self.len);
+        let place = &mut self.places[behind];
+        if !worker.next_into(place) {
+            return false;
+        }
+        worker.count_sent(place.end);
+        self.len += 1;
+        self.sent += 1;
+        true
     }
 
-    /// Appends a piece.
-    fn push(&mut self, piece: Piece)
-        requires { length self.old.pieces < self.old.room }
-        ensures pushed { self.new.pieces ≡ self.old.pieces ++ part_of piece ∷ [] }
-        ensures taken { self.new.taken ≡ self.old.taken }
-        ensures sent { self.new.sent ≡ self.old.sent }
-        ensures room { self.new.room ≡ self.old.room }
+    /// Sends a piece of these items, which are copied to where it is to lie.
+    pub(crate) fn send(&mut self, from: u32, items: &[Item], end: bool)
+        requires items { length items.now ≤ 64 }
+        requires place { length self.old.pieces < self.old.room }
+        requires sent { self.old.sent + 1 < 2 ^ 32 }
+        ensures { IsOneSent (record { stage = 0; from = from; items = items.now; end = end }) self.old self.new }
     {
-        if self.len() == 0 {
-            self.first = Some(piece);
-        } else {
-            self.others.push_back_reserved(piece);
+        let behind = place_behind(self.places.len(), self.first, self.len);
+        self.places[behind].fill(0, from, items, end);
+        self.len += 1;
+        self.sent += 1;
+    }
+
+    /// Feeds the worker the first piece, where it lies; answers whether there was one.
+    pub(crate) fn feed_to(&mut self, worker: &mut Worker, batches: &[Batch]) -> bool
+        requires plays { (ends : Ends) × Plays batches.now ends worker.old × (piece_to_push ends worker.old ≡ None) × Holds ends.before self.old × (ends.taken ≡ self.old.taken) }
+        requires going { worker.old.stage < length batches.now }
+        requires held { worker.old.held ≡ None }
+        requires taken { self.old.taken + 1 < 2 ^ 32 }
+        ensures taken { HasTaken result self.old self.new }
+        ensures none { result ≡ false → worker.new ≡ worker.old }
+        ensures plays { (ends : Ends) →
+            Plays batches.now ends worker.old →
+            piece_to_push ends worker.old ≡ None →
+            Holds ends.before self.old →
+            ends.taken ≡ self.old.taken →
+            Plays batches.now (if result then one_taken ends else ends) worker.new }
+        ensures worker { IsSameWorker worker.old worker.new }
+    {
+        let Some(piece) = self.first() else {
+            return false;
+        };
+        worker.feed(batches, piece);
+        self.drop_first();
+        true
+    }
+
+    /// The first piece that waits.
+    pub(crate) fn first(&self) -> Option<&Piece>
+        ensures { MatchOption result
+            (self.now.pieces ≡ [])
+            (λ piece. slice_get self.now.pieces 0 ≡ Some (part_of piece.now)) }
+    {
+        if self.len == 0 {
+            return None;
         }
+        Some(&self.places[self.first])
+    }
+
+    /// Takes the first piece, and leaves it where it lies.
+    pub(crate) fn drop_first(&mut self)
+        requires some { 0 < length self.old.pieces }
+        requires taken { self.old.taken + 1 < 2 ^ 32 }
+        ensures { IsOneTaken self.old self.new }
+    {
+        self.taken += 1;
+        self.len -= 1;
+        if self.len == 0 {
+            self.first = 0;
+            return;
+        }
+        self.first = place_behind(self.places.len(), self.first, 1);
+    }
+
+    /// How many pieces wait, by its positions.
+    pub(crate) fn waiting(&self) -> u32
+        ensures { result ≡ self.now.sent - self.now.taken }
+    {
+        self.sent.saturating_sub(self.taken)
+    }
+
+    /// Whether it can hold one more piece.
+    pub(crate) fn has_place(&self) -> bool
+        ensures value { result ≡ nat_lt (length self.now.pieces) self.now.room }
+        ensures within { length self.now.pieces ≤ self.now.room }
+    {
+        self.len < self.places.len()
+    }
+}
+
+/// So many places, each with an empty piece.
+fn empty_places(alloc: Global, count: usize) -> Result<Vec<Piece>, NoMemory>
+    ensures { IfOk result (λ places. length places.items ≡ count) }
+{
+    let mut places = Vec::with_capacity(alloc, count)?;
+    for _ in 0..count {
+        places.push(Piece::empty())?;
+    }
+    Ok(places)
+}
+
+/// Of so many places that go round, the one so many behind another.
+fn place_behind(places: usize, from: usize, count: usize) -> usize
+    requires from { from < places }
+    requires count { count ≤ places }
+    ensures place { result ≡ place_behind places from count }
+    ensures within { result < places }
+{
+    if count < places - from {
+        from + count
+    } else {
+        count - (places - from)
     }
 }
 

@@ -11,18 +11,21 @@ ghost use Rattle.ring_core.specs.declared.turn.Turn.TheVariants.{Moved};
 ghost use Rattle.ring_core.specs.Streams.{items_of};
 ghost use Rattle.ring_core.specs.Turns.{Answers};
 ghost use Rattle.ring_core.specs.Edges.{room_at, AllHold, StreamsAreShort, OthersStay, IsFoundEmpty, IsFoundFull, ends_between};
-ghost use Rattle.ring_core.specs.Cores.{IsRing, IsSameRing, IsFinished, IsGoing, HoldsTheLastList, HasJustBegun, HasRoomForTwo, AreCrewed, IsPlaying, AnswersIn, CanMove, OthersWait, window_in};
+ghost use Rattle.ring_core.specs.Cores.{IsRing, IsSameRing, IsFinished, IsGoing, HoldsTheLastList, HasJustBegun, HasRoomForTwo, AreCrewed, IsPlaying, AnswersIn, CanMove, OthersWait, window_in, positions};
 
 use crate::edge::{Edge, ListLink};
 use crate::turn::Turn;
 use crate::worker::Worker;
-use arrayvec::ArrayVec;
-use greedy_rules::{Batch, DemandList, Item, SlotTable, flows_fit_pairs};
+use greedy_rules::{Batch, DemandList, SlotTable, flows_fit_pairs};
 use no_memory::NoMemory;
-use slot_batches::{Piece, every_batch_leaves_a_list};
+use slot_batches::{early_pieces_are_of_the_list, every_batch_leaves_a_list};
 use std::alloc::Global;
 use std::marker::Model;
 use std::snapshot::Snapshot;
+
+// After so many pieces the worker after goes on, where as many still wait for this one: what a stage looks at stays in the nearest
+// cache while it is fed these, and so do the pieces; and an edge into a worker that keeps up is emptied every time.
+const PIECES_IN_A_ROW: u32 = 16;
 
 /// A ring of workers over edges of fixed room, of which any may take the next turn.
 #[derive(Drop)]
@@ -139,7 +142,7 @@ impl RingCore {
         ensures moves { CanMove batches.now self.old worker → result ≡ Moved }
     {
         let before = worker as usize;
-        let after = (before + 1) % self.edges.len();
+        let after = self.worker_after(worker) as usize;
         turn_at(
             &mut self.crew[before],
             &self.list,
@@ -185,35 +188,72 @@ impl RingCore {
         flows_fit_pairs();
         let mut turns = 0;
         let mut worker = 0;
-        while let Some(next) = self.next_worker(worker) {
-            let _ = self.step(batches, next);
+        while let Some(next) = self.move_one(batches, worker) {
             worker = next;
             turns += 1;
         }
         turns
     }
 
-    /// A worker whose next turn moves a piece, after a turn of this one: the worker after it, where a piece waits for that one,
-    /// or it again, where a piece waits for it, so that a piece goes on while it is near; and else a movable one. None where
-    /// every stage has ended.
-    fn next_worker(&self, worker: u16) -> Option<u16>
-        requires worker { worker < self.now.workers }
-        requires room { (batches : List DemandBatch) × IsPlaying batches self.now × HasRoomForTwo batches self.now }
-        ensures { MatchOption result
-            (IsFinished self.now)
-            (λ next. (next < self.now.workers) × ((batches : List DemandBatch) → IsPlaying batches self.now → HasRoomForTwo batches self.now → CanMove batches self.now next)) }
+    /// Moves a piece, by a turn of this worker or of the one after it where one of them can move, and else by one of a movable one;
+    /// answers the worker to go on with. None where every stage has ended.
+    fn move_one(&mut self, batches: &[Batch], worker: u16) -> Option<u16>
+        requires playing { IsPlaying batches.now self.old }
+        requires worker { worker < self.old.workers }
+        requires room { HasRoomForTwo batches.now self.old }
+        ensures playing { IsPlaying batches.now self.new }
+        ensures window { window_in batches.now self.new ≡ window_in batches.now self.old }
+        ensures same { IsSameRing self.old self.new }
+        ensures next { MatchOption result
+            (IsFinished self.new × (positions self.new ≡ positions self.old))
+            (λ next. (next < self.old.workers) × (positions self.new ≡ positions self.old + 1)) }
     {
-        let after = self.worker_after(worker);
-        if self.flows(after) {
-            return Some(after);
+        if let Some(next) = self.move_by(batches, worker) {
+            return Some(next);
         }
-        if self.flows(worker) {
-            return Some(worker);
+        let after = self.worker_after(worker);
+        if let Some(next) = self.move_by(batches, after) {
+            return Some(next);
         }
         if self.finished() {
             return None;
         }
-        Some(self.movable())
+        let least = self.movable();
+        self.move_by(batches, least)
+    }
+
+    /// A turn of this worker; answers the worker to go on with. None where it could not move.
+    fn move_by(&mut self, batches: &[Batch], worker: u16) -> Option<u16>
+        requires playing { IsPlaying batches.now self.old }
+        requires worker { worker < self.old.workers }
+        ensures playing { IsPlaying batches.now self.new }
+        ensures window { window_in batches.now self.new ≡ window_in batches.now self.old }
+        ensures same { IsSameRing self.old self.new }
+        ensures next { MatchOption result
+            ((CanMove batches.now self.old worker → ⊥) × (positions self.new ≡ positions self.old))
+            (λ next. (next < self.old.workers) × (positions self.new ≡ positions self.old + 1)) }
+    {
+        let sent = self.crew[worker as usize].sent();
+        let Turn::Moved = self.step(batches, worker) else {
+            return None;
+        };
+        Some(self.goes_on(worker, sent))
+    }
+
+    /// The worker to go on with after a turn of this one, before which it had sent so many pieces: the one after it, where it
+    /// sent the last of sixteen and as many still wait for it, and else the same one.
+    fn goes_on(&self, worker: u16, before: u32) -> u16
+        requires ring { IsRing self.now }
+        requires worker { worker < self.now.workers }
+        ensures { result < self.now.workers }
+    {
+        let sent = self.crew[worker as usize].sent();
+        let waiting = self.edges[worker as usize].waiting();
+        if sent > before && sent % PIECES_IN_A_ROW == 0 && waiting >= PIECES_IN_A_ROW {
+            self.worker_after(worker)
+        } else {
+            worker
+        }
     }
 
     /// The worker after this one.
@@ -224,18 +264,6 @@ impl RingCore {
     {
         let workers = self.workers;
         if worker + 1 == workers { 0 } else { worker + 1 }
-    }
-
-    /// Whether a piece waits for the worker, and the edge after it has room.
-    fn flows(&self, worker: u16) -> bool
-        requires ring { IsRing self.now }
-        requires worker { worker < self.now.workers }
-        ensures { result ≡ true → (batches : List DemandBatch) → IsPlaying batches self.now → CanMove batches self.now worker }
-    {
-        let after = self.worker_after(worker);
-        !self.crew[worker as usize].has_ended(self.stages)
-            && self.edges[worker as usize].has_piece()
-            && self.edges[after as usize].has_room(self.room)
     }
 
     /// Takes the list that is left out of the ring, and copies the slots: slot i of stage s, both counted from 0, to place
@@ -313,8 +341,9 @@ fn take_list(edge: &mut Edge, list: &mut DemandList)
     ensures spare { length list.new.items + list.new.spare ≡ length list.old.items + list.old.spare }
     ensures room { edge.new.room ≡ edge.old.room }
 {
-    while let Some(piece) = edge.take() {
+    while let Some(piece) = edge.first() {
         list.append(&piece.items);
+        edge.drop_first();
     }
 }
 
@@ -361,25 +390,6 @@ fn empty_edges(edges: &mut [Edge])
     }
 }
 
-/// The piece at this place of the list before the first stage.
-fn piece_from(list: &DemandList, place: usize) -> Piece
-    requires few { length list.now.items ≤ 65536 }
-    requires place { place < piece_count list.now.items }
-    ensures { part_of result ≡ piece_at 0 list.now.items place }
-{
-    let from = place * 64;
-    let mut items = ArrayVec::new();
-    for at in from..list.len().min(from + 64) {
-        items.push(list.item(at));
-    }
-    Piece {
-        stage: 0,
-        from: from as u32,
-        items,
-        end: list.len() <= from + 64,
-    }
-}
-
 /// Sends the pieces of the list into an edge that is empty, and answers how many these are.
 fn give_list(edge: &mut Edge, list: &DemandList) -> u32
     requires few { length list.now.items ≤ 65536 }
@@ -391,9 +401,12 @@ fn give_list(edge: &mut Edge, list: &DemandList) -> u32
     ensures room { edge.new.room ≡ edge.old.room }
     ensures count { result ≡ piece_count list.now.items }
 {
-    let count = list.len().saturating_sub(1) / 64 + 1;
+    let items = list.items();
+    let count = items.len().saturating_sub(1) / 64 + 1;
     for place in 0..count {
-        let _ = edge.give(piece_from(list, place));
+        let from = place * 64;
+        let end = items.len() <= from + 64;
+        edge.send(from as u32, &items[from..items.len().min(from + 64)], end);
     }
     count as u32
 }
@@ -413,8 +426,58 @@ fn begin_crew(crew: &mut [Worker], first_batch: u32, batches: &[Batch], pieces: 
     }
 }
 
-/// A turn of a worker of the ring, over the edges before and after it.
+/// A turn of a worker of the ring, over the edges before and after it: pieces are written and read where they lie in them.
 fn turn_at(
+    worker: &mut Worker,
+    list: &Snapshot<DemandList>,
+    first_batch: u32,
+    b: u8,
+    workers: u16,
+    batches: &[Batch],
+    edges: &mut [Edge],
+    before: usize,
+    after: usize,
+) -> Turn
+    requires before { before < length edges.old }
+    requires after { after < length edges.old }
+    requires short { StreamsAreShort (window_of list.now.value.items batches.now first_batch b workers) }
+    requires holds { AllHold (window_of list.now.value.items batches.now first_batch b workers) edges.old }
+    requires plays { Plays batches.now (ends_between (window_of list.now.value.items batches.now first_batch b workers) edges.old before after) worker.old }
+    ensures holds { AllHold (window_of list.now.value.items batches.now first_batch b workers) edges.new }
+    ensures plays { Plays batches.now (ends_between (window_of list.now.value.items batches.now first_batch b workers) edges.new before after) worker.new }
+    ensures answer { Answers batches.now worker.old (ends_between (window_of list.now.value.items batches.now first_batch b workers) edges.old before after) (ends_between (window_of list.now.value.items batches.now first_batch b workers) edges.new before after) (IsFoundEmpty edges.new before) (IsFoundFull edges.new after) result }
+    ensures others { OthersStay before after edges.old edges.new }
+    ensures worker { IsSameWorker worker.old worker.new }
+{
+    early_pieces_are_of_the_list();
+    every_batch_leaves_a_list();
+    if worker.has_ended(batches.len()) {
+        return Turn::Done;
+    }
+    if !edges[after].has_place() {
+        return turn_by_value(
+            worker,
+            list,
+            first_batch,
+            b,
+            workers,
+            batches,
+            edges,
+            before,
+            after,
+        );
+    }
+    if edges[after].take_from(worker) {
+        return Turn::Moved;
+    }
+    if edges[before].feed_to(worker, batches) {
+        return Turn::Moved;
+    }
+    Turn::NoPiece { at: worker.taken() }
+}
+
+/// As `turn_at`, where the edge after the worker may be full: a piece that is refused stays with the worker.
+fn turn_by_value(
     worker: &mut Worker,
     list: &Snapshot<DemandList>,
     first_batch: u32,

@@ -133,6 +133,20 @@ impl Worker {
         self.stage as usize >= batches
     }
 
+    /// How many pieces it has taken.
+    pub(crate) fn taken(&self) -> u32
+        ensures { result ≡ self.now.taken }
+    {
+        self.taken
+    }
+
+    /// How many pieces it has sent.
+    pub(crate) fn sent(&self) -> u32
+        ensures { result ≡ self.now.sent }
+    {
+        self.sent
+    }
+
     /// Whether it is at an earlier stage than the other.
     pub(crate) fn is_behind(&self, other: &Worker) -> bool
         ensures { result ≡ nat_lt self.now.stage other.now.stage }
@@ -181,6 +195,39 @@ impl Worker {
         self.stages[self.place].emit()
     }
 
+    /// As `next_piece`, but writes the piece over this one, and answers whether there is one.
+    pub(crate) fn next_into(&mut self, place: &mut Piece) -> bool
+        requires { (batches : List DemandBatch) × (ends : Ends) × Plays batches ends self.old × (self.old.stage < length batches) }
+        ensures piece { (batches : List DemandBatch) → (ends : Ends) →
+            Plays batches ends self.old →
+            self.old.stage < length batches →
+            (if result then Some (part_of place.new) else None) ≡ piece_to_push ends self.old }
+        ensures plays { (batches : List DemandBatch) → (ends : Ends) →
+            Plays batches ends self.old →
+            self.old.stage < length batches →
+            Plays batches ends (record self.new { held = if result then Some (part_of place.new) else None }) }
+        ensures held { self.new.held ≡ None }
+        ensures same { IsAt self.old self.new }
+        ensures worker { IsSameWorker self.old self.new }
+    {
+        if self.held.is_some() {
+            return self.put_held(place);
+        }
+        self.stages[self.place].emit_into(place)
+    }
+
+    /// Puts the piece that was refused into this place.
+    fn put_held(&mut self, place: &mut Piece) -> bool
+        ensures piece { (if result then Some (part_of place.new) else None) ≡ self.old.held }
+        ensures rest { self.new ≡ record self.old { held = None } }
+    {
+        let Some(refused) = self.held.take() else {
+            return false;
+        };
+        *place = refused;
+        true
+    }
+
     /// Pushes the piece; a refused one stays with the worker.
     fn hand_on<L: Link>(&mut self, piece: Piece, link: &mut L) -> Turn
         requires plays { (batches : List DemandBatch) × Plays batches (L.ends link.old) (record self.old { held = Some (part_of piece) }) × (self.old.stage < length batches) }
@@ -211,7 +258,7 @@ impl Worker {
     }
 
     /// Counts a piece that was sent. With the end of its list the present stage has ended, and the next one follows.
-    fn count_sent(&mut self, end: bool)
+    pub(crate) fn count_sent(&mut self, end: bool)
         requires plays { (batches : List DemandBatch) × (ends : Ends) × (part : Part) × Plays batches ends (record self.old { held = Some part }) × (part.end ≡ end) }
         requires held { self.old.held ≡ None }
         ensures plays { (batches : List DemandBatch) → (ends : Ends) → (part : Part) →
@@ -251,7 +298,7 @@ impl Worker {
     }
 
     /// Feeds the present stage, which gives no piece as it is, the next piece of its list.
-    fn feed(&mut self, batches: &[Batch], piece: &Piece)
+    pub(crate) fn feed(&mut self, batches: &[Batch], piece: &Piece)
         requires plays { (ends : Ends) × Plays batches.now ends self.old × (piece_to_push ends self.old ≡ None) × IsPieceAt ends.before ends.taken piece.now }
         requires going { self.old.stage < length batches.now }
         requires held { self.old.held ≡ None }

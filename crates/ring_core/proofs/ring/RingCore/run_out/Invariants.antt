@@ -1,8 +1,7 @@
 use Rattle.std.proofs.Common.{◌≡◌, ◌<◌, ◌+◌, ◌-◌, ◌*◌, length}
 use Rattle.slot_batches.specs.Pieces.{piece_count}
-use Rattle.ring_core.specs.Cores.{IsPlaying, IsSameRing, window_in}
+use Rattle.ring_core.specs.Cores.{IsPlaying, IsSameRing, positions, window_in}
 use Rattle.ring_core.proofs.CountLemmas.{pieces_below}
-use Rattle.ring_core.proofs.RunLemmas.{positions}
 use Rattle.ring_core.proofs.ring.RingCore.run_out.Given as goal
 
 abbrev pub invariant-loop-next : goal.invariant-loop-next

@@ -1,4 +1,4 @@
-use Rattle.std.proofs.Common.{◌≡◌, ◌<◌, ◌+◌, ◌%◌, ◌∙◌, ℕ, List, refl, sym, ap, subst, arith}
+use Rattle.std.proofs.Common.{◌≡◌, ◌<◌, ◌∙◌, ℕ, List, refl, sym, ap, subst}
 use Rattle.std.proofs.lemmas.Option.{same_Some}
 use Rattle.ring_core.specs.contracts.ring.RingCore.{the_view}
 use Rattle.ring_core.specs.States.{EdgeState, RingState, WorkerState}
@@ -22,8 +22,7 @@ returns-clause-playing c =
     let below : number < core.workers = subst (λ (v : RingState). number < v.workers) (sym c.self.view_is) c.requires.worker in
     let new : List EdgeState = c.turn_at.new.edges in
     let told = c.turn_at.ensures in
-    let len : c.len.result ≡ core.workers = omega (arith, c.len.ensures, c.self.inside.edges.ok.0, playing.ring.edge_count) in
-    let after : (number + 1) % c.len.result ≡ worker_after core.workers number = ap (λ (n : ℕ). (number + 1) % n) len in
+    let after : c.worker_after-after.result ≡ worker_after core.workers number = c.worker_after-after.ensures.value ∙ ap (λ (v : RingState). worker_after v.workers number) (sym c.self.view_is) in
     let others : OthersStay number (worker_after core.workers number) core.edges new =
     subst (λ (es : List EdgeState). OthersStay number (worker_after core.workers number) es new) c.deref_mut.ensures.value
     (subst (λ (n : ℕ). OthersStay number n c.deref_mut.result.now new) after told.others) in
@@ -44,8 +43,7 @@ returns-clause-answer c =
     let old : WorkerState = c.index_mut.result.now in
     let told = c.turn_at.ensures in
     let window : Window = window_in batches core in
-    let len : c.len.result ≡ core.workers = omega (arith, c.len.ensures, c.self.inside.edges.ok.0, playing.ring.edge_count) in
-    let after : (number + 1) % c.len.result ≡ worker_after core.workers number = ap (λ (n : ℕ). (number + 1) % n) len in
+    let after : c.worker_after-after.result ≡ worker_after core.workers number = c.worker_after-after.ensures.value ∙ ap (λ (v : RingState). worker_after v.workers number) (sym c.self.view_is) in
     let items = written c.self.inside.edges new c.deref_mut.result.now c.deref_mut.ensures.value told.others.count in
     let same : old ≡ worker = same_Some old worker (sym (here batches core number old c.turn_at.new.worker new playing below c.index_mut.ensures.value told.worker) ∙ is) in
     let at : (w : WorkerState) → (es : List EdgeState) → (n : ℕ) → (fs : List EdgeState) → Type 0 =
@@ -64,8 +62,7 @@ returns-clause-others c =
     let number : ℕ = c.args.worker in
     let new : List EdgeState = c.turn_at.new.edges in
     let told = c.turn_at.ensures in
-    let len : c.len.result ≡ core.workers = omega (arith, c.len.ensures, c.self.inside.edges.ok.0, playing.ring.edge_count) in
-    let after : (number + 1) % c.len.result ≡ worker_after core.workers number = ap (λ (n : ℕ). (number + 1) % n) len in
+    let after : c.worker_after-after.result ≡ worker_after core.workers number = c.worker_after-after.ensures.value ∙ ap (λ (v : RingState). worker_after v.workers number) (sym c.self.view_is) in
     let others : OthersStay number (worker_after core.workers number) core.edges new =
     subst (λ (es : List EdgeState). OthersStay number (worker_after core.workers number) es new) c.deref_mut.ensures.value
     (subst (λ (n : ℕ). OthersStay number n c.deref_mut.result.now new) after told.others) in
@@ -88,8 +85,7 @@ returns-clause-moves c =
     let old : WorkerState = c.index_mut.result.now in
     let told = c.turn_at.ensures in
     let window : Window = window_in batches core in
-    let len : c.len.result ≡ core.workers = omega (arith, c.len.ensures, c.self.inside.edges.ok.0, playing.ring.edge_count) in
-    let after : (number + 1) % c.len.result ≡ worker_after core.workers number = ap (λ (n : ℕ). (number + 1) % n) len in
+    let after : c.worker_after-after.result ≡ worker_after core.workers number = c.worker_after-after.ensures.value ∙ ap (λ (v : RingState). worker_after v.workers number) (sym c.self.view_is) in
     let others : OthersStay number (worker_after core.workers number) core.edges new =
     subst (λ (es : List EdgeState). OthersStay number (worker_after core.workers number) es new) c.deref_mut.ensures.value
     (subst (λ (n : ℕ). OthersStay number n c.deref_mut.result.now new) after told.others) in
