@@ -6,3 +6,4 @@ mod Sending
 mod Spans
 mod Taking
 mod Weights
+mod Steps

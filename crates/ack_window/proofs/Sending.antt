@@ -56,7 +56,7 @@ last_number-push (s ∷ t ∷ rest) x = last_number-push (t ∷ rest) x
 
 -- ---- a new number
 
-within_span : {T : Type 0} (span newest : ℕ) (xs : List (Unresolved T)) → may_send_new span newest xs ≡ true → RisesWithin (newest - span) newest xs → RisesWithin (newest + 1 - span) newest xs
+pub within_span : {T : Type 0} (span newest : ℕ) (xs : List (Unresolved T)) → may_send_new span newest xs ≡ true → RisesWithin (newest - span) newest xs → RisesWithin (newest + 1 - span) newest xs
 within_span span newest [] may rises = tt
 within_span span newest (s ∷ rest) may rises =
     let near = leb-true (newest + 1) (s.number + span) may in

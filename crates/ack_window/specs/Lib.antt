@@ -6,6 +6,7 @@ pub mod Kept
 pub mod Laws
 pub mod Outstanding
 pub mod Sends
+pub mod Steps
 pub mod Versions
 pub mod Weights
 pub mod Windows

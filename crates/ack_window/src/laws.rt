@@ -1,6 +1,7 @@
 //! What holds of both ends of a connection, over whole histories: crates above cite these functions' contracts.
 ghost use Rattle.ack_window.specs.Examples.{WindowsOfTheFirstVersion, WindowsOfTheSecondVersion};
 ghost use Rattle.ack_window.specs.Laws.{EachVerdictHasItsCause, EachIsTakenOnce, WhatIsTakenHasCome, TakingIsForGood, ShownWasTaken, LostIsNeverTaken, UndecidedIsStillTaken, OpenIsWithinSpan, EachNumberKeepsItsContent, TheNewestGoesAgain, AgreementIsKept, TheEndsAgree, LostStaysUntaken, PacketsStayTheirSenders};
+ghost use Rattle.ack_window.specs.Steps.{SendersGoOnByStep};
 ghost use Rattle.ack_window.specs.Versions.{EachVersionHasItsLimits};
 ghost use Rattle.ack_window.specs.Weights.{EachNumberIsOneOfThree, AReadingMovesWhatItDecides, WeightsAddUp};
 
@@ -49,6 +50,11 @@ pub fn readings_move_what_they_decide<T>()
     ensures parts { EachNumberIsOneOfThree T }
     ensures moved { AReadingMovesWhatItDecides T }
     ensures sums { WeightsAddUp T }
+{}
+
+/// A sender goes on by steps in which contents are only carried along: what a send and a reading make of it, and what they decide.
+pub fn senders_go_on_by_step<T>()
+    ensures { SendersGoOnByStep T }
 {}
 
 /// Small connections of both versions, which the definitions compute.

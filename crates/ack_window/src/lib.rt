@@ -11,7 +11,7 @@ pub use acknowledgement::{Acknowledgement, Decision};
 pub use laws::{
     both_ends_of_a_direction_agree, each_number_is_taken_once, each_number_keeps_its_content,
     each_version_has_its_limits, open_numbers_stay_within_span, readings_move_what_they_decide,
-    small_connections, taking_stops_where_loss_starts,
+    senders_go_on_by_step, small_connections, taking_stops_where_loss_starts,
 };
 pub use limits::{reorder, span};
 pub use no_memory::NoMemory;

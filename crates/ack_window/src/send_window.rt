@@ -1,11 +1,12 @@
 //! The sender's side.
-ghost use Rattle.std.specs.Prelude.{◌≡◌, ℕ, ◌+◌, ◌^◌, ◌<◌, ◌≤◌, ◌↔◌, List, [], ◌∷◌, ◌++◌, Some, IsTrue, IfOk, length, take, drop, vec_len, vec_capacity};
+ghost use Rattle.std.specs.Prelude.{◌≡◌, ℕ, ◌+◌, ◌^◌, ◌<◌, ◌≤◌, ◌↔◌, List, [], ◌∷◌, ◌++◌, Some, IsTrue, IfOk, All, length, take, drop, vec_len, vec_capacity};
 ghost use Rattle.std.specs.Bool.{OnFalse};
 ghost use Rattle.arrayvec.specs.ArrayVec.{array_vec_len};
 ghost use Rattle.ack_window.specs.Acknowledgement.{decision_by};
-ghost use Rattle.ack_window.specs.Kept.{RisesWithin};
+ghost use Rattle.ack_window.specs.Kept.{RisesWithin, last_number};
 ghost use Rattle.ack_window.specs.Outstanding.{MaySendNew, decided_in, left_in};
 ghost use Rattle.ack_window.specs.Sends.{Event, Sends, Reads, decided_by, newest_content, outstanding_of};
+ghost use Rattle.ack_window.specs.Steps.{after_sending, after_reading, decided_for};
 ghost use Rattle.ack_window.specs.Versions.{reorder_of, span_of};
 ghost use Rattle.ack_window.specs.Windows.{HasDone, MaySend};
 
@@ -92,6 +93,7 @@ impl<T> SendWindow<T> {
     pub fn newest(&self) -> (u32, &T)
         requires { ¬ MaySend self.now }
         ensures number { result.0 ≡ self.now.outstanding.newest }
+        ensures last { last_number self.now.outstanding.unresolved ≡ self.now.outstanding.newest }
         ensures content { (history : List (Event T)) →
             HasDone self.now history →
             newest_content history ≡ Some result.1.now }
@@ -107,6 +109,8 @@ impl<T> SendWindow<T> {
         ensures number { result ≡ self.old.outstanding.newest + 1 }
         ensures newest { self.new.outstanding.newest ≡ result }
         ensures version { self.new.version ≡ self.old.version }
+        ensures step { self.new ≡ after_sending self.old content }
+        ensures near { All (λ s. (s.number < result) × (result ≤ s.number + 128)) self.old.outstanding.unresolved }
         ensures stands { (history : List (Event T)) →
             HasDone self.old history →
             HasDone self.new (Sends content ∷ history) }
@@ -124,6 +128,8 @@ impl<T: Drop> SendWindow<T> {
     /// newest number is passed over.
     pub fn read_ack(&mut self, high: u32, mask: u128, found: &mut ArrayVec<Decided<T>, 129>)
         requires { found.old.items ≡ [] }
+        ensures found { found.new.items ≡ decided_for self.old (record { high = high; mask = mask }) }
+        ensures step { self.new ≡ after_reading self.old (record { high = high; mask = mask }) }
         ensures decided { (history : List (Event T)) →
             HasDone self.old history →
             found.new.items ≡ decided_by (reorder_of self.old.version) (span_of self.old.version) history (record { high = high; mask = mask }) }

@@ -11,3 +11,4 @@ mod Hearing
 mod Making
 mod Taking
 mod Sufficing
+mod Carrying

@@ -4,3 +4,4 @@ pub mod Refusals
 pub mod Lines
 pub mod Parts
 pub mod Laws
+pub mod Places

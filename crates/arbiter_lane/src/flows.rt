@@ -1,10 +1,11 @@
 //! The lines of a lane, one for each destination: what each call makes of all of them.
-ghost use Rattle.std.specs.Prelude.{◌≢◌, ◌≤◌, ◌^◌, ◌++◌, OnOk, OnErr, IfSome, Some, slice_get, slice_set, option_to_list, ◌≡◌, ◌<◌, ◌+◌, ℕ, [], ◌∷◌, length, All, false, min, if◌then◌else◌};
+ghost use Rattle.std.specs.Prelude.{◌≢◌, ◌≤◌, ◌^◌, ◌++◌, OnOk, OnErr, IfSome, Some, slice_get, slice_set, option_to_list, ◌≡◌, ◌<◌, ◌+◌, ℕ, [], ◌∷◌, length, All, false, min, map, if◌then◌else◌};
 ghost use Rattle.fcp_framing.specs.declared.packet.Told.{Told as ToldSlot};
 ghost use Rattle.fcp_framing.specs.declared.packet.Demand.{Demand as DemandItem};
 ghost use Rattle.ack_window.specs.declared.send_window.Decided.{Decided as DecidedNumber};
 ghost use Rattle.endpoint_history.specs.Packets.{Telling as TellingOf, slots_to};
 ghost use Rattle.arbiter_lane.specs.State.{AreInFlight};
+ghost use Rattle.arbiter_lane.specs.Places.{telling_at, decided_with};
 ghost use Rattle.arbiter_lane.specs.Lines.{entry_on, Become, LosesSlots, AcknowledgesSlots, RisesTo, DecidesSlots, IsEntered, slots_shown, slots_lost, HasStartedAgain};
 ghost use Rattle.std.specs.List.{filter_map};
 ghost use Rattle.greedy_rules.specs.Batches.{IsAboveLast};
@@ -15,6 +16,7 @@ ghost use Rattle.endpoint_history.specs.Confirmed.{total_named};
 use crate::NoMemory;
 use crate::line::Line;
 use crate::telling::Telling;
+use crate::tellings::PLACES;
 use ack_window::Decided;
 use fcp_framing::{Demand, Told};
 use greedy_rules::{Batch, Flow};
@@ -96,27 +98,36 @@ pub(crate) fn restart(lines: &mut [Line])
     }
 }
 
-/// Counts the slots in the numbers that are decided, as lost or as acknowledged, and marks the flows of those that are lost.
-pub(crate) fn decide(lines: &mut [Line], risen: &mut Marks, found: &[Decided<Telling>])
+/// Counts the slots that lie at the places of the numbers that are decided, as lost or as acknowledged, and marks the flows of
+/// those that are lost.
+pub(crate) fn decide(
+    lines: &mut [Line],
+    risen: &mut Marks,
+    found: &[Decided<()>],
+    places: &[Telling],
+)
     requires few { length lines.old ≤ 256 }
-    requires destinations { All (λ (number : DecidedNumber TellingOf). All (λ (slot : ToldSlot). slot.dst < length lines.old) number.content.told) found.now }
-    requires in_flight { AreInFlight (λ dst. slots_shown found.now dst + slots_lost found.now dst) lines.old }
-    ensures decided { Become (λ dst. DecidesSlots (slots_shown found.now dst) (slots_lost found.now dst)) lines.old lines.new }
+    requires places { length places.now ≡ 129 }
+    requires destinations { All (λ (number : DecidedNumber TellingOf). All (λ (slot : ToldSlot). slot.dst < length lines.old) number.content.told) (map (decided_with places.now) found.now) }
+    requires in_flight { AreInFlight (λ dst. slots_shown (map (decided_with places.now) found.now) dst + slots_lost (map (decided_with places.now) found.now) dst) lines.old }
+    ensures decided { Become (λ dst. DecidesSlots (slots_shown (map (decided_with places.now) found.now) dst) (slots_lost (map (decided_with places.now) found.now) dst)) lines.old lines.new }
     ensures marked { AreMarked risen.old lines.old → AreMarked risen.new lines.new }
 {
     for number in found {
-        decide_one(lines, risen, number);
+        decide_one(lines, risen, number, places);
     }
 }
 
-fn decide_one(lines: &mut [Line], risen: &mut Marks, number: &Decided<Telling>)
+fn decide_one(lines: &mut [Line], risen: &mut Marks, number: &Decided<()>, places: &[Telling])
     requires few { length lines.old ≤ 256 }
-    requires destinations { All (λ (slot : ToldSlot). slot.dst < length lines.old) number.now.content.told }
-    requires in_flight { AreInFlight (λ dst. slots_to dst number.now.content.told) lines.old }
-    ensures decided { Become (λ dst. DecidesSlots (slots_shown (number.now ∷ []) dst) (slots_lost (number.now ∷ []) dst)) lines.old lines.new }
+    requires places { length places.now ≡ 129 }
+    requires destinations { All (λ (slot : ToldSlot). slot.dst < length lines.old) (telling_at places.now number.now.number).told }
+    requires in_flight { AreInFlight (λ dst. slots_to dst (telling_at places.now number.now.number).told) lines.old }
+    ensures decided { Become (λ dst. DecidesSlots (slots_shown (decided_with places.now number.now ∷ []) dst) (slots_lost (decided_with places.now number.now ∷ []) dst)) lines.old lines.new }
     ensures marked { AreMarked risen.old lines.old → AreMarked risen.new lines.new }
 {
-    let told = number.content.told.as_slice();
+    let telling = &places[(number.number % PLACES) as usize];
+    let told = telling.told();
     if number.lost {
         lose(lines, risen, told);
     } else {

@@ -24,14 +24,15 @@ ghost use Rattle.arbiter_lane.specs.State.{AreSlots, AreAllocated, AreInFlight, 
 ghost use Rattle.arbiter_lane.specs.Standing.{StandsFor, FlowIsWithinLedger};
 ghost use Rattle.arbiter_lane.specs.Refusals.{refusal_of, refusal_of_number, IsOwn};
 ghost use Rattle.arbiter_lane.specs.declared.line.Line.{Line as LineOf};
-ghost use Rattle.arbiter_lane.specs.Lines.{Become, LosesSlots, DecidesSlots, Hears, HasStartedAgain, slots_shown, slots_lost};
+ghost use Rattle.arbiter_lane.specs.Lines.{Become, LosesSlots, Hears, HasStartedAgain, slots_shown, slots_lost};
 ghost use Rattle.arbiter_lane.specs.Parts.{packet_with, slots_told, acknowledgement_in, AreMarked};
 
 use crate::line::Line;
 use crate::refusal::UpRefused;
-use crate::telling::{Telling, tell};
+use crate::telling::tell;
+use crate::tellings::Tellings;
 use crate::{NoMemory, flows};
-use ack_window::{Decided, SendWindow, TakeWindow, Taken, readings_move_what_they_decide};
+use ack_window::{TakeWindow, Taken};
 use arrayvec::ArrayVec;
 use endpoint_history::lanes_count_slots;
 use fcp_framing::{Down, Told, Up, decode_up, encode_alloc};
@@ -56,7 +57,7 @@ pub struct Lane {
     version: u8,
     last_reset: u32,
     arrived: TakeWindow,
-    sent: SendWindow<Telling>,
+    sent: Tellings,
     lines: Vec<Line>,
     /// The lines that have risen since their entries were counted last: all of these, and maybe others.
     risen: Marks,
@@ -66,8 +67,6 @@ pub struct Lane {
     /// The packet that was made last, and the one that arrived last.
     down: Down,
     up: Up,
-    /// What its acknowledgement decides. Empty between two calls, and 36 KB large, so that a lane is moved without it.
-    found: Box<ArrayVec<Decided<Telling>, 129>>,
 }
 
 impl Model for Lane {
@@ -110,7 +109,7 @@ impl Model for Lane {
           is_made = lane.is_made;
           is_reset = lane.is_reset;
         } in
-        IsSound state × HasHistory state × (lane.found.value.items ≡ []) × AreMarked lane.risen lane.lines.items };
+        IsSound state × HasHistory state × AreMarked lane.risen lane.lines.items };
 }
 
 impl Lane {
@@ -145,7 +144,7 @@ impl Lane {
             version: FIRST_VERSION,
             last_reset: 0,
             arrived: TakeWindow::new(FIRST_VERSION),
-            sent: SendWindow::open(alloc, FIRST_VERSION)?,
+            sent: Tellings::open(alloc, FIRST_VERSION)?,
             lines: vec![in alloc; Line::new(); endpoints as usize]?,
             risen: Marks::new(),
             round: 0,
@@ -153,7 +152,6 @@ impl Lane {
             is_reset: false,
             down: Down::default(),
             up: Up::default(),
-            found: Box::new(alloc, ArrayVec::new())?,
         })
     }
 
@@ -265,7 +263,6 @@ impl Lane {
             &self.up,
             &mut self.arrived,
             &mut self.sent,
-            &mut self.found,
             &mut self.lines,
             &mut self.risen,
         )
@@ -386,18 +383,18 @@ impl Lane {
     }
 }
 
-/// Makes it an allocation of the connection as it is, which tells nothing under no number.
+/// Makes it an allocation of the connection as it is. Its number and what it tells are as they were.
 fn put_header(down: &mut Down, version: u8, endpoint: u16, epoch: u32, arrived: &TakeWindow)
     requires { arrived.now.version ≡ version }
     ensures header { down.new ≡ record {
       version = version;
       dst = endpoint;
       epoch = epoch;
-      seq = 0;
+      seq = down.old.seq;
       high = arrived.now.told.high;
       mask = arrived.now.told.mask;
-      batch = 0;
-      told = record { items = [] };
+      batch = down.old.batch;
+      told = down.old.told;
     } }
     ensures mask { IsMask arrived.now.told.high arrived.now.told.mask }
     ensures width { arrived.now.told.mask < 2 ^ mask_bits version }
@@ -406,26 +403,21 @@ fn put_header(down: &mut Down, version: u8, endpoint: u16, epoch: u32, arrived: 
     down.version = version;
     down.dst = endpoint;
     down.epoch = epoch;
-    down.seq = 0;
     down.high = high;
     down.mask = mask;
-    down.batch = 0;
-    down.told.clear();
 }
 
 /// Takes a request of the connection: reads its acknowledgement, and where its number is fresh raises the demands that it names.
-/// Answers what the number is refused for. `found` is empty again.
+/// Answers what the number is refused for.
 fn take_request(
     up: &Up,
     arrived: &mut TakeWindow,
-    sent: &mut SendWindow<Telling>,
-    found: &mut ArrayVec<Decided<Telling>, 129>,
+    sent: &mut Tellings,
     lines: &mut [Line],
     risen: &mut Marks,
 ) -> Result<(), UpRefused>
     requires number { 1 ≤ up.now.seq }
     requires few { length lines.old ≤ 256 }
-    requires empty { found.old.items ≡ [] }
     requires stands { (events : List (Event TellingOf)) × HasDone sent.old events }
     requires destinations { All (λ (number : UnresolvedNumber TellingOf). All (λ (slot : ToldSlot). slot.dst < length lines.old) number.content.told) sent.old.outstanding.unresolved }
     requires named { All (λ (demand : DemandItem). demand.dst < length lines.old) up.now.demands.items }
@@ -439,7 +431,6 @@ fn take_request(
         HasHeard arrived.old numbers →
         HasHeard arrived.new (up.now.seq ∷ numbers) }
     ensures arrived_version { arrived.new.version ≡ arrived.old.version }
-    ensures empty { found.new.items ≡ [] }
     ensures lines { (numbers : List ℕ) (events : List (Event TellingOf)) →
         HasHeard arrived.old numbers →
         HasDone sent.old events →
@@ -454,7 +445,7 @@ fn take_request(
     ensures version { sent.new.version ≡ sent.old.version }
     ensures marked { AreMarked risen.old lines.old → AreMarked risen.new lines.new }
 {
-    read_ack(up, sent, found, lines, risen);
+    sent.read_ack(up.high, up.mask, lines, risen);
     match arrived.take(up.seq) {
         Taken::Fresh => {
             flows::raise(lines, risen, up.demands.as_slice());
@@ -463,36 +454,4 @@ fn take_request(
         Taken::Repeat => Err(UpRefused::Repeat),
         Taken::Old => Err(UpRefused::OldSeq),
     }
-}
-
-/// Reads the acknowledgement that a request carries, and counts the slots in the numbers that it decides. `found` is empty again.
-fn read_ack(
-    up: &Up,
-    sent: &mut SendWindow<Telling>,
-    found: &mut ArrayVec<Decided<Telling>, 129>,
-    lines: &mut [Line],
-    risen: &mut Marks,
-)
-    requires few { length lines.old ≤ 256 }
-    requires empty { found.old.items ≡ [] }
-    requires stands { (events : List (Event TellingOf)) × HasDone sent.old events }
-    requires destinations { All (λ (number : UnresolvedNumber TellingOf). All (λ (slot : ToldSlot). slot.dst < length lines.old) number.content.told) sent.old.outstanding.unresolved }
-    requires in_flight { AreInFlight (λ dst. open_to dst sent.old) lines.old }
-    ensures empty { found.new.items ≡ [] }
-    ensures lines { (events : List (Event TellingOf)) →
-        HasDone sent.old events →
-        Become (λ dst. DecidesSlots
-        (slots_shown (decided_by (reorder_of sent.old.version) (span_of sent.old.version) events (acknowledgement_in up.now)) dst)
-        (slots_lost (decided_by (reorder_of sent.old.version) (span_of sent.old.version) events (acknowledgement_in up.now)) dst)) lines.old lines.new }
-    ensures sent { (events : List (Event TellingOf)) →
-        HasDone sent.old events →
-        HasDone sent.new (Reads (acknowledgement_in up.now) ∷ events) }
-    ensures newest { sent.new.outstanding.newest ≡ sent.old.outstanding.newest }
-    ensures version { sent.new.version ≡ sent.old.version }
-    ensures marked { AreMarked risen.old lines.old → AreMarked risen.new lines.new }
-{
-    readings_move_what_they_decide::<Telling>();
-    sent.read_ack(up.high, up.mask, found);
-    flows::decide(lines, risen, found.as_slice());
-    found.clear();
 }

@@ -8,6 +8,7 @@ mod laws;
 mod line;
 mod refusal;
 mod telling;
+mod tellings;
 
 pub use lane::Lane;
 pub use laws::conditions_suffice;

@@ -6,10 +6,12 @@ use Rattle.ack_window.specs.Acknowledgement.{decision_by}
 use Rattle.ack_window.specs.Kept.{IsKept}
 use Rattle.ack_window.specs.Outstanding.{decided_in}
 use Rattle.ack_window.specs.Sends.{Event, Reads, decided_by, StandsForSends}
+use Rattle.ack_window.specs.Steps.{after_reading, decided_for}
 use Rattle.ack_window.specs.Versions.{reorder_of, span_of}
 use Rattle.ack_window.specs.Windows.{Sender, HasDone}
 use Rattle.ack_window.proofs.Sending.{RisesWithin-length, RisesWithin-weaker, IsKept-read, StandsForSends-read, decided_by-read, decided_by-passed}
 use Rattle.ack_window.proofs.Spans.{span-most}
+use Rattle.ack_window.proofs.Steps.{found-read, left-passed, found-passed}
 use Rattle.ack_window.proofs.send_window.SendWindow.read_ack.Goals as goal
 
 pub decide-requires : goal.decide-requires
@@ -61,3 +63,25 @@ returns-else-high-self-clause-decided g c = λ history stands.
     let a : Acknowledgement = record { high = c.args.high; mask = c.args.mask } in
     as_seen _ _ _ history a c.self.view_is
     (c.requires ∙ sym (decided_by-passed (reorder_of c.self.inside.version) (span_of c.self.inside.version) _ a history before c.if-high-self.false))
+
+-- and by the step
+found_as_seen : {T : Type 0} (fields now : Sender T) (found : List (Decided T)) (ack : Acknowledgement) → fields ≡ now → found ≡ decided_for fields ack → found ≡ decided_for now ack
+found_as_seen {T} fields now found ack is decided = subst (λ (w : Sender T). found ≡ decided_for w ack) is decided
+
+pub returns-then-high-self-clause-found : goal.returns-then-high-self-clause-found
+returns-then-high-self-clause-found g c =
+    let a : Acknowledgement = record { high = c.args.high; mask = c.args.mask } in
+    found_as_seen _ _ _ a c.self.view_is
+    (c.decide.ensures.found
+    ∙ ap (λ xs. xs ++ decided_in (decision_by (reorder_of c.self.inside.version) (span_of c.self.inside.version) a) c.self.inside.unresolved.items) c.requires
+    ∙ found-read _ a c.if-high-self.true)
+
+pub returns-else-high-self-clause-found : goal.returns-else-high-self-clause-found
+returns-else-high-self-clause-found g c =
+    let a : Acknowledgement = record { high = c.args.high; mask = c.args.mask } in
+    found_as_seen _ _ _ a c.self.view_is (c.requires ∙ sym (found-passed _ a c.if-high-self.false))
+
+pub returns-else-high-self-clause-step : goal.returns-else-high-self-clause-step
+returns-else-high-self-clause-step g c =
+    let a : Acknowledgement = record { high = c.args.high; mask = c.args.mask } in
+    subst (λ (w : Sender g.row.T.Denot). w ≡ after_reading w a) c.self.view_is (left-passed _ a c.if-high-self.false)

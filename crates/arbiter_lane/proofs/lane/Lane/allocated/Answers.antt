@@ -42,8 +42,7 @@ invariant_of-self c =
         stands-allocated was (set was.lines c.args.dst new) c.args.dst c.args.batch c.args.n before.1.0 before.1.1 past become before.1.2,
         before.1.3,
       ),
-      before.2,
-      marked-allocated (counted was.last_reset c.args.dst c.args.batch c.args.n) c.self.inside.risen was.lines (set was.lines c.args.dst new) become before.3,
+      marked-allocated (counted was.last_reset c.args.dst c.args.batch c.args.n) c.self.inside.risen was.lines (set was.lines c.args.dst new) become before.2,
     )
 
 pub returns-then-batch-self-clause-stands : goal.returns-then-batch-self-clause-stands

@@ -27,7 +27,6 @@ invariant_of-self c =
         tells-begun was was.round c.args.epoch c.args.version c.new-self-inside.result c.restart.new.self lines before.1.0
             (lt-ltb (epoch_of before.1.0) c.args.epoch (omega (arith, greater, before.1.2.epoch))),
       ),
-      before.2,
       marked-written c.clear_all.new.self c.self.inside.lines c.deref_mut.result.now c.restart-2.new.lines c.deref_mut.ensures.value c.restart-2.ensures.as_many
           (marked-begun c.clear_all.new.self c.deref_mut.result.now c.restart-2.new.lines c.restart-2.ensures),
     )

@@ -1,4 +1,4 @@
-use Rattle.std.proofs.Common.{◌≡◌, ◌≢◌, ℕ, ◌*◌, ◌-◌, ◌<◌, [], ◌∷◌, Some, IfSome, slice_get, take, false, sym, ◌∙◌, ap, subst, arith}
+use Rattle.std.proofs.Common.{◌≡◌, ◌≢◌, ℕ, ◌*◌, ◌-◌, ◌<◌, ◌∷◌, Some, IfSome, slice_get, take, false, sym, ◌∙◌, ap, subst, arith}
 use Rattle.std.specs.Option.{option_map}
 use Rattle.std.specs.Vec.{with_items}
 use Rattle.fcp_framing.specs.declared.packet.Down.{Down}
@@ -36,7 +36,6 @@ invariant_of-self c =
         tells-quiet was c.args.round slots before.1.0 (sym before.1.2.epoch ∙ c.if-self-eq0.true) before.1.3,
       ),
       before.2,
-      before.3,
     )
 
 pub returns-then-self-eq0-clause-packet : goal.returns-then-self-eq0-clause-packet
@@ -84,7 +83,7 @@ encode_alloc-requires c =
     (Become-written (λ dst. LosesSlots (lost_by was.sent c.slots_told-told.result.now dst)) c.self.inside.lines c.deref_mut.result.now c.tell.new.lines c.deref_mut.ensures.value c.tell.ensures.lines) in
     let begun : 0 < was.epoch = above was.epoch c.if-self-eq0.false in
     let are = subst (λ (l : LaneState). AreSlots l.endpoints l.b l.endpoint slots) (sym c.self.view_is) c.requires.slots in
-    let header : c.put_header.new.down ≡ packet_with was 0 0 [] = c.put_header.ensures.header in
+    let header : c.put_header.new.down ≡ packet_with was c.self.inside.down.seq c.self.inside.down.batch c.self.inside.down.told.items = c.put_header.ensures.header in
     let down_is : down ≡ packet_with was c.tell.new.sent.outstanding.newest down.batch down.told.items =
     c.tell.ensures.down ∙ ap (λ (d : Down). record d { seq = c.tell.new.sent.outstanding.newest; batch = down.batch; told = down.told }) header in (
       was.endpoints,
@@ -120,9 +119,8 @@ invariant_of-self-2 c =
         stands-made c.lanes_count_slots.ensures.making was c.args.round slots c.tell.new.sent lines before.1.0 before.1.1 before.0.sent_version told.version begun done told.change before.1.2,
         tells-made was c.args.round slots c.tell.new.sent lines before.1.0 before.1.1 before.0.sent_version begun are before.1.2 before.1.3,
       ),
-      before.2,
       marked-written c.tell.new.risen c.self.inside.lines c.deref_mut.result.now c.tell.new.lines c.deref_mut.ensures.value c.tell.ensures.lines.as_many
-          (c.tell.ensures.marked (subst (AreMarked c.self.inside.risen) (sym c.deref_mut.ensures.value) before.3)),
+          (c.tell.ensures.marked (subst (AreMarked c.self.inside.risen) (sym c.deref_mut.ensures.value) before.2)),
     )
 
 pub returns-clause-packet : goal.returns-clause-packet
@@ -139,7 +137,7 @@ returns-clause-packet c = λ history allocations stood.
     (Become-written (λ dst. LosesSlots (lost_by was.sent c.slots_told-told.result.now dst)) c.self.inside.lines c.deref_mut.result.now c.tell.new.lines c.deref_mut.ensures.value c.tell.ensures.lines) in
     let begun : 0 < was.epoch = above was.epoch c.if-self-eq0.false in
     let stands = subst (λ (l : LaneState). StandsFor l history allocations) (sym c.self.view_is) stood in
-    let header : c.put_header.new.down ≡ packet_with was 0 0 [] = c.put_header.ensures.header in
+    let header : c.put_header.new.down ≡ packet_with was c.self.inside.down.seq c.self.inside.down.batch c.self.inside.down.told.items = c.put_header.ensures.header in
     let down_is : down ≡ packet_with was c.tell.new.sent.outstanding.newest down.batch down.told.items =
     c.tell.ensures.down ∙ ap (λ (d : Down). record d { seq = c.tell.new.sent.outstanding.newest; batch = down.batch; told = down.told }) header in
     let made = packet-made was history allocations c.args.round slots c.tell.new.sent content before.0.heard_version before.0.sent_version begun (told.done (numbers was.g history) stands.sent) (told.says (numbers was.g history) stands.sent) stands in
@@ -161,7 +159,7 @@ returns-clause-spelled c = λ history allocations stood.
     (Become-written (λ dst. LosesSlots (lost_by was.sent c.slots_told-told.result.now dst)) c.self.inside.lines c.deref_mut.result.now c.tell.new.lines c.deref_mut.ensures.value c.tell.ensures.lines) in
     let begun : 0 < was.epoch = above was.epoch c.if-self-eq0.false in
     let stands = subst (λ (l : LaneState). StandsFor l history allocations) (sym c.self.view_is) stood in
-    let header : c.put_header.new.down ≡ packet_with was 0 0 [] = c.put_header.ensures.header in
+    let header : c.put_header.new.down ≡ packet_with was c.self.inside.down.seq c.self.inside.down.batch c.self.inside.down.told.items = c.put_header.ensures.header in
     let down_is : down ≡ packet_with was c.tell.new.sent.outstanding.newest down.batch down.told.items =
     c.tell.ensures.down ∙ ap (λ (d : Down). record d { seq = c.tell.new.sent.outstanding.newest; batch = down.batch; told = down.told }) header in
     let made = packet-made was history allocations c.args.round slots c.tell.new.sent content before.0.heard_version before.0.sent_version begun (told.done (numbers was.g history) stands.sent) (told.says (numbers was.g history) stands.sent) stands in

@@ -17,7 +17,6 @@ invariant_of-result c =
         stands-opened c.args.endpoint c.args.endpoints c.args.b c.args.g c.new.result c.in_ok-open.field-0 lines c.new.ensures.stands c.in_ok-open.ensures.version c.in_ok-open.ensures.stands blank,
         tells-opened c.args.endpoint c.args.endpoints c.args.b c.args.g c.new.result c.in_ok-open.field-0 lines,
       ),
-      rw c.in_ok-new.ensures.ok c.new-4.ensures,
       λ dst line here none. let started = (blank dst line here).started in omega (arith, started.entered, started.count.demanded, started.count.lost),
     )
 

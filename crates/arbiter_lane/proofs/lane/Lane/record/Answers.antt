@@ -17,7 +17,7 @@ pub record-requires-clause-can_rise : goal.record-requires-clause-can_rise
 record-requires-clause-can_rise c = subst CanRise (sym c.deref_mut.ensures.value) (can_rise (the_view c.self.inside) c.self.invariant.0)
 
 pub record-requires-clause-marked : goal.record-requires-clause-marked
-record-requires-clause-marked c = subst (AreMarked c.self.inside.risen) (sym c.deref_mut.ensures.value) c.self.invariant.3
+record-requires-clause-marked c = subst (AreMarked c.self.inside.risen) (sym c.deref_mut.ensures.value) c.self.invariant.2
 
 pub invariant_of-self-2 : goal.invariant_of-self-2
 invariant_of-self-2 c =
@@ -28,7 +28,6 @@ invariant_of-self-2 c =
     let now : was.round ≡ c.args.round = ap (λ (l : LaneState). l.round) c.self.view_is ∙ sym c.requires.round in (
       sound-recorded was c.args.round lines now before.0 c.requires.rounds become,
       (Records c.args.round ∷ before.1.0, before.1.1, stands-recorded was c.args.round lines before.1.0 before.1.1 now before.1.2 become, before.1.3),
-      before.2,
       marked-written c.record.new.risen c.self.inside.lines c.deref_mut.result.now c.record.new.lines c.deref_mut.ensures.value c.in_ok-record.ensures.entered.as_many c.record.ensures.marked,
     )
 

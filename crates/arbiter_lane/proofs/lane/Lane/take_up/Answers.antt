@@ -76,8 +76,8 @@ pub take_request-requires-clause-destinations : goal.take_request-requires-claus
 take_request-requires-clause-destinations c =
     let was : LaneState = the_view c.self.inside in
     let before = c.self.invariant in
-    let lines = c.deref_mut-2.result.now in
-    let long : was.endpoints ≡ length lines = sym before.0.as_many ∙ ap length (sym c.deref_mut-2.ensures.value) in
+    let lines = c.deref_mut.result.now in
+    let long : was.endpoints ≡ length lines = sym before.0.as_many ∙ ap length (sym c.deref_mut.ensures.value) in
     open-told (λ (t : TellingOf). All (λ (slot : ToldSlot). slot.dst < length lines) t.told) was.sent (numbers was.g before.1.0) before.1.2.sent
     (All-weaker (λ (number : UnresolvedNumber TellingOf). AreSlots was.endpoints was.b was.endpoint number.content.told) (λ (number : UnresolvedNumber TellingOf). All (λ (slot : ToldSlot). slot.dst < length lines) number.content.told)
     (λ number slots. subst (λ n. All (λ (slot : ToldSlot). slot.dst < n) number.content.told) long slots.destinations) _ before.1.3)
@@ -99,7 +99,7 @@ invariant_of-self-2 c =
       now_version = c.take_request.ensures.version;
       heard = c.take_request.ensures.arrived (arrived before.1.0) before.1.2.arrived;
       done = c.take_request.ensures.sent (numbers was.g before.1.0) before.1.2.sent;
-      change = Become-written (HearsRequest was before.1.0 (request_in up)) c.self.inside.lines c.deref_mut-2.result.now c.take_request.new.lines c.deref_mut-2.ensures.value
+      change = Become-written (HearsRequest was before.1.0 (request_in up)) c.self.inside.lines c.deref_mut.result.now c.take_request.new.lines c.deref_mut.ensures.value
           (c.take_request.ensures.lines (arrived before.1.0) (numbers was.g before.1.0) before.1.2.arrived before.1.2.sent);
     } in
     let names = names_others was was.endpoints c.args.bytes.now up c.in_default.ensures.spelled c.if-self-5.false c.if-self.false in (
@@ -111,10 +111,9 @@ invariant_of-self-2 c =
         stands-heard c.lanes_count_slots.ensures.reading was c.args.round (request_in up) heard_now sent lines before.1.0 before.1.1 heard before.1.2,
         tells-heard was c.args.round (request_in up) heard_now sent lines before.1.0 before.1.3,
       ),
-      c.take_request.ensures.empty,
-      marked-written c.take_request.new.risen c.self.inside.lines c.deref_mut-2.result.now c.take_request.new.lines c.deref_mut-2.ensures.value
+      marked-written c.take_request.new.risen c.self.inside.lines c.deref_mut.result.now c.take_request.new.lines c.deref_mut.ensures.value
           (c.take_request.ensures.lines (arrived before.1.0) (numbers was.g before.1.0) before.1.2.arrived before.1.2.sent).as_many
-          (c.take_request.ensures.marked (subst (AreMarked c.self.inside.risen) (sym c.deref_mut-2.ensures.value) before.3)),
+          (c.take_request.ensures.marked (subst (AreMarked c.self.inside.risen) (sym c.deref_mut.ensures.value) before.2)),
     )
 
 pub returns-clause-answer : goal.returns-clause-answer
@@ -163,7 +162,7 @@ returns-clause-stands c = λ own history allocations stood.
       now_version = c.take_request.ensures.version;
       heard = c.take_request.ensures.arrived (arrived history) stands.arrived;
       done = c.take_request.ensures.sent (numbers was.g history) stands.sent;
-      change = Become-written (HearsRequest was history (request_in up)) c.self.inside.lines c.deref_mut-2.result.now c.take_request.new.lines c.deref_mut-2.ensures.value
+      change = Become-written (HearsRequest was history (request_in up)) c.self.inside.lines c.deref_mut.result.now c.take_request.new.lines c.deref_mut.ensures.value
           (c.take_request.ensures.lines (arrived history) (numbers was.g history) stands.arrived stands.sent);
     } in
     let stands_now = stands-heard c.lanes_count_slots.ensures.reading was c.args.round (request_in up) heard_now sent lines history allocations heard stands in
