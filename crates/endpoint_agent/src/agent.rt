@@ -1,5 +1,5 @@
 //! The agent of one endpoint.
-ghost use Rattle.std.specs.Prelude.{◌≡◌, ◌≢◌, ◌<◌, ◌≤◌, ◌+◌, ◌*◌, ◌%◌, ◌^◌, ◌==◌, ◌⊎◌, true, false, count_by, nat_le, [], ◌∷◌, List, ℕ, map, take, drop, length, slice_set, All, IfOk, IfSome, if◌then◌else◌};
+ghost use Rattle.std.specs.Prelude.{◌≡◌, ◌≢◌, ◌<◌, ◌≤◌, ◌+◌, ◌*◌, ◌%◌, ◌^◌, ◌==◌, ◌⊎◌, true, false, count_by, nat_le, [], ◌∷◌, List, ℕ, take, drop, length, slice_set, All, IfOk, IfSome, if◌then◌else◌};
 ghost use Rattle.std.specs.Result.{result_err};
 ghost use Rattle.ack_window.specs.Sends.{Event, Sends, Reads, decided_by};
 ghost use Rattle.ack_window.specs.Versions.{reorder_of, span_of};
@@ -20,11 +20,12 @@ ghost use Rattle.endpoint_agent.specs.State.{line_at, place_of, MayTake, AreMark
 ghost use Rattle.line_marks.specs.Places.{is_marked};
 
 use crate::lines::{FlowLine, Sent, mark_all, miss_all, name_unconfirmed, send_all};
+use crate::waiting::{Waiting, open_places};
 use crate::{DownRefused, NoMemory};
 use ack_window::{Decided, SendWindow, TakeWindow, Taken};
 use arrayvec::ArrayVec;
 use endpoint_history::{agents_count_slots, requests_name_unconfirmed_totals};
-use fcp_framing::{Down, Told, Up, decode_down, encode_req, encode_reset};
+use fcp_framing::{Down, Up, decode_down, encode_req, encode_reset};
 use line_marks::Marks;
 use std::alloc::Global;
 use std::marker::Model;
@@ -53,7 +54,7 @@ pub struct Agent {
     /// The flows whose total an acknowledged request may lack: all that do, and maybe others.
     unconfirmed: Marks,
     /// The slots that wait, of three batches at most: batch k has the place k % 3.
-    waiting: [ArrayVec<Told, 64>; 3],
+    waiting: [Waiting; 3],
     round: u32,
     is_made: bool,
     /// The packet that arrived last, and what its acknowledgement decides.
@@ -62,7 +63,7 @@ pub struct Agent {
 }
 
 impl Model for Agent {
-    ghost use Rattle.std.specs.Prelude.{◌≡◌, map, false};
+    ghost use Rattle.std.specs.Prelude.{◌≡◌, false};
     ghost use Rattle.endpoint_agent.specs.State.{AgentState, IsSound, IsKept};
     ghost use Rattle.endpoint_agent.specs.Standing.{HasHistory};
 
@@ -81,7 +82,7 @@ impl Model for Agent {
       acknowledged = agent.acknowledged;
       named = agent.request.demands.items;
       lines = agent.lines.items;
-      waiting = map (λ told. told.items) agent.waiting;
+      waiting = agent.waiting;
       round = agent.round;
       is_made = agent.is_made;
     } };
@@ -100,7 +101,7 @@ impl Model for Agent {
           acknowledged = agent.acknowledged;
           named = agent.request.demands.items;
           lines = agent.lines.items;
-          waiting = map (λ told. told.items) agent.waiting;
+          waiting = agent.waiting;
           round = agent.round;
           is_made = agent.is_made;
         } in
@@ -122,6 +123,7 @@ impl Agent {
     {
         let sent = SendWindow::open(alloc, FIRST_VERSION)?;
         let lines = vec![in alloc; FlowLine::default(); endpoints as usize]?;
+        let waiting = open_places(alloc)?;
         Ok(Agent {
             me,
             endpoints,
@@ -136,7 +138,7 @@ impl Agent {
             request: Up::default(),
             lines,
             unconfirmed: Marks::new(),
-            waiting: [ArrayVec::new(), ArrayVec::new(), ArrayVec::new()],
+            waiting,
             round: 0,
             is_made: false,
             down: Down::default(),
@@ -336,9 +338,9 @@ impl Agent {
 }
 
 /// Forgets the slots that wait.
-fn forget(waiting: &mut [ArrayVec<Told, 64>; 3])
+fn forget(waiting: &mut [Waiting; 3])
     requires { length waiting.old ≡ 3 }
-    ensures { map (λ told. told.items) waiting.new ≡ [] ∷ [] ∷ [] ∷ [] }
+    ensures { waiting.new ≡ [] ∷ [] ∷ [] ∷ [] }
 {
     waiting[0].clear();
     waiting[1].clear();
@@ -361,9 +363,16 @@ fn read_ack(
         HasDone sent.old events →
         HasDone sent.new (Reads (record { high = down.now.high; mask = down.now.mask }) ∷ events) }
 {
-    found.clear();
+    empty(found);
     sent.read_ack(down.high, down.mask, found);
     greatest_of(acknowledged, found.as_slice())
+}
+
+/// Empties the list, which seldom holds more than one number.
+fn empty(found: &mut ArrayVec<Decided<()>, 129>)
+    ensures { found.new.items ≡ [] }
+{
+    while found.pop().is_some() {}
 }
 
 /// The greatest of a number and those that are found acknowledged.
@@ -413,7 +422,7 @@ fn renew(
 fn take_slots(
     lines: &mut [FlowLine],
     unconfirmed: &mut Marks,
-    waiting: &mut [ArrayVec<Told, 64>; 3],
+    waiting: &mut [Waiting; 3],
     g: u8,
     round: u32,
     down: &Down,
@@ -427,7 +436,7 @@ fn take_slots(
     ensures length { length lines.new ≡ length lines.old }
     ensures lines { (dst : ℕ) → line_at lines.new dst
         ≡ with_missed next (if nat_le round (down.now.batch + 2 * g + 2) then 0 else slots_to dst down.now.told.items) (line_at lines.old dst) }
-    ensures waiting { down.now.told.items ≢ [] → round ≤ down.now.batch + 2 * g + 2 → waiting.new ≡ slice_set waiting.old (down.now.batch % 3) down.now.told }
+    ensures waiting { down.now.told.items ≢ [] → round ≤ down.now.batch + 2 * g + 2 → waiting.new ≡ slice_set waiting.old (down.now.batch % 3) down.now.told.items }
     ensures others { (down.now.told.items ≡ []) ⊎ (down.now.batch + 2 * g + 2 < round) → waiting.new ≡ waiting.old }
     ensures marked { (dst : ℕ) → is_marked unconfirmed.new dst ≡ false →
         (is_marked unconfirmed.old dst ≡ false) × ((if nat_le round (down.now.batch + 2 * g + 2) then 0 else slots_to dst down.now.told.items) ≡ 0) }
@@ -436,42 +445,30 @@ fn take_slots(
         return;
     }
     if round <= down.batch + 2 * u32::from(g) + 2 {
-        put_slots(
-            &mut waiting[(down.batch % 3) as usize],
-            down.told.as_slice(),
-        );
+        waiting[(down.batch % 3) as usize].put(down.told.as_slice());
         return;
     }
     miss_all(lines, down.told.as_slice(), next);
     mark_all(unconfirmed, down.told.as_slice());
 }
 
-/// Puts these slots in place of those that wait.
-fn put_slots(waiting: &mut ArrayVec<Told, 64>, told: &[Told])
-    requires { length told.now ≤ 64 }
-    ensures { waiting.new.items ≡ told.now }
-{
-    waiting.clear();
-    let _ = waiting.try_extend_from_slice(told);
-}
-
 /// Sends in the slots of a batch that wait, and forgets them.
 fn send_batch(
     lines: &mut [FlowLine],
-    waiting: &mut [ArrayVec<Told, 64>; 3],
+    waiting: &mut [Waiting; 3],
     batch: u32,
     first_slot: u32,
     into: &mut ArrayVec<Sent, 64>,
 )
     requires three { length waiting.old ≡ 3 }
-    requires destinations { All (λ (t : ToldSlot). t.dst < length lines.old) (place_of (map (λ told. told.items) waiting.old) batch) }
+    requires destinations { All (λ (t : ToldSlot). t.dst < length lines.old) (place_of waiting.old batch) }
     requires slots { first_slot + 256 ≤ 2 ^ 32 }
     requires empty { into.old.items ≡ [] }
     ensures length { length lines.new ≡ length lines.old }
-    ensures sent { slots_sent into.new.items ≡ sent_of (left_in lines.old) (slots_after first_slot (place_of (map (λ told. told.items) waiting.old) batch)) }
+    ensures sent { slots_sent into.new.items ≡ sent_of (left_in lines.old) (slots_after first_slot (place_of waiting.old batch)) }
     ensures counted { (dst : ℕ) → line_at lines.new dst
-        ≡ with_sent (count_by (λ (s : Slot). s.dst == dst) (sent_of (left_in lines.old) (slots_after first_slot (place_of (map (λ told. told.items) waiting.old) batch)))) (line_at lines.old dst) }
-    ensures waiting { map (λ told. told.items) waiting.new ≡ slice_set (map (λ told. told.items) waiting.old) (batch % 3) [] }
+        ≡ with_sent (count_by (λ (s : Slot). s.dst == dst) (sent_of (left_in lines.old) (slots_after first_slot (place_of waiting.old batch)))) (line_at lines.old dst) }
+    ensures waiting { waiting.new ≡ slice_set waiting.old (batch % 3) [] }
 {
     let told = &mut waiting[(batch % 3) as usize];
     send_all(lines, told.as_slice(), first_slot, into);

@@ -5,6 +5,7 @@ mod agent;
 mod laws;
 mod lines;
 mod refusal;
+mod waiting;
 
 pub use agent::Agent;
 pub use laws::timely_allocations_may_be_taken;

@@ -1,5 +1,6 @@
 pub mod Rising
 pub mod Finding
+pub mod SoundLines
 pub mod BelowOne
 pub mod Chunks
 pub mod Numbers

@@ -79,6 +79,18 @@ refuses_allocation endpoints slots bytes SelfFlow = list_any (λ (told : Told). 
 refuses_allocation endpoints slots bytes TooMuch = list_any (λ (told : Told). nat_le slots told.offset || is_no_core told.core) (told_slots_in bytes)
 refuses_allocation endpoints slots bytes refusal = refuses_fields (allocation_length bytes) bytes refusal
 
+-- ---- what several refusals look for at once
+
+-- a line of an allocation to this endpoint would be refused, wherever it stands
+abbrev pub line_is_at_fault : ℕ → ℕ → ℕ → Told → Bool
+line_is_at_fault endpoints endpoint slots told =
+    nat_le endpoints told.dst || (told.dst == endpoint || (nat_le slots told.offset || is_no_core told.core))
+
+-- no refusal finds anything in these lines of an allocation to this endpoint: the offsets rise, and no line is at fault
+unfoldable pub lines_are_sound : ℕ → ℕ → ℕ → List Told → Bool
+lines_are_sound endpoints endpoint slots lines =
+    is_rising (map (λ (told : Told). told.offset) lines) && not (list_any (line_is_at_fault endpoints endpoint slots) lines)
+
 -- ---- the table of each call: upward packets have the kinds 1 and 2, downward ones the kind 3
 
 unfoldable pub refuses_up : ℕ → List ℕ → FrameRefused → Bool

@@ -1,6 +1,6 @@
 //! The list of a request, read in place.
 
-ghost use Rattle.std.specs.Prelude.{◌≡◌, ◌==◌, ◌+◌, ◌≤◌, nat_le, nat_lt, map, length};
+ghost use Rattle.std.specs.Prelude.{◌≡◌, ◌==◌, ◌++◌, ◌+◌, ◌≤◌, nat_le, nat_lt, map, length};
 ghost use Rattle.std.specs.Int.{byte_len};
 ghost use Rattle.std.specs.List.{list_any};
 ghost use Rattle.fcp_framing.specs.declared.packet.Demand.{Demand as DemandItem};
@@ -84,12 +84,31 @@ pub(crate) fn rises(entries: &[[u8; 6]]) -> bool
     true
 }
 
-/// Puts the lines in place of what `demands` holds.
+/// Puts the lines in place of what `demands` holds: over what stands, and the rest behind.
 pub(crate) fn read(entries: &[[u8; 6]], demands: &mut ArrayVec<Demand, 255>)
     requires { length entries.now ≤ 255 }
     ensures { demands.new.items ≡ map demand_in entries.now }
 {
-    demands.truncate(0);
+    demands.truncate(entries.len());
+    let (front, rest) = entries.split_at(demands.len());
+    write_over(demands.as_mut_slice(), front);
+    append(rest, demands);
+}
+
+/// Writes the lines over as many others.
+fn write_over(places: &mut [Demand], entries: &[[u8; 6]])
+    requires { length places.old ≡ length entries.now }
+    ensures { places.new ≡ map demand_in entries.now }
+{
+    for (at, entry) in entries.iter().enumerate() {
+        places[at] = demand_at(entry);
+    }
+}
+
+fn append(entries: &[[u8; 6]], demands: &mut ArrayVec<Demand, 255>)
+    requires { length demands.old.items + length entries.now ≤ 255 }
+    ensures { demands.new.items ≡ demands.old.items ++ map demand_in entries.now }
+{
     for entry in entries {
         demands.push(demand_at(entry));
     }

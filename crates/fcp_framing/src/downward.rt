@@ -1,6 +1,6 @@
 //! Downward packets: allocations.
 
-ghost use Rattle.std.specs.Prelude.{◌≡◌, ℕ, ◌≤◌, length, find, [], ◌∷◌, OnOk, OnErr, IsOk};
+ghost use Rattle.std.specs.Prelude.{◌≡◌, ℕ, ◌≤◌, true, length, find, [], ◌∷◌, None, OnOk, OnErr, IsOk};
 ghost use Rattle.std.specs.Result.{result_err};
 ghost use Rattle.fcp_framing.specs.declared.packet.Down.{Down as DownPacket};
 ghost use Rattle.fcp_framing.specs.Spelling.{SpellsDown};
@@ -89,9 +89,38 @@ fn check_allocation(bytes: &[u8], endpoints: u16, slots: u8) -> Result<(), Frame
     if bytes.len() < end {
         return Err(FrameRefused::Short);
     }
-    check_destinations(bytes, endpoints)?;
-    check_told(bytes, slots)?;
+    check_lines(bytes, endpoints, slots)?;
     check_fields(bytes, end)
+}
+
+/// Tries the refusals that look at the endpoints and the lines of an allocation. Most have none, which one walk shows.
+fn check_lines(bytes: &[u8], endpoints: u16, slots: u8) -> Result<(), FrameRefused>
+    requires { allocation_length bytes.now ≤ length bytes.now }
+    ensures { result_err result ≡ find (refuses_allocation endpoints slots bytes.now)
+        (FrameRefused.Endpoint ∷ FrameRefused.Count ∷ FrameRefused.Order ∷ FrameRefused.SelfFlow ∷ FrameRefused.TooMuch ∷ []) }
+{
+    if has_sound_lines(bytes, endpoints, slots) {
+        return Ok(());
+    }
+    check_destinations(bytes, endpoints)?;
+    check_told(bytes, slots)
+}
+
+/// Whether the endpoints and the lines of an allocation keep every rule.
+fn has_sound_lines(bytes: &[u8], endpoints: u16, slots: u8) -> bool
+    requires { allocation_length bytes.now ≤ length bytes.now }
+    ensures { result ≡ true → find (refuses_allocation endpoints slots bytes.now)
+        (FrameRefused.Endpoint ∷ FrameRefused.Count ∷ FrameRefused.Order ∷ FrameRefused.SelfFlow ∷ FrameRefused.TooMuch ∷ []) ≡ None }
+{
+    let dst = u16_at(bytes, 2);
+    let entries = told_slots::entries_of(bytes);
+    if dst >= endpoints {
+        return false;
+    }
+    if entries.len() > 64 {
+        return false;
+    }
+    told_slots::are_sound(entries, endpoints, dst, slots)
 }
 
 /// Tries the refusals that look at the endpoints of an allocation, how many lines there are, and in which order.

@@ -1,12 +1,12 @@
 //! The list of an allocation, read in place.
 
-ghost use Rattle.std.specs.Prelude.{◌≡◌, ◌==◌, ◌||◌, ◌+◌, ◌≤◌, nat_le, map, length};
+ghost use Rattle.std.specs.Prelude.{◌≡◌, ◌==◌, ◌++◌, ◌||◌, ◌+◌, ◌≤◌, nat_le, map, length};
 ghost use Rattle.std.specs.Int.{byte_len};
 ghost use Rattle.std.specs.List.{list_any};
 ghost use Rattle.fcp_framing.specs.declared.packet.Told.{Told as ToldItem};
 ghost use Rattle.fcp_framing.specs.Versions.{mask_width};
 ghost use Rattle.fcp_framing.specs.Fields.{allocation_count, allocation_header, allocation_length, told_in, told_slots_in};
-ghost use Rattle.fcp_framing.specs.Refusals.{is_no_core as no_core, is_rising};
+ghost use Rattle.fcp_framing.specs.Refusals.{is_no_core as no_core, is_rising, lines_are_sound, line_is_at_fault};
 
 use crate::fields::{mask_end, told_at, u16_at};
 use crate::packet::Told;
@@ -86,12 +86,53 @@ pub(crate) fn rises(entries: &[[u8; 4]]) -> bool
     true
 }
 
-/// Puts the lines in place of what `told` holds.
+/// Whether a line names an endpoint that is not there or `endpoint` itself, a slot past the batch, or no core.
+fn is_at_fault(told: Told, endpoints: u16, endpoint: u16, slots: u8) -> bool
+    ensures { result ≡ line_is_at_fault endpoints endpoint slots told }
+{
+    told.dst >= endpoints || told.dst == endpoint || told.offset >= slots || is_no_core(told.core)
+}
+
+/// Whether the offsets rise strictly and no line is at fault. One walk for all that the other tests look for.
+pub(crate) fn are_sound(entries: &[[u8; 4]], endpoints: u16, endpoint: u16, slots: u8) -> bool
+    ensures { result ≡ lines_are_sound endpoints endpoint slots (map told_in entries.now) }
+{
+    let mut least = 0;
+    for entry in entries {
+        let told = told_at(entry);
+        if told.offset < least || is_at_fault(told, endpoints, endpoint, slots) {
+            return false;
+        }
+        least = told.offset + 1;
+    }
+    true
+}
+
+/// Puts the lines in place of what `told` holds: over what stands, and the rest behind.
 pub(crate) fn read(entries: &[[u8; 4]], told: &mut ArrayVec<Told, 64>)
     requires { length entries.now ≤ 64 }
     ensures { told.new.items ≡ map told_in entries.now }
 {
-    told.truncate(0);
+    told.truncate(entries.len());
+    let (front, rest) = entries.split_at(told.len());
+    write_over(told.as_mut_slice(), front);
+    append(rest, told);
+}
+
+/// Writes the lines over as many others.
+fn write_over(places: &mut [Told], entries: &[[u8; 4]])
+    requires { length places.old ≡ length entries.now }
+    ensures { places.new ≡ map told_in entries.now }
+{
+    for (at, entry) in entries.iter().enumerate() {
+        places[at] = told_at(entry);
+    }
+}
+
+fn append(entries: &[[u8; 4]], told: &mut ArrayVec<Told, 64>)
+    requires { length told.old.items + length entries.now ≤ 64 }
+    ensures { told.new.items ≡ told.old.items ++ map told_in entries.now }
+{
     for entry in entries {
         told.push(told_at(entry));
     }

@@ -1,9 +1,9 @@
 -- What is due in a round, of packets that are sent, forgotten or taken off.
-use Rattle.std.proofs.Common.{◌≡◌, ℕ, ◌+◌, ◌<◌, ◌≤◌, Bool, true, false, ◌&&◌, ◌||◌, cond, eqb, leb, List, [], ◌∷◌, ◌++◌, take, drop, get_or, map, filter, remove, set, add-one, All, Option, Some, None, slice_get, sym, ◌∙◌, ap, refl, inl, inr, arith}
+use Rattle.std.proofs.Common.{◌≡◌, ℕ, zero, suc, ◌+◌, ◌-◌, ◌<◌, ◌≤◌, Bool, true, false, ◌&&◌, ◌||◌, cond, eqb, leb, List, [], ◌∷◌, ◌++◌, length, take, drop, get_or, map, filter, remove, set, add-one, All, Option, Some, None, slice_get, sym, ◌∙◌, ap, refl, inl, inr, arith, append_assoc}
 use Rattle.std.proofs.lemmas.Bool.{eqb-true, or_cases, false_from_ne_true, cases_lt, cases_order, cond-true, cond-false, or_from, or_left, or_right, leb-true, leb-false, le-leb, lt-leb, eq-eqb, ne_eqb, and_left, and_right, and_from, and_parts, cond_both}
-use Rattle.std.proofs.lemmas.List.{take-append-drop, drop_more, map-append, set_split}
+use Rattle.std.proofs.lemmas.List.{take-append-drop, take-append-le, drop-drop, drop_more, map-append, set_split, length-take, get_or-take}
 use Rattle.std.proofs.lemmas.List.Elements.{filter-append, All-nil, All-cons, All-head, All-tail, All-append, All-take, All-drop}
-use Rattle.std.proofs.lemmas.Option.{get_or_from_slice_get, slice_get_within}
+use Rattle.std.proofs.lemmas.Option.{get_or_from_slice_get, slice_get_read, slice_get_within}
 use Rattle.loss_world.specs.declared.fate.Fate.{Fate}
 use Rattle.loss_world.specs.declared.fate.Fate.TheVariants.{Lose, Hold, Twice}
 use Rattle.loss_world.specs.Arrivals.{Departure, arrives_in, arrivals, NoneArrivesEarly}
@@ -188,7 +188,7 @@ IsToCome-taken_off flights at flight round to_come =
 
 -- ---- how it is taken off
 
-found_there : (flights : List InFlight) (at : ℕ) (flight found : InFlight) → slice_get flights at ≡ Some flight → found ≡ get_or flights at found → found ≡ flight
+pub found_there : (flights : List InFlight) (at : ℕ) (flight found : InFlight) → slice_get flights at ≡ Some flight → found ≡ get_or flights at found → found ≡ flight
 found_there flights at flight found here is = is ∙ get_or_from_slice_get flights at flight found here
 
 pub taken_off-set : (flights : List InFlight) (at : ℕ) (flight found : InFlight) (round : ℕ) → slice_get flights at ≡ Some flight → found ≡ get_or flights at found → round < found.rounds.last →
@@ -205,6 +205,44 @@ taken_off-remove flights at flight found round here is over =
     ap (λ k. take at flights ++ drop k flights) (sym (add-one at))
     ∙ ap (λ rest. take at flights ++ (rest ++ drop (at + 1) flights)) (sym (cond-true (leb found.rounds.last round) [] (record { rounds = record { next = round + 1; last = found.rounds.last }; bytes = found.bytes } ∷ []) (le-leb found.rounds.last round over)))
     ∙ ap (λ f. taken_off flights at f round) (found_there flights at flight found here is)
+
+-- ---- how one is set aside
+
+-- one is moved behind all others: the front is shorter by it
+removed_front : (xs : List InFlight) (m at : ℕ) (x : InFlight) → at ≤ m → m < length xs → take m (remove xs at ++ x ∷ []) ≡ remove (take (suc m) xs) at
+removed_front [] m at x within long = absurd (omega (arith, long))
+removed_front (y ∷ ys) m zero x within long = take-append-le m ys (x ∷ []) (omega (arith, long))
+removed_front (y ∷ ys) zero (suc at) x within long = absurd (omega (arith, within))
+removed_front (y ∷ ys) (suc m) (suc at) x within long = ap (λ (zs : List InFlight). y ∷ zs) (removed_front ys m at x (omega (arith, within)) (omega (arith, long)))
+
+pub moved_behind : (xs : List InFlight) (n at : ℕ) (x : InFlight) → at < n → n ≤ length xs → take (n - 1) (remove xs at ++ x ∷ []) ≡ remove (take n xs) at
+moved_behind xs n at x within long =
+    let one : suc (n - 1) ≡ n = omega (arith, within) in
+    removed_front xs (n - 1) at x (omega (arith, within)) (omega (arith, within, long)) ∙ ap (λ k. remove (take k xs) at) one
+
+-- a walk that sets aside those that are over
+pub passed_over : (test : InFlight → Bool) (xs : List InFlight) (at : ℕ) (x : InFlight) → slice_get xs at ≡ Some x → test x ≡ false →
+    take at (remove xs at) ≡ take at xs ++ filter test (take 1 (drop at xs))
+passed_over test [] at x here over = absurd cc
+passed_over test (y ∷ ys) zero x here over =
+    let same : y ≡ x = cc in
+    sym (cond-false (test y) (y ∷ []) [] (ap test same ∙ over))
+passed_over test (y ∷ ys) (suc at) x here over = ap (λ (zs : List InFlight). y ∷ zs) (passed_over test ys at x here over)
+
+pub walk_goes_on : (test : InFlight → Bool) (old new : List InFlight) (at next : ℕ) → take next new ≡ take at old ++ filter test (take 1 (drop at old)) → drop next new ≡ drop (at + 1) old →
+    take next new ++ filter test (drop next new) ≡ take at old ++ filter test (drop at old)
+walk_goes_on test old new at next passed rest =
+    let ys = drop at old in
+    ap (λ zs. zs ++ filter test (drop next new)) passed
+    ∙ ap (λ zs. (take at old ++ filter test (take 1 ys)) ++ filter test zs) (rest ∙ sym (drop-drop 1 at old))
+    ∙ append_assoc (take at old) (filter test (take 1 ys)) (filter test (drop 1 ys))
+    ∙ ap (λ zs. take at old ++ zs) (sym (filter-append test (take 1 ys) (drop 1 ys)) ∙ ap (filter test) (take-append-drop 1 ys))
+
+-- the flight at a place of the front
+pub front_get : (xs : List InFlight) (n at : ℕ) (x : InFlight) → at < length (take n xs) → x ≡ get_or xs at x → slice_get (take n xs) at ≡ Some x
+front_get xs n at x within is =
+    slice_get_read (take n xs) (length (take n xs)) at x refl within
+    (is ∙ sym (get_or-take n xs at x (omega (arith, within, length-take n xs))))
 
 -- ---- an ask
 

@@ -1,9 +1,8 @@
 //! One direction of one endpoint.
-ghost use Rattle.std.specs.Prelude.{◌≡◌, ℕ, ◌+◌, ◌-◌, ◌<◌, ◌≤◌, max, nat_le, List, [], ◌∷◌, ◌++◌, length, take, drop, filter, IfOk, OnOk, OnErr, IfSome, IfNone, IsTrue, option_map, unwrap_or, slice_get, Some, vec_len, vec_capacity};
+ghost use Rattle.std.specs.Prelude.{◌≡◌, ℕ, ◌+◌, ◌-◌, ◌<◌, ◌≤◌, max, nat_le, List, [], ◌∷◌, ◌++◌, length, take, drop, filter, remove, IfOk, OnOk, OnErr, IfSome, IfNone, IsTrue, option_map, unwrap_or, slice_get, Some, vec_len};
 ghost use Rattle.loss_world.specs.History.{WorldCall, Departs, AsksFor, asked_of, next_arrival, WorldStandsFor};
 ghost use Rattle.loss_world.specs.InTransit.{InFlight, is_due, due_in, rest_of};
 
-use crate::buffer::Buffer;
 use crate::fate::{Rounds, arrival_rounds};
 use crate::flight::Flight;
 use crate::{Fate, NoMemory};
@@ -14,20 +13,20 @@ use std::marker::Model;
 /// many buffers the world holds, of 2,048 bytes each.
 #[derive(Drop)]
 pub struct World {
+    /// Those that are under way, and behind them those that have arrived for the last time, whose buffers are used again.
     flights: Vec<Flight>,
-    /// The buffers of packets that have arrived for the last time.
-    spare: Vec<Buffer>,
+    under_way: usize,
 }
 
 impl Model for World {
-    ghost use Rattle.std.specs.Prelude.{◌+◌, ◌≤◌, vec_len, vec_capacity};
+    ghost use Rattle.std.specs.Prelude.{◌≤◌, take, vec_len};
     ghost use Rattle.loss_world.specs.InTransit.{Held};
 
     ghost Value = { Held };
 
-    ghost view = { λ world. record { flights = world.flights.items; buffers = vec_len world.flights + vec_len world.spare } };
+    ghost view = { λ world. record { flights = take world.under_way world.flights.items; buffers = vec_len world.flights } };
 
-    ghost invariant = { λ world. vec_len world.flights + vec_len world.spare ≤ vec_capacity world.spare };
+    ghost invariant = { λ world. world.under_way ≤ vec_len world.flights };
 }
 
 impl World {
@@ -37,8 +36,10 @@ impl World {
         ensures buffers { IfOk result (λ world. world.buffers ≡ 0) }
     {
         let flights = Vec::with_capacity(alloc, 1)?;
-        let spare = Vec::with_capacity(alloc, 1)?;
-        Ok(World { flights, spare })
+        Ok(World {
+            flights,
+            under_way: 0,
+        })
     }
 
     /// Sends a packet in this round, which is not below one that was asked for. A buffer is made only where each one that the
@@ -78,7 +79,7 @@ impl World {
     {
         let round = u64::from(round);
         self.forget_before(round);
-        match first_due(&self.flights, round) {
+        match first_due(&self.flights[..self.under_way], round) {
             Some(at) => {
                 let length = self.flights[at].packet.copy_to(buf);
                 self.take_off(at, round);
@@ -95,10 +96,9 @@ impl World {
         ensures sent { OnOk result (self.new.flights ≡ self.old.flights ++ record { rounds = rounds; bytes = bytes.now } ∷ []) }
         ensures buffers { self.new.buffers ≤ max self.old.buffers (length self.new.flights) }
     {
-        self.flights.reserve(1)?;
-        self.spare.reserve(self.flights.len() + 1)?;
-        let packet = copy_into_spare(&mut self.spare, bytes)?;
-        self.flights.push_reserved(Flight { rounds, packet });
+        make_flight(&mut self.flights, self.under_way)?;
+        self.flights[self.under_way].fill(rounds, bytes);
+        self.under_way += 1;
         Ok(())
     }
 
@@ -107,7 +107,36 @@ impl World {
         ensures flights { self.new.flights ≡ filter (λ flight. nat_le round flight.rounds.last) self.old.flights }
         ensures buffers { self.new.buffers ≤ self.old.buffers }
     {
-        self.flights.retain(|flight| flight.rounds.last >= round);
+        let mut at = 0;
+        while at < self.under_way {
+            at = self.pass(at, round);
+        }
+    }
+
+    /// Goes past the packet at this place, and sets it aside where it would have arrived in earlier rounds alone. Answers the place
+    /// of the next one.
+    fn pass(&mut self, at: usize, round: u64) -> usize
+        requires { at < length self.old.flights }
+        ensures passed { take result self.new.flights ≡ take at self.old.flights ++ filter (λ flight. nat_le round flight.rounds.last) (take 1 (drop at self.old.flights)) }
+        ensures rest { drop result self.new.flights ≡ drop (at + 1) self.old.flights }
+        ensures within { result ≤ length self.new.flights }
+        ensures buffers { self.new.buffers ≡ self.old.buffers }
+    {
+        if self.flights[at].rounds.last >= round {
+            return at + 1;
+        }
+        self.set_aside(at);
+        at
+    }
+
+    /// Sets aside the packet at this place.
+    fn set_aside(&mut self, at: usize)
+        requires { at < length self.old.flights }
+        ensures flights { self.new.flights ≡ remove self.old.flights at }
+        ensures buffers { self.new.buffers ≡ self.old.buffers }
+    {
+        move_behind(&mut self.flights, at, self.under_way);
+        self.under_way -= 1;
     }
 
     /// Takes off the packet at this place, which has arrived in this round, where that was its last.
@@ -118,13 +147,12 @@ impl World {
             self.new.flights ≡ take at self.old.flights ++ (rest_of round flight ++ drop (at + 1) self.old.flights) }
         ensures buffers { self.new.buffers ≡ self.old.buffers }
     {
-        let flight = &mut self.flights[at];
-        if round < flight.rounds.last {
-            flight.rounds.next = round + 1;
-        } else {
-            let gone = self.flights.remove(at);
-            self.spare.push_reserved(gone.packet);
+        if self.flights[at].rounds.last <= round {
+            self.set_aside(at);
+            return;
         }
+        let flight = &mut self.flights[at];
+        flight.rounds.next = round + 1;
     }
 }
 
@@ -143,20 +171,33 @@ fn first_due(flights: &[Flight], round: u64) -> Option<usize>
     None
 }
 
-/// A copy of the bytes, in a spare buffer where there is one.
-fn copy_into_spare(spare: &mut Vec<Buffer>, bytes: &[u8]) -> Result<Buffer, NoMemory>
-    requires { length bytes.now ≤ 2048 }
-    ensures bytes { IfOk result (λ copy. copy ≡ bytes.now) }
-    ensures used { OnOk result (vec_len spare.new ≡ vec_len spare.old - 1) }
-    ensures refused { OnErr result (vec_len spare.new ≡ vec_len spare.old) }
-    ensures capacity { vec_capacity spare.new ≡ vec_capacity spare.old }
+/// Makes one more flight where each is under way.
+fn make_flight(flights: &mut Vec<Flight>, under_way: usize) -> Result<(), NoMemory>
+    requires { under_way ≤ vec_len flights.old }
+    ensures front { take under_way flights.new.items ≡ take under_way flights.old.items }
+    ensures made { OnOk result (under_way < vec_len flights.new) }
+    ensures refused { OnErr result (vec_len flights.new ≡ vec_len flights.old) }
+    ensures few { vec_len flights.new ≤ max (vec_len flights.old) (under_way + 1) }
+    ensures kept { vec_len flights.old ≤ vec_len flights.new }
 {
-    let mut buffer = match spare.pop() {
-        Some(buffer) => buffer,
-        None => Buffer::open(*spare.allocator())?,
-    };
-    buffer.fill(bytes);
-    Ok(buffer)
+    if under_way == flights.len() {
+        let flight = Flight::open(*flights.allocator())?;
+        flights.push(flight)?;
+    }
+    Ok(())
+}
+
+/// Moves the one at this place behind all others, where there are more under way.
+fn move_behind(flights: &mut Vec<Flight>, at: usize, under_way: usize)
+    requires within { at < under_way }
+    requires under_way { under_way ≤ vec_len flights.old }
+    ensures others { take (under_way - 1) flights.new.items ≡ remove (take under_way flights.old.items) at }
+    ensures len { vec_len flights.new ≡ vec_len flights.old }
+{
+    if at + 1 < under_way {
+        let gone = flights.remove(at);
+        flights.push_reserved(gone);
+    }
 }
 
 #[cfg(test)]

@@ -21,8 +21,8 @@ fn a_long_run_needs_no_more_memory(rt: HostRuntime) -> Result<(), Fail> {
         }
     }
     assert_eq!(rt; given, 99_980);
-    assert_eq!(rt; world.flights.len(), 20);
-    assert!(rt; world.spare.len() <= 2);
-    assert!(rt; world.flights.capacity() <= 64 && world.spare.capacity() <= 64);
+    assert_eq!(rt; world.under_way, 20);
+    assert!(rt; world.flights.len() <= 22);
+    assert!(rt; world.flights.capacity() <= 64);
     Ok(())
 }

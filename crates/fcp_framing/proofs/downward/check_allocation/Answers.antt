@@ -8,24 +8,14 @@ use Rattle.fcp_framing.specs.Refusals.{first_refusal, refuses_allocation, refuse
 use Rattle.fcp_framing.proofs.Finding.{find_on, find_in}
 use Rattle.fcp_framing.proofs.downward.check_allocation.Goals as goal
 
-pub returns-in_err-check_destinations : goal.returns-in_err-check_destinations
+pub returns-in_err-check_lines : goal.returns-in_err-check_lines
 unfolding first_refusal
-returns-in_err-check_destinations c =
+returns-in_err-check_lines c =
     let holds = refuses_allocation c.args.endpoints c.args.slots c.args.bytes.now in
     let short : holds Short ≡ false = grind (arith, nat_tests) in
-    let list = find_in holds (Endpoint ∷ Count ∷ Order ∷ []) (SelfFlow ∷ TooMuch ∷ Mask ∷ Trailing ∷ Epoch ∷ Seq ∷ []) _ (sym (c.in_err-check_destinations.ensures c.args.slots)) in
+    let list = find_in holds (Endpoint ∷ Count ∷ Order ∷ SelfFlow ∷ TooMuch ∷ []) (Mask ∷ Trailing ∷ Epoch ∷ Seq ∷ []) _ (sym c.in_err-check_lines.ensures) in
     let answer = err_from_is_err_and c.from_residual.result c.from_residual.ensures.1 in
     rw (answer.1, answer.2, short) (sym list)
-
-pub returns-in_err-check_told : goal.returns-in_err-check_told
-unfolding first_refusal
-returns-in_err-check_told c =
-    let holds = refuses_allocation c.args.endpoints c.args.slots c.args.bytes.now in
-    let short : holds Short ≡ false = grind (arith, nat_tests) in
-    let list = find_on holds (Endpoint ∷ Count ∷ Order ∷ []) (SelfFlow ∷ TooMuch ∷ Mask ∷ Trailing ∷ Epoch ∷ Seq ∷ []) (sym (c.in_ok-check_destinations.ensures c.args.slots)) in
-    let lines = find_in holds (SelfFlow ∷ TooMuch ∷ []) (Mask ∷ Trailing ∷ Epoch ∷ Seq ∷ []) _ (sym (c.in_err-check_told.ensures c.args.endpoints)) in
-    let answer = err_from_is_err_and c.from_residual-in_err-check_told.result c.from_residual-in_err-check_told.ensures.1 in
-    rw (answer.1, answer.2, short) (sym (list ∙ lines))
 
 pub returns : goal.returns
 unfolding first_refusal
@@ -35,6 +25,5 @@ returns c =
     let short : holds Short ≡ false = grind (arith, nat_tests) in
     let end : c.header-header.result + 4 * c.count.result ≡ allocation_length bytes = omega (arith, c.header-header.ensures, c.count.ensures) in
     let fields = c.check_fields.ensures ∙ ap (λ (place : ℕ). find (refuses_fields place bytes) (Mask ∷ Trailing ∷ Epoch ∷ Seq ∷ [])) end in
-    let lines = find_on holds (SelfFlow ∷ TooMuch ∷ []) (Mask ∷ Trailing ∷ Epoch ∷ Seq ∷ []) (sym (c.in_ok-check_told.ensures c.args.endpoints)) in
-    let list = find_on holds (Endpoint ∷ Count ∷ Order ∷ []) (SelfFlow ∷ TooMuch ∷ Mask ∷ Trailing ∷ Epoch ∷ Seq ∷ []) (sym (c.in_ok-check_destinations.ensures c.args.slots)) in
-    rw short (fields ∙ sym lines ∙ sym list)
+    let list = find_on holds (Endpoint ∷ Count ∷ Order ∷ SelfFlow ∷ TooMuch ∷ []) (Mask ∷ Trailing ∷ Epoch ∷ Seq ∷ []) (sym c.in_ok-check_lines.ensures) in
+    rw short (fields ∙ sym list)

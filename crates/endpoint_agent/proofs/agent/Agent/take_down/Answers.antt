@@ -1,9 +1,8 @@
-use Rattle.std.proofs.Common.{◌≡◌, ◌≢◌, ◌⊎◌, ℕ, ◌+◌, ◌*◌, ◌%◌, ◌<◌, ◌≤◌, true, false, cond, ◌==◌, leb, List, [], ◌∷◌, map, length, set, All, sym, ◌∙◌, ap, subst, arith}
+use Rattle.std.proofs.Common.{◌≡◌, ◌≢◌, ◌⊎◌, ℕ, ◌+◌, ◌*◌, ◌%◌, ◌<◌, ◌≤◌, true, false, cond, ◌==◌, leb, List, [], ◌∷◌, length, set, All, sym, ◌∙◌, ap, subst, arith}
 use Rattle.std.proofs.lemmas.Bool.{ne_eqb, and_left, and_right}
-use Rattle.std.proofs.lemmas.List.{with_items_is, map-set}
+use Rattle.std.proofs.lemmas.List.{with_items_is}
 use Rattle.std.specs.Global.{Vec}
 use Rattle.std.specs.Vec.{with_items}
-use Rattle.arrayvec.specs.ArrayVec.{ArrayVec}
 use Rattle.ack_window.specs.declared.take_window.Taken.TheVariants.{Fresh, Repeat, Old}
 use Rattle.ack_window.specs.Arrivals.{receive_verdict}
 use Rattle.ack_window.specs.Versions.{reorder_of}
@@ -65,15 +64,14 @@ may_take agent now round bytes down view is sound mine own fresh (history, stand
     subst (λ (a : AgentState). MayTake a round (down_packet down)) (sym view)
     (subst (λ (d : Down). MayTake now round (down_packet d)) (sym is) (may own (subst (λ (d : Down). takes history (down_packet d) ≡ true) is it)))
 
-slots-by : (agent : AgentState) (round : ℕ) (down : Down) (vec : Vec FlowLine) (old new : List FlowLine) (waiting waiting' : List (ArrayVec Told)) (seq : ℕ)
-    → old ≡ vec.items → length old ≡ vec.len → seq ≡ agent.sent.outstanding.newest → vec.items ≡ agent.lines → map (λ (w : ArrayVec Told). w.items) waiting ≡ agent.waiting
+slots-by : (agent : AgentState) (round : ℕ) (down : Down) (vec : Vec FlowLine) (old new : List FlowLine) (waiting waiting' : List (List Told)) (seq : ℕ)
+    → old ≡ vec.items → length old ≡ vec.len → seq ≡ agent.sent.outstanding.newest → vec.items ≡ agent.lines → waiting ≡ agent.waiting
     → length new ≡ length old
     → ((dst : ℕ) → line_at new dst ≡ with_missed (seq + 1) (cond (leb round (down.batch + 2 * agent.g + 2)) 0 (slots_to dst down.told.items)) (line_at old dst))
-    → (down.told.items ≢ [] → round ≤ down.batch + 2 * agent.g + 2 → waiting' ≡ set waiting (down.batch % 3) down.told)
+    → (down.told.items ≢ [] → round ≤ down.batch + 2 * agent.g + 2 → waiting' ≡ set waiting (down.batch % 3) down.told.items)
     → ((down.told.items ≡ []) ⊎ (down.batch + 2 * agent.g + 2 < round) → waiting' ≡ waiting)
-    → AreTaken agent round down (with_items vec new).items (map (λ (w : ArrayVec Told). w.items) waiting')
+    → AreTaken agent round down (with_items vec new).items waiting'
 slots-by agent round down vec old new waiting waiting' seq value long same lines places as_long counted put kept =
-    let items : ArrayVec Told → List Told = λ w. w.items in
     let whole = with_items_is vec new (as_long ∙ long) in
     record {
       long = ap (λ (ls : List FlowLine). length ls) whole ∙ as_long ∙ ap (λ (ls : List FlowLine). length ls) (value ∙ lines);
@@ -82,8 +80,8 @@ slots-by agent round down vec old new waiting waiting' seq value long same lines
           ap (λ (ls : List FlowLine). line_at ls dst) whole ∙ counted dst
           ∙ ap (λ (ls : List FlowLine). with_missed (seq + 1) n (line_at ls dst)) (value ∙ lines)
           ∙ ap (λ (k : ℕ). with_missed (k + 1) n (line_at agent.lines dst)) same;
-      put = λ some in_time. ap (map items) (put some in_time) ∙ map-set items waiting (down.batch % 3) down.told ∙ ap (λ (ws : List (List Told)). set ws (down.batch % 3) down.told.items) places;
-      kept = λ why. ap (map items) (kept why) ∙ places;
+      put = λ some in_time. put some in_time ∙ ap (λ (ws : List (List Told)). set ws (down.batch % 3) down.told.items) places;
+      kept = λ why. kept why ∙ places;
     }
 
 pub take_slots-requires-clause-late : goal.take_slots-requires-clause-late
@@ -137,7 +135,7 @@ invariant_of-self-in-Fresh c =
       c.read_ack-self-inside.ensures.acknowledged (bare_numbers agent.endpoints agent.g history) stands.sent,
     ) in
     let lines = (with_items c.self.inside.lines c.take_slots.new.lines).items in
-    let waiting = map (λ (w : ArrayVec Told). w.items) c.take_slots.new.waiting in
+    let waiting = c.take_slots.new.waiting in
     let now : c.args.round ≡ agent.round = c.requires.round ∙ sym (ap (λ (a : AgentState). a.round) c.self.view_is) in (
       Sound-slots agent c.args.round down c.take.new.self c.read_ack-self-inside.new.sent c.read_ack-self-inside.result lines waiting sound mine may c.take.ensures.version c.read_ack-self-inside.ensures.version c.read_ack-self-inside.ensures.newest slots,
       (
@@ -173,7 +171,7 @@ returns-in-Fresh-clause-stands c = λ is_own history stands.
       c.read_ack-self-inside.ensures.acknowledged (bare_numbers agent.endpoints agent.g history) stands.sent,
     ) in
     let lines = (with_items c.self.inside.lines c.take_slots.new.lines).items in
-    let waiting = map (λ (w : ArrayVec Told). w.items) c.take_slots.new.waiting in
+    let waiting = c.take_slots.new.waiting in
     let now : c.args.round ≡ agent.round = c.requires.round ∙ sym (ap (λ (a : AgentState). a.round) c.self.view_is) in
     subst (λ (d : Down). After (record agent { arrived = c.take.new.self; sent = c.read_ack-self-inside.new.sent; has_begun = true; acknowledged = c.read_ack-self-inside.result; lines = lines; waiting = waiting }) c.args.round history (down_packet d)) is
     (takes-slots c.agents_count_slots.ensures.taking agent history c.args.round down c.take.new.self c.read_ack-self-inside.new.sent c.read_ack-self-inside.result lines waiting here sound mine now may

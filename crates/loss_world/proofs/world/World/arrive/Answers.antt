@@ -1,9 +1,8 @@
-use Rattle.std.proofs.Common.{ℕ, List, ◌≡◌, ◌∷◌, ◌++◌, Some, slice_get, length, take, drop, filter, refl, sym, ◌∙◌, ap, subst}
+use Rattle.std.proofs.Common.{ℕ, List, ◌≡◌, ◌∷◌, ◌++◌, Some, slice_get, length, take, drop, filter, sym, ◌∙◌, ap, subst}
 use Rattle.std.proofs.Math.Seq.{take-append_seam}
-use Rattle.std.proofs.lemmas.Option.{slice_get_read}
 use Rattle.loss_world.specs.InTransit.{InFlight, Held, due_in}
 use Rattle.loss_world.specs.History.{AsksFor, WorldStandsFor}
-use Rattle.loss_world.proofs.Flights.{is_kept, taken_off, Found, first-found, taken-found, later-found, first-none, taken-none, later-none}
+use Rattle.loss_world.proofs.Flights.{is_kept, front_get, taken_off, Found, first-found, taken-found, later-found, first-none, taken-none, later-none}
 use Rattle.loss_world.proofs.Histories.{IsReady-kept, WorldStandsFor-none, WorldStandsFor-some}
 use Rattle.loss_world.proofs.world.World.arrive.Goals as goal
 
@@ -14,11 +13,11 @@ front bytes before after n long copied =
 
 -- ---- a packet is due
 
-found : (c : goal.After-take_off) → Found c.args.round c.args.self.now.flights c.self.inside.flights.items c.in-Some.at c.index.result.now
+found : (c : goal.After-take_off) → Found c.args.round c.args.self.now.flights (take c.self.inside.under_way c.self.inside.flights.items) c.in-Some.at c.index.result.now
 found c =
-    let kept = c.self.inside.flights.items in
+    let kept = (take c.self.inside.under_way c.self.inside.flights.items) in
     let flight = c.index.result.now in
-    let here = slice_get_read kept (length kept) c.in-Some.at flight refl (rw c.deref.ensures.value at c.in-Some.ensures.within) c.index.ensures in
+    let here = front_get c.self.inside.flights.items c.self.inside.under_way c.in-Some.at flight (rw c.deref.ensures.value at c.in-Some.ensures.within) c.index.ensures in
     record {
       keeps = ap (λ held. held.flights) c.self.view_is ∙ c.forget_before.ensures.flights ∙ ap (λ r. filter (is_kept r) c.args.self.now.flights) c.from-round.ensures;
       here = here;
@@ -26,9 +25,9 @@ found c =
       due = rw c.from-round.ensures at (c.in-Some.ensures.due flight (rw c.deref.ensures.value here));
     }
 
-left : (c : goal.After-take_off) → c.take_off.new.self.flights ≡ taken_off c.self.inside.flights.items c.in-Some.at c.index.result.now c.args.round
+left : (c : goal.After-take_off) → c.take_off.new.self.flights ≡ taken_off (take c.self.inside.under_way c.self.inside.flights.items) c.in-Some.at c.index.result.now c.args.round
 left c =
-    let kept = c.self.inside.flights.items in
+    let kept = (take c.self.inside.under_way c.self.inside.flights.items) in
     let flight = c.index.result.now in
     let same : kept ≡ c.forget_before.new.self.flights = ap (λ held. held.flights) c.self.view_is in
     c.take_off.ensures.flights flight (subst (λ (xs : List InFlight). slice_get xs c.in-Some.at ≡ Some flight) same (found c).here)
@@ -55,12 +54,12 @@ returns-in-Some-clause-arrival c = λ history stands order.
 
 pub returns-in-Some-clause-stands : goal.returns-in-Some-clause-stands
 returns-in-Some-clause-stands c = λ history stands order.
-    let ready = IsReady-kept c.args.self.now c.self.inside.flights.items history c.args.round stands order (found c).keeps in
-    WorldStandsFor-some c.args.round c.self.inside.flights.items c.take_off.new.self history c.in-Some.at c.index.result.now ready (found c).here (found c).before (found c).due (left c)
+    let ready = IsReady-kept c.args.self.now (take c.self.inside.under_way c.self.inside.flights.items) history c.args.round stands order (found c).keeps in
+    WorldStandsFor-some c.args.round (take c.self.inside.under_way c.self.inside.flights.items) c.take_off.new.self history c.in-Some.at c.index.result.now ready (found c).here (found c).before (found c).due (left c)
 
 -- ---- none is due
 
-keeps : (c : goal.In-None) → c.self.inside.flights.items ≡ filter (is_kept c.args.round) c.args.self.now.flights
+keeps : (c : goal.In-None) → (take c.self.inside.under_way c.self.inside.flights.items) ≡ filter (is_kept c.args.round) c.args.self.now.flights
 keeps c = ap (λ held. held.flights) c.self.view_is ∙ c.forget_before.ensures.flights ∙ ap (λ r. filter (is_kept r) c.args.self.now.flights) c.from-round.ensures
 
 pub returns-in-None-clause-first : goal.returns-in-None-clause-first
@@ -81,6 +80,6 @@ returns-in-None-clause-arrival c = λ history stands order.
 
 pub returns-in-None-clause-stands : goal.returns-in-None-clause-stands
 returns-in-None-clause-stands c = λ history stands order.
-    let ready = IsReady-kept c.args.self.now c.self.inside.flights.items history c.args.round stands order (keeps c) in
+    let ready = IsReady-kept c.args.self.now (take c.self.inside.under_way c.self.inside.flights.items) history c.args.round stands order (keeps c) in
     subst (λ (held : Held). WorldStandsFor held (AsksFor c.args.round ∷ history)) c.self.view_is
     (WorldStandsFor-none c.args.round _ history ready (rw (c.deref.ensures.value, c.from-round.ensures) at c.in-None.ensures.none))

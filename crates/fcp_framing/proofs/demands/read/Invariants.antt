@@ -1,6 +1,0 @@
-use Rattle.std.proofs.Common.{◌≡◌, map, take}
-use Rattle.fcp_framing.specs.Fields.{demand_in}
-use Rattle.fcp_framing.proofs.demands.read.Given as goal
-
-abbrev pub invariant-loop-entry : goal.invariant-loop-entry
-invariant-loop-entry l = l.demands.items ≡ map demand_in (take l.entry-index l.entries)
