@@ -5,6 +5,7 @@ pub mod Refusals
 pub mod TraceRules
 pub mod SlotSums
 pub mod SlotCounts
+pub mod ToldCounts
 pub mod LaneLists
 pub mod LaneReads
 pub mod OpenedLanes

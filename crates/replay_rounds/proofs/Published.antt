@@ -19,10 +19,10 @@ use Rattle.replay_rounds.specs.Parts.{WhatIsToldIsPublished}
 -- ---- slot after slot
 
 -- the packet of a source in a slot, as it is routed
-abbrev routed : Option ℕ → ℕ → ℕ → RoutedFlow
+abbrev pub routed : Option ℕ → ℕ → ℕ → RoutedFlow
 routed core endpoint dst = record { flow = record { src = endpoint; dst = dst }; core = core }
 
-found : (cores : ℕ → Option ℕ) (endpoint : ℕ) (slot : List Flow) → packet_from endpoint (with_cores cores slot) ≡ option_map (routed (cores endpoint) endpoint) (destination_of slot endpoint)
+pub found : (cores : ℕ → Option ℕ) (endpoint : ℕ) (slot : List Flow) → packet_from endpoint (with_cores cores slot) ≡ option_map (routed (cores endpoint) endpoint) (destination_of slot endpoint)
 found cores endpoint [] = refl
 found cores endpoint (flow ∷ slot) = elim (cases_Bool (flow.src == endpoint)) [
   | inl its ↦

@@ -1,10 +1,10 @@
 -- What stands once a window is published.
-use Rattle.std.proofs.Common.{◌≡◌, ◌<◌, ◌≤◌, ◌+◌, ◌-◌, ◌*◌, ◌/◌, ◌%◌, ℕ, suc, List, [], ◌∷◌, length, map, Option, IfSome, sym, ap, ◌∙◌, subst, refl, arith, mul-le-mul_right}
+use Rattle.std.proofs.Common.{◌≡◌, ◌<◌, ◌≤◌, ◌+◌, ◌-◌, ◌*◌, ◌/◌, ◌%◌, ℕ, suc, List, [], ◌∷◌, length, map, Option, IfSome, All, sym, ap, ◌∙◌, subst, refl, arith, mul-le-mul_right}
 use Rattle.std.specs.List.{range_with_len, slice_index_or}
 use Rattle.std.proofs.Math.Nat.{add-mul, mul-div_cancel, mul-mod_left}
 use Rattle.std.proofs.lemmas.List.{length-drop}
 use Rattle.greedy_rules.specs.declared.flows.Flow.{Flow}
-use Rattle.greedy_rules.specs.SlotTable.{Slots}
+use Rattle.greedy_rules.specs.SlotTable.{Slots, IsSlotOf}
 use Rattle.greedy_rules.specs.Schedule.{slot_in, first_slot}
 use Rattle.clos_topology.specs.Links.{CoreOf}
 use Rattle.path_workers.specs.CoreTable.{CoreSlots, core_of}
@@ -15,8 +15,9 @@ use Rattle.trace_text.specs.Valid.{IsTrace}
 use Rattle.trace_run.specs.Run.{Setting}
 use Rattle.replay_rounds.specs.Setting.{Cores}
 use Rattle.replay_rounds.specs.Standing.{RoundsContent, Stands, IsNextWindow, AreOfTable, setting_with, routed_from, slots_between}
-use Rattle.replay_rounds.specs.Publishing.{AreNext, CountingLaws, LanesStand}
-use Rattle.replay_rounds.proofs.SlotCounts.{schedule_of, schedule_length}
+use Rattle.replay_rounds.specs.Publishing.{AreNext, CountingLaws, IsPublished, LanesStand}
+use Rattle.replay_rounds.specs.Counting.{schedule_of}
+use Rattle.replay_rounds.proofs.SlotCounts.{schedule_length}
 
 -- ---- slots with their cores
 
@@ -127,3 +128,25 @@ module _ (laws : CountingLaws) (trace : TraceContent) (cores : Cores) (all : Rou
       let times : count * all.b ≤ all.g * all.b = mul-le-mul_right all.b few in
       let room : all.window.batches * all.window.b ≡ all.g * all.b = ap (λ (n : ℕ). n * all.window.b) stands.room ∙ ap (λ (n : ℕ). all.g * n) stands.size in
       omega (arith, slot_count)
+
+  -- a window that holds them is published
+  pub is_published : (window : Window) → all.published + count ≤ all.collected → slots.endpoints ≡ all.endpoints → All (IsSlotOf slots.endpoints) slots.slots →
+      window.endpoints ≡ all.window.endpoints → window.b ≡ all.window.b → window.first_batch ≡ all.published → window.count ≡ count → window.slots ≡ slots_with_cores slots.slots table →
+      IsPublished (setting_with trace cores all) all.collected window
+  is_published window behind served each endpoints b first counts routed =
+      let setting : Setting = setting_with trace cores all in
+      let size : window.b ≡ all.b = b ∙ stands.size in
+      let some = stands.batch.0 in
+      record {
+        slots = slots;
+        next = subst (λ (n : ℕ). AreNext setting n all.collected window.first_batch window.count slots) (sym size)
+            (subst (λ (n : ℕ). AreNext setting all.b all.collected n window.count slots) (sym first)
+            (subst (λ (n : ℕ). AreNext setting all.b all.collected all.published n slots) (sym counts) (are_next behind served)));
+        holds = record {
+          endpoints = endpoints ∙ (stands.served ∙ sym served);
+          each = each;
+          cores = table;
+          routed = routed;
+        };
+        some = omega arith;
+      }

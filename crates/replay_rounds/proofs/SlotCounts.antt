@@ -1,6 +1,6 @@
 -- How a lane counts the slots of a run's schedule, one after the other.
-use Rattle.std.proofs.Common.{◌≡◌, ◌<◌, ◌≤◌, ◌+◌, ◌-◌, ◌*◌, ◌/◌, ℕ, List, [], ◌++◌, length, take, drop, cond, Bool, true, Option, Some, None, IfSome, slice_get, All, refl, sym, ap, ◌∙◌, subst, inl, inr, arith, mul-le-mul_right}
-use Rattle.std.proofs.Math.Nat.{div-mul-le_self, mul-add-div_right}
+use Rattle.std.proofs.Common.{◌≡◌, ◌<◌, ◌≤◌, ◌+◌, ◌-◌, ◌*◌, ◌/◌, ℕ, List, [], ◌++◌, length, take, drop, cond, Bool, Option, Some, None, IfSome, slice_get, All, refl, sym, ap, ◌∙◌, subst, inl, inr, arith, mul-le-mul_right}
+use Rattle.std.proofs.Math.Nat.{div-mul-le_self}
 use Rattle.std.proofs.lemmas.Nat.{div_below}
 use Rattle.std.proofs.lemmas.Bool.{cases_lt, eq-eqb, le-ltb}
 use Rattle.std.proofs.lemmas.List.{take-append-drop, length-drop, get_or-drop}
@@ -25,14 +25,8 @@ use Rattle.trace_run.specs.Rest.{allocated_from}
 use Rattle.trace_run.specs.Allocations.{since}
 use Rattle.replay_rounds.specs.Standing.{LaneStands}
 use Rattle.replay_rounds.specs.Publishing.{AreNext, CountingLaws, with_slot}
-use Rattle.replay_rounds.proofs.SlotSums.{flow_of, goes_to, flow_goes, front_grows, between, sent_within, since_more, batch_reached, batch_ahead}
-
-abbrev pub schedule_of : Setting → ℕ → List (List Flow)
-schedule_of setting rounds = schedule setting.b (replayed setting rounds).batches
-
--- the slots of a flow among the first so many
-abbrev pub among_first : Setting → ℕ → ℕ → ℕ → ℕ → ℕ
-among_first setting all places src dst = slots_of (flow_of src dst) (take places (schedule_of setting all))
+use Rattle.replay_rounds.specs.Counting.{schedule_of, among_first, flow_of, HasCounted, IsPlace}
+use Rattle.replay_rounds.proofs.SlotSums.{goes_to, flow_goes, front_grows, between, sent_within, since_more, batch_reached, batch_ahead}
 
 pub schedule_length : (laws : CountingLaws) (setting : Setting) (rounds : ℕ) → length (schedule_of setting rounds) ≡ rounds * setting.b
 schedule_length laws setting rounds =
@@ -58,18 +52,6 @@ allocated_is laws setting rounds all from src dst within =
     ∙ between (λ (slot : List Flow). cond (has_flow slot (flow_of src dst)) 1 0) (schedule_of setting all) (from * setting.b) (rounds * setting.b)
 
 -- ---- a lane
-
--- a lane that counted so many slots of the schedule of all batches
-pub record HasCounted (setting : Setting) (collected all places src : ℕ) (lane : RoundsState) : Type 0 where
-  pub own : lane.lane.endpoint ≡ src
-  pub endpoints : lane.lane.endpoints ≡ setting.endpoints
-  pub b : lane.lane.b ≡ setting.b
-  pub g : lane.lane.g ≡ setting.g
-  pub whole : lane.is_whole ≡ true
-  pub round : lane.lane.round ≡ collected
-  pub allocations : List Allocation
-  pub counted : (from dst : ℕ) → dst < setting.endpoints → since from allocations dst ≡ among_first setting all places src dst - among_first setting all (from * setting.b) src dst
-  pub stands : StandsFor lane ((replayed setting collected).rounds src) allocations
 
 pub counting_begins : (laws : CountingLaws) (setting : Setting) (collected published all src : ℕ) (lane : RoundsState) → published ≤ all →
     LaneStands setting collected published src lane → HasCounted setting collected all (published * setting.b) src lane
@@ -106,13 +88,6 @@ counting_ends laws setting collected all src lane has = record {
 }
 
 -- ---- one slot
-
--- the slot in this place of the schedule, and where the source sends in it
-pub record IsPlace (setting : Setting) (all place src : ℕ) (to : Option ℕ) : Type 0 where
-  pub within : place < all * setting.b
-  pub some : 0 < setting.b
-  pub one : IsSlotOf setting.endpoints (slot_in (schedule_of setting all) place)
-  pub goes : to ≡ destination_of (slot_in (schedule_of setting all) place) src
 
 pub among_more : (laws : CountingLaws) (setting : Setting) (all place src dst : ℕ) (to : Option ℕ) → IsPlace setting all place src to →
     among_first setting all (place + 1) src dst ≡ among_first setting all place src dst + cond (goes_to to dst) 1 0
@@ -217,14 +192,6 @@ place_is laws setting size collected published count slot src slots to next some
       goes = goes ∙ ap (λ (s : List Flow). destination_of s src) there;
     }
 
--- its batch, as it is computed
-pub batch_is : (setting : Setting) (published slot place size : ℕ) → 0 < setting.b → place ≡ slot → size ≡ setting.b →
-    published + place / size ≡ (published * setting.b + slot) / setting.b
-batch_is setting published slot place size some here same =
-    ap (λ (n : ℕ). published + n / size) here
-    ∙ (ap (λ (n : ℕ). published + slot / n) same
-    ∙ sym (mul-add-div_right some published slot))
-
 pub batch_below : (setting : Setting) (all place src : ℕ) (to : Option ℕ) → IsPlace setting all place src to → place / setting.b < all
 batch_below setting all place src to is = div_below place setting.b all is.some is.within
 
@@ -241,13 +208,3 @@ may_count laws setting collected all place src batch (Some dst) lane within low 
       omega (arith, has.endpoints),
       λ kept line at. slot_is_pending laws setting collected all place src dst lane line within low high is has (omega arith) at,
     )
-
--- after the last slot of the window
-pub window_ends : (laws : CountingLaws) (setting : Setting) (size collected published count slot : ℕ) (slots : Slots) → AreNext setting size collected published count slots → slot ≡ length slots.slots →
-    published * setting.b + slot ≡ (published + count) * setting.b
-window_ends laws setting size collected published count slot slots next all =
-    let from : ℕ = published * setting.b in
-    let as_many : length slots.slots ≡ (published + count) * setting.b - from =
-    ap length next.allocated ∙ (length-drop from (schedule_of setting (published + count)) ∙ ap (λ (n : ℕ). n - from) (schedule_length laws setting (published + count))) in
-    let begun : from ≤ (published + count) * setting.b = mul-le-mul_right setting.b (omega arith) in
-    omega arith

@@ -1,4 +1,5 @@
 -- How often a flow is among the first slots of a schedule, and what a lane's allocations sum to.
+use Rattle.replay_rounds.specs.Counting.{flow_of}
 use Rattle.std.proofs.Common.{◌≡◌, ◌<◌, ◌≤◌, ◌+◌, ◌-◌, ◌*◌, ◌/◌, ◌==◌, ◌&&◌, ◌||◌, ℕ, List, [], ◌∷◌, take, drop, cond, Bool, true, false, Option, Some, None, find, All, AllPairs, refl, sym, ap, ◌∙◌, subst, inl, inr, arith}
 use Rattle.std.specs.Prelude.{nat_le}
 use Rattle.std.specs.List.{sum_by}
@@ -42,9 +43,6 @@ between weight xs k n =
     ]
 
 -- ---- a source's flow in a slot
-
-abbrev pub flow_of : ℕ → ℕ → Flow
-flow_of src dst = record { src = src; dst = dst }
 
 abbrev pub goes_to : Option ℕ → ℕ → Bool
 goes_to None dst = false

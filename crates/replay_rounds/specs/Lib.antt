@@ -5,4 +5,5 @@ pub mod Standing
 pub mod Counts
 pub mod Parts
 pub mod Collecting
+pub mod Counting
 pub mod Publishing

@@ -120,9 +120,21 @@ pub(crate) fn fill_told(
     requires held { 2 * g ≤ round → (publisher.now.first_batch ≤ round - 2 * g) × (round - 2 * g < publisher.now.first_batch + publisher.now.count) }
     ensures { told.new.items ≡ told_by publisher.now g round endpoint }
 {
-    told.clear();
     let lag = 2 * u32::from(g);
     if lag <= round {
-        publisher.told_to(endpoint, round - lag, told);
+        copy_told(told, publisher.told(endpoint, round - lag));
+    } else {
+        told.clear();
     }
+}
+
+/// Makes the list these slots, at most 64: what stands is written over, and the rest is appended.
+fn copy_told(list: &mut ArrayVec<Told, 64>, told: &[Told])
+    requires { length told.now ≤ 64 }
+    ensures { list.new.items ≡ told.now }
+{
+    list.truncate(told.len());
+    let (front, rest) = told.split_at(list.len());
+    list.as_mut_slice().copy_from_slice(front);
+    let _ = list.try_extend_from_slice(rest);
 }

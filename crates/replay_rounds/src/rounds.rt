@@ -146,8 +146,9 @@ impl ReplayRounds {
             Stands trace named self.new }
     {
         counting_holds();
-        count_slots(&mut self.lanes, self.b, self.published, slots);
+        let _slots = slots.slots();
         self.publisher.put(self.published, slots, cores);
+        count_slots(&mut self.lanes, &self.publisher);
         self.published += u32::from(count);
     }
 

@@ -1,6 +1,6 @@
 -- The packets of a slot, and what each source sends in it.
 use Rattle.std.proofs.Common.{◌≡◌, ◌≢◌, ◌<◌, ◌≤◌, ◌+◌, ℕ, zero, suc, List, [], ◌∷◌, ◌==◌, find, Option, Some, None, IfSome, All, AllPairs, length, refl, sym, ap, ◌∙◌, subst, arith, inl, inr}
-use Rattle.std.specs.Option.{option_map}
+use Rattle.std.specs.Option.{option_map, unwrap_or}
 use Rattle.std.specs.List.{cons_option}
 use Rattle.std.proofs.lemmas.Bool.{cond-true, cond-false, cases_eq, eq-eqb, ne_eqb}
 use Rattle.std.proofs.lemmas.List.Elements.{All-nil, All-cons, All-head, All-tail, All-weaker}
@@ -9,10 +9,9 @@ use Rattle.greedy_rules.specs.SlotTable.{destination_of, IsSlotOf}
 use Rattle.greedy_rules.specs.Schedule.{slot_in}
 use Rattle.path_workers.specs.CoreTable.{CoreSlots, core_of}
 use Rattle.list_facts.proofs.Pairs.{AllPairs-head, AllPairs-tail}
-use Rattle.slot_publisher.specs.declared.publisher.Hop.{Hop}
 use Rattle.slot_publisher.specs.Window.{RoutedFlow, with_cores, NamesCores}
 use Rattle.slot_publisher.specs.Told.{packet_from}
-use Rattle.slot_publisher.specs.Places.{hop_of, packet_by, packets_by}
+use Rattle.slot_publisher.specs.Places.{Hop, hop_of, packet_by, packets_by}
 
 -- ---- the packet of a source
 
@@ -107,14 +106,32 @@ sent_flow P (flow ∷ slot) source dst all sent = elim (cases_eq flow.src source
   | inr other ↦ sent_flow P slot source dst (All-tail P flow slot all) (sym (other_source source flow slot other) ∙ sent)
 ]
 
-pub named_core : (slots : List (List Flow)) (cores : CoreSlots) (slot source dst : ℕ) → slot < length slots → NamesCores slots cores → destination_of (slot_in slots slot) source ≡ Some dst
+named_core : (slots : List (List Flow)) (cores : CoreSlots) (slot source dst : ℕ) → slot < length slots → NamesCores slots cores → destination_of (slot_in slots slot) source ≡ Some dst
     → IfSome (core_of cores slot source) (λ core. core < 64)
 named_core slots cores slot source dst below named sent =
     let Named : ℕ → Type 0 = λ src. IfSome (core_of cores slot src) (λ core. core < 64) in
     let found = sent_flow (λ flow. Named flow.src) (slot_in slots slot) source dst (named slot below) sent in
     subst Named found.1 found.3
 
-pub sent_in_range : (endpoints : ℕ) (slot : List Flow) (source dst : ℕ) → IsSlotOf endpoints slot → destination_of slot source ≡ Some dst → dst < endpoints
+sent_in_range : (endpoints : ℕ) (slot : List Flow) (source dst : ℕ) → IsSlotOf endpoints slot → destination_of slot source ≡ Some dst → dst < endpoints
 sent_in_range endpoints slot source dst is sent =
     let found = sent_flow (λ flow. (flow.src < endpoints) × (flow.dst < endpoints)) slot source dst is.in_range sent in
     omega (arith, found.2, found.3.1)
+
+-- a destination is below the number of endpoints, and a core below 64
+abbrev pub IsHop : ℕ → Option Hop → Type 0
+IsHop endpoints cell = IfSome cell (λ hop. (hop.dst < endpoints) × IfSome hop.core (λ core. core < 64))
+
+pub hop_is : (endpoints : ℕ) (slots : List (List Flow)) (cores : CoreSlots) (slot source : ℕ) → IsSlotOf endpoints (slot_in slots slot) → slot < length slots → NamesCores slots cores
+    → IsHop endpoints (hop_of (core_of cores slot) (slot_in slots slot) source)
+hop_is endpoints slots cores slot source is below named = sent_so (destination_of (slot_in slots slot) source) refl
+  where
+    sent_so : (dst : Option ℕ) → destination_of (slot_in slots slot) source ≡ dst → IsHop endpoints (option_map (λ d. record { dst = d; core = core_of cores slot source }) dst)
+    sent_so None none = tt
+    sent_so (Some dst) sent = (sent_in_range endpoints (slot_in slots slot) source dst is sent, named_core slots cores slot source dst below named sent)
+
+-- the byte of a core that is named is its own, where the source sends
+pub named_byte : (slots : List (List Flow)) (cores : CoreSlots) (slot source byte : ℕ) (dst : Option ℕ) → slot < length slots → NamesCores slots cores → dst ≡ destination_of (slot_in slots slot) source
+    → (IfSome (core_of cores slot source) (λ core. core < 64) → byte ≡ unwrap_or (core_of cores slot source) 255) → IfSome dst (λ _. byte ≡ unwrap_or (core_of cores slot source) 255)
+named_byte slots cores slot source byte None below named is byte_is = tt
+named_byte slots cores slot source byte (Some dst) below named is byte_is = byte_is (named_core slots cores slot source dst below named (sym is))

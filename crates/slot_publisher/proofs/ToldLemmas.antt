@@ -1,16 +1,18 @@
 -- What is told of an endpoint's packets: the offsets rise, and each told slot has what its packet and its offset give it.
-use Rattle.std.proofs.Common.{◌≡◌, ◌≢◌, ◌<◌, ◌≤◌, ◌+◌, ◌==◌, ℕ, zero, suc, List, [], ◌∷◌, ◌++◌, length, get_or, map, Option, Some, None, IfSome, All, Contains, refl, sym, ◌∙◌, subst, append_assoc, arith, inl, inr}
+use Rattle.std.proofs.Common.{◌≡◌, ◌≢◌, ◌<◌, ◌≤◌, ◌+◌, ◌==◌, ℕ, zero, suc, List, [], ◌∷◌, ◌++◌, length, get_or, map, find, Option, Some, None, IfSome, All, Contains, refl, sym, ap, ◌∙◌, subst, arith, inl, inr}
 use Rattle.std.specs.Option.{option_map, unwrap_or}
+use Rattle.std.specs.List.{range_with_len, cons_option}
 use Rattle.std.specs.List.Sorted.{IsStrictlyIncreasing}
 use Rattle.std.proofs.lemmas.List.Elements.{All-nil, All-cons, All-map, All-head, All-tail, Contains-append_left, Contains-append_right, Contains-push}
 use Rattle.std.proofs.lemmas.List.{length-map, get_or-map}
-use Rattle.std.proofs.lemmas.Bool.{cond_both, eqb-true}
+use Rattle.std.proofs.lemmas.List.FromFn.{length-map-range_with_len, get_or-map-range_with_len, map-range_with_len_more}
+use Rattle.std.proofs.lemmas.Bool.{cond_both, eqb-true, cond-true, cond-false, cases_eq, eq-eqb, ne_eqb}
 use Rattle.fcp_framing.specs.declared.packet.Told.{Told}
 use Rattle.fcp_framing.specs.Spelling.{IsCore}
-use Rattle.slot_publisher.specs.declared.publisher.Hop.{Hop}
 use Rattle.slot_publisher.specs.Window.{RoutedFlow}
 use Rattle.slot_publisher.specs.Told.{packet_from, told_as, told_from, IsToldOf}
-use Rattle.slot_publisher.specs.Places.{packet_by, IsHop}
+use Rattle.slot_publisher.specs.Places.{Hop, packet_by, told_of, hop_in, core_named, IsToldList}
+use Rattle.slot_publisher.proofs.PacketLemmas.{IsHop}
 
 pub if_some : {X : Type 0} (P : X → Type 0) (o : Option X) → ((x : X) → P x) → IfSome o P
 if_some P None all = tt
@@ -47,48 +49,6 @@ told-rising offset (Some packet ∷ packets) =
     (All-map (λ n. offset < n) (λ (told : Told). told.offset) later
     (told_each (λ told. offset < told.offset) (offset + 1) packets (λ k below. if_some (λ _. offset < (offset + 1) + k) (get_or packets k None) (λ _. omega arith))))
     (told-rising (offset + 1) packets)
-
--- one slot more is told, and the rest are still to come
-pub told_step : (told : List Told) (offset : ℕ) (packet : Option RoutedFlow) (packets : List (Option RoutedFlow))
-    → (told ++ told_from offset (packet ∷ [])) ++ told_from (offset + 1) packets ≡ told ++ told_from offset (packet ∷ packets)
-told_step told offset None packets = append_assoc told [] (told_from (offset + 1) packets)
-told_step told offset (Some packet) packets = append_assoc told (told_as offset packet ∷ []) (told_from (offset + 1) packets)
-
-if_some_weaker : {X : Type 0} (P Q : X → Type 0) (o : Option X) → ((x : X) → P x → Q x) → IfSome o P → IfSome o Q
-if_some_weaker P Q None weaker holds = tt
-if_some_weaker P Q (Some x) weaker holds = weaker x holds
-
-named_told : (P : Told → Type 0) (offset endpoint : ℕ) (cell : Option Hop) → IfSome cell (λ hop. P (told_as offset (packet_by endpoint hop))) → IfSome (option_map (packet_by endpoint) cell) (λ packet. P (told_as offset packet))
-named_told P offset endpoint None holds = tt
-named_told P offset endpoint (Some hop) holds = holds
-
--- what holds of each place of a row, as it is told, holds of each told slot
-pub told_places : (P : Told → Type 0) (endpoint : ℕ) (row : List (Option Hop)) → ((k : ℕ) → k < length row → IfSome (get_or row k None) (λ hop. P (told_as k (packet_by endpoint hop))))
-    → All P (told_from 0 (map (option_map (packet_by endpoint)) row))
-told_places P endpoint row each = told_each P 0 (map (option_map (packet_by endpoint)) row) (λ k below.
-    let inside : k < length row = omega (arith, length-map row (option_map (packet_by endpoint))) in
-    let first : k ≡ 0 + k = omega arith in
-    subst (λ (n : ℕ). IfSome (get_or (map (option_map (packet_by endpoint)) row) k None) (λ packet. P (told_as n packet))) first
-    (subst (λ (p : Option RoutedFlow). IfSome p (λ packet. P (told_as k packet))) (sym (get_or-map (option_map (packet_by endpoint)) row k None None inside))
-    (named_told P k endpoint (get_or row k None) (each k inside))))
-
-pub told_offsets : (b endpoint : ℕ) (row : List (Option Hop)) → length row ≤ b → All (λ told. told.offset < b) (told_from 0 (map (option_map (packet_by endpoint)) row))
-told_offsets b endpoint row size = told_places (λ told. told.offset < b) endpoint row (λ k below. if_some (λ _. k < b) (get_or row k None) (λ _. omega arith))
-
-pub told_destinations : (endpoints endpoint : ℕ) (row : List (Option Hop)) → All (IsHop endpoints) row → All (λ told. told.dst < endpoints) (told_from 0 (map (option_map (packet_by endpoint)) row))
-told_destinations endpoints endpoint row hops =
-    told_places (λ told. told.dst < endpoints) endpoint row (λ k below.
-    if_some_weaker (λ hop. (hop.dst < endpoints) × IfSome hop.core (λ core. core < 64)) (λ hop. hop.dst < endpoints) (get_or row k None) (λ hop is. is.0) (hops k None below))
-
-core_told : (core : Option ℕ) → IfSome core (λ c. c < 64) → IsCore (unwrap_or core 255)
-core_told None named = inr refl
-core_told (Some core) named = inl named
-
-pub told_cores : (endpoints endpoint : ℕ) (row : List (Option Hop)) → All (IsHop endpoints) row → All (λ told. IsCore told.core) (told_from 0 (map (option_map (packet_by endpoint)) row))
-told_cores endpoints endpoint row hops =
-    told_places (λ told. IsCore told.core) endpoint row (λ k below.
-    if_some_weaker (λ hop. (hop.dst < endpoints) × IfSome hop.core (λ core. core < 64)) (λ hop. IsCore (unwrap_or hop.core 255)) (get_or row k None) (λ hop is. core_told hop.core is.1)
-    (hops k None below))
 
 abbrev GoesOut : List RoutedFlow → Type 0
 GoesOut slot = All (λ packet. packet.flow.src ≢ packet.flow.dst) slot
@@ -151,3 +111,112 @@ told_all endpoint slots told inside is =
     subst (Contains (told_from 0 (map (packet_from endpoint) slots))) found.2
     (subst (λ (n : ℕ). Contains (told_from 0 (map (packet_from endpoint) slots)) (told_as n found.0)) first
     (told_at 0 (map (packet_from endpoint) slots) told.offset found.0 (get_or-map (packet_from endpoint) slots told.offset [] None inside ∙ found.1)))
+
+-- ---- lists
+
+-- what is told does not name the source
+pub told_src : (src : ℕ) (hop_at : ℕ → Option Hop) (offset a n : ℕ)
+    → told_from offset (map (λ k. option_map (packet_by src) (hop_at k)) (range_with_len a n)) ≡ told_from offset (map (λ k. option_map (packet_by 0) (hop_at k)) (range_with_len a n))
+told_src src hop_at offset a zero = refl
+told_src src hop_at offset a (suc n) = cell_told (hop_at a)
+    (map (λ k. option_map (packet_by src) (hop_at k)) (range_with_len (a + 1) n)) (map (λ k. option_map (packet_by 0) (hop_at k)) (range_with_len (a + 1) n)) (told_src src hop_at (offset + 1) (a + 1) n)
+  where
+    cell_told : (cell : Option Hop) (packets others : List (Option RoutedFlow)) → told_from (offset + 1) packets ≡ told_from (offset + 1) others
+        → told_from offset (option_map (packet_by src) cell ∷ packets) ≡ told_from offset (option_map (packet_by 0) cell ∷ others)
+    cell_told None packets others same = same
+    cell_told (Some hop) packets others same = ap (λ (told : List Told). told_as offset (packet_by 0 hop) ∷ told) same
+
+pub told_from-append : (offset next : ℕ) (packets others : List (Option RoutedFlow)) → next ≡ offset + length packets → told_from offset (packets ++ others) ≡ told_from offset packets ++ told_from next others
+told_from-append offset next [] others at = ap (λ (n : ℕ). told_from n others) (omega arith)
+told_from-append offset next (None ∷ packets) others at = told_from-append (offset + 1) next packets others (omega arith)
+told_from-append offset next (Some packet ∷ packets) others at = ap (λ (told : List Told). told_as offset packet ∷ told) (told_from-append (offset + 1) next packets others (omega arith))
+
+told_after : (at from : ℕ) (cell : Option Hop) (packets : List (Option RoutedFlow)) → from ≢ at
+    → find (λ (one : Told). one.offset == at) (told_from from (option_map (packet_by 0) cell ∷ packets)) ≡ find (λ (one : Told). one.offset == at) (told_from (from + 1) packets)
+told_after at from None packets other = refl
+told_after at from (Some hop) packets other =
+    cond-false (from == at) (Some (told_as from (packet_by 0 hop))) (find (λ (one : Told). one.offset == at) (told_from (from + 1) packets)) (ne_eqb from at other)
+
+told_here : (at : ℕ) (cell : Option Hop) (packets : List (Option RoutedFlow)) → find (λ (one : Told). one.offset == at) (told_from (at + 1) packets) ≡ None
+    → find (λ (one : Told). one.offset == at) (told_from at (option_map (packet_by 0) cell ∷ packets)) ≡ option_map (λ hop. told_as at (packet_by 0 hop)) cell
+told_here at None packets none = none
+told_here at (Some hop) packets none = cond-true (at == at) (Some (told_as at (packet_by 0 hop))) (find (λ (one : Told). one.offset == at) (told_from (at + 1) packets)) (eq-eqb at at refl)
+
+told_before : (at from n : ℕ) (hop_at : ℕ → Option Hop) → at < from → find (λ (one : Told). one.offset == at) (told_from from (map (λ k. option_map (packet_by 0) (hop_at k)) (range_with_len from n))) ≡ None
+told_before at from zero hop_at below = refl
+told_before at from (suc n) hop_at below =
+    told_after at from (hop_at from) (map (λ k. option_map (packet_by 0) (hop_at k)) (range_with_len (from + 1) n)) (λ same. omega arith) ∙ told_before at (from + 1) n hop_at (omega arith)
+
+told_found : (at from n : ℕ) (hop_at : ℕ → Option Hop) → from ≤ at → at < from + n
+    → find (λ (one : Told). one.offset == at) (told_from from (map (λ k. option_map (packet_by 0) (hop_at k)) (range_with_len from n))) ≡ option_map (λ hop. told_as at (packet_by 0 hop)) (hop_at at)
+told_found at from zero hop_at low high = absurd (omega arith)
+told_found at from (suc n) hop_at low high =
+    let later : ℕ → List (Option RoutedFlow) = λ a. map (λ k. option_map (packet_by 0) (hop_at k)) (range_with_len (a + 1) n) in
+    elim (cases_eq from at) [
+      | inl here ↦
+          ap (λ (a : ℕ). find (λ (one : Told). one.offset == at) (told_from a (option_map (packet_by 0) (hop_at a) ∷ later a))) here
+          ∙ told_here at (hop_at at) (later at) (told_before at (at + 1) n hop_at (omega arith))
+      | inr other ↦ told_after at from (hop_at from) (later from) other ∙ told_found at (from + 1) n hop_at (omega arith) (omega arith)
+    ]
+
+core_back : (core : Option ℕ) → IfSome core (λ c. c < 64) → core_named (unwrap_or core 255) ≡ core
+core_back None named = refl
+core_back (Some core) named = cond-false (core == 255) None (Some core) (ne_eqb core 255 (λ same. omega arith))
+
+core_told : (core : Option ℕ) → IfSome core (λ c. c < 64) → IsCore (unwrap_or core 255)
+core_told None named = inr refl
+core_told (Some core) named = inl named
+
+hop_back : (endpoints at : ℕ) (cell : Option Hop) → IsHop endpoints cell
+    → option_map (λ (one : Told). record { dst = one.dst; core = core_named one.core }) (option_map (λ hop. told_as at (packet_by 0 hop)) cell) ≡ cell
+hop_back endpoints at None is = refl
+hop_back endpoints at (Some hop) is = ap (λ (core : Option ℕ). Some (record { dst = hop.dst; core = core })) (core_back hop.core is.1)
+
+-- a list says where its endpoint sends
+pub hop_in-told : (endpoints : ℕ) (hop_at : ℕ → Option Hop) (b at : ℕ) → at < b → IsHop endpoints (hop_at at) → hop_in (told_of hop_at b) at ≡ hop_at at
+hop_in-told endpoints hop_at b at below is =
+    ap (option_map (λ (one : Told). record { dst = one.dst; core = core_named one.core })) (told_found at 0 b hop_at (omega arith) (omega arith)) ∙ hop_back endpoints at (hop_at at) is
+
+pub map_range : {X : Type 0} (f g : ℕ → X) (a n : ℕ) → ((k : ℕ) → a ≤ k → k < a + n → f k ≡ g k) → map f (range_with_len a n) ≡ map g (range_with_len a n)
+map_range f g a zero same = refl
+map_range {X} f g a (suc n) same =
+    ap (λ (x : X). x ∷ map f (range_with_len (a + 1) n)) (same a (omega arith) (omega arith))
+    ∙ ap (λ (xs : List X). g a ∷ xs) (map_range f g (a + 1) n (λ k low high. same k (omega arith) (omega arith)))
+
+named_told : (endpoints at : ℕ) (cell : Option Hop) → IsHop endpoints cell
+    → IfSome (option_map (packet_by 0) cell) (λ packet. ((told_as at packet).dst < endpoints) × IsCore (told_as at packet).core)
+named_told endpoints at None is = tt
+named_told endpoints at (Some hop) is = (is.0, core_told hop.core is.1)
+
+pub told_list : (endpoints : ℕ) (hop_at : ℕ → Option Hop) (b : ℕ) → ((offset : ℕ) → offset < b → IsHop endpoints (hop_at offset)) → IsToldList endpoints b (told_of hop_at b)
+told_list endpoints hop_at b hops =
+    let sent : ℕ → Option RoutedFlow = λ k. option_map (packet_by 0) (hop_at k) in
+    let Names : Told → Type 0 = λ one. (one.dst < endpoints) × IsCore one.core in
+    record {
+      is = ap (told_from 0) (map_range sent (λ k. option_map (packet_by 0) (hop_in (told_of hop_at b) k)) 0 b (λ k low high.
+          let below : k < b = omega arith in
+          ap (option_map (packet_by 0)) (sym (hop_in-told endpoints hop_at b k below (hops k below)))));
+      names = told_each Names 0 (map sent (range_with_len 0 b)) (λ k inside.
+          let below : k < b = omega (arith, length-map-range_with_len sent 0 b) in
+          subst (λ (p : Option RoutedFlow). IfSome p (λ packet. Names (told_as (0 + k) packet))) (sym (get_or-map-range_with_len sent 0 b k k None below (omega arith)))
+          (named_told endpoints (0 + k) (hop_at k) (hops k below)));
+    }
+
+-- what is told of so many slots has offsets below their number
+pub told_offsets : (b endpoint : ℕ) (slots : List (List RoutedFlow)) → length slots ≤ b → All (λ told. told.offset < b) (told_from 0 (map (packet_from endpoint) slots))
+told_offsets b endpoint slots size =
+    told_each (λ told. told.offset < b) 0 (map (packet_from endpoint) slots) (λ k below.
+    if_some (λ _. 0 + k < b) (get_or (map (packet_from endpoint) slots) k None) (λ _. omega (arith, length-map slots (packet_from endpoint))))
+
+-- what is told of one slot more
+pub told_more : (hop_at : ℕ → Option Hop) (b next : ℕ) → next ≡ b + 1 → told_of hop_at next ≡ told_of hop_at b ++ told_from b (option_map (packet_by 0) (hop_at b) ∷ [])
+told_more hop_at b next is =
+    let sent : ℕ → Option RoutedFlow = λ k. option_map (packet_by 0) (hop_at k) in
+    ap (told_of hop_at) is
+    ∙ (ap (told_from 0) (map-range_with_len_more sent 0 b b (omega arith))
+    ∙ told_from-append 0 b (map sent (range_with_len 0 b)) (sent b ∷ []) (omega (arith, length-map-range_with_len sent 0 b)))
+
+pub slot_told : (offset byte : ℕ) (core dst : Option ℕ) → IfSome dst (λ _. byte ≡ unwrap_or core 255)
+    → cons_option (option_map (λ (d : ℕ). record { offset = offset; core = byte; dst = d }) dst) [] ≡ told_from offset (option_map (packet_by 0) (option_map (λ d. record { dst = d; core = core }) dst) ∷ [])
+slot_told offset byte core None is = refl
+slot_told offset byte core (Some dst) is = ap (λ (c : ℕ). record { offset = offset; core = c; dst = dst } ∷ []) is

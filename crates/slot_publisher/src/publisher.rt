@@ -1,13 +1,11 @@
-ghost use Rattle.std.specs.Prelude.{◌≡◌, ◌≢◌, ◌<◌, ◌≤◌, ◌+◌, ◌-◌, ◌*◌, ◌%◌, ◌∷◌, ◌++◌, ℕ, [], length, map, option_map, All, Contains, IfOk, IfSome};
+ghost use Rattle.std.specs.Prelude.{◌≡◌, ◌≢◌, ◌<◌, ◌≤◌, ◌+◌, ◌-◌, ◌*◌, ◌%◌, ◌++◌, ℕ, [], length, map, take, option_map, unwrap_or, All, Contains, IfOk, IfSome};
+ghost use Rattle.std.specs.List.{cons_option};
 ghost use Rattle.std.specs.List.Sorted.{IsStrictlyIncreasing};
-ghost use Rattle.greedy_rules.specs.Schedule.{slot_in};
-ghost use Rattle.greedy_rules.specs.SlotTable.{IsSlotOf};
 ghost use Rattle.fcp_framing.specs.declared.packet.Told.{Told as ToldSlot};
 ghost use Rattle.fcp_framing.specs.Spelling.{IsCore};
-ghost use Rattle.path_workers.specs.CoreTable.{core_of};
 ghost use Rattle.slot_publisher.specs.Window.{slots_with_cores, slots_of_batch, NamesCores};
-ghost use Rattle.slot_publisher.specs.Told.{told_from, slots_told, IsToldOf};
-ghost use Rattle.slot_publisher.specs.Places.{hop_in, hop_of as hop_in_slot, packet_by, IsHop};
+ghost use Rattle.slot_publisher.specs.Told.{slots_told, IsToldOf};
+ghost use Rattle.slot_publisher.specs.Places.{told_of, hops_from, ListsArePut};
 
 use arrayvec::ArrayVec;
 use fcp_framing::Told;
@@ -21,14 +19,15 @@ use std::marker::Model;
 /// The core of a told slot that has none.
 const NO_CORE: u8 = 255;
 
-/// Where an endpoint sends in a slot, and by which core.
-#[derive(Clone, Copy, Debug)]
-struct Hop {
-    dst: u16,
-    core: Option<u8>,
-}
+/// What stands in a place that tells nothing.
+const BLANK: Told = Told {
+    offset: 0,
+    core: NO_CORE,
+    dst: 0,
+};
 
-/// The slots of a window of batches, from which each endpoint is told its own. An endpoint's slots lie side by side.
+/// The slots of a window of batches, from which each endpoint is told its own: batch after batch, and in each endpoint after
+/// endpoint, a list in `b` places of its own.
 #[derive(Debug, Drop)]
 pub struct Publisher {
     endpoints: u16,
@@ -36,14 +35,16 @@ pub struct Publisher {
     b: u8,
     first_batch: u32,
     count: u16,
-    hops: BoxedSlice<Option<Hop>>,
+    // Of how many slots each list tells.
+    counts: BoxedSlice<u8>,
+    told: BoxedSlice<Told>,
 }
 
 impl Model for Publisher {
-    ghost use Rattle.std.specs.Prelude.{◌≡◌, ◌<◌, ◌≤◌, ◌*◌, All};
+    ghost use Rattle.std.specs.Prelude.{◌≡◌, ◌<◌, ◌≤◌, ◌*◌};
     ghost use Rattle.std.specs.Box.{boxed_slice_items, boxed_slice_len};
     ghost use Rattle.slot_publisher.specs.Window.{Window};
-    ghost use Rattle.slot_publisher.specs.Places.{slots_of_places, IsHop};
+    ghost use Rattle.slot_publisher.specs.Places.{slots_of_lists, AreLists};
 
     ghost Value = { Window };
 
@@ -53,12 +54,13 @@ impl Model for Publisher {
       b = p.b;
       first_batch = p.first_batch;
       count = p.count;
-      slots = slots_of_places p.endpoints (p.batches * p.b) (p.count * p.b) (boxed_slice_items p.hops);
+      slots = slots_of_lists p.endpoints p.b (p.count * p.b) (boxed_slice_items p.counts) (boxed_slice_items p.told);
     } };
 
     ghost invariant = { λ p.
         (0 < p.b) × (p.b ≤ 64) × (p.count ≤ p.batches)
-        × (boxed_slice_len p.hops ≡ p.endpoints * (p.batches * p.b)) × All (IsHop p.endpoints) (boxed_slice_items p.hops) };
+        × (boxed_slice_len p.counts ≡ p.batches * p.endpoints) × (boxed_slice_len p.told ≡ p.batches * p.endpoints * p.b)
+        × AreLists p.endpoints p.b (p.count * p.endpoints) (boxed_slice_items p.counts) (boxed_slice_items p.told) };
 }
 
 impl Publisher {
@@ -73,15 +75,37 @@ impl Publisher {
         ensures count { IfOk result (λ publisher. publisher.count ≡ 0) }
         ensures slots { IfOk result (λ publisher. publisher.slots ≡ []) }
     {
-        let room = batches as usize * b as usize;
+        let lists = batches as usize * endpoints as usize;
         Ok(Publisher {
             endpoints,
             batches,
             b,
             first_batch: 0,
             count: 0,
-            hops: vec![in alloc; None; endpoints as usize * room]?.into_boxed_slice(),
+            counts: vec![in alloc; 0; lists]?.into_boxed_slice(),
+            told: vec![in alloc; BLANK; lists * b as usize]?.into_boxed_slice(),
         })
+    }
+
+    /// How many endpoints it serves.
+    pub fn endpoints(&self) -> u16
+        ensures { result ≡ self.now.endpoints }
+    {
+        self.endpoints
+    }
+
+    /// The first batch that is held.
+    pub fn first_batch(&self) -> u32
+        ensures { result ≡ self.now.first_batch }
+    {
+        self.first_batch
+    }
+
+    /// How many batches are held.
+    pub fn count(&self) -> u16
+        ensures { result ≡ self.now.count }
+    {
+        self.count
     }
 
     /// Holds these slots with their cores in place of what it held: the slot at place `s * b + i` is slot i of batch
@@ -100,20 +124,50 @@ impl Publisher {
         ensures count { self.new.count * self.old.b ≡ length slots.now.slots }
         ensures slots { self.new.slots ≡ slots_with_cores slots.now.slots cores.now }
     {
-        let room = self.batches as usize * self.b as usize;
         self.first_batch = first_batch;
         self.count = slots.slots() / u16::from(self.b);
-        put_rows(slots, cores, room, &mut self.hops);
+        put_lists(
+            slots,
+            cores,
+            self.b,
+            self.count,
+            &mut self.counts,
+            &mut self.told,
+        );
     }
 
-    /// Appends what the endpoint is told of a batch that is held: its slots, rising by offset, with destination and core.
+    /// What the endpoint is told of a batch that is held: its slots, rising by offset, with destination and core.
+    pub fn told(&self, endpoint: u16, batch: u32) -> &[Told]
+        requires endpoint { endpoint < self.now.endpoints }
+        requires first { self.now.first_batch ≤ batch }
+        requires last { batch < self.now.first_batch + self.now.count }
+        ensures told { result.now ≡ slots_told self.now endpoint batch }
+        ensures most { length result.now ≤ 64 }
+        // These are exactly its slots of the batch.
+        ensures only { All (IsToldOf (slots_of_batch self.now batch) endpoint) result.now }
+        ensures all { (told : ToldSlot) →
+            told.offset < self.now.b →
+            IsToldOf (slots_of_batch self.now batch) endpoint told →
+            Contains result.now told }
+        ensures rising { IsStrictlyIncreasing (map (λ told. told.offset) result.now) }
+        ensures offsets { All (λ told. told.offset < self.now.b) result.now }
+        ensures destinations { All (λ told. told.dst < self.now.endpoints) result.now }
+        ensures cores { All (λ told. IsCore told.core) result.now }
+        ensures others { All (All (λ packet. packet.flow.src ≢ packet.flow.dst)) self.now.slots → All (λ told. told.dst ≢ endpoint) result.now }
+    {
+        let list = (batch - self.first_batch) as usize * self.endpoints as usize
+            + endpoint as usize;
+        let from = list * self.b as usize;
+        &self.told[from..from + self.counts[list] as usize]
+    }
+
+    /// Appends the same.
     pub fn told_to(&self, endpoint: u16, batch: u32, into: &mut ArrayVec<Told, 64>)
         requires endpoint { endpoint < self.now.endpoints }
         requires first { self.now.first_batch ≤ batch }
         requires last { batch < self.now.first_batch + self.now.count }
         requires empty { into.old.items ≡ [] }
         ensures told { into.new.items ≡ slots_told self.now endpoint batch }
-        // These are exactly its slots of the batch.
         ensures only { All (IsToldOf (slots_of_batch self.now batch) endpoint) into.new.items }
         ensures all { (told : ToldSlot) →
             told.offset < self.now.b →
@@ -125,102 +179,105 @@ impl Publisher {
         ensures cores { All (λ told. IsCore told.core) into.new.items }
         ensures others { All (All (λ packet. packet.flow.src ≢ packet.flow.dst)) self.now.slots → All (λ told. told.dst ≢ endpoint) into.new.items }
     {
-        let b = self.b as usize;
-        let room = self.batches as usize * b;
-        let from = endpoint as usize * room + (batch - self.first_batch) as usize * b;
-        tell(&self.hops[from..from + b], into);
+        let _ = into.try_extend_from_slice(self.told(endpoint, batch));
     }
 }
 
-/// Writes each endpoint's row of `room` places, slot by slot: what it sends in every slot.
-fn put_rows(slots: &SlotTable, cores: &CoreTable, room: usize, hops: &mut [Option<Hop>])
-    requires room { length slots.now.slots ≤ room }
-    requires places { slots.now.endpoints * room ≡ length hops.old }
+/// Fills the lists of so many batches of `b` slots.
+fn put_lists(
+    slots: &SlotTable,
+    cores: &CoreTable,
+    b: u8,
+    batches: u16,
+    counts: &mut [u8],
+    told: &mut [Told],
+)
+    requires held { batches * b ≤ length slots.now.slots }
+    requires lists { batches * slots.now.endpoints ≤ length counts.old }
+    requires places { length told.old ≡ length counts.old * b }
+    requires most { b ≤ 64 }
+    requires few { length slots.now.slots < 65536 }
     requires core_slots { length slots.now.slots ≤ cores.now.slots }
     requires core_endpoints { slots.now.endpoints ≤ cores.now.endpoints }
     requires cores { NamesCores slots.now.slots cores.now }
-    requires hops { All (IsHop slots.now.endpoints) hops.old }
-    ensures held { (slot endpoint : ℕ) →
-        slot < length slots.now.slots →
-        endpoint < slots.now.endpoints →
-        hop_in room hops.new slot endpoint ≡ hop_in_slot (core_of cores.now slot) (slot_in slots.now.slots slot) endpoint }
-    ensures hops { All (IsHop slots.now.endpoints) hops.new }
+    ensures { ListsArePut slots.now cores.now b (batches * slots.now.endpoints) counts.new told.new }
 {
-    for slot in 0..slots.slots() {
-        put_slot(slots, cores, slot, room, hops);
+    for batch in 0..batches {
+        put_batch(slots, cores, b, batch, counts, told);
     }
 }
 
-/// Writes a slot's place in the row of each endpoint.
-fn put_slot(slots: &SlotTable, cores: &CoreTable, slot: u16, room: usize, hops: &mut [Option<Hop>])
-    requires slot { slot < length slots.now.slots }
-    requires room { slot < room }
-    requires places { slots.now.endpoints * room ≡ length hops.old }
-    requires core_slots { slot < cores.now.slots }
+/// Fills the list of each endpoint for a batch, where those of the batches before are filled.
+fn put_batch(
+    slots: &SlotTable,
+    cores: &CoreTable,
+    b: u8,
+    batch: u16,
+    counts: &mut [u8],
+    told: &mut [Told],
+)
+    requires held { batch * b + b ≤ length slots.now.slots }
+    requires lists { batch * slots.now.endpoints + slots.now.endpoints ≤ length counts.old }
+    requires places { length told.old ≡ length counts.old * b }
+    requires most { b ≤ 64 }
+    requires few { length slots.now.slots < 65536 }
+    requires core_slots { length slots.now.slots ≤ cores.now.slots }
     requires core_endpoints { slots.now.endpoints ≤ cores.now.endpoints }
-    requires each { IsSlotOf slots.now.endpoints (slot_in slots.now.slots slot) }
     requires cores { NamesCores slots.now.slots cores.now }
-    requires hops { All (IsHop slots.now.endpoints) hops.old }
-    ensures here { (endpoint : ℕ) →
-        endpoint < slots.now.endpoints →
-        hop_in room hops.new slot endpoint ≡ hop_in_slot (core_of cores.now slot) (slot_in slots.now.slots slot) endpoint }
-    ensures others { (other endpoint : ℕ) → other < room → other ≢ slot → hop_in room hops.new other endpoint ≡ hop_in room hops.old other endpoint }
-    ensures hops { All (IsHop slots.now.endpoints) hops.new }
+    requires before { ListsArePut slots.now cores.now b (batch * slots.now.endpoints) counts.old told.old }
+    ensures { ListsArePut slots.now cores.now b (batch * slots.now.endpoints + slots.now.endpoints) counts.new told.new }
 {
     for endpoint in 0..slots.endpoints() {
-        hops[endpoint as usize * room + slot as usize] = hop_of(slots, cores, slot, endpoint);
+        let list = batch as usize * slots.endpoints() as usize + endpoint as usize;
+        let from = list * b as usize;
+        let places = &mut told[from..from + b as usize];
+        counts[list] = put_list(slots, cores, batch * u16::from(b), endpoint, places);
     }
 }
 
-/// Where the endpoint sends in a slot, and by which core.
-fn hop_of(slots: &SlotTable, cores: &CoreTable, slot: u16, endpoint: u16) -> Option<Hop>
-    requires slot { slot < length slots.now.slots }
+/// Fills an endpoint's list with what is told of the slots from this one on, one for each place, and answers of how many it tells.
+fn put_list(slots: &SlotTable, cores: &CoreTable, from: u16, endpoint: u16, list: &mut [Told]) -> u8
+    requires held { from + length list.old ≤ length slots.now.slots }
+    requires most { length list.old ≤ 64 }
+    requires few { length slots.now.slots < 65536 }
     requires endpoint { endpoint < slots.now.endpoints }
-    requires core_slots { slot < cores.now.slots }
+    requires core_slots { length slots.now.slots ≤ cores.now.slots }
     requires core_endpoints { slots.now.endpoints ≤ cores.now.endpoints }
-    requires each { IsSlotOf slots.now.endpoints (slot_in slots.now.slots slot) }
     requires cores { NamesCores slots.now.slots cores.now }
-    ensures hop { result ≡ hop_in_slot (core_of cores.now slot) (slot_in slots.now.slots slot) endpoint }
-    ensures in_range { IsHop slots.now.endpoints result }
+    ensures count { result ≤ length list.old }
+    ensures told { take result list.new ≡ told_of (hops_from slots.now cores.now from endpoint) (length list.old) }
 {
-    let dst = slots.to(slot, endpoint)?;
-    Some(Hop {
-        dst,
-        core: in_a_byte(cores.core(slot, endpoint)),
-    })
+    let mut count = 0;
+    for offset in 0..list.len() as u8 {
+        let slot = from + u16::from(offset);
+        let core = byte_of(cores.core(slot, endpoint));
+        count = append(list, count, offset, slots.to(slot, endpoint), core);
+    }
+    count
 }
 
-fn in_a_byte(core: Option<u16>) -> Option<u8>
-    requires { IfSome core (λ core. core < 64) }
-    ensures { result ≡ core }
+/// The byte that names a core.
+fn byte_of(core: Option<u16>) -> u8
+    ensures { IfSome core (λ core. core < 64) → result ≡ unwrap_or core 255 }
 {
     match core {
-        Some(core) => Some(core as u8),
-        None => None,
+        Some(core) if core < 64 => core as u8,
+        _ => NO_CORE,
     }
 }
 
-/// Appends what an endpoint's places of a batch tell.
-fn tell(hops: &[Option<Hop>], into: &mut ArrayVec<Told, 64>)
-    requires most { length hops.now ≤ 64 }
-    requires empty { into.old.items ≡ [] }
-    ensures { (endpoint : ℕ) → into.new.items ≡ told_from 0 (map (option_map (packet_by endpoint)) hops.now) }
+/// Tells of one slot more behind so many of a list, if it has a destination, and answers how many there are now. The place behind
+/// them is written in either case.
+fn append(list: &mut [Told], count: u8, offset: u8, dst: Option<u16>, core: u8) -> u8
+    requires room { count < length list.old }
+    requires most { length list.old ≤ 64 }
+    ensures count { result ≤ count + 1 }
+    ensures told { take result list.new ≡ take count list.old ++ cons_option (option_map (λ dst. record { offset = offset; core = core; dst = dst }) dst) [] }
 {
-    for (offset, hop) in hops.iter().enumerate() {
-        tell_place(offset as u8, *hop, into);
-    }
-}
-
-fn tell_place(offset: u8, hop: Option<Hop>, into: &mut ArrayVec<Told, 64>)
-    requires { length into.old.items < 64 }
-    ensures count { length into.new.items ≤ length into.old.items + 1 }
-    ensures told { (endpoint : ℕ) → into.new.items ≡ into.old.items ++ told_from offset (option_map (packet_by endpoint) hop ∷ []) }
-{
-    if let Some(hop) = hop {
-        into.push(Told {
-            offset,
-            core: hop.core.unwrap_or(NO_CORE),
-            dst: hop.dst,
-        });
-    }
+    list[count as usize] = Told {
+        offset,
+        core,
+        dst: dst.unwrap_or(0),
+    };
+    count + u8::from(dst.is_some())
 }

@@ -2,10 +2,11 @@ use Rattle.std.proofs.Common.{◌≡◌, ◌+◌, ℕ, Some, cond, nat_lt, slice
 use Rattle.lane_rounds.specs.State.{RoundsState}
 use Rattle.trace_run.specs.Run.{Setting}
 use Rattle.replay_rounds.specs.Standing.{LaneStands}
-use Rattle.replay_rounds.specs.Publishing.{AreNext, LanesStand}
+use Rattle.replay_rounds.specs.Publishing.{IsPublished, LanesStand}
 use Rattle.replay_rounds.proofs.publish.count_slots.Given as goal
 
 abbrev pub invariant-loop-src : goal.invariant-loop-src
 invariant-loop-src l =
-    (setting : Setting) (collected count : ℕ) → AreNext setting l.b collected l.first count l.slots → LanesStand setting collected l.first l.initial.lanes →
-    (endpoint : ℕ) (lane : RoundsState) → slice_get l.lanes endpoint ≡ Some lane → LaneStands setting collected (cond (nat_lt endpoint l.src) (l.first + count) l.first) endpoint lane
+    (setting : Setting) (collected : ℕ) → IsPublished setting collected l.publisher → LanesStand setting collected l.publisher.first_batch l.initial.lanes →
+    (endpoint : ℕ) (lane : RoundsState) → slice_get l.lanes endpoint ≡ Some lane →
+    LaneStands setting collected (cond (nat_lt endpoint l.src) (l.publisher.first_batch + l.publisher.count) l.publisher.first_batch) endpoint lane
