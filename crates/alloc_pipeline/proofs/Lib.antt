@@ -1,3 +1,4 @@
 pub mod WholeLists
 pub mod Weaving
+pub mod Places
 pub mod RingLemmas

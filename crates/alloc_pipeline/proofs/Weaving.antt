@@ -1,10 +1,9 @@
--- A list that is woven, chunk by chunk and item by item.
+-- A list that is woven: what is set aside, the two parts of a list in order, and what is picked.
 use Rattle.std.proofs.Common.{◌≡◌, ◌<◌, ◌≤◌, ◌+◌, ◌-◌, ℕ, zero, suc, List, [], ◌∷◌, ◌++◌, length, take, drop, get_or, Bool, true, false, not, ◌==◌, cond, All, refl, sym, ap, ◌∙◌, subst, arith, inl, inr}
 use Rattle.std.specs.List.{AllWithin}
 use Rattle.std.proofs.lemmas.Bool.{cond-true, cond-false, cases_Bool, ltb-true, ne_eqb}
 use Rattle.std.proofs.lemmas.Bool.Decides.{nat_tests}
-use Rattle.std.proofs.lemmas.List.Elements.{All-nil, All-cons, All-head, All-tail, All-filter, All-append, filter-append}
-use Rattle.std.proofs.Math.Seq.{take-add}
+use Rattle.std.proofs.lemmas.List.Elements.{All-head, All-tail, All-filter, filter-append}
 use Rattle.std.proofs.lemmas.List.{append-nil, append_assoc, take-append-drop, take_rest, drop-drop}
 use Rattle.greedy_rules.specs.declared.flows.Item.{Item}
 use Rattle.slot_batches.specs.Feeding.{IsInOrder, was_served}
@@ -48,7 +47,7 @@ none_picked aside (item ∷ items) all =
     cond-false (not (aside item)) (item ∷ picked aside items) (picked aside items) (ap not (All-head (λ x. aside x ≡ true) item items all))
     ∙ none_picked aside items (All-tail (λ x. aside x ≡ true) item items all)
 
-pub none_left : (xs : List Item) → length xs ≡ 0 → xs ≡ []
+pub none_left : {X : Type 0} (xs : List X) → length xs ≡ 0 → xs ≡ []
 none_left [] none = refl
 none_left (x ∷ xs) none = absurd (omega arith)
 
@@ -66,22 +65,14 @@ parts_in_order (x ∷ xs) up =
           ∙ ap (λ b. cond (not b) (x ∷ never_served xs) (never_served xs) ++ cond b (x ∷ once_served xs) (once_served xs)) (sym new)
     ]
 
--- where all of the list is set aside and all of the rest was served, the rest follows the list
-all_aside : (aside : Item → Bool) (list : List Item) → picked aside list ≡ [] → All (λ item. aside item ≡ true) list
-all_aside aside [] none = All-nil (λ item. aside item ≡ true)
-all_aside aside (item ∷ list) none =
-    elim (cases_Bool (aside item)) [
-      | inl is ↦ All-cons (λ x. aside x ≡ true) item list is (all_aside aside list (sym (cond-false (not (aside item)) (item ∷ picked aside list) (picked aside list) (ap not is)) ∙ none))
-      | inr not_it ↦ (let some : item ∷ picked aside list ≡ [] = sym (cond-true (not (aside item)) (item ∷ picked aside list) (picked aside list) (ap not not_it)) ∙ none in absurd (cc))
-    ]
-
-followed : (aside : Item → Bool) (list rest : List Item) → All (λ item. aside item ≡ true) list → weave aside list rest ≡ list ++ rest
+-- behind a list of which all is set aside comes the rest
+pub followed : (aside : Item → Bool) (list rest : List Item) → All (λ item. aside item ≡ true) list → weave aside list rest ≡ list ++ rest
 followed aside list rest all = ap (λ (xs : List Item). weave aside xs rest) (sym (append-nil list)) ∙ run_aside aside list [] rest all
 
-pub rest_follows : (aside : Item → Bool) (list rest : List Item) → picked aside list ≡ [] → IsInOrder list → take 0 rest ≡ never_served rest → drop 0 rest ≡ once_served rest
+-- where all of the rest was served, it follows the whole list
+pub rest_follows : (aside : Item → Bool) (list rest : List Item) → All (λ item. aside item ≡ true) list → IsInOrder list → take 0 rest ≡ never_served rest → drop 0 rest ≡ once_served rest
     → list ++ rest ≡ woven aside list rest
-rest_follows aside list rest none up no_new all_old =
-    let all = all_aside aside list none in
+rest_follows aside list rest all up no_new all_old =
     let first : weave aside (never_served list) (never_served rest) ≡ never_served list =
     ap (weave aside (never_served list)) (sym no_new)
     ∙ (followed aside (never_served list) [] (All-filter (λ item. not (was_served item)) (λ item. aside item ≡ true) list all) ∙ append-nil (never_served list)) in
@@ -90,10 +81,6 @@ rest_follows aside list rest none up no_new all_old =
     ap (λ (xs : List Item). xs ++ rest) (parts_in_order list up)
     ∙ (append_assoc (never_served list) (once_served list) rest
     ∙ sym (ap (λ (xs : List Item). xs ++ weave aside (once_served list) (once_served rest)) first ∙ ap (λ (xs : List Item). never_served list ++ xs) second))
-
--- what holds of the items up to a place, and of so many from there on
-pub front_on : {X : Type 0} (P : X → Type 0) (xs : List X) (at more : ℕ) → All P (take at xs) → All P (take more (drop at xs)) → All P (take (at + more) xs)
-front_on P xs at more front next = subst (All P) (sym (take-add at more xs)) (All-append P (take at xs) (take more (drop at xs)) front next)
 
 -- items at the front that are set aside are not picked
 pub picked_past : (aside : Item → Bool) (items : List Item) (at n : ℕ) → All (λ item. aside item ≡ true) (take n (take (length items - at) (drop at items)))
@@ -114,10 +101,3 @@ at_most_one aside item = elim (cases_Bool (aside item)) [
   | inl is ↦ omega (arith, ap length (cond-false (not (aside item)) (item ∷ []) [] (ap not is)))
   | inr not_it ↦ omega (arith, ap length (cond-true (not (aside item)) (item ∷ []) [] (ap not not_it)))
 ]
-
--- a run at the front that is set aside comes first
-pub run_past : (aside : Item → Bool) (items more rest : List Item) (n : ℕ) → All (λ item. aside item ≡ true) (take n items)
-    → weave aside (items ++ more) rest ≡ take n items ++ weave aside (drop n items ++ more) rest
-run_past aside items more rest n all =
-    ap (λ (xs : List Item). weave aside (xs ++ more) rest) (sym (take-append-drop n items))
-    ∙ (ap (λ (xs : List Item). weave aside xs rest) (append_assoc (take n items) (drop n items) more) ∙ run_aside aside (take n items) (drop n items ++ more) rest all)

@@ -1,10 +1,10 @@
 //! What of a window's demand list its batches run over, while the rest is set aside.
-ghost use Rattle.std.specs.Prelude.{◌≡◌, ◌<◌, ◌≤◌, ◌+◌, [], ◌∷◌, ◌++◌, length, take, true, false, IfOk, All, vec_capacity};
+ghost use Rattle.std.specs.Prelude.{◌≡◌, ◌<◌, ◌≤◌, ◌+◌, ◌^◌, [], ◌∷◌, ◌++◌, length, take, true, false, IfOk, All, vec_len, vec_capacity};
 ghost use Rattle.greedy_rules.specs.declared.flows.Flow.{Flow};
 ghost use Rattle.slot_batches.specs.Feeding.{IsInOrder};
 ghost use Rattle.slot_batches.specs.Marks.{has_mark};
 ghost use Rattle.slot_batches.specs.Woven.{picked as picked_of, woven, OnlyOpen};
-ghost use Rattle.alloc_pipeline.specs.Picked.{is_aside as is_aside_in, HasRoomFor};
+ghost use Rattle.alloc_pipeline.specs.Picked.{is_aside as is_aside_in, places_from, HasRoomFor};
 
 use crate::batches::needs_of;
 use crate::weave::{first_served, weave_lists};
@@ -17,72 +17,59 @@ use std::alloc::Global;
 const PAUSE: u8 = 15;
 
 /// Whether the item is set aside: it needs no slot and its flow has no mark.
-pub(crate) fn is_aside(item: &Item, marks: &FlowMarks) -> bool
+fn is_aside(item: &Item, marks: &FlowMarks) -> bool
     ensures { result ≡ is_aside_in marks.now item.now }
 {
     item.need == 0 && !marks.is_marked(item.flow)
 }
 
-/// Whether all these items are set aside.
-fn are_aside(items: &[Item], marks: &FlowMarks) -> bool
-    ensures { result ≡ true → All (λ item. is_aside_in marks.now item ≡ true) items.now }
-{
-    if needs_of(items) > 0 {
-        return false;
-    }
-    marks.miss_all(items)
-}
-
 /// Whether all these items are set aside, where that is seen of their needs alone.
-pub(crate) fn need_nothing(items: &[Item], marks: &FlowMarks) -> bool
+fn need_nothing(items: &[Item], marks: &FlowMarks) -> bool
     ensures { result ≡ true → All (λ item. is_aside_in marks.now item ≡ true) items.now }
 {
-    if !marks.is_empty() {
-        return false;
-    }
-    are_aside(items, marks)
+    marks.is_empty() && needs_of(items) == 0
 }
 
-/// How many items at the front are set aside, at least, going on by fours.
-fn fours_aside(items: &[Item], marks: &FlowMarks) -> usize
-    ensures within { result ≤ length items.now }
-    ensures aside { All (λ item. is_aside_in marks.now item ≡ true) (take result items.now) }
-{
-    let mut at = 0;
-    while items.len() - at >= 4 && are_aside(&items[at..at + 4], marks) {
-        at += 4;
-    }
-    at
-}
-
-/// How many items at the front are set aside.
-pub(crate) fn count_aside(items: &[Item], marks: &FlowMarks) -> usize
-    ensures within { result ≤ length items.now }
-    ensures aside { All (λ item. is_aside_in marks.now item ≡ true) (take result items.now) }
-{
-    let mut at = fours_aside(items, marks);
-    while at < items.len() && is_aside(&items[at], marks) {
-        at += 1;
-    }
-    at
-}
-
-/// Appends the item, unless it is set aside.
-fn pick_item(item: Item, marks: &FlowMarks, found: &mut DemandList)
+/// Appends the item and its place, unless it is set aside.
+fn pick_item(
+    item: Item,
+    place: usize,
+    marks: &FlowMarks,
+    found: &mut DemandList,
+    places: &mut Vec<usize>,
+)
     requires room { 0 < found.old.spare }
+    requires places_room { vec_len places.old < vec_capacity places.old }
     ensures items { found.new.items ≡ found.old.items ++ picked_of (is_aside_in marks.now) (item ∷ []) }
+    ensures places { places.new.items ≡ places.old.items ++ places_from (is_aside_in marks.now) place (item ∷ []) }
     ensures room { length found.new.items + found.new.spare ≡ length found.old.items + found.old.spare }
+    ensures capacity { vec_capacity places.new ≡ vec_capacity places.old }
 {
     if !is_aside(&item, marks) {
         found.push(item);
+        places.push_reserved(place);
     }
 }
 
-/// Appends those of the items that are not set aside, where no more than `most` are found then.
-fn pick_few(items: &[Item], marks: &FlowMarks, most: usize, found: &mut DemandList) -> bool
+/// Appends those of the items that are not set aside, and their places, the first item's being `from`, where no more than
+/// `most` are found then.
+fn pick_few(
+    items: &[Item],
+    from: usize,
+    marks: &FlowMarks,
+    most: usize,
+    found: &mut DemandList,
+    places: &mut Vec<usize>,
+) -> bool
     requires room { most ≤ length found.old.items + found.old.spare }
+    requires places_room { most ≤ vec_capacity places.old }
+    requires same { length found.old.items ≡ length places.old.items }
+    requires fits { from + length items.now < 2 ^ 63 }
     ensures items { result ≡ true → found.new.items ≡ found.old.items ++ picked_of (is_aside_in marks.now) items.now }
+    ensures places { result ≡ true → places.new.items ≡ places.old.items ++ places_from (is_aside_in marks.now) from items.now }
+    ensures same { length found.new.items ≡ length places.new.items }
     ensures room { length found.new.items + found.new.spare ≡ length found.old.items + found.old.spare }
+    ensures capacity { vec_capacity places.new ≡ vec_capacity places.old }
 {
     if need_nothing(items, marks) {
         return true;
@@ -92,26 +79,38 @@ fn pick_few(items: &[Item], marks: &FlowMarks, most: usize, found: &mut DemandLi
     }
     let mut at = 0;
     while at < items.len() {
-        at += count_aside(&items[at..], marks);
+        at += marks.idle_front(&items[at..]);
         if at < items.len() {
-            pick_item(items[at], marks, found);
+            pick_item(items[at], from + at, marks, found, places);
             at += 1;
         }
     }
     true
 }
 
-/// Picks the items that are not set aside, in their order, where they are no more than `most`.
-fn pick_items(items: &[Item], marks: &FlowMarks, most: usize, found: &mut DemandList) -> bool
+/// Picks the items that are not set aside, in their order, and their places, where they are no more than `most`.
+fn pick_items(
+    items: &[Item],
+    marks: &FlowMarks,
+    most: usize,
+    found: &mut DemandList,
+    places: &mut Vec<usize>,
+) -> bool
     requires room { most ≤ length found.old.items + found.old.spare }
+    requires places_room { most ≤ vec_capacity places.old }
     ensures items { result ≡ true → found.new.items ≡ picked_of (is_aside_in marks.now) items.now }
+    ensures places { result ≡ true → places.new.items ≡ places_from (is_aside_in marks.now) 0 items.now }
     ensures room { length found.new.items + found.new.spare ≡ length found.old.items + found.old.spare }
+    ensures capacity { vec_capacity places.new ≡ vec_capacity places.old }
 {
     found.clear();
+    places.clear();
+    let mut from = 0;
     for few in items.chunks(64) {
-        if !pick_few(few, marks, most, found) {
+        if !pick_few(few, from, marks, most, found, places) {
             return false;
         }
+        from += few.len();
     }
     true
 }
@@ -122,8 +121,9 @@ fn pick_items(items: &[Item], marks: &FlowMarks, most: usize, found: &mut Demand
 pub(crate) struct Picked {
     marks: FlowMarks,
     pub(crate) items: DemandList,
+    // Where each of them stood in the list.
+    places: Vec<usize>,
     whole: Vec<Item>,
-    none: bool,
     // So many windows pass before it is tried again to pick few.
     pause: u8,
 }
@@ -137,8 +137,8 @@ impl Picked {
         Ok(Picked {
             marks: FlowMarks::open(alloc)?,
             items: DemandList::open(alloc, pairs)?,
+            places: Vec::with_capacity(alloc, pairs)?,
             whole: Vec::with_capacity(alloc, pairs)?,
-            none: true,
             pause: 0,
         })
     }
@@ -147,10 +147,12 @@ impl Picked {
     /// eighth of it; where they were, some windows pass before that is looked at again.
     pub(crate) fn pick(&mut self, list: &[Item], batches: &[Batch]) -> bool
         requires room { length list.now ≤ length self.old.items.items + self.old.items.spare }
+        requires places_room { length list.now ≤ vec_capacity self.old.places }
         ensures items { result ≡ true → self.new.items.items ≡ picked_of (is_aside_in self.new.marks) list.now }
-        ensures none { result ≡ true → self.new.none ≡ true → self.new.items.items ≡ [] }
+        ensures places { result ≡ true → self.new.places.items ≡ places_from (is_aside_in self.new.marks) 0 list.now }
         ensures unmarked { (flow : Flow) → has_mark self.new.marks flow ≡ false → OnlyOpen batches.now flow }
         ensures room { length self.new.items.items + self.new.items.spare ≡ length self.old.items.items + self.old.items.spare }
+        ensures places_room { vec_capacity self.new.places ≡ vec_capacity self.old.places }
         ensures whole { self.new.whole ≡ self.old.whole }
     {
         self.marks.mark(batches);
@@ -158,8 +160,13 @@ impl Picked {
             self.pause -= 1;
             return false;
         }
-        let picked = pick_items(list, &self.marks, list.len() / 8, &mut self.items);
-        self.none = self.items.is_empty();
+        let picked = pick_items(
+            list,
+            &self.marks,
+            list.len() / 8,
+            &mut self.items,
+            &mut self.places,
+        );
         if !picked {
             self.pause = PAUSE;
         }
@@ -171,22 +178,23 @@ impl Picked {
     pub(crate) fn weave_into(&mut self, list: &mut DemandList)
         requires list_order { IsInOrder list.old.items }
         requires order { IsInOrder self.old.items.items }
-        requires none { self.old.none ≡ true → picked_of (is_aside_in self.old.marks) list.old.items ≡ [] }
+        requires places { self.old.places.items ≡ places_from (is_aside_in self.old.marks) 0 list.old.items }
         requires room { length (woven (is_aside_in self.old.marks) list.old.items self.old.items.items) ≤ length list.old.items + list.old.spare }
         requires whole_room { length (woven (is_aside_in self.old.marks) list.old.items self.old.items.items) ≤ vec_capacity self.old.whole }
         ensures items { list.new.items ≡ woven (is_aside_in self.old.marks) list.old.items self.old.items.items }
         ensures spare { length list.new.items + list.new.spare ≡ length list.old.items + list.old.spare }
         ensures room { length self.new.items.items + self.new.items.spare ≡ length self.old.items.items + self.old.items.spare }
+        ensures places { vec_capacity self.new.places ≡ vec_capacity self.old.places }
         ensures whole { vec_capacity self.old.whole ≤ vec_capacity self.new.whole }
     {
-        if self.none && first_served(self.items.items()) == 0 {
+        if self.places.is_empty() && first_served(self.items.items()) == 0 {
             list.append(self.items.items());
             return;
         }
         weave_lists(
             list.items(),
+            &self.places,
             self.items.items(),
-            &self.marks,
             &mut self.whole,
         );
         give_items(&mut self.whole, list);

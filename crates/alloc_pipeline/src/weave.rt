@@ -1,14 +1,13 @@
 //! The items that are set aside come between the others again.
-ghost use Rattle.std.specs.Prelude.{◌≡◌, ◌≤◌, ◌<◌, ◌+◌, List, [], ◌∷◌, ◌++◌, length, take, drop, ◌&&◌, nat_lt, vec_len, vec_capacity};
+ghost use Rattle.std.specs.Prelude.{◌≡◌, ◌≤◌, ◌<◌, ◌+◌, Bool, List, [], ◌∷◌, ◌++◌, ◌-◌, length, take, drop, ◌&&◌, nat_lt, true, false, vec_len, vec_capacity};
 ghost use Rattle.std.specs.List.{slice_index_or};
+ghost use Rattle.std.specs.List.Sorted.{IsNonDecreasingBy, IsPartitionPoint};
 ghost use Rattle.greedy_rules.specs.declared.flows.Item.{Item};
 ghost use Rattle.slot_batches.specs.Feeding.{IsInOrder};
 ghost use Rattle.slot_batches.specs.Woven.{stays as stays_in, weave, never_served, once_served, woven};
-ghost use Rattle.alloc_pipeline.specs.Picked.{is_aside as is_aside_in};
+ghost use Rattle.alloc_pipeline.specs.Picked.{places_from, staying};
 
-use crate::picked::{count_aside, is_aside, need_nothing};
 use greedy_rules::Item;
-use slot_batches::FlowMarks;
 
 /// Where the items begin that were served in some slot.
 pub(crate) fn first_served(items: &[Item]) -> usize
@@ -37,103 +36,84 @@ fn stays_at(item: &Item, rest: &[Item], at: usize) -> bool
     }
 }
 
-/// Appends the list's next item, if it is set aside or stays, and answers where the rest goes on.
-fn weave_item(
-    item: Item,
+/// Appends the items of the list up to a place, and then the one at this place, if it stays, as it stands in the rest. Answers
+/// where the rest goes on.
+fn weave_run(
+    list: &[Item],
+    from: usize,
+    to: usize,
     rest: &[Item],
     at: usize,
-    marks: &FlowMarks,
     whole: &mut Vec<Item>,
 ) -> usize
-    requires room { (more : List Item) × (vec_len whole.old + length (weave (is_aside_in marks.now) (item ∷ more) (drop at rest.now)) ≤ vec_capacity whole.old) }
+    requires run { from ≤ to }
+    requires item { to < length list.now }
     requires within { at ≤ length rest.now }
-    ensures woven { (more : List Item) → whole.new.items ++ weave (is_aside_in marks.now) more (drop result rest.now) ≡ whole.old.items ++ weave (is_aside_in marks.now) (item ∷ more) (drop at rest.now) }
+    requires room { vec_len whole.old + ((to - from) + length (staying (drop to list.now) (drop at rest.now))) ≤ vec_capacity whole.old }
+    ensures items { whole.new.items ≡ whole.old.items ++ (take (to - from) (drop from list.now) ++ staying (drop to list.now) (drop at rest.now)) }
+    ensures rest { result ≡ at + length (staying (drop to list.now) (drop at rest.now)) }
     ensures within { result ≤ length rest.now }
     ensures capacity { vec_capacity whole.old ≤ vec_capacity whole.new }
 {
-    if is_aside(&item, marks) {
-        whole.push_reserved(item);
-        return at;
-    }
-    if !stays_at(&item, rest, at) {
+    let _ = whole.extend_from_slice(&list[from..to]);
+    if !stays_at(&list[to], rest, at) {
         return at;
     }
     whole.push_reserved(rest[at]);
     at + 1
 }
 
-/// Appends the items at the front that are set aside, and answers how many they are.
-fn weave_run(
-    items: &[Item],
-    rest: &[Item],
-    at: usize,
-    marks: &FlowMarks,
-    whole: &mut Vec<Item>,
-) -> usize
-    requires room { (more : List Item) × (vec_len whole.old + length (weave (is_aside_in marks.now) (items.now ++ more) (drop at rest.now)) ≤ vec_capacity whole.old) }
-    ensures woven { (more : List Item) → whole.new.items ++ weave (is_aside_in marks.now) (drop result items.now ++ more) (drop at rest.now) ≡ whole.old.items ++ weave (is_aside_in marks.now) (items.now ++ more) (drop at rest.now) }
-    ensures within { result ≤ length items.now }
+/// Appends one part of the list, woven: its first item stands at the place `first`, and those that were picked at these.
+fn weave_part(list: &[Item], first: usize, places: &[usize], rest: &[Item], whole: &mut Vec<Item>)
+    requires room { (aside : Item → Bool) × (places.now ≡ places_from aside first list.now) × (vec_len whole.old + length (weave aside list.now rest.now) ≤ vec_capacity whole.old) }
+    ensures items { (aside : Item → Bool) → places.now ≡ places_from aside first list.now → whole.new.items ≡ whole.old.items ++ weave aside list.now rest.now }
     ensures capacity { vec_capacity whole.old ≤ vec_capacity whole.new }
 {
-    let run = count_aside(items, marks);
-    let _ = whole.extend_from_slice(&items[..run]);
-    run
-}
-
-/// Appends some items of the list, those set aside and those that stay, and answers where the rest goes on.
-fn weave_few(
-    items: &[Item],
-    rest: &[Item],
-    from: usize,
-    marks: &FlowMarks,
-    whole: &mut Vec<Item>,
-) -> usize
-    requires room { (more : List Item) × (vec_len whole.old + length (weave (is_aside_in marks.now) (items.now ++ more) (drop from rest.now)) ≤ vec_capacity whole.old) }
-    requires within { from ≤ length rest.now }
-    ensures woven { (more : List Item) → whole.new.items ++ weave (is_aside_in marks.now) more (drop result rest.now) ≡ whole.old.items ++ weave (is_aside_in marks.now) (items.now ++ more) (drop from rest.now) }
-    ensures within { result ≤ length rest.now }
-    ensures capacity { vec_capacity whole.old ≤ vec_capacity whole.new }
-{
-    if need_nothing(items, marks) {
-        let _ = whole.extend_from_slice(items);
-        return from;
-    }
-    let mut at = from;
-    let mut next = 0;
-    while next < items.len() {
-        next += weave_run(&items[next..], rest, at, marks, whole);
-        if next < items.len() {
-            at = weave_item(items[next], rest, at, marks, whole);
-            next += 1;
-        }
-    }
-    at
-}
-
-/// Appends one part of the list, woven.
-fn weave_part(list: &[Item], rest: &[Item], marks: &FlowMarks, whole: &mut Vec<Item>)
-    requires room { vec_len whole.old + length (weave (is_aside_in marks.now) list.now rest.now) ≤ vec_capacity whole.old }
-    ensures items { whole.new.items ≡ whole.old.items ++ weave (is_aside_in marks.now) list.now rest.now }
-    ensures capacity { vec_capacity whole.old ≤ vec_capacity whole.new }
-{
+    let mut from = 0;
     let mut at = 0;
-    for few in list.chunks(64) {
-        at = weave_few(few, rest, at, marks, whole);
+    for place in places {
+        let to = *place - first;
+        at = weave_run(list, from, to, rest, at, whole);
+        from = to + 1;
     }
+    let _ = whole.extend_from_slice(&list[from..]);
     let _ = whole.extend_from_slice(&rest[at..]);
 }
 
-/// The list woven from itself and the rest that the batches left, both in order.
-pub(crate) fn weave_lists(list: &[Item], rest: &[Item], marks: &FlowMarks, whole: &mut Vec<Item>)
+/// How many of the places, which rise, are below this one.
+fn places_below(places: &[usize], end: usize) -> usize
+    requires { IsNonDecreasingBy (λ place. place) places.now }
+    ensures within { result ≤ length places.now }
+    ensures point { IsPartitionPoint (λ place. nat_lt place end ≡ true) (λ place. nat_lt place end ≡ false) places.now result }
+{
+    places.partition_point(|place| *place < end)
+}
+
+/// The list woven from itself, of which the items at these places were picked, and the rest that the batches left, both in
+/// order.
+pub(crate) fn weave_lists(list: &[Item], places: &[usize], rest: &[Item], whole: &mut Vec<Item>)
     requires list_order { IsInOrder list.now }
     requires order { IsInOrder rest.now }
-    requires room { length (woven (is_aside_in marks.now) list.now rest.now) ≤ vec_capacity whole.old }
-    ensures items { whole.new.items ≡ woven (is_aside_in marks.now) list.now rest.now }
+    requires room { (aside : Item → Bool) × (places.now ≡ places_from aside 0 list.now) × (length (woven aside list.now rest.now) ≤ vec_capacity whole.old) }
+    ensures items { (aside : Item → Bool) → places.now ≡ places_from aside 0 list.now → whole.new.items ≡ woven aside list.now rest.now }
     ensures capacity { vec_capacity whole.old ≤ vec_capacity whole.new }
 {
     let served = first_served(list);
     let rest_served = first_served(rest);
+    let places_served = places_below(places, served);
     whole.clear();
-    weave_part(&list[..served], &rest[..rest_served], marks, whole);
-    weave_part(&list[served..], &rest[rest_served..], marks, whole);
+    weave_part(
+        &list[..served],
+        0,
+        &places[..places_served],
+        &rest[..rest_served],
+        whole,
+    );
+    weave_part(
+        &list[served..],
+        served,
+        &places[places_served..],
+        &rest[rest_served..],
+        whole,
+    );
 }

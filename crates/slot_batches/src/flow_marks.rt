@@ -1,4 +1,4 @@
-ghost use Rattle.std.specs.Prelude.{◌≡◌, ◌<◌, true, false, length, IfOk, All};
+ghost use Rattle.std.specs.Prelude.{◌≡◌, ◌<◌, ◌≤◌, ◌==◌, ◌&&◌, not, true, false, length, take, IfOk, All};
 ghost use Rattle.greedy_rules.specs.declared.flows.Flow.{Flow};
 ghost use Rattle.slot_batches.specs.Marks.{own_place, own_bit, has_own_bit, HaveOwnBits, has_mark};
 ghost use Rattle.slot_batches.specs.Woven.{OnlyOpen};
@@ -70,22 +70,23 @@ fn mark_all(words: &mut [u64], batches: &[Batch])
     }
 }
 
-/// 1 where the flow has a mark, and 0 where it has none.
-fn mark_of(words: &[u64], flow: Flow) -> u64
-    ensures { result ≡ 0 → has_own_bit words.now flow ≡ false }
+/// Whether the item needs no slot and has no mark, by these words where some flow has one.
+fn is_idle(words: &[u64], some: bool, item: &Item) -> bool
+    ensures { result ≡ ((item.now.need == 0) && not (some && has_own_bit words.now item.now.flow)) }
 {
-    u64::from(has_bit(words, place(flow), bit(flow)))
+    item.need == 0 && !(some && has_bit(words, place(item.flow), bit(item.flow)))
 }
 
-/// The marks of the items' flows: 0 only where none of them has a mark.
-fn marks_of(words: &[u64], items: &[Item]) -> u64
-    ensures { result ≡ 0 → All (λ item. has_own_bit words.now item.flow ≡ false) items.now }
+/// How many items at the front need no slot and have no mark.
+fn count_idle(words: &[u64], some: bool, items: &[Item]) -> usize
+    ensures within { result ≤ length items.now }
+    ensures idle { All (λ item. ((item.need == 0) && not (some && has_own_bit words.now item.flow)) ≡ true) (take result items.now) }
 {
-    let mut marks = 0;
-    for item in items {
-        marks |= mark_of(words, item.flow);
+    let mut at = 0;
+    while at < items.len() && is_idle(words, some, &items[at]) {
+        at += 1;
     }
-    marks
+    at
 }
 
 impl FlowMarks {
@@ -124,10 +125,11 @@ impl FlowMarks {
         self.some && has_bit(&self.words, place(flow), bit(flow))
     }
 
-    /// Whether no item's flow has a mark.
-    pub fn miss_all(&self, items: &[Item]) -> bool
-        ensures { result ≡ true → All (λ item. has_mark self.now item.flow ≡ false) items.now }
+    /// How many items at the front need no slot and have no mark.
+    pub fn idle_front(&self, items: &[Item]) -> usize
+        ensures within { result ≤ length items.now }
+        ensures idle { All (λ item. ((item.need == 0) && not (has_mark self.now item.flow)) ≡ true) (take result items.now) }
     {
-        !self.some || marks_of(&self.words, items) == 0
+        count_idle(&self.words, self.some, items)
     }
 }

@@ -12,7 +12,10 @@ use Rattle.alloc_pipeline.proofs.ring.allocate_window.Goals as goal
 pub pick-requires : goal.pick-requires
 pick-requires c =
     let few = few_found c.args.out.now.endpoints c.args.b c.flows_fit_pairs.ensures c.every_batch_leaves_a_list.ensures.flows c.args.first_batch c.args.list.now.items c.args.batches.now (omega (arith, eqb-false _ _ (sym c.is_empty.ensures ∙ c.if-is_empty.false))) c.requires.may in
-    record { room = omega (arith, few, ap length c.items.ensures, c.requires.memory.items) }
+    record {
+      room = omega (arith, few, ap length c.items.ensures, c.requires.memory.items);
+      places_room = omega (arith, few, ap length c.items.ensures, c.requires.memory.places);
+    }
 
 pub allocate_batches-requires-2-clause-may : goal.allocate_batches-requires-2-clause-may
 allocate_batches-requires-2-clause-may c =
