@@ -1,2 +1,3 @@
 pub mod GraphLemmas
 pub mod RowLemmas
+pub mod FactorLemmas

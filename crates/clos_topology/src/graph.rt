@@ -2,6 +2,7 @@ ghost use Rattle.std.specs.Prelude.{◌≡◌, ◌<◌, ◌≤◌, ◌↔◌, Is
 ghost use Rattle.greedy_rules.specs.Schedule.{slot_in};
 ghost use Rattle.greedy_rules.specs.Limits.{rack_of};
 ghost use Rattle.clos_topology.specs.Network.{endpoints_of};
+ghost use Rattle.clos_topology.specs.RackFactor.{IsRackFactor};
 ghost use Rattle.clos_topology.specs.RackGraph.{rack_edges, IsGraphOf};
 
 use crate::net::Net;
@@ -59,10 +60,11 @@ impl RackGraph {
     {
         prove!(slot < slots.slots());
         prove!(net.endpoints() <= self.room);
+        let factor = net.rack_factor();
         self.edges.clear();
         for (source, destination) in slots.row(slot).iter().enumerate() {
             if let Some(destination) = destination {
-                add(&mut self.edges, net, source as u16, *destination);
+                add(&mut self.edges, net, factor, source as u16, *destination);
             }
         }
     }
@@ -92,7 +94,8 @@ impl RackGraph {
 }
 
 /// Appends the packet's edge, if its racks differ.
-fn add(edges: &mut Vec<Edge>, net: &Net, source: u16, destination: u16)
+fn add(edges: &mut Vec<Edge>, net: &Net, factor: u32, source: u16, destination: u16)
+    requires factor { IsRackFactor net.now.hosts factor }
     requires source { source < endpoints_of net.now }
     requires destination { destination < endpoints_of net.now }
     requires room { vec_len edges.old < vec_capacity edges.old }
@@ -100,8 +103,8 @@ fn add(edges: &mut Vec<Edge>, net: &Net, source: u16, destination: u16)
     ensures one { vec_len edges.new ≤ vec_len edges.old + 1 }
     ensures capacity { vec_capacity edges.new ≡ vec_capacity edges.old }
 {
-    let left = net.rack_of(source);
-    let right = net.rack_of(destination);
+    let left = net.rack_by(factor, source);
+    let right = net.rack_by(factor, destination);
     if left != right {
         edges.push_reserved(Edge {
             source,

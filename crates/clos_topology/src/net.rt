@@ -2,6 +2,7 @@ ghost use Rattle.std.specs.Prelude.{◌≡◌, ◌<◌, ◌≤◌, ◌*◌, IsTr
 ghost use Rattle.greedy_rules.specs.Limits.{rack_of};
 ghost use Rattle.clos_topology.specs.Network.{Network, endpoints_of};
 ghost use Rattle.clos_topology.specs.Limits.{network_of, is_size, IsNetwork};
+ghost use Rattle.clos_topology.specs.RackFactor.{IsRackFactor};
 
 use std::marker::Model;
 
@@ -10,6 +11,9 @@ const MOST: u16 = 64;
 
 /// A network has at most this many endpoints.
 const MOST_ENDPOINTS: u16 = 256;
+
+/// By how much a product with a rack factor is divided.
+const WHOLE: u32 = 65_536;
 
 /// Why three numbers are no network.
 #[derive(Clone, Copy, Debug, PartialEq, Eq)]
@@ -91,6 +95,23 @@ impl Net {
         ensures within { result < self.now.racks }
     {
         endpoint / self.hosts
+    }
+
+    /// A factor by which `rack_by` finds racks without a division.
+    pub(crate) fn rack_factor(&self) -> u32
+        ensures { IsRackFactor self.now.hosts result }
+    {
+        WHOLE / u32::from(self.hosts) + 1
+    }
+
+    /// The rack that an endpoint stands in, by the network's factor.
+    pub(crate) fn rack_by(&self, factor: u32, endpoint: u16) -> u16
+        requires factor { IsRackFactor self.now.hosts factor }
+        requires endpoint { endpoint < endpoints_of self.now }
+        ensures { result ≡ rack_of self.now.hosts endpoint }
+    {
+        let _hosts = self.hosts();
+        (factor * u32::from(endpoint) / WHOLE) as u16
     }
 }
 

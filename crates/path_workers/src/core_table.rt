@@ -1,4 +1,5 @@
 ghost use Rattle.std.specs.Prelude.{◌≡◌, ◌<◌, ◌≤◌, ℕ, [], ◌∷◌, ◌++◌, length, IfOk};
+ghost use Rattle.std.specs.List.{slice_index_or};
 ghost use Rattle.path_workers.specs.CoreTable.{core_of, NamesNone};
 
 use no_memory::NoMemory;
@@ -85,15 +86,29 @@ impl CoreTable {
         self.endpoints
     }
 
+    /// The cores of the packets in the slot, by source; a source past the end has none.
+    pub fn row(&self, slot: u16) -> &[Option<u16>]
+        requires { slot < self.now.slots }
+        ensures { result.now ≡ slice_index_or self.now.rows slot [] }
+    {
+        match self.places.get(slot as usize) {
+            Some(place) => {
+                let from = place.from as usize;
+                &self.cores[from..from + place.len as usize]
+            }
+            None => &[],
+        }
+    }
+
     /// The core of the source's packet in the slot; None where it sends nothing, or within its rack.
     pub fn core(&self, slot: u16, src: u16) -> Option<u16>
         requires slot_in_range { slot < self.now.slots }
         requires src_in_range { src < self.now.endpoints }
         ensures { result ≡ core_of self.now slot src }
     {
-        match self.places.get(slot as usize) {
-            Some(place) if src < place.len => self.cores[place.from as usize + src as usize],
-            _ => None,
+        match self.row(slot).get(src as usize) {
+            Some(core) => *core,
+            None => None,
         }
     }
 }

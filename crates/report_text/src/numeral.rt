@@ -59,6 +59,8 @@ impl Numeral {
         ensures written { take result buf.new ≡ take at buf.old ++ numbers (self.now ∷ []) }
         ensures count { length buf.new ≡ length buf.old }
     {
-        put_front(buf, at, &self.field, self.end)
+        // Copied first: it can't overlap the buffer then, and is stored at once.
+        let field = self.field;
+        put_front(buf, at, &field, self.end)
     }
 }

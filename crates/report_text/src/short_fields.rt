@@ -28,6 +28,7 @@ impl ShortFields {
     }
 
     /// Puts the field of a number at this place, and answers where it ends.
+    #[inline(always)]
     pub(crate) fn put(&self, buf: &mut [u8], at: usize, number: u32) -> usize
         requires { at + 16 ≤ length buf.old }
         ensures fits { result ≤ at + 11 }
@@ -38,6 +39,17 @@ impl ShortFields {
             let field = self.fields[number as usize];
             return put_front(buf, at, &field.bytes, field.end.into());
         }
-        Numeral::new(number).put(buf, at)
+        put_long(buf, at, number)
     }
+}
+
+/// Spells the field of any number at this place, and answers where it ends.
+#[inline(never)]
+fn put_long(buf: &mut [u8], at: usize, number: u32) -> usize
+    requires { at + 16 ≤ length buf.old }
+    ensures fits { result ≤ at + 11 }
+    ensures written { take result buf.new ≡ take at buf.old ++ numbers (number ∷ []) }
+    ensures count { length buf.new ≡ length buf.old }
+{
+    Numeral::new(number).put(buf, at)
 }

@@ -1,8 +1,8 @@
 // The lines of batches and of slots.
-ghost use Rattle.std.specs.Prelude.{◌≡◌, ◌<◌, ◌≤◌, ◌+◌, ◌^◌, ◌||◌, length, map, take, drop, false, is_some};
-ghost use Rattle.std.specs.List.{fold};
+ghost use Rattle.std.specs.Prelude.{◌≡◌, ◌<◌, ◌≤◌, ◌+◌, ◌^◌, length, map, take, drop};
 ghost use Rattle.greedy_rules.specs.Schedule.{slot_in};
 ghost use Rattle.greedy_rules.specs.SlotTable.{flows_from};
+ghost use Rattle.edge_colouring.specs.Cores.{core_in};
 ghost use Rattle.path_workers.specs.CoreTable.{core_of};
 ghost use Rattle.window_engine.specs.Scheduled.{cores_from};
 ghost use Rattle.run_lines.specs.Output.{Passes};
@@ -37,55 +37,48 @@ pub(crate) fn put_entries<K: Sink>(
 /// The packet of a source in the slot of this number, if it sends one.
 fn put_source<K: Sink>(
     output: &mut Output<'_, K>,
-    cores: &CoreTable,
-    place: u16,
     number: &Numeral,
     src: u16,
     to: Option<u16>,
+    cores: &[Option<u16>],
 ) -> Result<(), Stop>
-    requires core_place { place < cores.now.slots }
-    requires core_src { src < cores.now.endpoints }
     ensures { Passes output.old output.new
-        (text_of (map (slot_line number.now (core_of cores.now place)) (flow_list src to))) result }
+        (text_of (map (slot_line number.now (core_in cores.now)) (flow_list src to))) result }
 {
     match to {
-        Some(dst) => output.put_slot(number, src, dst, cores.core(place, src)),
+        Some(dst) => output.put_slot(number, src, dst, core_at(cores, src)),
         None => Ok(()),
     }
 }
 
-/// Whether one of these sources sends. There is no early end, so many places are read at once.
-fn has_sender(row: &[Option<u16>]) -> bool
-    ensures { result ≡ fold (λ sends to. sends || is_some to) false row.now }
+/// The core of a source in a row of cores, which names none past its end.
+fn core_at(cores: &[Option<u16>], src: u16) -> Option<u16>
+    ensures { result ≡ core_in cores.now src }
 {
-    row.iter().fold(false, |sends, to| sends | to.is_some())
+    match cores.get(src as usize) {
+        Some(core) => *core,
+        None => None,
+    }
 }
 
-/// The packets of the sources from this one on in the slot of this number.
-fn put_sources<K: Sink>(
+/// The packets of a row, by source, in the slot of this number.
+fn put_row<K: Sink>(
     output: &mut Output<'_, K>,
-    cores: &CoreTable,
-    place: u16,
     number: &Numeral,
-    first: u16,
     row: &[Option<u16>],
+    cores: &[Option<u16>],
 ) -> Result<(), Stop>
-    requires core_place { place < cores.now.slots }
-    requires core_sources { first + length row.now ≤ cores.now.endpoints }
+    requires { length row.now < 2 ^ 16 }
     ensures { Passes output.old output.new
-        (text_of (map (slot_line number.now (core_of cores.now place)) (flows_from first row.now))) result }
+        (text_of (map (slot_line number.now (core_in cores.now)) (flows_from 0 row.now))) result }
 {
-    if !has_sender(row) {
-        return Ok(());
-    }
-    let _endpoints = cores.endpoints();
     for at in 0..row.len() {
-        put_source(output, cores, place, number, first + at as u16, row[at])?;
+        put_source(output, number, at as u16, row[at], cores)?;
     }
     Ok(())
 }
 
-/// The packets of the slot of this number, by source; the sources are passed over by sixteens where none sends.
+/// The packets of the slot of this number, by source.
 fn put_slot<K: Sink>(
     output: &mut Output<'_, K>,
     table: &SlotTable,
@@ -95,23 +88,19 @@ fn put_slot<K: Sink>(
 ) -> Result<(), Stop>
     requires place { place < length table.now.slots }
     requires core_place { place < cores.now.slots }
-    requires core_endpoints { table.now.endpoints ≤ cores.now.endpoints }
     ensures { Passes output.old output.new
         (text_of (map (slot_line number (core_of cores.now place)) (slot_in table.now.slots place))) result }
 {
     if table.is_idle(place) {
         return Ok(());
     }
-    let number = Numeral::new(number);
-    let row = table.row(place);
     let _endpoints = table.endpoints();
-    let mut src = 0;
-    while src < row.len() {
-        let end = (src + 16).min(row.len());
-        put_sources(output, cores, place, &number, src as u16, &row[src..end])?;
-        src = end;
-    }
-    Ok(())
+    put_row(
+        output,
+        &Numeral::new(number),
+        table.row(place),
+        cores.row(place),
+    )
 }
 
 /// The packets of so many slots of the tables from this place on; the slot at place 0 has the number `base`.

@@ -196,6 +196,7 @@ impl Trace {
     }
 
     /// The same, which is looked for at this place of the round's fates first; and the place after it.
+    #[inline(always)]
     pub fn fate_near(
         &self,
         round: u32,
