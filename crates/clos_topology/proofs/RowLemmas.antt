@@ -1,14 +1,17 @@
 -- A row of destinations, place by place: the flow of a place, and the edges of the places that are left.
-use Rattle.std.proofs.Common.{◌≡◌, ◌<◌, ◌≤◌, ◌+◌, ℕ, zero, suc, List, [], ◌∷◌, ◌++◌, length, get_or, drop, Option, Some, None, All, refl, sym, ap, ◌∙◌, subst, arith}
+use Rattle.std.proofs.Common.{◌≡◌, ◌<◌, ◌≤◌, ◌+◌, ℕ, zero, suc, List, [], ◌∷◌, ◌++◌, length, min, get_or, take, drop, Option, Some, None, All, refl, sym, ap, ◌∙◌, subst, arith, inl, inr}
+use Rattle.std.specs.Option.{IfSome}
+use Rattle.std.proofs.lemmas.Bool.{cases_lt}
 use Rattle.std.proofs.lemmas.Option.{same_Some, none-some}
-use Rattle.std.proofs.lemmas.List.{drop_more, drop_all, append_assoc, append-nil}
+use Rattle.std.proofs.lemmas.List.{take_all, drop_more, drop_all, append_assoc, append-nil}
 use Rattle.std.proofs.lemmas.List.Elements.{All-head, All-tail}
 use Rattle.greedy_rules.specs.declared.flows.Flow.{Flow}
 use Rattle.greedy_rules.specs.SlotTable.{flows_from}
 use Rattle.clos_topology.specs.declared.graph.Edge.{Edge}
+use Rattle.clos_topology.specs.Network.{Network, endpoints_of}
 use Rattle.clos_topology.specs.RackGraph.{rack_edges}
 use Rattle.greedy_rules.proofs.Facts.{sent}
-use Rattle.clos_topology.proofs.GraphLemmas.{rack_edges-append}
+use Rattle.clos_topology.proofs.GraphLemmas.{InNet, rack_edges-append}
 
 -- the flows from a place on: what its source sends, and the flows of the places after it
 first_place : (src : ℕ) (to : Option ℕ) (row : List (Option ℕ)) → flows_from src (to ∷ row) ≡ sent src to ++ flows_from (src + 1) row
@@ -46,3 +49,30 @@ packet_of_place P at dst row slot is all below sends =
 -- at the end
 pub place_last : (hosts at : ℕ) (row : List (Option ℕ)) (edges : List Edge) → length row ≤ at → edges ≡ edges ++ rack_edges hosts (flows_from at (drop at row))
 place_last hosts at row edges ended = sym (append-nil edges) ∙ ap (λ (cells : List (Option ℕ)). edges ++ rack_edges hosts (flows_from at cells)) (sym (drop_all at row ended))
+
+-- the places past the endpoints hold no flow
+pub row_within : (net : Network) (sources src : ℕ) (row : List (Option ℕ)) → endpoints_of net ≤ src + sources → All (InNet net) (flows_from src row) → flows_from src (take sources row) ≡ flows_from src row
+row_within net zero src [] enough all = refl
+row_within net (suc sources) src [] enough all = refl
+row_within net zero src (None ∷ row) enough all = row_within net zero (src + 1) row (omega (arith, enough)) all
+row_within net zero src (Some dst ∷ row) enough all =
+    let here = All-head (InNet net) (record { src = src; dst = dst }) (flows_from (src + 1) row) all in
+    absurd (omega (arith, enough, here.0))
+row_within net (suc sources) src (None ∷ row) enough all = row_within net sources (src + 1) row (omega (arith, enough)) all
+row_within net (suc sources) src (Some dst ∷ row) enough all =
+    let flow : Flow = record { src = src; dst = dst } in
+    ap (λ (flows : List Flow). flow ∷ flows) (row_within net sources (src + 1) row (omega (arith, enough)) (All-tail (InNet net) flow (flows_from (src + 1) row) all))
+
+pub row_of_net : (net : Network) (sources : ℕ) (row : List (Option ℕ)) → sources ≡ min (length row) (endpoints_of net) → All (InNet net) (flows_from 0 row) → flows_from 0 (take sources row) ≡ flows_from 0 row
+row_of_net net sources row is all = elim (cases_lt (endpoints_of net) (length row)) [
+  | inl more ↦ row_within net sources 0 row (omega (arith, is, more)) all
+  | inr whole ↦ ap (flows_from 0) (take_all sources row (omega (arith, is, whole)))
+]
+
+-- the destination of a place is an endpoint of the network
+pub cell_in_net : (net : Network) (at : ℕ) (row : List (Option ℕ)) (slot : List Flow) → flows_from 0 row ≡ slot → All (InNet net) slot → at < length row → IfSome (get_or row at None) (λ dst. dst < endpoints_of net)
+cell_in_net net at row slot is all below = of (get_or row at None) refl
+  where
+    of : (to : Option ℕ) → get_or row at None ≡ to → IfSome to (λ dst. dst < endpoints_of net)
+    of None to_is = tt
+    of (Some dst) to_is = (packet_of_place (InNet net) at dst row slot is all below to_is).1

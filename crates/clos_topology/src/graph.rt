@@ -1,4 +1,5 @@
-ghost use Rattle.std.specs.Prelude.{◌≡◌, ◌<◌, ◌≤◌, ◌↔◌, IsTrue, Some, List, [], ◌∷◌, ◌++◌, ◌+◌, ◌^◌, length, All, IfOk, slice_get, vec_len, vec_capacity};
+ghost use Rattle.std.specs.Prelude.{◌≡◌, ◌<◌, ◌≤◌, ◌↔◌, IsTrue, Some, List, [], ◌++◌, ◌+◌, ◌^◌, length, take, option_map, All, IfOk, IfSome, slice_get};
+ghost use Rattle.std.specs.List.{cons_option};
 ghost use Rattle.greedy_rules.specs.Schedule.{slot_in};
 ghost use Rattle.greedy_rules.specs.Limits.{rack_of};
 ghost use Rattle.clos_topology.specs.Network.{endpoints_of};
@@ -19,22 +20,31 @@ pub struct Edge {
     right: u16,
 }
 
+/// What stands in a place that no edge has taken yet.
+const BLANK: Edge = Edge {
+    source: 0,
+    left: 0,
+    right: 0,
+};
+
 /// The packets between racks of one slot, rising by source.
 #[derive(Debug, Drop)]
 pub struct RackGraph {
-    edges: Vec<Edge>,
+    // The first of them are the edges, as many as `count` says.
+    places: Vec<Edge>,
+    count: usize,
     room: u16,
 }
 
 impl Model for RackGraph {
-    ghost use Rattle.std.specs.Prelude.{◌<◌, ◌≤◌, ◌^◌, vec_len, vec_capacity};
+    ghost use Rattle.std.specs.Prelude.{◌<◌, ◌≤◌, ◌^◌, take, vec_len};
     ghost use Rattle.clos_topology.specs.RackGraph.{Graph};
 
     ghost Value = { Graph };
 
-    ghost view = { λ g. record { edges = g.edges.items; room = g.room } };
+    ghost view = { λ g. record { edges = take g.count g.places.items; room = g.room } };
 
-    ghost invariant = { λ g. (vec_len g.edges ≤ g.room) × (g.room ≤ vec_capacity g.edges) × (g.room < 2 ^ 16) };
+    ghost invariant = { λ g. (g.count ≤ g.room) × (g.room ≤ vec_len g.places) × (g.room < 2 ^ 16) };
 }
 
 impl RackGraph {
@@ -44,7 +54,8 @@ impl RackGraph {
         ensures room { IfOk result (λ graph. graph.room ≡ endpoints) }
     {
         Ok(RackGraph {
-            edges: Vec::with_capacity(alloc, endpoints as usize)?,
+            places: vec![in alloc; BLANK; endpoints as usize]?,
+            count: 0,
             room: endpoints,
         })
     }
@@ -61,12 +72,14 @@ impl RackGraph {
         prove!(slot < slots.slots());
         prove!(net.endpoints() <= self.room);
         let factor = net.rack_factor();
-        self.edges.clear();
-        for (source, destination) in slots.row(slot).iter().enumerate() {
-            if let Some(destination) = destination {
-                add(&mut self.edges, net, factor, source as u16, *destination);
-            }
+        let row = slots.row(slot);
+        let sources = row.len().min(net.endpoints() as usize);
+        let places = &mut self.places[..];
+        let mut count = 0;
+        for (source, destination) in row[..sources].iter().enumerate() {
+            count = add(places, count, net, factor, source as u16, *destination);
         }
+        self.count = count;
     }
 
     pub fn len(&self) -> usize
@@ -74,13 +87,13 @@ impl RackGraph {
         ensures room { result ≤ self.now.room }
         ensures fits { result < 2 ^ 16 }
     {
-        self.edges.len()
+        self.count
     }
 
     pub fn is_empty(&self) -> bool
         ensures { IsTrue result ↔ (self.now.edges ≡ []) }
     {
-        self.edges.is_empty()
+        self.count == 0
     }
 
     /// An edge: its source, its left and its right rack.
@@ -88,28 +101,34 @@ impl RackGraph {
         requires { at < length self.now.edges }
         ensures { slice_get self.now.edges at ≡ Some (record { source = result.0; left = result.1; right = result.2 }) }
     {
-        let edge = self.edges[at];
+        let edge = self.places[at];
         (edge.source, edge.left, edge.right)
     }
 }
 
-/// Appends the packet's edge, if its racks differ.
-fn add(edges: &mut Vec<Edge>, net: &Net, factor: u32, source: u16, destination: u16)
+/// Writes the edge of what the source sends behind so many edges, if it sends between racks, and answers how many there are now.
+/// The place behind them is written in either case.
+fn add(
+    places: &mut [Edge],
+    count: usize,
+    net: &Net,
+    factor: u32,
+    source: u16,
+    destination: Option<u16>,
+) -> usize
     requires factor { IsRackFactor net.now.hosts factor }
     requires source { source < endpoints_of net.now }
-    requires destination { destination < endpoints_of net.now }
-    requires room { vec_len edges.old < vec_capacity edges.old }
-    ensures edges { edges.new.items ≡ edges.old.items ++ rack_edges net.now.hosts (record { src = source; dst = destination } ∷ []) }
-    ensures one { vec_len edges.new ≤ vec_len edges.old + 1 }
-    ensures capacity { vec_capacity edges.new ≡ vec_capacity edges.old }
+    requires destination { IfSome destination (λ to. to < endpoints_of net.now) }
+    requires room { count < length places.old }
+    ensures count { result ≤ count + 1 }
+    ensures edges { take result places.new ≡ take count places.old ++ rack_edges net.now.hosts (cons_option (option_map (λ to. record { src = source; dst = to }) destination) []) }
 {
     let left = net.rack_by(factor, source);
-    let right = net.rack_by(factor, destination);
-    if left != right {
-        edges.push_reserved(Edge {
-            source,
-            left,
-            right,
-        });
-    }
+    let right = net.rack_by(factor, destination.unwrap_or(0));
+    places[count] = Edge {
+        source,
+        left,
+        right,
+    };
+    count + usize::from(destination.is_some() & (left != right))
 }

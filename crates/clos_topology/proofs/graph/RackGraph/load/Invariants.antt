@@ -1,4 +1,4 @@
-use Rattle.std.proofs.Common.{◌≡◌, ◌++◌, ◌≤◌, drop, vec_len, vec_capacity}
+use Rattle.std.proofs.Common.{◌≡◌, ◌++◌, ◌≤◌, take, drop}
 use Rattle.greedy_rules.specs.Schedule.{slot_in}
 use Rattle.greedy_rules.specs.SlotTable.{flows_from}
 use Rattle.clos_topology.specs.RackGraph.{rack_edges}
@@ -6,9 +6,6 @@ use Rattle.clos_topology.proofs.graph.RackGraph.load.Given as goal
 
 abbrev pub invariant-loop-source : goal.invariant-loop-source
 invariant-loop-source l = record {
-  edges : l.self-inside.edges.items ++ rack_edges l.net.hosts (flows_from l.source (drop l.source l.destination-items)) ≡ rack_edges l.net.hosts (slot_in l.slots.slots l.slot);
-  count : vec_len l.self-inside.edges ≤ l.source;
-  within : vec_len l.self-inside.edges ≤ l.self-inside.room;
-  capacity : l.self-inside.room ≤ vec_capacity l.self-inside.edges;
-  room : l.self-inside.room ≡ l.fn.self.room;
+  edges : take l.count l.places ++ rack_edges l.net.hosts (flows_from l.source (drop l.source l.destination-items)) ≡ rack_edges l.net.hosts (slot_in l.slots.slots l.slot);
+  count : l.count ≤ l.source;
 }
