@@ -1,3 +1,4 @@
 pub mod PacketLemmas
 pub mod PlaceLemmas
 pub mod ToldLemmas
+pub mod BatchLemmas

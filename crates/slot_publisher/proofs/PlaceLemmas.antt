@@ -2,7 +2,7 @@
 use Rattle.std.proofs.Common.{◌≡◌, ◌≢◌, ◌<◌, ◌≤◌, ◌+◌, ◌-◌, ◌*◌, ◌/◌, ◌%◌, ℕ, zero, suc, List, [], length, get_or, set, map, take, drop, Option, None, All, sym, ap, ◌∙◌, subst, arith, inl, inr}
 use Rattle.std.specs.Option.{option_map}
 use Rattle.std.specs.List.{range_with_len}
-use Rattle.std.proofs.lemmas.Bool.{cases_eq, cases_lt, cases_order}
+use Rattle.std.proofs.lemmas.Bool.{cases_lt, cases_order}
 use Rattle.std.proofs.lemmas.Nat.{row_fits, div_below, mod_below, div-mul-add, mod-mul-add, div-add-mod'}
 use Rattle.std.proofs.lemmas.List.{ext_get_or, get_or-set_same, get_or-set_other, get_or-map, get_or-take, get_or-drop, length-map, length-take, length-drop, take-take, drop-take}
 use Rattle.std.proofs.lemmas.List.FromFn.{length-map-range_with_len, get_or-map-range_with_len}
@@ -15,7 +15,7 @@ use Rattle.greedy_rules.specs.SlotTable.{Slots, IsSlotOf}
 use Rattle.path_workers.specs.CoreTable.{CoreSlots, core_of}
 use Rattle.slot_publisher.specs.Window.{Window, RoutedFlow, with_cores, slots_with_cores, NamesCores}
 use Rattle.slot_publisher.specs.Told.{packet_from, told_from}
-use Rattle.slot_publisher.specs.Places.{Hop, hop_of, hop_in, packet_by, packets_by, told_of, count_at, list_at, slots_of_lists, hops_from, ListsArePut, AreLists, IsToldList}
+use Rattle.slot_publisher.specs.Places.{Hop, hop_of, hop_in, packet_by, packets_by, count_at, list_at, slots_of_lists, hops_from, ListsArePut, AreLists, IsToldList}
 use Rattle.slot_publisher.proofs.PacketLemmas.{packet_from-at, packets_by-slot, IsHop, hop_is}
 use Rattle.slot_publisher.proofs.ToldLemmas.{hop_in-told, told_src, told_list, map_range}
 
@@ -32,7 +32,7 @@ fits : (b count list : ℕ) → list < count → list * b + b ≤ count * b
 fits b count list below = row_fits list b count b below (omega arith)
 
 -- a list that is written, and the others
-list_here : (b n k c : ℕ) (counts : List ℕ) (told list : List Told) → k ≡ b → length list ≡ b → c ≤ b → n < length counts → n * b ≤ length told
+pub list_here : (b n k c : ℕ) (counts : List ℕ) (told list : List Told) → k ≡ b → length list ≡ b → c ≤ b → n < length counts → n * b ≤ length told
     → list_at b (set counts n c) (put_mid (n * b) k told list) n ≡ take c list
 list_here b n k c counts told list size whole few below within =
     let from : ℕ = n * b in
@@ -43,7 +43,7 @@ list_here b n k c counts told list size whole few below within =
     ap (λ (m : ℕ). take m (drop from after)) (get_or-set_same counts n c 0 below)
     ∙ (sym (take-take c b (drop from after) few) ∙ ap (take c) written)
 
-list_kept : (b n k c other : ℕ) (counts : List ℕ) (told list : List Told) → k ≡ b → length list ≡ b → n * b ≤ length told → other ≢ n → count_at counts other ≤ b
+pub list_kept : (b n k c other : ℕ) (counts : List ℕ) (told list : List Told) → k ≡ b → length list ≡ b → n * b ≤ length told → other ≢ n → count_at counts other ≤ b
     → list_at b (set counts n c) (put_mid (n * b) k told list) other ≡ list_at b counts told other
 list_kept b n k c other counts told list size whole within apart few =
     let from : ℕ = n * b in
@@ -59,31 +59,6 @@ list_kept b n k c other counts told list size whole within apart few =
     ] in
     ap (λ (m : ℕ). take m (drop place after)) (get_or-set_other counts n other c 0 apart)
     ∙ (sym (take-take count b (drop place after) few) ∙ (ap (take count) same ∙ take-take count b (drop place told) few))
-
--- one list more is put
-pub put_more : (slots : Slots) (cores : CoreSlots) (b batch endpoint n next k c : ℕ) (counts : List ℕ) (told list : List Told) → endpoint < slots.endpoints → n ≡ batch * slots.endpoints + endpoint → next ≡ n + 1
-    → k ≡ b → length list ≡ b → c ≤ b → n < length counts → n * b ≤ length told → take c list ≡ told_of (hops_from slots cores (batch * b) endpoint) b
-    → ListsArePut slots cores b n counts told → ListsArePut slots cores b next (set counts n c) (put_mid (n * b) k told list)
-put_more slots cores b batch endpoint n next k c counts told list below is more size whole few counted within put before = λ other at at_below up_to.
-    let endpoints : ℕ = slots.endpoints in
-    let after : List Told = put_mid (n * b) k told list in
-    let Put : ℕ → ℕ → ℕ → Type 0 = λ l batch' endpoint'.
-    (count_at (set counts n c) l ≤ b) × (list_at b (set counts n c) after l ≡ told_of (hops_from slots cores (batch' * b) endpoint') b) in
-    let at_list : ℕ = other * endpoints + at in
-    elim (cases_eq at_list n) [
-      | inl here ↦
-          let same = same_list endpoints batch endpoint other at below at_below (here ∙ is) in
-          let written : Put n batch endpoint = (
-            omega (arith, get_or-set_same counts n c 0 counted),
-            list_here b n k c counts told list size whole few counted within ∙ put,
-          ) in
-          subst (λ (l : ℕ). Put l other at) (sym here) (subst (λ (e : ℕ). Put n other e) (sym same.1) (subst (λ (s : ℕ). Put n s endpoint) (sym same.0) written))
-      | inr apart ↦
-          let kept = before other at at_below (omega arith) in (
-            omega (arith, get_or-set_other counts n at_list c 0 apart, kept.0),
-            list_kept b n k c at_list counts told list size whole within apart kept.0 ∙ kept.1,
-          )
-    ]
 
 -- ---- the slots that lists hold
 

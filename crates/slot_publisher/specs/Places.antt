@@ -69,6 +69,16 @@ slots_of_lists endpoints b n counts told =
 abbrev pub hops_from : Slots → CoreSlots → ℕ → ℕ → ℕ → Option Hop
 hops_from slots cores from endpoint offset = hop_of (core_of cores (from + offset)) (slot_in slots.slots (from + offset)) endpoint
 
+-- of the lists of a batch from this slot on, that of the endpoint tells what the tables say of the first n slots
+abbrev pub ListTells : Slots → CoreSlots → ℕ → ℕ → ℕ → List ℕ → List Told → ℕ → Type 0
+ListTells slots cores from b n counts told endpoint =
+    (count_at counts endpoint ≤ n) × (list_at b counts told endpoint ≡ told_of (hops_from slots cores from endpoint) n)
+
+-- and so does each of them
+abbrev pub ListsTell : Slots → CoreSlots → ℕ → ℕ → ℕ → List ℕ → List Told → Type 0
+ListsTell slots cores from b n counts told =
+    (endpoint : ℕ) → endpoint < slots.endpoints → ListTells slots cores from b n counts told endpoint
+
 -- the first n lists tell what the tables say of each batch and endpoint
 abbrev pub ListsArePut : Slots → CoreSlots → ℕ → ℕ → List ℕ → List Told → Type 0
 ListsArePut slots cores b n counts told =

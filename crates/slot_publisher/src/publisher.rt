@@ -1,11 +1,11 @@
-ghost use Rattle.std.specs.Prelude.{◌≡◌, ◌≢◌, ◌<◌, ◌≤◌, ◌+◌, ◌-◌, ◌*◌, ◌%◌, ◌++◌, ℕ, [], length, map, take, option_map, unwrap_or, All, Contains, IfOk, IfSome};
-ghost use Rattle.std.specs.List.{cons_option};
+ghost use Rattle.std.specs.Prelude.{◌≡◌, ◌≢◌, ◌<◌, ◌≤◌, ◌+◌, ◌-◌, ◌*◌, ◌%◌, ◌++◌, ℕ, [], length, map, take, option_map, unwrap_or, None, All, Contains, IfOk, IfSome};
+ghost use Rattle.std.specs.List.{cons_option, slice_index_or};
 ghost use Rattle.std.specs.List.Sorted.{IsStrictlyIncreasing};
 ghost use Rattle.fcp_framing.specs.declared.packet.Told.{Told as ToldSlot};
 ghost use Rattle.fcp_framing.specs.Spelling.{IsCore};
 ghost use Rattle.slot_publisher.specs.Window.{slots_with_cores, slots_of_batch, NamesCores};
 ghost use Rattle.slot_publisher.specs.Told.{slots_told, IsToldOf};
-ghost use Rattle.slot_publisher.specs.Places.{told_of, hops_from, ListsArePut};
+ghost use Rattle.slot_publisher.specs.Places.{ListsArePut, ListsTell};
 
 use arrayvec::ArrayVec;
 use fcp_framing::Told;
@@ -227,33 +227,82 @@ fn put_batch(
     requires before { ListsArePut slots.now cores.now b (batch * slots.now.endpoints) counts.old told.old }
     ensures { ListsArePut slots.now cores.now b (batch * slots.now.endpoints + slots.now.endpoints) counts.new told.new }
 {
-    for endpoint in 0..slots.endpoints() {
-        let list = batch as usize * slots.endpoints() as usize + endpoint as usize;
-        let from = list * b as usize;
-        let places = &mut told[from..from + b as usize];
-        counts[list] = put_list(slots, cores, batch * u16::from(b), endpoint, places);
+    let endpoints = slots.endpoints() as usize;
+    let list = batch as usize * endpoints;
+    let from = list * b as usize;
+    put_slots(
+        slots,
+        cores,
+        batch * u16::from(b),
+        b,
+        &mut counts[list..list + endpoints],
+        &mut told[from..from + endpoints * b as usize],
+    );
+}
+
+/// Fills the list of each endpoint with what is told of so many slots from this one on.
+fn put_slots(
+    slots: &SlotTable,
+    cores: &CoreTable,
+    from: u16,
+    b: u8,
+    counts: &mut [u8],
+    told: &mut [Told],
+)
+    requires held { from + b ≤ length slots.now.slots }
+    requires lists { length counts.old ≡ slots.now.endpoints }
+    requires places { length told.old ≡ slots.now.endpoints * b }
+    requires most { b ≤ 64 }
+    requires few { length slots.now.slots < 65536 }
+    requires core_slots { length slots.now.slots ≤ cores.now.slots }
+    requires cores { NamesCores slots.now.slots cores.now }
+    ensures { ListsTell slots.now cores.now from b b counts.new told.new }
+{
+    counts.fill(0);
+    for offset in 0..b {
+        put_slot(slots, cores, from, offset, b, counts, told);
     }
 }
 
-/// Fills an endpoint's list with what is told of the slots from this one on, one for each place, and answers of how many it tells.
-fn put_list(slots: &SlotTable, cores: &CoreTable, from: u16, endpoint: u16, list: &mut [Told]) -> u8
-    requires held { from + length list.old ≤ length slots.now.slots }
-    requires most { length list.old ≤ 64 }
+/// Tells each endpoint of one slot more, the one at this offset, where its list tells of those before.
+fn put_slot(
+    slots: &SlotTable,
+    cores: &CoreTable,
+    from: u16,
+    offset: u8,
+    b: u8,
+    counts: &mut [u8],
+    told: &mut [Told],
+)
+    requires held { from + b ≤ length slots.now.slots }
+    requires offset { offset < b }
+    requires lists { length counts.old ≡ slots.now.endpoints }
+    requires places { length told.old ≡ slots.now.endpoints * b }
+    requires most { b ≤ 64 }
     requires few { length slots.now.slots < 65536 }
-    requires endpoint { endpoint < slots.now.endpoints }
     requires core_slots { length slots.now.slots ≤ cores.now.slots }
-    requires core_endpoints { slots.now.endpoints ≤ cores.now.endpoints }
     requires cores { NamesCores slots.now.slots cores.now }
-    ensures count { result ≤ length list.old }
-    ensures told { take result list.new ≡ told_of (hops_from slots.now cores.now from endpoint) (length list.old) }
+    requires before { ListsTell slots.now cores.now from b offset counts.old told.old }
+    ensures { ListsTell slots.now cores.now from b (offset + 1) counts.new told.new }
 {
-    let mut count = 0;
-    for offset in 0..list.len() as u8 {
-        let slot = from + u16::from(offset);
-        let core = byte_of(cores.core(slot, endpoint));
-        count = append(list, count, offset, slots.to(slot, endpoint), core);
+    let slot = from + u16::from(offset);
+    let named = cores.row(slot);
+    for (endpoint, dst) in slots.row(slot).iter().enumerate() {
+        let place = endpoint * b as usize;
+        let list = &mut told[place..place + b as usize];
+        let core = byte_of(core_at(named, endpoint));
+        counts[endpoint] = append(list, counts[endpoint], offset, *dst, core);
     }
-    count
+}
+
+/// The core at a place of a row; None past its end.
+fn core_at(row: &[Option<u16>], at: usize) -> Option<u16>
+    ensures { result ≡ slice_index_or row.now at None }
+{
+    match row.get(at) {
+        Some(core) => *core,
+        None => None,
+    }
 }
 
 /// The byte that names a core.
