@@ -9,3 +9,4 @@ pub mod PathLemmas
 pub mod ExistenceLemmas
 pub mod LimitLemmas
 pub mod ShownLemmas
+pub mod CountLemmas

@@ -6,19 +6,19 @@ use Rattle.std.proofs.lemmas.List.{get_or_default, get_or_push, set_at, length-s
 use Rattle.std.proofs.lemmas.List.Elements.{All-push}
 use Rattle.std.proofs.lemmas.List.Sums.{sum_by-cons}
 use Rattle.clos_topology.specs.declared.graph.Edge.{Edge}
-use Rattle.edge_colouring.specs.Degrees.{rack_on, racks_on, degree_on}
+use Rattle.edge_colouring.specs.Degrees.{rack_on, racks_on, degree_on, HasDegreesWithin}
 use Rattle.edge_colouring.specs.Cores.{core_in}
 use Rattle.edge_colouring.specs.Holders.{holder, with_holder, is_free, IsRackOf, IsLowest, Holds}
 use Rattle.edge_colouring.specs.Turns.{IsTurned, AreTurned, BeginsPath}
 use Rattle.edge_colouring.specs.Painted.{AreNamed, HasRacks, IsPainted, Awaits}
 use Rattle.edge_colouring.proofs.HoldsLemmas.{rack_at, IsTakenAt, named-within, Holds-push}
 
-pub is_below : ℕ → Option ℕ → Bool
+unfoldable pub is_below : ℕ → Option ℕ → Bool
 is_below m None = false
 is_below m (Some core) = nat_lt core m
 
 -- how many edges at a rack have a core below m
-pub taken_below : ℕ → ℕ → List ℕ → List (Option ℕ) → ℕ
+unfoldable pub taken_below : ℕ → ℕ → List ℕ → List (Option ℕ) → ℕ
 taken_below m t [] c = 0
 taken_below m t (r ∷ racks) [] = 0
 taken_below m t (r ∷ racks) (o ∷ c) = cond ((r == t) && is_below m o) 1 0 + taken_below m t racks c
@@ -28,7 +28,7 @@ unfolding is_below
 below_more m None is = is
 below_more m (Some core) is = lt-ltb core (m + 1) (let lt : core < m = ltb-true core m is in omega arith)
 
-one_le : (p q : Bool) → (p ≡ true → q ≡ true) → cond p 1 0 ≤ cond q 1 0
+pub one_le : (p q : Bool) → (p ≡ true → q ≡ true) → cond p 1 0 ≤ cond q 1 0
 one_le true true step = omega arith
 one_le true false step = let e : false ≡ true = step refl in cc
 one_le false true step = omega arith
@@ -138,13 +138,13 @@ left_room {edges} {most} {n} {c} {L} {R} l next is = rack_room true edges L n l 
 pub right_room : {edges : List Edge} {most n : ℕ} {c L R : List (Option ℕ)} (r : ℕ) → Awaits edges most c L R n → r ≡ rack_at (racks_on false edges) n → IsRackOf R r
 right_room {edges} {most} {n} {c} {L} {R} r next is = rack_room false edges R n r next.right_racks next.within is
 
-pub left_below : {edges : List Edge} {most n : ℕ} {c L R : List (Option ℕ)} (l a : ℕ) → Awaits edges most c L R n → l ≡ rack_at (racks_on true edges) n → IsLowest (is_free L l) a → a < most
-left_below {edges} {most} {n} {c} {L} {R} l a next is lowest =
-    free_below true edges c L most l a next.painted.left_side (omega (arith, next.within, next.count)) next.small (next.degrees true l) (ap (rack_at (racks_on true edges)) next.count ∙ sym is) lowest
+pub left_below : {edges : List Edge} {most n : ℕ} {c L R : List (Option ℕ)} (l a : ℕ) → HasDegreesWithin most edges → Awaits edges most c L R n → l ≡ rack_at (racks_on true edges) n → IsLowest (is_free L l) a → a < most
+left_below {edges} {most} {n} {c} {L} {R} l a degrees next is lowest =
+    free_below true edges c L most l a next.painted.left_side (omega (arith, next.within, next.count)) next.small (degrees true l) (ap (rack_at (racks_on true edges)) next.count ∙ sym is) lowest
 
-pub right_below : {edges : List Edge} {most n : ℕ} {c L R : List (Option ℕ)} (r b : ℕ) → Awaits edges most c L R n → r ≡ rack_at (racks_on false edges) n → IsLowest (is_free R r) b → b < most
-right_below {edges} {most} {n} {c} {L} {R} r b next is lowest =
-    free_below false edges c R most r b next.painted.right_side (omega (arith, next.within, next.count)) next.small (next.degrees false r) (ap (rack_at (racks_on false edges)) next.count ∙ sym is) lowest
+pub right_below : {edges : List Edge} {most n : ℕ} {c L R : List (Option ℕ)} (r b : ℕ) → HasDegreesWithin most edges → Awaits edges most c L R n → r ≡ rack_at (racks_on false edges) n → IsLowest (is_free R r) b → b < most
+right_below {edges} {most} {n} {c} {L} {R} r b degrees next is lowest =
+    free_below false edges c R most r b next.painted.right_side (omega (arith, next.within, next.count)) next.small (degrees false r) (ap (rack_at (racks_on false edges)) next.count ∙ sym is) lowest
 
 -- it takes a core on one side
 takes_at : (racks : List ℕ) (c H : List (Option ℕ)) (n t y : ℕ) → Holds racks c H → length c ≡ n → y < 64 → IsRackOf H t → t ≡ rack_at racks n → IsTrue (is_free H t y) → Holds racks (c ++ Some y ∷ []) (with_holder H t y (Some n))
@@ -171,11 +171,9 @@ same_racks left edges H H' same racks = λ k d below. let room = racks k d below
 
 -- where no core below the bound is common, it takes the one on the left side and the other on the right side
 pub begins_path : {edges : List Edge} {most n : ℕ} {c L R : List (Option ℕ)} (l r common a b : ℕ) → Awaits edges most c L R n → l ≡ rack_at (racks_on true edges) n → r ≡ rack_at (racks_on false edges) n
-    → IsLowest (λ k. is_free L l k && is_free R r k) common → most ≤ common → IsLowest (is_free L l) a → IsLowest (is_free R r) b
+    → IsLowest (λ k. is_free L l k && is_free R r k) common → most ≤ common → IsLowest (is_free L l) a → IsLowest (is_free R r) b → a < most → b < most
     → BeginsPath edges a b n (c ++ Some b ∷ []) (with_holder L l a (Some n)) (with_holder R r b (Some n))
-begins_path {edges} {most} {n} {c} {L} {R} l r common a b next left_is right_is lowest none lowest_a lowest_b =
-    let below_a : a < most = left_below l a next left_is lowest_a in
-    let below_b : b < most = right_below r b next right_is lowest_b in
+begins_path {edges} {most} {n} {c} {L} {R} l r common a b next left_is right_is lowest none lowest_a lowest_b below_a below_b =
     let small_a : a < 64 = omega (arith, next.small) in
     let small_b : b < 64 = omega (arith, next.small) in
     let free_a : is_free L l a ≡ true = lowest_a.passes small_a in

@@ -2,7 +2,7 @@
 use Rattle.std.specs.Prelude.{◌≡◌, ◌≢◌, ◌<◌, ◌≤◌, ℕ, List, length, Bool, true, false, Option, None, All, IsSomeAnd}
 use Rattle.std.specs.List.{slice_index_or}
 use Rattle.clos_topology.specs.declared.graph.Edge.{Edge}
-use Rattle.edge_colouring.specs.Degrees.{racks_on, HasDegreesWithin}
+use Rattle.edge_colouring.specs.Degrees.{racks_on}
 use Rattle.edge_colouring.specs.Cores.{core_in}
 use Rattle.edge_colouring.specs.Holders.{Holders, IsRackOf, Holds}
 
@@ -26,7 +26,6 @@ pub record Awaits (edges : List Edge) (most : ℕ) (colours left right : List (O
   pub left_racks : HasRacks true edges left
   pub right_racks : HasRacks false edges right
   pub small : most ≤ 64
-  pub degrees : HasDegreesWithin most edges
   pub painted : IsPainted edges most colours left right
 
 -- each edge's source has the edge's core, and no other source has one

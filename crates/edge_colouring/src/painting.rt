@@ -1,4 +1,4 @@
-ghost use Rattle.std.specs.Prelude.{◌≡◌, ◌<◌, ◌≤◌, ◌+◌, ◌*◌, [], length, replicate, true, false, None, IfOk, slice_index, vec_len, vec_capacity};
+ghost use Rattle.std.specs.Prelude.{◌≡◌, ◌<◌, ◌≤◌, ◌+◌, ◌*◌, [], length, replicate, true, false, None, IfOk, IsTrue, slice_index, vec_len, vec_capacity};
 ghost use Rattle.edge_colouring.specs.Degrees.{racks_on, HasDegreesWithin};
 ghost use Rattle.edge_colouring.specs.Holders.{holder, Holds, IsRackOf};
 ghost use Rattle.edge_colouring.specs.Turns.{AreTurned, IsTurn, BeginsPath};
@@ -32,15 +32,16 @@ impl Painting {
         })
     }
 
-    /// Gives every edge of the graph a core below `most`.
-    pub(crate) fn paint(&mut self, graph: &RackGraph, most: u16)
+    /// Gives every edge of the graph a core below `most`, and answers whether there are enough of them. There are where no rack
+    /// has more edges on a side.
+    pub(crate) fn paint(&mut self, graph: &RackGraph, most: u16) -> bool
         requires left_racks { HasRacks true graph.now.edges self.old.left }
         requires right_racks { HasRacks false graph.now.edges self.old.right }
         requires room { length graph.now.edges ≤ vec_capacity self.old.colours }
         requires most { most ≤ 64 }
-        requires degrees { HasDegreesWithin most graph.now.edges }
-        ensures painted { IsPainted graph.now.edges most self.new.colours.items self.new.left self.new.right }
-        ensures all { vec_len self.new.colours ≡ length graph.now.edges }
+        ensures painted { IsTrue result → IsPainted graph.now.edges most self.new.colours.items self.new.left self.new.right }
+        ensures all { IsTrue result → vec_len self.new.colours ≡ length graph.now.edges }
+        ensures enough { HasDegreesWithin most graph.now.edges → IsTrue result }
         ensures capacity { vec_capacity self.new.colours ≡ vec_capacity self.old.colours }
         ensures left_racks { length self.new.left ≡ length self.old.left }
         ensures right_racks { length self.new.right ≡ length self.old.right }
@@ -49,17 +50,22 @@ impl Painting {
         self.right.clear();
         self.colours.clear();
         for edge in 0..graph.len() as u16 {
-            self.paint_edge(graph, edge, most);
+            if !self.paint_edge(graph, edge, most) {
+                return false;
+            }
         }
+        true
     }
 
     /// Gives the next edge the lowest core that is free at both its racks; where none is, one that is free at its left rack,
-    /// once a path from its right rack has exchanged it for one that is free there.
-    fn paint_edge(&mut self, graph: &RackGraph, edge: u16, most: u16)
+    /// once a path from its right rack has exchanged it for one that is free there. Answers whether each of its racks has one
+    /// below `most`.
+    fn paint_edge(&mut self, graph: &RackGraph, edge: u16, most: u16) -> bool
         requires edge { Awaits graph.now.edges most self.old.colours.items self.old.left self.old.right edge }
         requires room { edge < vec_capacity self.old.colours }
-        ensures painted { IsPainted graph.now.edges most self.new.colours.items self.new.left self.new.right }
-        ensures one { vec_len self.new.colours ≡ edge + 1 }
+        ensures painted { IsTrue result → IsPainted graph.now.edges most self.new.colours.items self.new.left self.new.right }
+        ensures one { IsTrue result → vec_len self.new.colours ≡ edge + 1 }
+        ensures enough { HasDegreesWithin most graph.now.edges → IsTrue result }
         ensures capacity { vec_capacity self.new.colours ≡ vec_capacity self.old.colours }
         ensures left_racks { length self.new.left ≡ length self.old.left }
         ensures right_racks { length self.new.right ≡ length self.old.right }
@@ -71,10 +77,13 @@ impl Painting {
             self.left.put(left, common, Some(edge));
             self.right.put(right, common, Some(edge));
             self.colours.push_reserved(Some(common));
-            return;
+            return true;
         }
         let a = self.left.lowest_free(left);
         let b = self.right.lowest_free(right);
+        if a >= most || b >= most {
+            return false;
+        }
         self.left.put(left, a, Some(edge));
         self.right.put(right, b, Some(edge));
         self.colours.push_reserved(Some(b));
@@ -87,6 +96,7 @@ impl Painting {
             a,
             b,
         );
+        true
     }
 }
 

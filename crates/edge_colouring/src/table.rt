@@ -78,11 +78,14 @@ pub fn colour(graph: &RackGraph, colours: u16, table: &mut Table) -> Result<(), 
     ensures unchanged { OnErr result (table.new ≡ table.old) }
     ensures net { table.new.net ≡ table.old.net }
 {
+    if table.painting.paint(graph, colours) {
+        name_cores(graph, &table.painting.colours, &mut table.cores);
+        return Ok(());
+    }
+    // Not every edge got a core, so some rack has too many.
     if let Some(degree) = excess(graph, colours, &mut table.degrees) {
         return Err(degree);
     }
-    table.painting.paint(graph, colours);
-    name_cores(graph, &table.painting.colours, &mut table.cores);
     Ok(())
 }
 
