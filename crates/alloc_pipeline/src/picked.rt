@@ -7,6 +7,7 @@ ghost use Rattle.slot_batches.specs.Woven.{picked as picked_of, woven, OnlyOpen}
 ghost use Rattle.alloc_pipeline.specs.Picked.{is_aside as is_aside_in, places_from, HasRoomFor};
 
 use crate::batches::needs_of;
+use crate::in_place::weave_in_place;
 use crate::weave::{first_served, weave_lists};
 use greedy_rules::{Batch, DemandList, Item};
 use no_memory::NoMemory;
@@ -124,6 +125,8 @@ pub(crate) struct Picked {
     // Where each of them stood in the list.
     places: Vec<usize>,
     whole: Vec<Item>,
+    // The window's list, while it is woven where it stands.
+    list: Vec<Item>,
     // So many windows pass before it is tried again to pick few.
     pause: u8,
 }
@@ -139,6 +142,7 @@ impl Picked {
             items: DemandList::open(alloc, pairs)?,
             places: Vec::with_capacity(alloc, pairs)?,
             whole: Vec::with_capacity(alloc, pairs)?,
+            list: Vec::new(alloc),
             pause: 0,
         })
     }
@@ -173,6 +177,28 @@ impl Picked {
         picked
     }
 
+    /// Puts the list together again by a copy of all its items.
+    fn weave_anew(&mut self, list: &mut DemandList)
+        requires list_order { IsInOrder list.old.items }
+        requires order { IsInOrder self.old.items.items }
+        requires places { self.old.places.items ≡ places_from (is_aside_in self.old.marks) 0 list.old.items }
+        requires room { length (woven (is_aside_in self.old.marks) list.old.items self.old.items.items) ≤ length list.old.items + list.old.spare }
+        requires whole_room { length (woven (is_aside_in self.old.marks) list.old.items self.old.items.items) ≤ vec_capacity self.old.whole }
+        ensures items { list.new.items ≡ woven (is_aside_in self.old.marks) list.old.items self.old.items.items }
+        ensures spare { length list.new.items + list.new.spare ≡ length list.old.items + list.old.spare }
+        ensures rest { self.new.items ≡ self.old.items }
+        ensures places { self.new.places ≡ self.old.places }
+        ensures whole { vec_capacity self.old.whole ≤ vec_capacity self.new.whole }
+    {
+        weave_lists(
+            list.items(),
+            &self.places,
+            self.items.items(),
+            &mut self.whole,
+        );
+        give_items(&mut self.whole, list);
+    }
+
     /// Puts the list together again from itself and what the batches left of the items that were picked from it. It has as much
     /// room as before; where no item was picked and all that opened was served, that follows the list, and nothing is copied.
     pub(crate) fn weave_into(&mut self, list: &mut DemandList)
@@ -191,12 +217,17 @@ impl Picked {
             list.append(self.items.items());
             return;
         }
-        weave_lists(
-            list.items(),
+        list.exchange(&mut self.list);
+        let end = weave_in_place(
+            &mut self.list,
             &self.places,
             self.items.items(),
             &mut self.whole,
         );
-        give_items(&mut self.whole, list);
+        list.exchange(&mut self.list);
+        match end {
+            Some(at) => list.append(&self.items.items()[at..]),
+            None => self.weave_anew(list),
+        }
     }
 }
