@@ -4,8 +4,8 @@ use Rattle.std.specs.List.{copy_within}
 use Rattle.std.proofs.lemmas.List.{append_assoc, take_all, take_at, take_rest, take-take, drop-take, drop-drop, drop_at, length-take-le, length-drop, take-append-le, drop-append-le}
 use Rattle.std.proofs.lemmas.List.Edits.{take-paste, drop-paste}
 use Rattle.greedy_rules.specs.declared.flows.Item.{Item}
-use Rattle.slot_batches.specs.Woven.{weave, woven}
-use Rattle.alloc_pipeline.specs.Picked.{places_from, staying}
+use Rattle.slot_batches.specs.Woven.{weave, woven, places_from}
+use Rattle.alloc_pipeline.specs.Picked.{staying}
 use Rattle.alloc_pipeline.proofs.Places.{IsStep, next_step}
 
 -- lists that are alike from a place on are so from every later one

@@ -2,8 +2,8 @@
 ghost use Rattle.std.specs.Prelude.{◌≡◌, ◌≤◌, ◌<◌, ◌+◌, Bool, ◌++◌, length, take, drop, None, IfSome, vec_len, vec_capacity};
 ghost use Rattle.greedy_rules.specs.declared.flows.Item.{Item};
 ghost use Rattle.slot_batches.specs.Feeding.{IsInOrder};
-ghost use Rattle.slot_batches.specs.Woven.{weave, woven};
-ghost use Rattle.alloc_pipeline.specs.Picked.{places_from, staying};
+ghost use Rattle.slot_batches.specs.Woven.{weave, woven, places_from};
+ghost use Rattle.alloc_pipeline.specs.Picked.{staying};
 
 use crate::weave::{first_served, places_below, stays_at, weave_part};
 use greedy_rules::Item;

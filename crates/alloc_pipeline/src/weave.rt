@@ -4,8 +4,8 @@ ghost use Rattle.std.specs.List.{slice_index_or};
 ghost use Rattle.std.specs.List.Sorted.{IsNonDecreasingBy, IsPartitionPoint};
 ghost use Rattle.greedy_rules.specs.declared.flows.Item.{Item};
 ghost use Rattle.slot_batches.specs.Feeding.{IsInOrder};
-ghost use Rattle.slot_batches.specs.Woven.{stays as stays_in, weave, never_served, once_served, woven};
-ghost use Rattle.alloc_pipeline.specs.Picked.{places_from, staying};
+ghost use Rattle.slot_batches.specs.Woven.{stays as stays_in, weave, never_served, once_served, woven, places_from};
+ghost use Rattle.alloc_pipeline.specs.Picked.{staying};
 
 use greedy_rules::Item;
 

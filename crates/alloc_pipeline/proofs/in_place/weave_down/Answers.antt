@@ -3,7 +3,8 @@ use Rattle.std.specs.Prelude.{vec_len}
 use Rattle.std.specs.List.{copy_within}
 use Rattle.std.proofs.lemmas.List.{append_assoc}
 use Rattle.greedy_rules.specs.declared.flows.Item.{Item}
-use Rattle.alloc_pipeline.specs.Picked.{places_from, staying}
+use Rattle.slot_batches.specs.Woven.{places_from}
+use Rattle.alloc_pipeline.specs.Picked.{staying}
 use Rattle.alloc_pipeline.proofs.Places.{IsStep, last_step}
 use Rattle.alloc_pipeline.proofs.Down.{next_down, run_moved, woven_down, all_moved}
 use Rattle.alloc_pipeline.proofs.in_place.weave_down.Goals as goal

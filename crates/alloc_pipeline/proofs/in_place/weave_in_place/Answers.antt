@@ -2,8 +2,7 @@ use Rattle.std.proofs.Common.{◌≡◌, ◌≤◌, ◌-◌, ◌++◌, ℕ, List
 use Rattle.std.specs.List.Sorted.{IsNonDecreasingBy}
 use Rattle.std.proofs.lemmas.List.{length-append, take_rest}
 use Rattle.greedy_rules.specs.declared.flows.Item.{Item}
-use Rattle.slot_batches.specs.Woven.{weave, never_served, once_served}
-use Rattle.alloc_pipeline.specs.Picked.{places_from}
+use Rattle.slot_batches.specs.Woven.{weave, never_served, once_served, places_from}
 use Rattle.alloc_pipeline.proofs.Places.{places_rise, parts_placed, parts_woven}
 use Rattle.alloc_pipeline.proofs.Down.{put_over, woven_in_place}
 use Rattle.alloc_pipeline.proofs.in_place.weave_in_place.Goals as goal
