@@ -1,12 +1,12 @@
 -- The places of the items that are picked, and a list that is woven from place to place.
-use Rattle.std.proofs.Common.{◌≡◌, ◌<◌, ◌≤◌, ◌+◌, ◌-◌, ℕ, zero, suc, List, [], ◌∷◌, ◌++◌, length, take, drop, get_or, Bool, true, false, not, nat_lt, cond, All, refl, sym, ap, ◌∙◌, subst, arith, inl, inr}
+use Rattle.std.proofs.Common.{◌≡◌, ◌<◌, ◌≤◌, ◌+◌, ◌-◌, ℕ, zero, suc, List, [], ◌∷◌, ◌++◌, length, take, drop, get_or, map, Bool, true, false, not, nat_lt, cond, All, refl, sym, ap, ◌∙◌, subst, arith, inl, inr}
 use Rattle.std.specs.List.Sorted.{IsNonDecreasingBy, IsPartitionPoint}
 use Rattle.std.proofs.lemmas.Bool.{cond-true, cond-false, cases_Bool, ltb-true, ltb-false}
 use Rattle.std.proofs.lemmas.List.Elements.{All-nil, All-cons, All-head, All-tail}
 use Rattle.std.proofs.lemmas.List.{append_assoc, length-append, take-append-drop, take_at, drop_at, drop_more, take_rest, length-take-le, length-drop, get_or-drop, drop-drop, get_or_append_left, get_or-append_right}
 use Rattle.greedy_rules.specs.declared.flows.Item.{Item}
-use Rattle.slot_batches.specs.Woven.{picked, stays, weave, never_served, once_served, woven}
-use Rattle.alloc_pipeline.specs.Picked.{places_from, staying}
+use Rattle.slot_batches.specs.Woven.{picked, stays, weave, never_served, once_served, woven, places_from}
+use Rattle.alloc_pipeline.specs.Picked.{staying}
 use Rattle.alloc_pipeline.proofs.Weaving.{run_aside, none_left, followed}
 
 -- there are as many places as items picked
@@ -44,19 +44,6 @@ no_place aside place [] all = refl
 no_place aside place (item ∷ items) all =
     cond-true (aside item) (places_from aside (place + 1) items) (place ∷ places_from aside (place + 1) items) (All-head (λ x. aside x ≡ true) item items all)
     ∙ no_place aside (place + 1) items (All-tail (λ x. aside x ≡ true) item items all)
-
--- items at the front that are set aside have no place
-pub places_past : (aside : Item → Bool) (from : ℕ) (items : List Item) (at n : ℕ) → n ≤ length (take (length items - at) (drop at items))
-    → All (λ item. aside item ≡ true) (take n (take (length items - at) (drop at items))) → places_from aside (from + at) (drop at items) ≡ places_from aside (from + (at + n)) (drop (at + n) items)
-places_past aside from items at n inside all =
-    let rest : List Item = drop at items in
-    let same : take (length items - at) rest ≡ rest = take_rest items at in
-    let here : All (λ item. aside item ≡ true) (take n rest) = subst (λ (xs : List Item). All (λ item. aside item ≡ true) (take n xs)) same all in
-    let long : length (take n rest) ≡ n = length-take-le n rest (omega (arith, inside, ap length same)) in
-    ap (places_from aside (from + at)) (sym (take-append-drop n rest))
-    ∙ (places_append aside (from + at) (take n rest) (drop n rest)
-    ∙ (ap (λ (ps : List ℕ). ps ++ places_from aside (from + at + length (take n rest)) (drop n rest)) (no_place aside (from + at) (take n rest) here)
-    ∙ (ap (λ (k : ℕ). places_from aside k (drop n rest)) (omega (arith, long)) ∙ ap (places_from aside (from + (at + n))) (drop-drop n at items))))
 
 -- the list goes on to its next place, so far ahead: up to there all is set aside
 pub record IsNext (aside : Item → Bool) (from ahead : ℕ) (places : List ℕ) (list : List Item) : Type 0 where
@@ -135,6 +122,50 @@ within_list aside from (item ∷ list) i d inside = elim (cases_Bool (aside item
       within_cons from (length list) (places_from aside (from + 1) list) i d (get_or (places_from aside from (item ∷ list)) i d) value (omega (arith, inside, ap length same))
       (λ k inside'. within_list aside (from + 1) list k d inside')
 ]
+
+pub place_within : (aside : Item → Bool) (list : List Item) (places : List ℕ) (i : ℕ) → places ≡ places_from aside 0 list → i < length places → get_or places i 0 < length list
+place_within aside list places i are more =
+    let one = within_list aside 0 list i 0 (omega (arith, more, ap length are)) in
+    omega (arith, one.1, ap (λ (ps : List ℕ). get_or ps i 0) are)
+
+-- the items at the places are those that are picked
+pub picked_at : (aside : Item → Bool) (list : List Item) (d : Item) (k : ℕ) (items : List Item) → drop k list ≡ items
+    → map (λ (place : ℕ). get_or list place d) (places_from aside k items) ≡ picked aside items
+picked_at aside list d k [] are = refl
+picked_at aside list d k (item ∷ items) are =
+    let at : ℕ → Item = λ place. get_or list place d in
+    let on : ℕ = k + 1 in
+    let none : List Item = [] in
+    let same : k + 0 ≡ k = omega arith in
+    let here : at k ≡ item = sym (get_or-drop k list 0 d ∙ ap at same) ∙ ap (λ (xs : List Item). get_or xs 0 d) are in
+    let rest : drop on list ≡ items = sym (drop-drop 1 k list) ∙ ap (drop 1) are in
+    let more : map at (places_from aside on items) ≡ picked aside items = picked_at aside list d on items rest in
+    elim (cases_Bool (aside item)) [
+      | inl is ↦
+          ap (map at) (cond-true (aside item) (places_from aside on items) (k ∷ places_from aside on items) is)
+          ∙ (more ∙ sym (cond-false (not (aside item)) (item ∷ picked aside items) (picked aside items) (ap not is)))
+      | inr not_it ↦
+          ap (map at) (cond-false (aside item) (places_from aside on items) (k ∷ places_from aside on items) not_it)
+          ∙ (ap (λ (x : Item). x ∷ map at (places_from aside on items)) here
+          ∙ (ap (λ (xs : List Item). item ∷ xs) more ∙ sym (cond-true (not (aside item)) (item ∷ picked aside items) (picked aside items) (ap not not_it))))
+    ]
+
+-- places counted from a later one
+pub places_on : (aside : Item → Bool) (from k : ℕ) (items : List Item) → map (λ (place : ℕ). from + place) (places_from aside k items) ≡ places_from aside (from + k) items
+places_on aside from k [] = refl
+places_on aside from k (item ∷ items) =
+    let later : ℕ → ℕ = λ place. from + place in
+    let on : ℕ = k + 1 in
+    let next : ℕ = from + k + 1 in
+    let more : map later (places_from aside on items) ≡ places_from aside next items = places_on aside from on items ∙ ap (λ (n : ℕ). places_from aside n items) (omega arith) in
+    elim (cases_Bool (aside item)) [
+      | inl is ↦
+          ap (map later) (cond-true (aside item) (places_from aside on items) (k ∷ places_from aside on items) is)
+          ∙ (more ∙ sym (cond-true (aside item) (places_from aside next items) ((from + k) ∷ places_from aside next items) is))
+      | inr not_it ↦
+          ap (map later) (cond-false (aside item) (places_from aside on items) (k ∷ places_from aside on items) not_it)
+          ∙ (ap (λ (ps : List ℕ). (from + k) ∷ ps) more ∙ sym (cond-false (aside item) (places_from aside next items) ((from + k) ∷ places_from aside next items) not_it))
+    ]
 
 -- they rise
 rise_cons : (from : ℕ) (ps : List ℕ) → IsNonDecreasingBy (λ place. place) ps → ((i d : ℕ) → i < length ps → from ≤ get_or ps i d) → IsNonDecreasingBy (λ place. place) (from ∷ ps)

@@ -1,10 +1,10 @@
 -- A list that is woven: what is set aside, the two parts of a list in order, and what is picked.
-use Rattle.std.proofs.Common.{◌≡◌, ◌<◌, ◌≤◌, ◌+◌, ◌-◌, ℕ, zero, suc, List, [], ◌∷◌, ◌++◌, length, take, drop, get_or, Bool, true, false, not, ◌==◌, cond, All, refl, sym, ap, ◌∙◌, subst, arith, inl, inr}
+use Rattle.std.proofs.Common.{◌≡◌, ◌<◌, ◌≤◌, ℕ, zero, suc, List, [], ◌∷◌, ◌++◌, length, take, drop, get_or, Bool, true, false, not, ◌==◌, cond, All, refl, sym, ap, ◌∙◌, arith, inl, inr}
 use Rattle.std.specs.List.{AllWithin}
 use Rattle.std.proofs.lemmas.Bool.{cond-true, cond-false, cases_Bool, ltb-true, ne_eqb}
 use Rattle.std.proofs.lemmas.Bool.Decides.{nat_tests}
-use Rattle.std.proofs.lemmas.List.Elements.{All-head, All-tail, All-filter, filter-append}
-use Rattle.std.proofs.lemmas.List.{append-nil, append_assoc, take-append-drop, take_rest, drop-drop}
+use Rattle.std.proofs.lemmas.List.Elements.{All-head, All-tail, All-filter}
+use Rattle.std.proofs.lemmas.List.{append-nil, append_assoc}
 use Rattle.greedy_rules.specs.declared.flows.Item.{Item}
 use Rattle.slot_batches.specs.Feeding.{IsInOrder, was_served}
 use Rattle.slot_batches.specs.Woven.{picked, stays, weave, never_served, once_served, woven}
@@ -81,23 +81,3 @@ rest_follows aside list rest all up no_new all_old =
     ap (λ (xs : List Item). xs ++ rest) (parts_in_order list up)
     ∙ (append_assoc (never_served list) (once_served list) rest
     ∙ sym (ap (λ (xs : List Item). xs ++ weave aside (once_served list) (once_served rest)) first ∙ ap (λ (xs : List Item). never_served list ++ xs) second))
-
--- items at the front that are set aside are not picked
-pub picked_past : (aside : Item → Bool) (items : List Item) (at n : ℕ) → All (λ item. aside item ≡ true) (take n (take (length items - at) (drop at items)))
-    → picked aside (drop at items) ≡ picked aside (drop (at + n) items)
-picked_past aside items at n all =
-    let rest : List Item = drop at items in
-    let here : All (λ item. aside item ≡ true) (take n rest) = subst (λ (xs : List Item). All (λ item. aside item ≡ true) (take n xs)) (take_rest items at) all in
-    ap (picked aside) (sym (take-append-drop n rest))
-    ∙ (filter-append (λ item. not (aside item)) (take n rest) (drop n rest)
-    ∙ (ap (λ (xs : List Item). xs ++ picked aside (drop n rest)) (none_picked aside (take n rest) here) ∙ ap (picked aside) (drop-drop n at items)))
-
--- one item, and then the others
-pub picked_one : (aside : Item → Bool) (item : Item) (more : List Item) → picked aside (item ∷ more) ≡ picked aside (item ∷ []) ++ picked aside more
-picked_one aside item more = filter-append (λ x. not (aside x)) (item ∷ []) more
-
-pub at_most_one : (aside : Item → Bool) (item : Item) → length (picked aside (item ∷ [])) ≤ 1
-at_most_one aside item = elim (cases_Bool (aside item)) [
-  | inl is ↦ omega (arith, ap length (cond-false (not (aside item)) (item ∷ []) [] (ap not is)))
-  | inr not_it ↦ omega (arith, ap length (cond-true (not (aside item)) (item ∷ []) [] (ap not not_it)))
-]

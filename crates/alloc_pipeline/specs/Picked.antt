@@ -9,11 +9,6 @@ use Rattle.alloc_pipeline.specs.declared.picked.Picked.{Picked}
 abbrev pub is_aside : WindowMarks → Item → Bool
 is_aside marks item = (item.need == 0) && not (has_mark marks item.flow)
 
--- the places of the items that are picked, where the first item stands at this place
-abbrev pub places_from : (Item → Bool) → ℕ → List Item → List ℕ
-places_from aside place [] = []
-places_from aside place (item ∷ list) = if aside item then places_from aside (place + 1) list else place ∷ places_from aside (place + 1) list
-
 -- the first item of the list as it stands in the rest, if it stays as the next one there
 abbrev pub staying : List Item → List Item → List Item
 staying [] rest = []

@@ -3,6 +3,7 @@
 #![tactic(auto)]
 
 mod batches;
+mod in_place;
 mod picked;
 mod ring;
 mod stages;

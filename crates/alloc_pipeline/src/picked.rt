@@ -1,12 +1,14 @@
 //! What of a window's demand list its batches run over, while the rest is set aside.
-ghost use Rattle.std.specs.Prelude.{◌≡◌, ◌<◌, ◌≤◌, ◌+◌, ◌^◌, [], ◌∷◌, ◌++◌, length, take, true, false, IfOk, All, vec_len, vec_capacity};
+ghost use Rattle.std.specs.Prelude.{◌≡◌, ◌<◌, ◌≤◌, ◌+◌, ◌^◌, [], ◌++◌, Bool, length, true, false, IfOk, All, vec_len, vec_capacity};
 ghost use Rattle.greedy_rules.specs.declared.flows.Flow.{Flow};
+ghost use Rattle.greedy_rules.specs.declared.flows.Item.{Item};
 ghost use Rattle.slot_batches.specs.Feeding.{IsInOrder};
 ghost use Rattle.slot_batches.specs.Marks.{has_mark};
-ghost use Rattle.slot_batches.specs.Woven.{picked as picked_of, woven, OnlyOpen};
-ghost use Rattle.alloc_pipeline.specs.Picked.{is_aside as is_aside_in, places_from, HasRoomFor};
+ghost use Rattle.slot_batches.specs.Woven.{picked as picked_of, woven, OnlyOpen, places_from};
+ghost use Rattle.alloc_pipeline.specs.Picked.{is_aside as is_aside_in, HasRoomFor};
 
 use crate::batches::needs_of;
+use crate::in_place::weave_in_place;
 use crate::weave::{first_served, weave_lists};
 use greedy_rules::{Batch, DemandList, Item};
 use no_memory::NoMemory;
@@ -16,13 +18,6 @@ use std::alloc::Global;
 /// How many windows pass before it is tried again to pick few items of a list of which many may change.
 const PAUSE: u8 = 15;
 
-/// Whether the item is set aside: it needs no slot and its flow has no mark.
-fn is_aside(item: &Item, marks: &FlowMarks) -> bool
-    ensures { result ≡ is_aside_in marks.now item.now }
-{
-    item.need == 0 && !marks.is_marked(item.flow)
-}
-
 /// Whether all these items are set aside, where that is seen of their needs alone.
 fn need_nothing(items: &[Item], marks: &FlowMarks) -> bool
     ensures { result ≡ true → All (λ item. is_aside_in marks.now item ≡ true) items.now }
@@ -30,24 +25,26 @@ fn need_nothing(items: &[Item], marks: &FlowMarks) -> bool
     marks.is_empty() && needs_of(items) == 0
 }
 
-/// Appends the item and its place, unless it is set aside.
-fn pick_item(
-    item: Item,
-    place: usize,
-    marks: &FlowMarks,
+/// Appends the items at these places, and where they stand in the list, the first item's place being `from`.
+fn take_picked(
+    items: &[Item],
+    from: usize,
+    picked: &[usize],
     found: &mut DemandList,
     places: &mut Vec<usize>,
 )
-    requires room { 0 < found.old.spare }
-    requires places_room { vec_len places.old < vec_capacity places.old }
-    ensures items { found.new.items ≡ found.old.items ++ picked_of (is_aside_in marks.now) (item ∷ []) }
-    ensures places { places.new.items ≡ places.old.items ++ places_from (is_aside_in marks.now) place (item ∷ []) }
+    requires picked { (aside : Item → Bool) × (picked.now ≡ places_from aside 0 items.now) }
+    requires room { length picked.now ≤ found.old.spare }
+    requires places_room { vec_len places.old + length picked.now ≤ vec_capacity places.old }
+    requires fits { from + length items.now < 2 ^ 63 }
+    ensures items { (aside : Item → Bool) → picked.now ≡ places_from aside 0 items.now → found.new.items ≡ found.old.items ++ picked_of aside items.now }
+    ensures places { (aside : Item → Bool) → picked.now ≡ places_from aside 0 items.now → places.new.items ≡ places.old.items ++ places_from aside from items.now }
     ensures room { length found.new.items + found.new.spare ≡ length found.old.items + found.old.spare }
     ensures capacity { vec_capacity places.new ≡ vec_capacity places.old }
 {
-    if !is_aside(&item, marks) {
-        found.push(item);
-        places.push_reserved(place);
+    for at in picked {
+        found.push(items[*at]);
+        places.push_reserved(from + *at);
     }
 }
 
@@ -64,6 +61,7 @@ fn pick_few(
     requires room { most ≤ length found.old.items + found.old.spare }
     requires places_room { most ≤ vec_capacity places.old }
     requires same { length found.old.items ≡ length places.old.items }
+    requires few { length items.now ≤ 64 }
     requires fits { from + length items.now < 2 ^ 63 }
     ensures items { result ≡ true → found.new.items ≡ found.old.items ++ picked_of (is_aside_in marks.now) items.now }
     ensures places { result ≡ true → places.new.items ≡ places.old.items ++ places_from (is_aside_in marks.now) from items.now }
@@ -77,14 +75,9 @@ fn pick_few(
     if most < found.len() || most - found.len() < items.len() {
         return false;
     }
-    let mut at = 0;
-    while at < items.len() {
-        at += marks.idle_front(&items[at..]);
-        if at < items.len() {
-            pick_item(items[at], from + at, marks, found, places);
-            at += 1;
-        }
-    }
+    let mut picked = [0; 64];
+    let count = marks.note_busy(items, &mut picked);
+    take_picked(items, from, &picked[..count], found, places);
     true
 }
 
@@ -124,6 +117,8 @@ pub(crate) struct Picked {
     // Where each of them stood in the list.
     places: Vec<usize>,
     whole: Vec<Item>,
+    // The window's list, while it is woven where it stands.
+    list: Vec<Item>,
     // So many windows pass before it is tried again to pick few.
     pause: u8,
 }
@@ -139,6 +134,7 @@ impl Picked {
             items: DemandList::open(alloc, pairs)?,
             places: Vec::with_capacity(alloc, pairs)?,
             whole: Vec::with_capacity(alloc, pairs)?,
+            list: Vec::new(alloc),
             pause: 0,
         })
     }
@@ -173,6 +169,28 @@ impl Picked {
         picked
     }
 
+    /// Puts the list together again by a copy of all its items.
+    fn weave_anew(&mut self, list: &mut DemandList)
+        requires list_order { IsInOrder list.old.items }
+        requires order { IsInOrder self.old.items.items }
+        requires places { self.old.places.items ≡ places_from (is_aside_in self.old.marks) 0 list.old.items }
+        requires room { length (woven (is_aside_in self.old.marks) list.old.items self.old.items.items) ≤ length list.old.items + list.old.spare }
+        requires whole_room { length (woven (is_aside_in self.old.marks) list.old.items self.old.items.items) ≤ vec_capacity self.old.whole }
+        ensures items { list.new.items ≡ woven (is_aside_in self.old.marks) list.old.items self.old.items.items }
+        ensures spare { length list.new.items + list.new.spare ≡ length list.old.items + list.old.spare }
+        ensures rest { self.new.items ≡ self.old.items }
+        ensures places { self.new.places ≡ self.old.places }
+        ensures whole { vec_capacity self.old.whole ≤ vec_capacity self.new.whole }
+    {
+        weave_lists(
+            list.items(),
+            &self.places,
+            self.items.items(),
+            &mut self.whole,
+        );
+        give_items(&mut self.whole, list);
+    }
+
     /// Puts the list together again from itself and what the batches left of the items that were picked from it. It has as much
     /// room as before; where no item was picked and all that opened was served, that follows the list, and nothing is copied.
     pub(crate) fn weave_into(&mut self, list: &mut DemandList)
@@ -191,12 +209,17 @@ impl Picked {
             list.append(self.items.items());
             return;
         }
-        weave_lists(
-            list.items(),
+        list.exchange(&mut self.list);
+        let end = weave_in_place(
+            &mut self.list,
             &self.places,
             self.items.items(),
             &mut self.whole,
         );
-        give_items(&mut self.whole, list);
+        list.exchange(&mut self.list);
+        match end {
+            Some(at) => list.append(&self.items.items()[at..]),
+            None => self.weave_anew(list),
+        }
     }
 }

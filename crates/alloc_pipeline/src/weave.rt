@@ -4,8 +4,8 @@ ghost use Rattle.std.specs.List.{slice_index_or};
 ghost use Rattle.std.specs.List.Sorted.{IsNonDecreasingBy, IsPartitionPoint};
 ghost use Rattle.greedy_rules.specs.declared.flows.Item.{Item};
 ghost use Rattle.slot_batches.specs.Feeding.{IsInOrder};
-ghost use Rattle.slot_batches.specs.Woven.{stays as stays_in, weave, never_served, once_served, woven};
-ghost use Rattle.alloc_pipeline.specs.Picked.{places_from, staying};
+ghost use Rattle.slot_batches.specs.Woven.{stays as stays_in, weave, never_served, once_served, woven, places_from};
+ghost use Rattle.alloc_pipeline.specs.Picked.{staying};
 
 use greedy_rules::Item;
 
@@ -27,7 +27,7 @@ fn stays(item: &Item, later: &Item) -> bool
 }
 
 /// Whether the item stays as the one at this place.
-fn stays_at(item: &Item, rest: &[Item], at: usize) -> bool
+pub(crate) fn stays_at(item: &Item, rest: &[Item], at: usize) -> bool
     ensures { result ≡ (nat_lt at (length rest.now) && stays_in item.now (slice_index_or rest.now at item.now)) }
 {
     match rest.get(at) {
@@ -64,7 +64,13 @@ fn weave_run(
 }
 
 /// Appends one part of the list, woven: its first item stands at the place `first`, and those that were picked at these.
-fn weave_part(list: &[Item], first: usize, places: &[usize], rest: &[Item], whole: &mut Vec<Item>)
+pub(crate) fn weave_part(
+    list: &[Item],
+    first: usize,
+    places: &[usize],
+    rest: &[Item],
+    whole: &mut Vec<Item>,
+)
     requires room { (aside : Item → Bool) × (places.now ≡ places_from aside first list.now) × (vec_len whole.old + length (weave aside list.now rest.now) ≤ vec_capacity whole.old) }
     ensures items { (aside : Item → Bool) → places.now ≡ places_from aside first list.now → whole.new.items ≡ whole.old.items ++ weave aside list.now rest.now }
     ensures capacity { vec_capacity whole.old ≤ vec_capacity whole.new }
@@ -81,7 +87,7 @@ fn weave_part(list: &[Item], first: usize, places: &[usize], rest: &[Item], whol
 }
 
 /// How many of the places, which rise, are below this one.
-fn places_below(places: &[usize], end: usize) -> usize
+pub(crate) fn places_below(places: &[usize], end: usize) -> usize
     requires { IsNonDecreasingBy (λ place. place) places.now }
     ensures within { result ≤ length places.now }
     ensures point { IsPartitionPoint (λ place. nat_lt place end ≡ true) (λ place. nat_lt place end ≡ false) places.now result }

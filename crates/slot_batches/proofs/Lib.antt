@@ -26,3 +26,4 @@ pub mod WeaveLemmas
 pub mod SetAside
 pub mod RestLemmas
 pub mod DoubtLemmas
+pub mod BusyLemmas

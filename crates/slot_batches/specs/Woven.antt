@@ -1,6 +1,6 @@
 -- Items that need nothing may be set aside for a window of batches: what the batches then run over, and how the items set
 -- aside come between those again (this project's own profile).
-use Rattle.std.specs.Prelude.{◌≡◌, ℕ, List, [], ◌∷◌, ◌++◌, filter, Bool, true, not, ◌==◌, ◌&&◌, None, All, if◌then◌else◌}
+use Rattle.std.specs.Prelude.{◌≡◌, ℕ, ◌+◌, List, [], ◌∷◌, ◌++◌, filter, Bool, true, not, ◌==◌, ◌&&◌, None, All, if◌then◌else◌}
 use Rattle.greedy_rules.specs.declared.flows.Flow.{Flow}
 use Rattle.greedy_rules.specs.declared.flows.Item.{Item}
 use Rattle.greedy_rules.specs.Flows.{same_flow}
@@ -13,6 +13,11 @@ use Rattle.slot_batches.specs.NextList.{IsListBefore}
 -- the items that batches run over while the others are set aside
 abbrev pub picked : (Item → Bool) → List Item → List Item
 picked aside list = filter (λ item. not (aside item)) list
+
+-- the places of the items that are picked, where the first item stands at this place
+abbrev pub places_from : (Item → Bool) → ℕ → List Item → List ℕ
+places_from aside place [] = []
+places_from aside place (item ∷ list) = if aside item then places_from aside (place + 1) list else place ∷ places_from aside (place + 1) list
 
 -- the flow stands in the later list as it stood: it was not served since
 abbrev pub stays : Item → Item → Bool

@@ -1,7 +1,7 @@
 ghost use Rattle.std.specs.Prelude.{◌≡◌, ◌<◌, ◌≤◌, ◌==◌, ◌&&◌, not, true, false, length, take, IfOk, All};
 ghost use Rattle.greedy_rules.specs.declared.flows.Flow.{Flow};
 ghost use Rattle.slot_batches.specs.Marks.{own_place, own_bit, has_own_bit, HaveOwnBits, has_mark};
-ghost use Rattle.slot_batches.specs.Woven.{OnlyOpen};
+ghost use Rattle.slot_batches.specs.Woven.{OnlyOpen, places_from};
 
 use crate::marks::{has_bit, set_bit};
 use greedy_rules::{Batch, Flow, Item};
@@ -70,23 +70,33 @@ fn mark_all(words: &mut [u64], batches: &[Batch])
     }
 }
 
-/// Whether the item needs no slot and has no mark, by these words where some flow has one.
-fn is_idle(words: &[u64], some: bool, item: &Item) -> bool
-    ensures { result ≡ ((item.now.need == 0) && not (some && has_own_bit words.now item.now.flow)) }
+/// Whether the flow has a mark by these words, where some flow has one.
+fn is_marked(words: &[u64], some: bool, flow: Flow) -> bool
+    ensures { result ≡ (some && has_own_bit words.now flow) }
 {
-    item.need == 0 && !(some && has_bit(words, place(item.flow), bit(item.flow)))
+    has_bit(words, place(flow), bit(flow)) & some
 }
 
-/// How many items at the front need no slot and have no mark.
-fn count_idle(words: &[u64], some: bool, items: &[Item]) -> usize
-    ensures within { result ≤ length items.now }
-    ensures idle { All (λ item. ((item.need == 0) && not (some && has_own_bit words.now item.flow)) ≡ true) (take result items.now) }
+/// Whether the item needs a slot or has a mark, by these words where some flow has one.
+fn is_busy(words: &[u64], some: bool, item: &Item) -> bool
+    ensures { result ≡ not ((item.now.need == 0) && not (some && has_own_bit words.now item.now.flow)) }
 {
-    let mut at = 0;
-    while at < items.len() && is_idle(words, some, &items[at]) {
-        at += 1;
+    item.need | u32::from(is_marked(words, some, item.flow)) > 0
+}
+
+/// Notes the places of the items that need a slot or have a mark, and answers how many these are.
+fn note_busy(words: &[u64], some: bool, items: &[Item], places: &mut [usize]) -> usize
+    requires { length items.now ≤ length places.old }
+    ensures within { result ≤ length items.now }
+    ensures places { take result places.new ≡ places_from (λ item. (item.need == 0) && not (some && has_own_bit words.now item.flow)) 0 items.now }
+    ensures length { length places.new ≡ length places.old }
+{
+    let mut count = 0;
+    for (at, item) in items.iter().enumerate() {
+        places[count] = at;
+        count += usize::from(is_busy(words, some, item));
     }
-    at
+    count
 }
 
 impl FlowMarks {
@@ -118,18 +128,13 @@ impl FlowMarks {
         !self.some
     }
 
-    /// Whether the flow has a mark.
-    pub fn is_marked(&self, flow: Flow) -> bool
-        ensures { result ≡ has_mark self.now flow }
-    {
-        self.some && has_bit(&self.words, place(flow), bit(flow))
-    }
-
-    /// How many items at the front need no slot and have no mark.
-    pub fn idle_front(&self, items: &[Item]) -> usize
+    /// Notes at the front of `places` where the items stand that need a slot or have a mark, and answers how many these are.
+    pub fn note_busy(&self, items: &[Item], places: &mut [usize]) -> usize
+        requires { length items.now ≤ length places.old }
         ensures within { result ≤ length items.now }
-        ensures idle { All (λ item. ((item.need == 0) && not (has_mark self.now item.flow)) ≡ true) (take result items.now) }
+        ensures places { take result places.new ≡ places_from (λ item. (item.need == 0) && not (has_mark self.now item.flow)) 0 items.now }
+        ensures length { length places.new ≡ length places.old }
     {
-        count_idle(&self.words, self.some, items)
+        note_busy(&self.words, self.some, items, places)
     }
 }

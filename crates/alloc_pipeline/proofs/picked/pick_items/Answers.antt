@@ -2,8 +2,8 @@ use Rattle.std.proofs.Common.{◌≡◌, ◌+◌, ◌++◌, ℕ, List, length, n
 use Rattle.std.proofs.lemmas.List.{append_assoc, length-append}
 use Rattle.std.proofs.lemmas.List.Elements.{filter-append}
 use Rattle.greedy_rules.specs.declared.flows.Item.{Item}
-use Rattle.slot_batches.specs.Woven.{picked}
-use Rattle.alloc_pipeline.specs.Picked.{is_aside, places_from}
+use Rattle.slot_batches.specs.Woven.{picked, places_from}
+use Rattle.alloc_pipeline.specs.Picked.{is_aside}
 use Rattle.alloc_pipeline.proofs.Places.{places_append}
 use Rattle.alloc_pipeline.proofs.picked.pick_items.Goals as goal
 

@@ -1,7 +1,7 @@
 use Rattle.std.proofs.Common.{◌≡◌, ◌+◌, ◌++◌, length}
 use Rattle.std.specs.Prelude.{vec_capacity}
-use Rattle.slot_batches.specs.Woven.{picked}
-use Rattle.alloc_pipeline.specs.Picked.{is_aside, places_from}
+use Rattle.slot_batches.specs.Woven.{picked, places_from}
+use Rattle.alloc_pipeline.specs.Picked.{is_aside}
 use Rattle.alloc_pipeline.proofs.picked.pick_items.Given as goal
 
 abbrev pub invariant-loop-few : goal.invariant-loop-few

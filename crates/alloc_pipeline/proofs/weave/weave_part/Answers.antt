@@ -3,8 +3,8 @@ use Rattle.std.specs.Prelude.{vec_len, vec_capacity}
 use Rattle.std.proofs.lemmas.Bool.{cond-true}
 use Rattle.std.proofs.lemmas.List.{append_assoc, drop-drop, length-append, length-drop, length-take-le, take_rest}
 use Rattle.greedy_rules.specs.declared.flows.Item.{Item}
-use Rattle.slot_batches.specs.Woven.{weave}
-use Rattle.alloc_pipeline.specs.Picked.{places_from, staying}
+use Rattle.slot_batches.specs.Woven.{weave, places_from}
+use Rattle.alloc_pipeline.specs.Picked.{staying}
 use Rattle.alloc_pipeline.proofs.Places.{IsStep, next_step, last_step}
 use Rattle.alloc_pipeline.proofs.weave.weave_part.Goals as goal
 

@@ -1,8 +1,7 @@
 use Rattle.std.proofs.Common.{◌≡◌, ◌≤◌, ◌+◌, ◌++◌, Bool, length, drop}
 use Rattle.std.specs.Prelude.{vec_capacity}
 use Rattle.greedy_rules.specs.declared.flows.Item.{Item}
-use Rattle.slot_batches.specs.Woven.{weave}
-use Rattle.alloc_pipeline.specs.Picked.{places_from}
+use Rattle.slot_batches.specs.Woven.{weave, places_from}
 use Rattle.alloc_pipeline.proofs.weave.weave_part.Given as goal
 
 abbrev pub invariant-loop-place : goal.invariant-loop-place
