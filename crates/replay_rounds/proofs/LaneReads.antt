@@ -22,7 +22,7 @@ use Rattle.replay_rounds.specs.Counts.{lane_count, counted, sent_and_missed}
 
 -- the lane in its place stands for its rounds
 pub lane_in : (trace : TraceContent) (cores : Cores) (inside all : RoundsContent) (src : ℕ) (lane : RoundsState) → inside ≡ all → Stands trace cores all → src < all.endpoints → lane ≡ get_or inside.lanes src lane →
-    LaneStands (setting_with trace cores all) all.collected all.published src lane
+    LaneStands (setting_with trace cores all) all.collected all.counted src lane
 lane_in trace cores inside all src lane same stands below is =
     stands.lanes src lane (slice_get_read all.lanes all.endpoints src lane (sym stands.wide) below (is ∙ ap (λ (s : RoundsContent). get_or s.lanes src lane) same))
 

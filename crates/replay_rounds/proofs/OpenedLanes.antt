@@ -1,9 +1,11 @@
 -- Lanes before the first round.
-use Rattle.std.proofs.Common.{◌≡◌, ◌<◌, ◌≤◌, ◌-◌, ◌*◌, ℕ, List, [], ◌∷◌, ◌++◌, length, get_or, Bool, true, cond, Some, slice_get, sym, ap, ◌∙◌, subst, inl, inr, arith}
+use Rattle.std.proofs.Common.{◌≡◌, ◌<◌, ◌≤◌, ◌-◌, ◌*◌, ℕ, List, [], ◌∷◌, ◌++◌, length, get_or, Bool, true, cond, Some, slice_get, All, sym, ap, ◌∙◌, subst, inl, inr, arith}
 use Rattle.std.proofs.lemmas.Bool.{cases_lt, le-ltb}
 use Rattle.std.proofs.lemmas.List.{drop_all, length-append, get_or_append_left, get_or-append_right}
+use Rattle.std.proofs.lemmas.List.Elements.{All-nil}
 use Rattle.std.proofs.lemmas.Option.{get_or_from_slice_get, slice_get-get_or, slice_get_within}
 use Rattle.greedy_rules.specs.Allocation.{slots_of}
+use Rattle.greedy_rules.specs.SlotTable.{IsSlotOf}
 use Rattle.greedy_rules.specs.Schedule.{first_slot}
 use Rattle.clos_topology.specs.Network.{endpoints_of}
 use Rattle.slot_publisher.specs.Window.{Window}
@@ -60,9 +62,9 @@ lane_opened setting endpoint lane is = record {
 pub stands_opened : (trace : TraceContent) (cores : Cores) (b g endpoints : ℕ) (lanes : List RoundsState) (window : Window) → AreCores cores → (0 < b) × (b ≤ 64) → (0 < g) × (g ≤ 16) →
     endpoints ≡ endpoints_of trace.net → length lanes ≡ endpoints → AreOpened endpoints b g lanes →
     window.endpoints ≡ endpoints → window.batches ≡ g → window.b ≡ b → window.first_batch ≡ 0 → window.count ≡ 0 → window.slots ≡ [] →
-    Stands trace cores (record { endpoints = endpoints; b = b; g = g; collected = 0; published = 0; lanes = lanes; window = window })
+    Stands trace cores (record { endpoints = endpoints; b = b; g = g; collected = 0; published = 0; counted = 0; lanes = lanes; window = window })
 stands_opened trace cores b g endpoints lanes window named batch rounds all long opened served room size first count slots =
-    let is : RoundsContent = record { endpoints = endpoints; b = b; g = g; collected = 0; published = 0; lanes = lanes; window = window } in
+    let is : RoundsContent = record { endpoints = endpoints; b = b; g = g; collected = 0; published = 0; counted = 0; lanes = lanes; window = window } in
     let setting : Setting = setting_with trace cores is in
     let none : slots_between setting window.first_batch 0 ≡ [] = drop_all (window.first_batch * b) [] (omega arith) in
     record {
@@ -72,6 +74,7 @@ stands_opened trace cores b g endpoints lanes window named batch rounds all long
       endpoints = all;
       within = omega arith;
       behind = omega arith;
+      counted = (omega arith, omega arith);
       wide = long;
       lanes = λ endpoint lane at. lane_opened setting endpoint lane (subst (λ (n : ℕ). IsOpened n b g endpoint lane) all (opened endpoint lane at));
       served = served;
@@ -79,4 +82,5 @@ stands_opened trace cores b g endpoints lanes window named batch rounds all long
       size = size;
       held = omega arith;
       slots = slots ∙ sym (ap (routed_from cores (first_slot b window.first_batch)) none);
+      in_range = subst (All (IsSlotOf endpoints)) (sym none) (All-nil (IsSlotOf endpoints));
     }

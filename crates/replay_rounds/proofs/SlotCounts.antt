@@ -9,7 +9,7 @@ use Rattle.flow_ledger.specs.FlowCount.{pending}
 use Rattle.greedy_rules.specs.declared.flows.Flow.{Flow}
 use Rattle.greedy_rules.specs.Batches.{DemandBatch}
 use Rattle.greedy_rules.specs.Slot.{has_flow}
-use Rattle.greedy_rules.specs.SlotTable.{Slots, IsSlotOf, destination_of}
+use Rattle.greedy_rules.specs.SlotTable.{IsSlotOf, destination_of}
 use Rattle.greedy_rules.specs.Allocation.{slots_of}
 use Rattle.greedy_rules.specs.Schedule.{slot_in, schedule}
 use Rattle.endpoint_history.specs.Lane.{LaneHistory, last_reset}
@@ -23,14 +23,19 @@ use Rattle.trace_run.specs.Run.{Setting, replayed}
 use Rattle.trace_run.specs.Histories.{lane_after}
 use Rattle.trace_run.specs.Rest.{allocated_from}
 use Rattle.trace_run.specs.Allocations.{since}
-use Rattle.replay_rounds.specs.Standing.{LaneStands}
-use Rattle.replay_rounds.specs.Publishing.{AreNext, CountingLaws, with_slot}
+use Rattle.replay_rounds.specs.Standing.{LaneStands, slots_between}
+use Rattle.replay_rounds.specs.Publishing.{CountingLaws, with_slot}
 use Rattle.replay_rounds.specs.Counting.{schedule_of, among_first, flow_of, HasCounted, IsPlace}
 use Rattle.replay_rounds.proofs.SlotSums.{goes_to, flow_goes, front_grows, between, sent_within, since_more, batch_reached, batch_ahead}
 
 pub schedule_length : (laws : CountingLaws) (setting : Setting) (rounds : ℕ) → length (schedule_of setting rounds) ≡ rounds * setting.b
 schedule_length laws setting rounds =
     laws.count setting.b 0 [] (replayed setting rounds).batches ∙ ap (λ (n : ℕ). n * setting.b) (laws.batches setting rounds)
+
+-- the slots from a batch on
+pub between_length : (laws : CountingLaws) (setting : Setting) (first rounds : ℕ) → length (slots_between setting first rounds) ≡ rounds * setting.b - first * setting.b
+between_length laws setting first rounds =
+    length-drop (first * setting.b) (schedule_of setting rounds) ∙ ap (λ (n : ℕ). n - first * setting.b) (schedule_length laws setting rounds)
 
 -- a schedule begins with that of fewer rounds
 pub schedule_begins : (laws : CountingLaws) (setting : Setting) (rounds all : ℕ) → rounds ≤ all → take (rounds * setting.b) (schedule_of setting all) ≡ schedule_of setting rounds
@@ -175,20 +180,19 @@ slot_is_pending laws setting collected all place src dst lane line within low hi
 
 -- ---- the slots of a window
 
--- a slot of the window is at its place of the schedule
-pub place_is : (laws : CountingLaws) (setting : Setting) (size collected published count slot src : ℕ) (slots : Slots) (to : Option ℕ) → AreNext setting size collected published count slots → 0 < size →
-    slot < length slots.slots → All (IsSlotOf slots.endpoints) slots.slots → to ≡ destination_of (slot_in slots.slots slot) src →
-    IsPlace setting (published + count) (published * setting.b + slot) src to
-place_is laws setting size collected published count slot src slots to next some below each goes =
-    let all : List (List Flow) = schedule_of setting (published + count) in
-    let from : ℕ = published * setting.b in
-    let there : slot_in slots.slots slot ≡ slot_in all (from + slot) = ap (λ (xs : List (List Flow)). slot_in xs slot) next.allocated ∙ get_or-drop from all slot [] in
-    let size_is = next.b in
-    let as_many : length slots.slots ≡ (published + count) * setting.b - from = ap length next.allocated ∙ (length-drop from all ∙ ap (λ (n : ℕ). n - from) (schedule_length laws setting (published + count))) in
+-- a slot from a batch on is at its place of the schedule
+pub place_is : (laws : CountingLaws) (setting : Setting) (first rounds slot src : ℕ) (to : Option ℕ) → 0 < setting.b →
+    slot < length (slots_between setting first rounds) → All (IsSlotOf setting.endpoints) (slots_between setting first rounds) →
+    to ≡ destination_of (slot_in (slots_between setting first rounds) slot) src → IsPlace setting rounds (first * setting.b + slot) src to
+place_is laws setting first rounds slot src to some below each goes =
+    let all : List (List Flow) = schedule_of setting rounds in
+    let from : ℕ = first * setting.b in
+    let there : slot_in (slots_between setting first rounds) slot ≡ slot_in all (from + slot) = get_or-drop from all slot [] in
+    let as_many : length (slots_between setting first rounds) ≡ rounds * setting.b - from = between_length laws setting first rounds in
     record {
       within = omega arith;
-      some = omega arith;
-      one = subst (λ (n : ℕ). IsSlotOf n (slot_in all (from + slot))) (sym next.endpoints) (subst (IsSlotOf slots.endpoints) there (each slot [] below));
+      some = some;
+      one = subst (IsSlotOf setting.endpoints) there (each slot [] below);
       goes = goes ∙ ap (λ (s : List Flow). destination_of s src) there;
     }
 

@@ -1,5 +1,6 @@
 -- How a lane counts the slots that its source is told of a batch.
-use Rattle.std.proofs.Common.{◌≡◌, ◌<◌, ◌≤◌, ◌+◌, ◌*◌, ◌/◌, ℕ, suc, true, slice_get, List, [], ◌∷◌, length, get_or, map, take, drop, Option, Some, None, refl, sym, ap, ◌∙◌, subst, arith}
+use Rattle.std.proofs.Common.{◌≡◌, ◌<◌, ◌≤◌, ◌+◌, ◌*◌, ◌/◌, ℕ, suc, true, slice_get, List, [], ◌∷◌, length, get_or, map, take, drop, ◌-◌, Option, Some, None, refl, sym, ap, ◌∙◌, subst, arith}
+use Rattle.std.specs.List.{range_with_len}
 use Rattle.std.specs.Option.{option_map}
 use Rattle.std.proofs.Math.Nat.{add-mul}
 use Rattle.std.proofs.lemmas.Nat.{row_fits, div-mul-add}
@@ -8,9 +9,9 @@ use Rattle.std.proofs.lemmas.List.FromFn.{length-map-range_with_len, get_or-map-
 use Rattle.fcp_framing.specs.declared.packet.Told.{Told}
 use Rattle.greedy_rules.specs.declared.flows.Flow.{Flow}
 use Rattle.greedy_rules.specs.SlotTable.{destination_of}
-use Rattle.greedy_rules.specs.Schedule.{slot_in}
-use Rattle.path_workers.specs.CoreTable.{core_of}
-use Rattle.slot_publisher.specs.Window.{RoutedFlow, Window, with_cores, slots_with_cores, slots_of_batch}
+use Rattle.greedy_rules.specs.Schedule.{first_slot, slot_in}
+use Rattle.clos_topology.specs.Links.{CoreOf}
+use Rattle.slot_publisher.specs.Window.{RoutedFlow, Window, with_cores, slots_of_batch}
 use Rattle.slot_publisher.specs.Told.{packet_from, slots_told, told_as, told_from}
 use Rattle.flow_ledger.specs.FlowCount.{pending}
 use Rattle.endpoint_history.specs.Counts.{Allocation}
@@ -19,10 +20,12 @@ use Rattle.arbiter_lane.specs.declared.line.Line.{Line}
 use Rattle.lane_rounds.specs.State.{RoundsState}
 use Rattle.lane_rounds.specs.Standing.{StandsFor}
 use Rattle.trace_run.specs.Run.{Setting}
+use Rattle.replay_rounds.specs.Standing.{slots_between}
 use Rattle.replay_rounds.specs.Publishing.{CountingLaws, IsPublished, with_slot}
-use Rattle.replay_rounds.specs.Counting.{schedule_of, HasCounted, IsPlace, IsRest, MayCount}
+use Rattle.replay_rounds.specs.Counting.{HasCounted, IsPlace, IsRest, MayCount}
 use Rattle.replay_rounds.proofs.Published.{found, routed}
-use Rattle.replay_rounds.proofs.SlotCounts.{lane_more, may_count, batch_below, place_is, schedule_length}
+use Rattle.replay_rounds.proofs.PublishedWindows.{routed_places}
+use Rattle.replay_rounds.proofs.SlotCounts.{lane_more, may_count, batch_below, between_length, place_is}
 
 abbrev dst_of : Option RoutedFlow → Option ℕ
 dst_of packet = option_map (λ p. p.flow.dst) packet
@@ -141,27 +144,28 @@ goes : (core : Option ℕ) (src : ℕ) (dst : Option ℕ) → dst_of (option_map
 goes core src None = refl
 goes core src (Some dst) = refl
 
-pub batch_begins : (laws : CountingLaws) (setting : Setting) (collected : ℕ) (window : Window) (src place batch : ℕ) (lane : RoundsState) (told : List Told) → IsPublished setting collected window → src < window.endpoints →
-    place < window.count → batch ≡ window.first_batch + place → told ≡ slots_told window src batch →
+pub batch_begins : (laws : CountingLaws) (setting : Setting) (collected : ℕ) (window : Window) (src batch : ℕ) (lane : RoundsState) (told : List Told) → IsPublished setting collected window → src < window.endpoints →
+    window.first_batch ≤ batch → batch < window.first_batch + window.count → told ≡ slots_told window src batch →
     HasCounted setting collected (window.first_batch + window.count) (batch * setting.b) src lane → IsRest setting collected (window.first_batch + window.count) src batch lane told
-batch_begins laws setting collected window src place batch lane told published below held at told_is has =
-    let next = published.next in
-    let holds = published.holds in
+batch_begins laws setting collected window src batch lane told published below from_first before_end told_is has =
     let b : ℕ = window.b in
-    let slots : List (List Flow) = published.slots.slots in
-    let all : ℕ = window.first_batch + window.count in
+    let first : ℕ = window.first_batch in
+    let all : ℕ = first + window.count in
+    let slots : List (List Flow) = slots_between setting first all in
+    let place : ℕ = batch - first in
+    let at : batch ≡ first + place = omega arith in
     let from : ℕ = place * b in
     let ours : List (List RoutedFlow) = slots_of_batch window batch in
-    let within : from + b ≤ window.count * b = row_fits place b window.count b held (omega arith) in
-    let same_b : setting.b ≡ b = next.b in
-    let shared : all * setting.b ≡ window.first_batch * setting.b + window.count * setting.b = add-mul window.first_batch window.count setting.b in
+    let within : from + b ≤ window.count * b = row_fits place b window.count b (omega arith) (omega arith) in
+    let same_b : setting.b ≡ b = published.b in
+    let shared : all * setting.b ≡ first * setting.b + window.count * setting.b = add-mul first window.count setting.b in
     let wide : window.count * setting.b ≡ window.count * b = ap (λ (n : ℕ). window.count * n) same_b in
-    let as_many : length slots ≡ window.count * b =
-    ap length next.allocated ∙ (length-drop (window.first_batch * setting.b) (schedule_of setting all) ∙ omega (arith, schedule_length laws setting all)) in
-    let table : List (List RoutedFlow) = slots_with_cores slots holds.cores in
-    let given : ℕ → List RoutedFlow = λ slot. with_cores (core_of holds.cores slot) (slot_in slots slot) in
+    let as_many : length slots ≡ window.count * b = omega (arith, between_length laws setting first all) in
+    let names : ℕ → CoreOf = λ slot. published.cores (first_slot setting.b first + slot) in
+    let given : ℕ → List RoutedFlow = λ slot. with_cores (names slot) (slot_in slots slot) in
+    let table : List (List RoutedFlow) = map given (range_with_len 0 (length slots)) in
     let of_table : ours ≡ take b (drop from table) =
-    ap (λ (n : ℕ). take b (drop (n * b) window.slots)) (omega arith) ∙ ap (λ (xs : List (List RoutedFlow)). take b (drop from xs)) holds.routed in
+    ap (λ (xs : List (List RoutedFlow)). take b (drop from xs)) (published.slots ∙ routed_places published.cores slots (first_slot setting.b first)) in
     let long : length ours ≡ b =
     ap length of_table ∙ omega (arith, length-take b (drop from table), length-drop from table, length-map-range_with_len given 0 (length slots)) in
     let packets : List (Option RoutedFlow) = map (packet_from src) ours in
@@ -180,19 +184,16 @@ batch_begins laws setting collected window src place batch lane told published b
           ∙ (get_or-drop from table k []
           ∙ get_or-map-range_with_len given 0 (length slots) slot slot [] in_slots (omega arith))) in
           let to : dst_of (get_or packets k None) ≡ destination_of (slot_in slots slot) src =
-          ap dst_of (get_or-map (packet_from src) ours k [] None (omega arith) ∙ (ap (packet_from src) read ∙ found (core_of holds.cores slot) src (slot_in slots slot)))
-          ∙ goes (core_of holds.cores slot src) src (destination_of (slot_in slots slot) src) in
-          let is = place_is laws setting b collected window.first_batch window.count slot src published.slots (dst_of (get_or packets k None)) next published.some in_slots holds.each to in
-          let batches : batch * setting.b ≡ window.first_batch * setting.b + place * setting.b = ap (λ (n : ℕ). n * setting.b) at ∙ add-mul window.first_batch place setting.b in
-          let number : window.first_batch * setting.b + slot ≡ batch * setting.b + (0 + k) = omega (arith, ap (λ (n : ℕ). place * n) same_b) in
+          ap dst_of (get_or-map (packet_from src) ours k [] None (omega arith) ∙ (ap (packet_from src) read ∙ found (names slot) src (slot_in slots slot)))
+          ∙ goes (names slot src) src (destination_of (slot_in slots slot) src) in
+          let is = place_is laws setting first all slot src (dst_of (get_or packets k None)) (omega (arith, published.some)) in_slots published.in_range to in
+          let batches : batch * setting.b ≡ first * setting.b + place * setting.b = ap (λ (n : ℕ). n * setting.b) at ∙ add-mul first place setting.b in
+          let number : first * setting.b + slot ≡ batch * setting.b + (0 + k) = omega (arith, ap (λ (n : ℕ). place * n) same_b) in
           subst (λ (n : ℕ). IsPlace setting all n src (dst_of (get_or packets k None))) number is;
       has = let start : batch * setting.b ≡ batch * setting.b + 0 = omega arith in subst (λ (n : ℕ). HasCounted setting collected all n src lane) start has;
     }
 
 pub may_be_counted : (setting : Setting) (collected : ℕ) (window : Window) (src : ℕ) → IsPublished setting collected window → src < window.endpoints → MayCount setting collected (window.first_batch + window.count) src
 may_be_counted setting collected window src published below =
-    let next = published.next in
-    let holds = published.holds in
-    let endpoints = next.endpoints in
-    let served = holds.endpoints in
-    record { behind = next.behind; src_below = omega arith }
+    let served = published.endpoints in
+    record { behind = published.behind; src_below = omega arith }

@@ -14,9 +14,11 @@ use Rattle.replay_rounds.specs.declared.played.Departure.{Departure}
 use Rattle.replay_rounds.specs.Setting.{Cores, setting_of}
 use Rattle.replay_rounds.specs.Standing.{LaneStands, RoundsContent, Stands, routed_from, slots_between}
 use Rattle.replay_rounds.specs.Played.{answers_in, departures_in, rounds_played}
-use Rattle.replay_rounds.specs.Collecting.{part_of, played_of, published_by, setting_by, LanesStand, MayBeCollected, RoundPart}
+use Rattle.replay_rounds.specs.Collecting.{part_of, played_of, published_by, setting_by, LanesStand, MayBeCollected, MayBeTold, RoundPart}
+use Rattle.replay_rounds.specs.Publishing.{IsPublished}
 use Rattle.replay_rounds.proofs.PartLemmas.{map_by, same_played}
 use Rattle.replay_rounds.proofs.AnswerLemmas.{answers_are}
+use Rattle.replay_rounds.proofs.PublishedWindows.{is_published}
 
 -- ---- what the rounds give
 
@@ -41,9 +43,9 @@ module _ (trace : TraceContent) (cores : Cores) (all : RoundsContent) (stood : S
   of_window : (P : (b published : ℕ) → Type 0) → P all.window.b (published_by all.window) → P all.b all.published
   of_window P holds = subst (λ (b : ℕ). P b all.published) stood.size (subst (λ (published : ℕ). P all.window.b published) stood.held holds)
 
-  pub may_collect : windows.WhatIsToldIsPublished → IsTrace trace → InWindows all.g trace.rounds all.collected all.published all.window.first_batch
-      → MayBeCollected trace all.g cores all.window all.collected (min all.g (trace.rounds - all.collected))
-  may_collect law sound within number from_first before_end =
+  may_tell : windows.WhatIsToldIsPublished → IsTrace trace → InWindows all.g trace.rounds all.collected all.published all.window.first_batch
+      → (number : ℕ) → all.collected ≤ number → number < all.collected + min all.g (trace.rounds - all.collected) → MayBeTold trace all.g cores all.window number
+  may_tell law sound within number from_first before_end =
       let last : number < trace.rounds = omega (arith, before_end, within.within) in
       let published = law all.g trace.rounds all.collected all.published all.window.first_batch number within stood.rounds.0 from_first (omega (arith, before_end)) last in
       let room : 2 * all.g ≤ number → number + 1 ≤ all.published + 2 * all.g = λ late. (published late).2 in
@@ -60,11 +62,18 @@ module _ (trace : TraceContent) (cores : Cores) (all : RoundsContent) (stood : S
         held = λ late. ((published late).0, by_window (λ _ p. number - 2 * all.g < p) (published late).1);
       }
 
-  pub lanes_stand : LanesStand (setting_by trace all.g cores all.window) all.collected (published_by all.window) all.lanes
+  pub may_collect : windows.WhatIsToldIsPublished → IsTrace trace → InWindows all.g trace.rounds all.collected all.published all.window.first_batch
+      → MayBeCollected trace all.g cores all.window all.collected (min all.g (trace.rounds - all.collected))
+  may_collect law sound within = record {
+    published = by_window (λ b _. IsPublished (setting_of trace b all.g cores) all.collected all.window) (is_published trace cores all stood (omega (arith, within.within, sound.few_rounds)));
+    told = may_tell law sound within;
+  }
+
+  pub lanes_stand : LanesStand (setting_by trace all.g cores all.window) all.collected all.counted all.lanes
   lanes_stand = record {
     wide = stood.wide ∙ stood.endpoints;
     each = λ endpoint d below.
-        by_window (λ b published. LaneStands (setting_of trace b all.g cores) all.collected published endpoint (get_or all.lanes endpoint d))
+        by_window (λ b _. LaneStands (setting_of trace b all.g cores) all.collected all.counted endpoint (get_or all.lanes endpoint d))
         (stood.lanes endpoint (get_or all.lanes endpoint d) (slice_get-get_or all.lanes endpoint d below));
   }
 
@@ -72,7 +81,7 @@ module _ (trace : TraceContent) (cores : Cores) (all : RoundsContent) (stood : S
 
   pub next_window : (count : ℕ) (lanes : List RoundsState) → all.collected + count ≤ trace.rounds
       → LanesStand (setting_by trace all.g cores all.window) (all.collected + count) (published_by all.window) lanes
-      → Stands trace cores (record { endpoints = all.endpoints; b = all.b; g = all.g; collected = all.collected + count; published = all.published; lanes = lanes; window = all.window })
+      → Stands trace cores (record { endpoints = all.endpoints; b = all.b; g = all.g; collected = all.collected + count; published = all.published; counted = all.published; lanes = lanes; window = all.window })
   next_window count lanes within stand = record {
     named = stood.named;
     batch = stood.batch;
@@ -80,6 +89,7 @@ module _ (trace : TraceContent) (cores : Cores) (all : RoundsContent) (stood : S
     endpoints = stood.endpoints;
     within = within;
     behind = omega (arith, stood.behind);
+    counted = (omega (arith, stood.held), omega arith);
     wide = stand.wide ∙ sym stood.endpoints;
     lanes = λ endpoint lane got.
         of_window (λ b published. LaneStands (setting_of trace b all.g cores) (all.collected + count) published endpoint lane)
@@ -90,13 +100,15 @@ module _ (trace : TraceContent) (cores : Cores) (all : RoundsContent) (stood : S
     size = stood.size;
     held = stood.held;
     slots = stood.slots;
+    in_range = stood.in_range;
   }
 
 -- the rounds as they stand, with what their next window asks for
 pub record Begins (trace : TraceContent) (cores : Cores) (all : RoundsContent) (count : ℕ) (lanes : List RoundsState) : Type 0 where
   pub stood : Stands trace cores all
   pub may : MayBeCollected trace all.g cores all.window all.collected count
-  pub stand : LanesStand (setting_by trace all.g cores all.window) all.collected (published_by all.window) lanes
+  pub stand : LanesStand (setting_by trace all.g cores all.window) all.collected all.counted lanes
+  pub counted : (all.window.first_batch ≤ all.counted) × (all.counted ≤ published_by all.window)
   pub within : all.collected + count ≤ trace.rounds
 
 pub begins : windows.WhatIsToldIsPublished → (trace : TraceContent) → IsTrace trace → (all now : RoundsContent) → all ≡ now
@@ -109,6 +121,7 @@ begins law trace sound all now is in_windows count count_is lanes lanes_are core
     record {
       stood = stood;
       may = subst (λ (n : ℕ). MayBeCollected trace all.g cores all.window all.collected n) (sym count_is) (may_collect trace cores all stood law sound within);
-      stand = subst (λ (ls : List RoundsState). LanesStand (setting_by trace all.g cores all.window) all.collected (published_by all.window) ls) (sym lanes_are) (lanes_stand trace cores all stood);
+      stand = subst (λ (ls : List RoundsState). LanesStand (setting_by trace all.g cores all.window) all.collected all.counted ls) (sym lanes_are) (lanes_stand trace cores all stood);
+      counted = (stood.counted.0, omega (arith, stood.counted.1, stood.held));
       within = omega (arith, count_is, within.within);
     }

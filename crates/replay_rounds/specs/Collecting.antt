@@ -19,6 +19,7 @@ use Rattle.trace_run.specs.Run.{Setting, next_rounds, replayed}
 use Rattle.replay_rounds.specs.declared.played.Departure.{Departure}
 use Rattle.replay_rounds.specs.Setting.{Cores, AreCores, limits_of, setting_of}
 use Rattle.replay_rounds.specs.Standing.{LaneStands, routed_from, slots_between}
+use Rattle.replay_rounds.specs.Publishing.{IsPublished}
 use Rattle.replay_rounds.specs.Played.{Played, departures_of, lane_before_raw}
 use Rattle.replay_rounds.specs.Parts.{events_for}
 
@@ -129,14 +130,15 @@ pub record MayBeTold (trace : TraceContent) (g : ℕ) (cores : Cores) (window : 
   pub allocated : number + 1 ≤ published_by window + 2 * g
   pub held : 2 * g ≤ number → (window.first_batch ≤ number - 2 * g) × (number - 2 * g < published_by window)
 
--- in each of so many rounds from this one on
-abbrev pub MayBeCollected : TraceContent → ℕ → Cores → Window → ℕ → ℕ → Type 0
-MayBeCollected trace g cores window first count = (number : ℕ) → first ≤ number → number < first + count → MayBeTold trace g cores window number
+-- in each of so many rounds from this one on, before which the slots of the window may be counted
+pub record MayBeCollected (trace : TraceContent) (g : ℕ) (cores : Cores) (window : Window) (first count : ℕ) : Type 0 where
+  pub published : IsPublished (setting_by trace g cores window) first window
+  pub told : (number : ℕ) → first ≤ number → number < first + count → MayBeTold trace g cores window number
 
 -- there is a lane for each endpoint, and each stands for its rounds
-pub record LanesStand (setting : Setting) (collected published : ℕ) (lanes : List RoundsState) : Type 0 where
+pub record LanesStand (setting : Setting) (collected batches : ℕ) (lanes : List RoundsState) : Type 0 where
   pub wide : length lanes ≡ setting.endpoints
-  pub each : (endpoint : ℕ) (d : RoundsState) → endpoint < length lanes → LaneStands setting collected published endpoint (slice_index_or lanes endpoint d)
+  pub each : (endpoint : ℕ) (d : RoundsState) → endpoint < length lanes → LaneStands setting collected batches endpoint (slice_index_or lanes endpoint d)
 
 -- ---- what rounds give once every endpoint is played
 

@@ -1,8 +1,8 @@
--- What the rounds of all endpoints stand for between two windows: the run of a trace, of which so many rounds are collected, and the
--- batches of so many published. From this project's own profile.
-use Rattle.std.specs.Prelude.{◌≡◌, ◌<◌, ◌≤◌, ℕ, ◌+◌, ◌*◌, true, List, [], ◌∷◌, length, drop, Some, slice_get}
+-- What the rounds of all endpoints stand for between two windows: the run of a trace, of which so many rounds are collected, the
+-- batches of so many published, and the slots of so many of these counted. From this project's own profile.
+use Rattle.std.specs.Prelude.{◌≡◌, ◌<◌, ◌≤◌, ℕ, ◌+◌, ◌*◌, true, List, [], ◌∷◌, length, drop, Some, slice_get, All}
 use Rattle.greedy_rules.specs.declared.flows.Flow.{Flow}
-use Rattle.greedy_rules.specs.SlotTable.{Slots}
+use Rattle.greedy_rules.specs.SlotTable.{Slots, IsSlotOf}
 use Rattle.greedy_rules.specs.Schedule.{first_slot, schedule}
 use Rattle.clos_topology.specs.Network.{endpoints_of}
 use Rattle.path_workers.specs.CoreTable.{CoreSlots, core_of}
@@ -15,14 +15,15 @@ use Rattle.trace_run.specs.Run.{Setting, replayed}
 use Rattle.trace_run.specs.Allocations.{AreCounted}
 use Rattle.replay_rounds.specs.Setting.{Cores, AreCores, setting_of}
 
--- what contracts see of all endpoints' rounds: how many are collected, and the batches of how many are published, so that the lanes
--- count their slots; a lane for each endpoint; and the window that was published last
+-- what contracts see of all endpoints' rounds: how many are collected, the batches of how many are published, and of how many of these
+-- the lanes have counted the slots; a lane for each endpoint; and the window that was published last
 pub record RoundsContent : Type 0 where
   pub endpoints : ℕ
   pub b : ℕ
   pub g : ℕ
   pub collected : ℕ
   pub published : ℕ
+  pub counted : ℕ
   pub lanes : List RoundsState
   pub window : Window
 
@@ -40,7 +41,7 @@ abbrev pub slots_between : Setting → ℕ → ℕ → List (List Flow)
 slots_between setting first rounds = drop (first * setting.b) (schedule setting.b (replayed setting rounds).batches)
 
 -- an endpoint's rounds stand for its rounds of the run, and its lane counts the slots of so many batches
-pub record LaneStands (setting : Setting) (collected published endpoint : ℕ) (lane : RoundsState) : Type 0 where
+pub record LaneStands (setting : Setting) (collected batches endpoint : ℕ) (lane : RoundsState) : Type 0 where
   pub own : lane.lane.endpoint ≡ endpoint
   pub endpoints : lane.lane.endpoints ≡ setting.endpoints
   pub b : lane.lane.b ≡ setting.b
@@ -48,7 +49,7 @@ pub record LaneStands (setting : Setting) (collected published endpoint : ℕ) (
   pub whole : lane.is_whole ≡ true
   pub round : lane.lane.round ≡ collected
   pub allocations : List Allocation
-  pub counted : AreCounted setting published 0 endpoint allocations
+  pub counted : AreCounted setting batches 0 endpoint allocations
   pub stands : lanes.StandsFor lane ((replayed setting collected).rounds endpoint) allocations
 
 pub record Stands (trace : TraceContent) (cores : Cores) (all : RoundsContent) : Type 0 where
@@ -58,15 +59,17 @@ pub record Stands (trace : TraceContent) (cores : Cores) (all : RoundsContent) :
   pub endpoints : all.endpoints ≡ endpoints_of trace.net
   pub within : all.collected ≤ trace.rounds
   pub behind : all.published ≤ all.collected
+  pub counted : (all.window.first_batch ≤ all.counted) × (all.counted ≤ all.published)
   pub wide : length all.lanes ≡ all.endpoints
   pub lanes : (endpoint : ℕ) (lane : RoundsState) → slice_get all.lanes endpoint ≡ Some lane →
-      LaneStands (setting_with trace cores all) all.collected all.published endpoint lane
+      LaneStands (setting_with trace cores all) all.collected all.counted endpoint lane
   pub served : all.window.endpoints ≡ all.endpoints
   pub room : all.window.batches ≡ all.g
   pub size : all.window.b ≡ all.b
   pub held : all.window.first_batch + all.window.count ≡ all.published
   pub slots : all.window.slots
       ≡ routed_from cores (first_slot all.b all.window.first_batch) (slots_between (setting_with trace cores all) all.window.first_batch all.published)
+  pub in_range : All (IsSlotOf all.endpoints) (slots_between (setting_with trace cores all) all.window.first_batch all.published)
 
 -- ---- what is published next
 

@@ -11,37 +11,49 @@ ghost use Rattle.replay_rounds.specs.Collecting.{blank_round, part_of, played_of
 use crate::NoMemory;
 use crate::part::{Buffers, RoundInPlay};
 use crate::played::Played;
+use crate::publish::count_lane;
 use lane_rounds::LaneRounds;
 use slot_publisher::Publisher;
 use std::alloc::Global;
 use trace_text::Trace;
 
-/// Plays so many rounds from this one on, each endpoint's in turn, so that a lane stays in the cache for all of them.
+/// Plays so many rounds from this one on, each endpoint's in turn, so that a lane stays in the cache for all of them. Before its rounds
+/// each lane counts its slots of the published batches that aren't counted yet.
 pub(crate) fn collect(
     alloc: Global,
     lanes: &mut [LaneRounds],
     publisher: &Publisher,
     trace: &Trace,
     g: u8,
+    counted: u32,
     first: u32,
     count: u32,
 ) -> Result<Played, NoMemory>
     requires may { (cores : Cores) × MayBeCollected trace.now g cores publisher.now first count
-        × LanesStand (setting_by trace.now g cores publisher.now) first (published_by publisher.now) lanes.old }
+        × LanesStand (setting_by trace.now g cores publisher.now) first counted lanes.old }
+    requires counted { (publisher.now.first_batch ≤ counted) × (counted ≤ published_by publisher.now) }
     requires within { first + count ≤ trace.now.rounds }
     requires few { first + count ≤ 100000 }
     ensures lanes { OnOk result ((cores : Cores) →
         MayBeCollected trace.now g cores publisher.now first count →
-        LanesStand (setting_by trace.now g cores publisher.now) first (published_by publisher.now) lanes.old →
+        LanesStand (setting_by trace.now g cores publisher.now) first counted lanes.old →
         LanesStand (setting_by trace.now g cores publisher.now) (first + count) (published_by publisher.now) lanes.new) }
     ensures played { IfOk result (λ played. (cores : Cores) →
         MayBeCollected trace.now g cores publisher.now first count →
-        LanesStand (setting_by trace.now g cores publisher.now) first (published_by publisher.now) lanes.old →
+        LanesStand (setting_by trace.now g cores publisher.now) first counted lanes.old →
         played ≡ rounds_played (setting_by trace.now g cores publisher.now) trace.now first count) }
 {
     let mut rounds = open_rounds(alloc, trace, first, count)?;
     let mut buffers = Buffers::new(alloc);
-    play_lanes(lanes, trace, publisher, g, &mut buffers, &mut rounds)?;
+    play_lanes(
+        lanes,
+        trace,
+        publisher,
+        g,
+        counted,
+        &mut buffers,
+        &mut rounds,
+    )?;
     gather(alloc, rounds)
 }
 
@@ -69,56 +81,64 @@ fn play_lanes(
     trace: &Trace,
     publisher: &Publisher,
     g: u8,
+    counted: u32,
     buffers: &mut Buffers,
     rounds: &mut [RoundInPlay],
 ) -> Result<(), NoMemory>
     requires may { (first : ℕ) × (cores : Cores) × MayBeCollected trace.now g cores publisher.now first (length rounds.old)
-        × LanesStand (setting_by trace.now g cores publisher.now) first (published_by publisher.now) lanes.old
+        × LanesStand (setting_by trace.now g cores publisher.now) first counted lanes.old
         × (rounds.old ≡ map (blank_round trace.now) (range_with_len first (length rounds.old))) }
+    requires counted { (publisher.now.first_batch ≤ counted) × (counted ≤ published_by publisher.now) }
     ensures lanes { OnOk result ((first : ℕ) (cores : Cores) →
         MayBeCollected trace.now g cores publisher.now first (length rounds.old) →
-        LanesStand (setting_by trace.now g cores publisher.now) first (published_by publisher.now) lanes.old →
+        LanesStand (setting_by trace.now g cores publisher.now) first counted lanes.old →
         rounds.old ≡ map (blank_round trace.now) (range_with_len first (length rounds.old)) →
         LanesStand (setting_by trace.now g cores publisher.now) (first + length rounds.old) (published_by publisher.now) lanes.new) }
     ensures rounds { OnOk result ((first : ℕ) (cores : Cores) →
         MayBeCollected trace.now g cores publisher.now first (length rounds.old) →
-        LanesStand (setting_by trace.now g cores publisher.now) first (published_by publisher.now) lanes.old →
+        LanesStand (setting_by trace.now g cores publisher.now) first counted lanes.old →
         rounds.old ≡ map (blank_round trace.now) (range_with_len first (length rounds.old)) →
         rounds.new ≡ map (part_of (setting_by trace.now g cores publisher.now) trace.now (endpoints_of trace.now.net)) (range_with_len first (length rounds.old))) }
 {
     for endpoint in 0..trace.endpoints() {
         let lane = &mut lanes[endpoint as usize];
-        play_lane(lane, endpoint, trace, publisher, g, buffers, rounds)?;
+        play_lane(
+            lane, endpoint, trace, publisher, g, counted, buffers, rounds,
+        )?;
     }
     Ok(())
 }
 
-/// Plays the rounds for one endpoint, which shares nothing with others but the rounds that it appends to.
+/// Counts an endpoint's slots that are published and plays the rounds for it: it shares nothing with others but the rounds that it
+/// appends to.
 fn play_lane(
     lane: &mut LaneRounds,
     endpoint: u16,
     trace: &Trace,
     publisher: &Publisher,
     g: u8,
+    counted: u32,
     buffers: &mut Buffers,
     rounds: &mut [RoundInPlay],
 ) -> Result<(), NoMemory>
     requires may { (first : ℕ) × (cores : Cores) × MayBeCollected trace.now g cores publisher.now first (length rounds.old)
         × AreRoundsFrom trace.now first rounds.old
-        × LaneStands (setting_by trace.now g cores publisher.now) first (published_by publisher.now) endpoint lane.old }
+        × LaneStands (setting_by trace.now g cores publisher.now) first counted endpoint lane.old }
+    requires counted { (publisher.now.first_batch ≤ counted) × (counted ≤ published_by publisher.now) }
     requires endpoint { endpoint < endpoints_of trace.now.net }
     requires above { All (λ part. IsAboveLast part.batch.entries (record { src = endpoint; dst = 0 })) rounds.old }
     ensures lane { OnOk result ((first : ℕ) (cores : Cores) →
         MayBeCollected trace.now g cores publisher.now first (length rounds.old) →
         AreRoundsFrom trace.now first rounds.old →
-        LaneStands (setting_by trace.now g cores publisher.now) first (published_by publisher.now) endpoint lane.old →
+        LaneStands (setting_by trace.now g cores publisher.now) first counted endpoint lane.old →
         LaneStands (setting_by trace.now g cores publisher.now) (first + length rounds.old) (published_by publisher.now) endpoint lane.new) }
     ensures rounds { OnOk result ((first : ℕ) (cores : Cores) →
         MayBeCollected trace.now g cores publisher.now first (length rounds.old) →
         AreRoundsFrom trace.now first rounds.old →
-        LaneStands (setting_by trace.now g cores publisher.now) first (published_by publisher.now) endpoint lane.old →
+        LaneStands (setting_by trace.now g cores publisher.now) first counted endpoint lane.old →
         rounds.new ≡ map (with_endpoint (setting_by trace.now g cores publisher.now) trace.now endpoint) rounds.old) }
 {
+    count_lane(lane, endpoint, publisher, counted);
     for round in rounds.iter_mut() {
         round.play(lane, endpoint, trace, publisher, g, buffers)?;
     }

@@ -1,5 +1,5 @@
 //! Slots that are published, counted by the lanes of their sources.
-ghost use Rattle.std.specs.Prelude.{◌≡◌, ◌<◌, ◌+◌, ◌*◌, ℕ, length};
+ghost use Rattle.std.specs.Prelude.{◌≡◌, ◌<◌, ◌≤◌, ◌+◌, ◌*◌, ℕ, length};
 ghost use Rattle.trace_run.specs.Run.{Setting};
 ghost use Rattle.replay_rounds.specs.Standing.{LaneStands};
 ghost use Rattle.replay_rounds.specs.Counting.{HasCounted, IsRest, MayCount};
@@ -11,34 +11,37 @@ use lane_rounds::LaneRounds;
 use slot_publisher::Publisher;
 use trace_run::{ledger_and_rest_agree, runs_go_on};
 
-/// Lets each lane count its slots of the batches that are published.
-pub(crate) fn count_slots(lanes: &mut [LaneRounds], publisher: &Publisher)
+/// Lets each lane count its slots of the batches that are published, from this one on.
+pub(crate) fn count_slots(lanes: &mut [LaneRounds], publisher: &Publisher, from: u32)
     requires lanes { length lanes.old ≡ publisher.now.endpoints }
-    requires published { (setting : Setting) × (collected : ℕ) × IsPublished setting collected publisher.now × LanesStand setting collected publisher.now.first_batch lanes.old }
+    requires first { publisher.now.first_batch ≤ from }
+    requires last { from ≤ publisher.now.first_batch + publisher.now.count }
+    requires published { (setting : Setting) × (collected : ℕ) × IsPublished setting collected publisher.now × LanesStand setting collected from lanes.old }
     ensures lanes { length lanes.new ≡ length lanes.old }
     ensures stands { (setting : Setting) (collected : ℕ) →
         IsPublished setting collected publisher.now →
-        LanesStand setting collected publisher.now.first_batch lanes.old →
+        LanesStand setting collected from lanes.old →
         LanesStand setting collected (publisher.now.first_batch + publisher.now.count) lanes.new }
 {
     for src in 0..publisher.endpoints() {
-        count_lane(&mut lanes[src as usize], src, publisher);
+        count_lane(&mut lanes[src as usize], src, publisher, from);
     }
 }
 
-/// Lets the lane of a source count its slots.
-fn count_lane(lane: &mut LaneRounds, src: u16, publisher: &Publisher)
+/// Lets the lane of a source count its slots of the batches that are published, from this one on.
+pub(crate) fn count_lane(lane: &mut LaneRounds, src: u16, publisher: &Publisher, from: u32)
     requires src { src < publisher.now.endpoints }
-    requires published { (setting : Setting) × (collected : ℕ) × IsPublished setting collected publisher.now × LaneStands setting collected publisher.now.first_batch src lane.old }
+    requires first { publisher.now.first_batch ≤ from }
+    requires last { from ≤ publisher.now.first_batch + publisher.now.count }
+    requires published { (setting : Setting) × (collected : ℕ) × IsPublished setting collected publisher.now × LaneStands setting collected from src lane.old }
     ensures stands { (setting : Setting) (collected : ℕ) →
         IsPublished setting collected publisher.now →
-        LaneStands setting collected publisher.now.first_batch src lane.old →
+        LaneStands setting collected from src lane.old →
         LaneStands setting collected (publisher.now.first_batch + publisher.now.count) src lane.new }
 {
     counting_holds();
-    let first = publisher.first_batch();
-    for place in 0..publisher.count() {
-        let batch = first + u32::from(place);
+    let end = publisher.first_batch() + u32::from(publisher.count());
+    for batch in from..end {
         count_batch(lane, batch, publisher.told(src, batch));
     }
 }

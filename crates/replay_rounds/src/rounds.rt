@@ -36,6 +36,8 @@ pub struct ReplayRounds {
     collected: u32,
     // The first batch that isn't published.
     published: u32,
+    // The first batch whose slots the lanes haven't counted.
+    counted: u32,
     lanes: Vec<LaneRounds>,
     publisher: Publisher,
 }
@@ -51,6 +53,7 @@ impl Model for ReplayRounds {
       g = r.g;
       collected = r.collected;
       published = r.published;
+      counted = r.counted;
       lanes = r.lanes.items;
       window = r.publisher;
     } };
@@ -66,6 +69,7 @@ impl ReplayRounds {
         ensures g { IfOk result (λ all. all.g ≡ g) }
         ensures collected { IfOk result (λ all. all.collected ≡ 0) }
         ensures published { IfOk result (λ all. all.published ≡ 0) }
+        ensures counted { IfOk result (λ all. all.counted ≡ 0) }
         ensures first { IfOk result (λ all. all.window.first_batch ≡ 0) }
     {
         let endpoints = trace.endpoints();
@@ -79,6 +83,7 @@ impl ReplayRounds {
             g,
             collected: 0,
             published: 0,
+            counted: 0,
             lanes,
             publisher: Publisher::open(alloc, endpoints, u16::from(g), b)?,
         })
@@ -98,14 +103,15 @@ impl ReplayRounds {
         self.published
     }
 
-    /// Plays the next window of `g` rounds, or those that are left. The trace is the one given to `open`; after want of memory the
-    /// rounds are only to be dropped.
+    /// Plays the next window of `g` rounds, or those that are left; before them the lanes count the slots that are published and not
+    /// counted yet. The trace is the one given to `open`; after want of memory the rounds are only to be dropped.
     pub fn collect(&mut self, alloc: Global, trace: &Trace) -> Result<Played, NoMemory>
         requires stands { (cores : Cores) × Stands trace.now cores self.old }
         // The batches up to two windows before each of these rounds are published.
         requires windows { InWindows self.old.g trace.now.rounds self.old.collected self.old.published self.old.window.first_batch }
         ensures frame { OnOk result (self.new ≡ record self.old {
           collected = self.old.collected + min self.old.g (trace.now.rounds - self.old.collected);
+          counted = self.old.published;
           lanes = self.new.lanes;
         }) }
         ensures stands { OnOk result ((cores : Cores) → Stands trace.now cores self.old → Stands trace.now cores self.new) }
@@ -121,15 +127,28 @@ impl ReplayRounds {
             &self.publisher,
             trace,
             self.g,
+            self.counted,
             self.collected,
             count,
         )?;
         self.collected += count;
+        self.counted = self.published;
         Ok(played)
     }
 
-    /// Publishes the slots of the next `count` batches, with their cores, in place of the window that was published before: each
-    /// lane counts its own as allocated.
+    /// Lets the lanes count the slots that are published and not counted yet.
+    pub fn count_published(&mut self)
+        requires stands { (trace : TraceContent) × (cores : Cores) × Stands trace cores self.old }
+        ensures frame { self.new ≡ record self.old { counted = self.old.published; lanes = self.new.lanes } }
+        ensures stands { (trace : TraceContent) (cores : Cores) → Stands trace cores self.old → Stands trace cores self.new }
+    {
+        let _collected = self.collected();
+        count_slots(&mut self.lanes, &self.publisher, self.counted);
+        self.counted = self.published;
+    }
+
+    /// Publishes the slots of the next `count` batches, with their cores, in place of the window that was published before, of which the
+    /// lanes count first what they haven't counted.
     pub fn publish(&mut self, count: u16, slots: &SlotTable, cores: &CoreTable)
         // These are the slots of the run's next batches, of rounds that are collected.
         requires next { (trace : TraceContent) × (named : Cores) × IsTrace trace × Stands trace named self.old × IsNextWindow trace named self.old count slots.now cores.now }
@@ -138,7 +157,12 @@ impl ReplayRounds {
         requires served { slots.now.endpoints ≡ self.old.endpoints }
         requires core_slots { length slots.now.slots ≤ cores.now.slots }
         requires core_endpoints { slots.now.endpoints ≤ cores.now.endpoints }
-        ensures frame { self.new ≡ record self.old { published = self.old.published + count; lanes = self.new.lanes; window = self.new.window } }
+        ensures frame { self.new ≡ record self.old {
+          published = self.old.published + count;
+          counted = self.old.published;
+          lanes = self.new.lanes;
+          window = self.new.window;
+        } }
         ensures first { self.new.window.first_batch ≡ self.old.published }
         ensures count { self.new.window.count ≡ count }
         ensures stands { (trace : TraceContent) (named : Cores) →
@@ -147,12 +171,13 @@ impl ReplayRounds {
     {
         counting_holds();
         let _slots = slots.slots();
+        self.count_published();
         self.publisher.put(self.published, slots, cores);
-        count_slots(&mut self.lanes, &self.publisher);
         self.published += u32::from(count);
     }
 
-    /// What the flow's lane counts since its last reset; None where no batch has the flow.
+    /// What the flow's lane counts since its last reset; None where no batch has the flow. Of the published slots it has counted those
+    /// of the batches before `counted`: all of them after `count_published`.
     pub fn count(&self, flow: Flow) -> Option<FlowCount>
         requires stands { (trace : TraceContent) × (cores : Cores) × Stands trace cores self.now }
         requires src { flow.src < self.now.endpoints }
@@ -160,7 +185,7 @@ impl ReplayRounds {
         ensures opened { (trace : TraceContent) (cores : Cores) → Stands trace cores self.now →
             (IsSome result ↔ (had self.now.g (lane_after (setting_with trace cores self.now) self.now.collected flow.src) flow.dst ≡ true)) }
         ensures counts { IfSome result (λ count. (trace : TraceContent) (cores : Cores) → Stands trace cores self.now →
-            counted count ≡ lane_count (setting_with trace cores self.now) self.now.collected self.now.published flow.src flow.dst) }
+            counted count ≡ lane_count (setting_with trace cores self.now) self.now.collected self.now.counted flow.src flow.dst) }
     {
         self.lanes[flow.src as usize].count(flow.dst)
     }

@@ -1,5 +1,5 @@
 -- A run does not depend on the cores of slots that no endpoint is told of yet, nor does what stands for it.
-use Rattle.std.proofs.Common.{◌≡◌, ◌<◌, ◌≤◌, ◌+◌, ◌-◌, ◌*◌, ℕ, zero, suc, List, [], ◌∷◌, ◌++◌, length, drop, cond, Bool, true, false, refl, ap, ◌∙◌, subst, inl, inr, arith}
+use Rattle.std.proofs.Common.{◌≡◌, ◌<◌, ◌≤◌, ◌+◌, ◌-◌, ◌*◌, ℕ, zero, suc, List, [], ◌∷◌, ◌++◌, length, drop, cond, All, Bool, true, false, refl, ap, ◌∙◌, subst, inl, inr, arith}
 use Rattle.std.specs.Prelude.{nat_le, nat_lt}
 use Rattle.std.proofs.lemmas.Bool.{cases_Bool, leb-true}
 use Rattle.std.proofs.Math.Path.{fun_ext}
@@ -8,7 +8,7 @@ use Rattle.std.proofs.lemmas.List.{length-take, length-drop}
 use Rattle.fcp_framing.specs.declared.packet.Told.{Told}
 use Rattle.greedy_rules.specs.declared.flows.Flow.{Flow}
 use Rattle.greedy_rules.specs.Batches.{DemandBatch}
-use Rattle.greedy_rules.specs.SlotTable.{destination_of}
+use Rattle.greedy_rules.specs.SlotTable.{IsSlotOf, destination_of}
 use Rattle.greedy_rules.specs.Schedule.{first_slot, schedule}
 use Rattle.greedy_rules.specs.Allocation.{slots_of}
 use Rattle.greedy_rules.specs.Fronts.{EveryBatchHasItsSlots}
@@ -91,13 +91,13 @@ allocated-same trace b g published one other rounds batch src dst agree early =
     ap (λ (run : Run). slots_of (record { src = src; dst = dst }) (drop (batch * b) (schedule b run.batches))) (run-same trace b g published one other rounds agree early)
 
 -- a lane counts at most the next batch
-counted_few : (test : Bool) (published g : ℕ) → 0 < g → cond test (published + 1) published ≤ published + 2 * g
-counted_few true published g some = omega arith
-counted_few false published g some = omega arith
+counted_few : (test : Bool) (counted published g : ℕ) → counted ≤ published → 0 < g → cond test (counted + 1) counted ≤ published + 2 * g
+counted_few true counted published g few some = omega arith
+counted_few false counted published g few some = omega arith
 
-lane-same : (trace : TraceContent) (b g published collected : ℕ) (one other : Cores) (endpoint : ℕ) (lane : RoundsState) → AgreeBelow (first_slot b published) one other → collected ≤ published + 2 * g
-    → 0 < g → LaneStands (setting_of trace b g one) collected published endpoint lane → LaneStands (setting_of trace b g other) collected published endpoint lane
-lane-same trace b g published collected one other endpoint lane agree early some stands =
+lane-same : (trace : TraceContent) (b g published counted collected : ℕ) (one other : Cores) (endpoint : ℕ) (lane : RoundsState) → AgreeBelow (first_slot b published) one other → counted ≤ published
+    → collected ≤ published + 2 * g → 0 < g → LaneStands (setting_of trace b g one) collected counted endpoint lane → LaneStands (setting_of trace b g other) collected counted endpoint lane
+lane-same trace b g published counted collected one other endpoint lane agree few early some stands =
     record {
       own = stands.own;
       endpoints = stands.endpoints;
@@ -106,7 +106,7 @@ lane-same trace b g published collected one other endpoint lane agree early some
       whole = stands.whole;
       round = stands.round;
       allocations = stands.allocations;
-      counted = λ batch dst below. stands.counted batch dst below ∙ allocated-same trace b g published one other (cond (nat_lt dst 0) (published + 1) published) batch endpoint dst agree (counted_few (nat_lt dst 0) published g some);
+      counted = λ batch dst below. stands.counted batch dst below ∙ allocated-same trace b g published one other (cond (nat_lt dst 0) (counted + 1) counted) batch endpoint dst agree (counted_few (nat_lt dst 0) counted published g few some);
       stands = subst (λ (run : Run). lanes.StandsFor lane (run.rounds endpoint) stands.allocations) (run-same trace b g published one other collected agree early) stands.stands;
     }
 
@@ -143,8 +143,9 @@ stands-with trace one other all batch count agree named held early stands =
       endpoints = stands.endpoints;
       within = stands.within;
       behind = stands.behind;
+      counted = stands.counted;
       wide = stands.wide;
-      lanes = λ endpoint lane at. lane-same trace b g all.published all.collected one other endpoint lane agree early stands.rounds.0 (stands.lanes endpoint lane at);
+      lanes = λ endpoint lane at. lane-same trace b g all.published all.counted all.collected one other endpoint lane agree stands.counted.1 early stands.rounds.0 (stands.lanes endpoint lane at);
       served = stands.served;
       room = stands.room;
       size = stands.size;
@@ -152,4 +153,5 @@ stands-with trace one other all batch count agree named held early stands =
       slots = stands.slots
           ∙ (routed-same one other (first_slot b first) slots (λ n below. agree n (omega arith))
           ∙ ap (routed_from other (first_slot b first)) (between-same trace b g all.published one other first all.published agree (omega arith)));
+      in_range = subst (All (IsSlotOf all.endpoints)) (between-same trace b g all.published one other first all.published agree (omega arith)) stands.in_range;
     }

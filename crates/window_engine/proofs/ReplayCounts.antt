@@ -73,7 +73,7 @@ counts_with lane pending totals = record {
 pub tells : (trace : TraceContent) (cores : Cores) (engine : ReplayState) (flow : Flow) (count : FlowCount) (pending : ℕ) (totals : ℕ × ℕ) → StandsForReplay trace cores engine
     → engine.lanes.published ≡ engine.rounds → flow.src < engine.lanes.endpoints → flow.dst < engine.lanes.endpoints
     → had engine.lanes.g (lane_after (run_of trace cores engine) engine.lanes.collected flow.src) flow.dst ≡ true
-    → counted count ≡ lane_count (run_of trace cores engine) engine.lanes.collected engine.lanes.published flow.src flow.dst
+    → counted count ≡ lane_count (run_of trace cores engine) engine.lanes.collected engine.lanes.counted flow.src flow.dst
     → totals ≡ sent_and_missed (run_of trace cores engine) engine.lanes.collected flow.src flow.dst
     → pending ≡ get_or engine.pending (place_of engine.allocation.ring.endpoints flow.src flow.dst) pending
     → Some (counts_with (counted count) pending totals) ≡ replay_counts (run_of trace cores engine) trace.rounds flow
@@ -83,7 +83,7 @@ tells trace cores engine flow count pending totals stands done src dst has lane 
     let all = all_collected trace cores engine stands done in
     let here : had s.g (lane_after s n flow.src) flow.dst ≡ true = subst (λ (m : ℕ). had s.g (lane_after s m flow.src) flow.dst ≡ true) all.0 has in
     let counts : counted count ≡ lane_count s n n flow.src flow.dst =
-    lane ∙ (ap (λ (m : ℕ). lane_count s m engine.lanes.published flow.src flow.dst) all.0 ∙ ap (λ (m : ℕ). lane_count s n m flow.src flow.dst) all.1) in
+    lane ∙ (ap (λ (m : ℕ). lane_count s m engine.lanes.counted flow.src flow.dst) all.0 ∙ ap (λ (m : ℕ). lane_count s n m flow.src flow.dst) (stands.counted all.1 ∙ all.1)) in
     let both : totals ≡ sent_and_missed s n flow.src flow.dst = sums ∙ ap (λ (m : ℕ). sent_and_missed s m flow.src flow.dst) all.0 in
     let need : pending ≡ left_after s n flow.src flow.dst = left trace cores engine flow pending stands done src dst is in
     let told : Counts = counts_with (lane_count s n n flow.src flow.dst) (left_after s n flow.src flow.dst) (sent_and_missed s n flow.src flow.dst) in

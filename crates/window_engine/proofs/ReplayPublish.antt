@@ -31,12 +31,12 @@ use Rattle.window_engine.proofs.ReplaySteps.{next_batches, replay_span, replay_w
 abbrev pub window_of : TraceContent → ReplayState → ℕ
 window_of trace engine = min engine.lanes.g (trace.rounds - engine.lanes.collected)
 
--- all endpoints' rounds once these are collected, and once the batches of those before are published
+-- all endpoints' rounds once these are collected, and once the batches of those before are published, of which so many are counted
 abbrev pub collected_more : RoundsContent → ℕ → List RoundsState → RoundsContent
-collected_more all n states = record all { collected = all.collected + n; lanes = states }
+collected_more all n states = record all { collected = all.collected + n; counted = all.published; lanes = states }
 
-abbrev pub published_more : RoundsContent → ℕ → List RoundsState → Window → RoundsContent
-published_more all n states window = record all { collected = all.collected + n; published = all.collected; lanes = states; window = window }
+abbrev pub published_more : RoundsContent → ℕ → ℕ → List RoundsState → Window → RoundsContent
+published_more all n counted states window = record all { collected = all.collected + n; published = all.collected; counted = counted; lanes = states; window = window }
 
 -- ---- the window may be published
 
@@ -107,21 +107,22 @@ may_publish laws trace cores engine states window sound stands all span shows =
 
 -- ---- after it
 
-pub frames : (old mid new : RoundsContent) (n count : ℕ) → mid ≡ collected_more old n mid.lanes → new ≡ record mid { published = mid.published + count; lanes = new.lanes; window = new.window }
-    → old.published + count ≡ old.collected → new ≡ published_more old n new.lanes new.window
+pub frames : (old mid new : RoundsContent) (n count : ℕ) → mid ≡ collected_more old n mid.lanes → new ≡ record mid { published = mid.published + count; counted = mid.published; lanes = new.lanes; window = new.window }
+    → old.published + count ≡ old.collected → new ≡ published_more old n old.published new.lanes new.window
 frames old mid new n count collects publishes all =
     publishes
-    ∙ (ap (λ (x : RoundsContent). record x { published = x.published + count; lanes = new.lanes; window = new.window }) collects
-    ∙ ap (λ (k : ℕ). record old { collected = old.collected + n; published = k; lanes = new.lanes; window = new.window }) all)
+    ∙ (ap (λ (x : RoundsContent). record x { published = x.published + count; counted = x.published; lanes = new.lanes; window = new.window }) collects
+    ∙ ap (λ (k : ℕ). record old { collected = old.collected + n; published = k; counted = old.published; lanes = new.lanes; window = new.window }) all)
 
 -- what a replay stands for whose parts are these
-stands_parts : Replays → (trace : TraceContent) (cores : Cores) (engine : ReplayState) (states : List RoundsState) (window : Window) (new : ReplayState) → IsTrace trace → StandsForReplay trace cores engine
-    → new.lanes ≡ published_more engine.lanes (window_of trace engine) states window → window.first_batch ≡ engine.lanes.published → new.rounds ≡ engine.rounds → lanes.Stands trace cores new.lanes
+stands_parts : Replays → (trace : TraceContent) (cores : Cores) (engine : ReplayState) (counted : ℕ) (states : List RoundsState) (window : Window) (new : ReplayState) → IsTrace trace → StandsForReplay trace cores engine
+    → new.lanes ≡ published_more engine.lanes (window_of trace engine) counted states window → window.first_batch ≡ engine.lanes.published → new.rounds ≡ engine.rounds → lanes.Stands trace cores new.lanes
     → new.waiting ≡ (rounds_played (run_of trace cores engine) trace engine.lanes.collected (window_of trace engine)).batches
     → HasAllocated trace.net engine.lanes.g (replayed (run_of trace cores engine) engine.lanes.collected).batches new.allocation → new.allocation.b ≡ engine.allocation.b → length new.pending ≡ length engine.pending
     → (new.lanes.published ≡ new.rounds → Needs new.allocation.ring.endpoints new.allocation.list.items new.pending)
-    → StandsForReplay trace cores (record new { lanes = published_more engine.lanes (window_of trace engine) states window })
-stands_parts laws trace cores engine states window new sound stands lanes_are first rounds all waiting allocated size pending ended =
+    → (new.lanes.published ≡ new.rounds → new.lanes.counted ≡ new.lanes.published)
+    → StandsForReplay trace cores (record new { lanes = published_more engine.lanes (window_of trace engine) counted states window })
+stands_parts laws trace cores engine counted states window new sound stands lanes_are first rounds all waiting allocated size pending ended all_counted =
     let s : Setting = run_of trace cores engine in
     let m : ℕ = engine.lanes.published in
     let r : ℕ = engine.lanes.collected in
@@ -135,18 +136,22 @@ stands_parts laws trace cores engine states window new sound stands lanes_are fi
       waiting = waiting ∙ next_batches s r n laws.batches;
       allocated = allocated;
       pending_room = pending ∙ stands.pending_room;
+      counted = λ done.
+          sym (ap (λ (l : RoundsContent). l.counted) lanes_are)
+          ∙ (all_counted (ap (λ (l : RoundsContent). l.published) lanes_are ∙ (done ∙ sym (rounds ∙ stands.rounds))) ∙ ap (λ (l : RoundsContent). l.published) lanes_are);
       ended = λ done.
           subst (λ (k : ℕ). Needs k new.allocation.list.items new.pending) serves (ended (ap (λ (l : RoundsContent). l.published) lanes_are ∙ (done ∙ sym (rounds ∙ stands.rounds))));
     }
 
 pub stands_after : Replays → (trace : TraceContent) (cores : Cores) (engine new : ReplayState) → IsTrace trace → StandsForReplay trace cores engine
-    → new.lanes ≡ published_more engine.lanes (window_of trace engine) new.lanes.lanes new.lanes.window → new.lanes.window.first_batch ≡ engine.lanes.published → new.rounds ≡ engine.rounds → lanes.Stands trace cores new.lanes
+    → new.lanes ≡ published_more engine.lanes (window_of trace engine) new.lanes.counted new.lanes.lanes new.lanes.window → new.lanes.window.first_batch ≡ engine.lanes.published → new.rounds ≡ engine.rounds → lanes.Stands trace cores new.lanes
     → new.waiting ≡ (rounds_played (run_of trace cores engine) trace engine.lanes.collected (window_of trace engine)).batches
     → HasAllocated trace.net engine.lanes.g (replayed (run_of trace cores engine) engine.lanes.collected).batches new.allocation → new.allocation.b ≡ engine.allocation.b → length new.pending ≡ length engine.pending
-    → (new.lanes.published ≡ new.rounds → Needs new.allocation.ring.endpoints new.allocation.list.items new.pending) → StandsForReplay trace cores new
-stands_after laws trace cores engine new sound stands lanes_are first rounds all waiting allocated size pending ended =
+    → (new.lanes.published ≡ new.rounds → Needs new.allocation.ring.endpoints new.allocation.list.items new.pending)
+    → (new.lanes.published ≡ new.rounds → new.lanes.counted ≡ new.lanes.published) → StandsForReplay trace cores new
+stands_after laws trace cores engine new sound stands lanes_are first rounds all waiting allocated size pending ended all_counted =
     subst (λ (l : RoundsContent). StandsForReplay trace cores (record new { lanes = l })) (sym lanes_are)
-    (stands_parts laws trace cores engine new.lanes.lanes new.lanes.window new sound stands lanes_are first rounds all waiting allocated size pending ended)
+    (stands_parts laws trace cores engine new.lanes.counted new.lanes.lanes new.lanes.window new sound stands lanes_are first rounds all waiting allocated size pending ended all_counted)
 
 -- ---- the same, as the code has it
 
@@ -191,32 +196,39 @@ publish_fits trace cores engine mid window stands collects next =
 
 -- and once the window is published
 pub record Publishes (mid last : RoundsContent) (window : WindowContent) : Type 0 where
-  pub frame : last ≡ record mid { published = mid.published + window.span.count; lanes = last.lanes; window = last.window }
+  pub frame : last ≡ record mid { published = mid.published + window.span.count; counted = mid.published; lanes = last.lanes; window = last.window }
   pub first : last.window.first_batch ≡ mid.published
   pub stands : (t : TraceContent) (named : Cores) → IsTrace t → lanes.Stands t named mid → IsNextWindow t named mid window.span.count window.slots window.cores → lanes.Stands t named last
 
-pub publishes_with : (mid last : RoundsContent) (here window : WindowContent) → here ≡ window → last ≡ record mid { published = mid.published + here.span.count; lanes = last.lanes; window = last.window }
+pub publishes_with : (mid last : RoundsContent) (here window : WindowContent) → here ≡ window → last ≡ record mid { published = mid.published + here.span.count; counted = mid.published; lanes = last.lanes; window = last.window }
     → last.window.first_batch ≡ mid.published
     → ((t : TraceContent) (named : Cores) → IsTrace t → lanes.Stands t named mid → IsNextWindow t named mid here.span.count here.slots here.cores → lanes.Stands t named last) → Publishes mid last window
 publishes_with mid last here window same frame first stands = subst (Publishes mid last) same (record { frame = frame; first = first; stands = stands })
 
 pub lanes_after : (trace : TraceContent) (cores : Cores) (engine : ReplayState) (mid last : RoundsContent) (window : WindowContent) → StandsForReplay trace cores engine → Collects trace engine mid
-    → IsNextWhole trace cores engine window → Publishes mid last window → last ≡ published_more engine.lanes (window_of trace engine) last.lanes last.window
+    → IsNextWhole trace cores engine window → Publishes mid last window → last ≡ published_more engine.lanes (window_of trace engine) engine.lanes.published last.lanes last.window
 lanes_after trace cores engine mid last window stands collects next publishes =
     let count : window.span.count ≡ engine.lanes.collected - engine.lanes.published = ap (λ (s : Span). s.count) next.span in
     frames engine.lanes mid last (window_of trace engine) window.span.count collects.frame publishes.frame (omega (arith, stands.windows.behind))
 
 pub stands_next : Replays → (trace : TraceContent) (cores : Cores) (engine : ReplayState) (mid last : RoundsContent) (window : WindowContent) (new : ReplayState) → IsTrace trace → StandsForReplay trace cores engine
-    → Collects trace engine mid → IsNextWhole trace cores engine window → Publishes mid last window → HasCores engine window cores → new.lanes ≡ last → new.rounds ≡ engine.rounds
+    → Collects trace engine mid → IsNextWhole trace cores engine window → Publishes mid last window → HasCores engine window cores → new.lanes ≡ record last { counted = new.lanes.counted; lanes = new.lanes.lanes }
+    → (lanes.Stands trace cores last → lanes.Stands trace cores new.lanes) → new.rounds ≡ engine.rounds
     → new.waiting ≡ (rounds_played (run_of trace cores engine) trace engine.lanes.collected (window_of trace engine)).batches
     → HasAllocated trace.net engine.lanes.g (replayed (run_of trace cores engine) engine.lanes.collected).batches new.allocation → new.allocation.b ≡ engine.allocation.b → length new.pending ≡ length engine.pending
-    → (new.lanes.published ≡ new.rounds → Needs new.allocation.ring.endpoints new.allocation.list.items new.pending) → StandsForReplay trace cores new
-stands_next laws trace cores engine mid last window new sound stands collects next publishes named lanes_are rounds waiting allocated size pending ended =
+    → (new.lanes.published ≡ new.rounds → Needs new.allocation.ring.endpoints new.allocation.list.items new.pending)
+    → (new.lanes.published ≡ new.rounds → new.lanes.counted ≡ new.lanes.published) → StandsForReplay trace cores new
+stands_next laws trace cores engine mid last window new sound stands collects next publishes named ends ends_so rounds waiting allocated size pending ended all_counted =
     let states : List RoundsState = mid.lanes in
     let all : lanes.Stands trace cores mid = collects.stands cores stands.lanes in
     let is : IsNextWindow trace cores mid window.span.count window.slots window.cores =
     subst (λ (x : RoundsContent). IsNextWindow trace cores x window.span.count window.slots window.cores) (sym collects.frame) (next_named trace cores engine states window stands next.span next.shows named) in
     let after = lanes_after trace cores engine mid last window stands collects next publishes in
     let first : last.window.first_batch ≡ engine.lanes.published = publishes.first ∙ ap (λ (x : RoundsContent). x.published) collects.frame in
-    stands_after laws trace cores engine new sound stands (subst (λ (x : RoundsContent). x ≡ published_more engine.lanes (window_of trace engine) x.lanes x.window) (sym lanes_are) after)
-    (ap (λ (x : RoundsContent). x.window.first_batch) lanes_are ∙ first) rounds (subst (lanes.Stands trace cores) (sym lanes_are) (publishes.stands trace cores sound all is)) waiting allocated size pending ended
+    let n : ℕ = window_of trace engine in
+    let same : new.lanes.window ≡ last.window = ap (λ (x : RoundsContent). x.window) ends in
+    let parts : new.lanes ≡ published_more engine.lanes n new.lanes.counted new.lanes.lanes new.lanes.window =
+    ends
+    ∙ (ap (λ (x : RoundsContent). record x { counted = new.lanes.counted; lanes = new.lanes.lanes }) after
+    ∙ ap (published_more engine.lanes n new.lanes.counted new.lanes.lanes) (sym same)) in
+    stands_after laws trace cores engine new sound stands parts (ap (λ (w : Window). w.first_batch) same ∙ first) rounds (ends_so (publishes.stands trace cores sound all is)) waiting allocated size pending ended all_counted

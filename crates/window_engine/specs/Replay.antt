@@ -46,6 +46,7 @@ pub record StandsForReplay (trace : TraceContent) (cores : Cores) (engine : Repl
   pub waiting : engine.waiting ≡ drop engine.lanes.published (replayed (run_of trace cores engine) engine.lanes.collected).batches
   pub allocated : HasAllocated trace.net engine.lanes.g (replayed (run_of trace cores engine) engine.lanes.published).batches engine.allocation
   pub pending_room : length engine.pending ≡ endpoints_of trace.net * endpoints_of trace.net
+  pub counted : engine.lanes.published ≡ trace.rounds → engine.lanes.counted ≡ engine.lanes.published
   pub ended : engine.lanes.published ≡ trace.rounds → Needs (endpoints_of trace.net) engine.allocation.list.items engine.pending
 
 -- ---- steps

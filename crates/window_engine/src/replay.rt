@@ -5,7 +5,7 @@ ghost use Rattle.trace_text.specs.Trace.{TraceContent};
 ghost use Rattle.trace_text.specs.Valid.{IsTrace};
 ghost use Rattle.replay_rounds.specs.Setting.{Cores, AreCores};
 ghost use Rattle.replay_rounds.specs.Played.{rounds_played};
-ghost use Rattle.replay_rounds.specs.Standing.{slots_between};
+ghost use Rattle.replay_rounds.specs.Standing.{Stands, slots_between};
 ghost use Rattle.window_engine.specs.Replay.{StandsForReplay, HasCoresOf, run_of, replay_counts};
 ghost use Rattle.window_engine.specs.Settings.{IsSetting};
 ghost use Rattle.window_engine.specs.Standing.{Needs, HasAllocated};
@@ -159,18 +159,22 @@ impl Replay {
         })
     }
 
-    /// After the last batch the needs that are left are written down.
+    /// After the last batch the lanes count its slots, and the needs that are left are written down.
     fn end(&mut self)
+        requires stands { (trace : TraceContent) × (cores : Cores) × Stands trace cores self.old.lanes }
         requires allocated { (net : Network) × (most : ℕ) × (batches : List DemandBatch) × HasAllocated net most batches self.old.allocation }
         requires pending { length self.old.pending ≡ self.old.allocation.ring.endpoints * self.old.allocation.ring.endpoints }
         ensures pending { length self.new.pending ≡ length self.old.pending }
         ensures ended { self.new.lanes.published ≡ self.new.rounds → Needs self.new.allocation.ring.endpoints self.new.allocation.list.items self.new.pending }
         ensures rounds { self.new.rounds ≡ self.old.rounds }
-        ensures lanes { self.new.lanes ≡ self.old.lanes }
+        ensures lanes { self.new.lanes ≡ record self.old.lanes { counted = self.new.lanes.counted; lanes = self.new.lanes.lanes } }
+        ensures counted { self.new.lanes.published ≡ self.new.rounds → self.new.lanes.counted ≡ self.new.lanes.published }
+        ensures stands { (trace : TraceContent) (cores : Cores) → Stands trace cores self.old.lanes → Stands trace cores self.new.lanes }
         ensures waiting { self.new.waiting ≡ self.old.waiting }
         ensures allocation { self.new.allocation ≡ self.old.allocation }
     {
         if self.done() {
+            self.lanes.count_published();
             self.allocation.write_needs(&mut self.pending);
         }
     }

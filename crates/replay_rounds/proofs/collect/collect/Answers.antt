@@ -28,6 +28,7 @@ play_lanes-requires c =
         stand,
         is ∙ ap (λ (n : ℕ). map blank (range_with_len first n)) (sym many),
       );
+      counted = c.requires.counted;
     }
 
 pub returns-clause-lanes : goal.returns-clause-lanes

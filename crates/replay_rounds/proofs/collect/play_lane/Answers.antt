@@ -17,8 +17,9 @@ play-requires-clause-may c =
     let (first, cores, may, are, stood) = c.requires.may in
     let number : (slice_index_or c.loop-round.rounds i d).round ≡ first + i = ap (λ (p : RoundPart). p.round) same ∙ (are i d within).0 in (
       cores,
-      subst (λ (k : ℕ). MayBeTold c.args.trace.now c.args.g cores c.args.publisher.now k) (sym number) (may (first + i) (omega arith) (omega arith)),
-      subst (λ (k : ℕ). LaneStands (setting_by c.args.trace.now c.args.g cores c.args.publisher.now) k published c.args.endpoint c.loop-round.lane) (sym number) (c.loop-round.invariant.stands first cores may are stood),
+      subst (λ (k : ℕ). MayBeTold c.args.trace.now c.args.g cores c.args.publisher.now k) (sym number) (may.told (first + i) (omega arith) (omega arith)),
+      subst (λ (k : ℕ). LaneStands (setting_by c.args.trace.now c.args.g cores c.args.publisher.now) k published c.args.endpoint c.loop-round.lane) (sym number)
+          (c.loop-round.invariant.stands first cores may are (c.count_lane.ensures.stands (setting_by c.args.trace.now c.args.g cores c.args.publisher.now) first may.published stood)),
     )
 
 pub play-requires-clause-sources : goal.play-requires-clause-sources
@@ -59,18 +60,19 @@ loop-round-preserved c =
           let number : (slice_index_or rounds i d).round ≡ first + i = ap (λ (p : RoundPart). p.round) same ∙ (are i d within).0 in
           let next : (slice_index_or rounds i d).round + 1 ≡ first + (i + 1) = omega arith in
           subst (λ (k : ℕ). LaneStands (setting_by trace g cores window) k published endpoint c.play.new.lane) next
-          (c.in_ok-play.ensures.lane cores (subst (λ (k : ℕ). MayBeTold trace g cores window k) (sym number) (may (first + i) (omega arith) (omega arith)))
+          (c.in_ok-play.ensures.lane cores (subst (λ (k : ℕ). MayBeTold trace g cores window k) (sym number) (may.told (first + i) (omega arith) (omega arith)))
           (subst (λ (k : ℕ). LaneStands (setting_by trace g cores window) k published endpoint c.loop-round.lane) (sym number) (inv.stands first cores may are stood)));
       played = λ first cores may are stood.
           let number : (slice_index_or rounds i d).round ≡ first + i = ap (λ (p : RoundPart). p.round) same ∙ (are i d within).0 in
           done_more (with_endpoint (setting_by trace g cores window) trace endpoint) rounds begun i d c.play.new.self below within (inv.played first cores may are stood) inv.left
-          (c.in_ok-play.ensures.part cores (subst (λ (k : ℕ). MayBeTold trace g cores window k) (sym number) (may (first + i) (omega arith) (omega arith)))
+          (c.in_ok-play.ensures.part cores (subst (λ (k : ℕ). MayBeTold trace g cores window k) (sym number) (may.told (first + i) (omega arith) (omega arith)))
           (subst (λ (k : ℕ). LaneStands (setting_by trace g cores window) k published endpoint c.loop-round.lane) (sym number) (inv.stands first cores may are stood)));
     }
 
 pub returns-clause-rounds : goal.returns-clause-rounds
 returns-clause-rounds c = λ first cores may are stood.
     let i = c.loop-round.round-index in
-    let all = c.loop-round.invariant.played first cores may are stood in
+    let counted = c.count_lane.ensures.stands (setting_by c.args.trace.now c.args.g cores c.args.publisher.now) first may.published stood in
+    let all = c.loop-round.invariant.played first cores may are counted in
     sym (take_all i c.loop-round.rounds (omega (arith, c.loop-round-test.false)))
     ∙ (all ∙ ap (map (with_endpoint (setting_by c.args.trace.now c.args.g cores c.args.publisher.now) c.args.trace.now c.args.endpoint)) (take_all i c.args.rounds.now (omega (arith, c.loop-round-test.false))))

@@ -71,7 +71,7 @@ loop-endpoint-preserved c =
                 let before = inv.stands first cores may stand blank at d there in
                 let same = sym (get_or-set_other lanes e at now d other) in (
                   λ below_next. subst (λ (lane : RoundsState). LaneStands setting (first + count) published at lane) same (before.0 (omega (arith, other, below_next))),
-                  λ above. subst (λ (lane : RoundsState). LaneStands setting first published at lane) same (before.1 (omega (arith, above))),
+                  λ above. subst (λ (lane : RoundsState). LaneStands setting first c.args.counted at lane) same (before.1 (omega (arith, above))),
                 )
           ];
       played = λ first cores may stand blank.

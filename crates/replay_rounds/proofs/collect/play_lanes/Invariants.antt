@@ -11,13 +11,13 @@ invariant-loop-endpoint l = record {
   many : length l.lanes ≡ length l.initial.lanes;
   wide : length l.rounds ≡ length l.initial.rounds;
   stands : (first : ℕ) (cores : Cores) → MayBeCollected l.trace l.g cores l.publisher first (length l.initial.rounds)
-      → LanesStand (setting_by l.trace l.g cores l.publisher) first (published_by l.publisher) l.initial.lanes
+      → LanesStand (setting_by l.trace l.g cores l.publisher) first l.counted l.initial.lanes
       → l.initial.rounds ≡ map (blank_round l.trace) (range_with_len first (length l.initial.rounds))
       → (at : ℕ) (d : RoundsState) → at < length l.lanes
       → (at < l.endpoint → LaneStands (setting_by l.trace l.g cores l.publisher) (first + length l.initial.rounds) (published_by l.publisher) at (slice_index_or l.lanes at d))
-      × (l.endpoint ≤ at → LaneStands (setting_by l.trace l.g cores l.publisher) first (published_by l.publisher) at (slice_index_or l.lanes at d));
+      × (l.endpoint ≤ at → LaneStands (setting_by l.trace l.g cores l.publisher) first l.counted at (slice_index_or l.lanes at d));
   played : (first : ℕ) (cores : Cores) → MayBeCollected l.trace l.g cores l.publisher first (length l.initial.rounds)
-      → LanesStand (setting_by l.trace l.g cores l.publisher) first (published_by l.publisher) l.initial.lanes
+      → LanesStand (setting_by l.trace l.g cores l.publisher) first l.counted l.initial.lanes
       → l.initial.rounds ≡ map (blank_round l.trace) (range_with_len first (length l.initial.rounds))
       → l.rounds ≡ map (part_of (setting_by l.trace l.g cores l.publisher) l.trace l.endpoint) (range_with_len first (length l.initial.rounds));
 }

@@ -5,7 +5,7 @@ use Rattle.replay_rounds.specs.Publishing.{IsPublished}
 use Rattle.replay_rounds.specs.Counting.{HasCounted}
 use Rattle.replay_rounds.proofs.publish.count_lane.Given as goal
 
-abbrev pub invariant-loop-place : goal.invariant-loop-place
-invariant-loop-place l =
-    (setting : Setting) (collected : ℕ) → IsPublished setting collected l.publisher → LaneStands setting collected l.publisher.first_batch l.src l.initial.lane →
-    HasCounted setting collected (l.publisher.first_batch + l.publisher.count) ((l.publisher.first_batch + l.place) * setting.b) l.src l.lane
+abbrev pub invariant-loop-batch : goal.invariant-loop-batch
+invariant-loop-batch l =
+    (setting : Setting) (collected : ℕ) → IsPublished setting collected l.publisher → LaneStands setting collected l.from l.src l.initial.lane →
+    HasCounted setting collected (l.publisher.first_batch + l.publisher.count) (l.batch * setting.b) l.src l.lane

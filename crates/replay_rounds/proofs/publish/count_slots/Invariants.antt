@@ -7,6 +7,6 @@ use Rattle.replay_rounds.proofs.publish.count_slots.Given as goal
 
 abbrev pub invariant-loop-src : goal.invariant-loop-src
 invariant-loop-src l =
-    (setting : Setting) (collected : ℕ) → IsPublished setting collected l.publisher → LanesStand setting collected l.publisher.first_batch l.initial.lanes →
+    (setting : Setting) (collected : ℕ) → IsPublished setting collected l.publisher → LanesStand setting collected l.from l.initial.lanes →
     (endpoint : ℕ) (lane : RoundsState) → slice_get l.lanes endpoint ≡ Some lane →
-    LaneStands setting collected (cond (nat_lt endpoint l.src) (l.publisher.first_batch + l.publisher.count) l.publisher.first_batch) endpoint lane
+    LaneStands setting collected (cond (nat_lt endpoint l.src) (l.publisher.first_batch + l.publisher.count) l.from) endpoint lane

@@ -19,6 +19,14 @@ collect-requires-clause-may c =
     let begun = begins c.steps_go_on.ensures.published trace c.rounds.ensures.sound all c.args.self.now c.self.view_is c.requires.windows c.min-count.result count_is c.deref_mut.result.now c.deref_mut.ensures.value cores stood in
     (cores, begun.may, begun.stand)
 
+pub collect-requires-clause-counted : goal.collect-requires-clause-counted
+collect-requires-clause-counted c =
+    let trace = c.args.trace.now in
+    let all : RoundsContent = the_view c.self.inside in
+    let count_is : c.min-count.result ≡ min all.g (trace.rounds - all.collected) = omega (arith, c.min-count.ensures, c.from.ensures, c.rounds.ensures.number) in
+    let (cores, stood) = c.requires.stands in
+    (begins c.steps_go_on.ensures.published trace c.rounds.ensures.sound all c.args.self.now c.self.view_is c.requires.windows c.min-count.result count_is c.deref_mut.result.now c.deref_mut.ensures.value cores stood).counted
+
 pub returns-clause-stands : goal.returns-clause-stands
 returns-clause-stands c = λ cores stood.
     let trace = c.args.trace.now in

@@ -14,7 +14,7 @@ count-requires c =
 pub returns-clause-opened : goal.returns-clause-opened
 returns-clause-opened c = λ trace cores stands.
     let all : RoundsContent = c.args.self.now in
-    opened_is (setting_with trace cores all) all.collected all.published c.args.flow.src c.index.result.now
+    opened_is (setting_with trace cores all) all.collected all.counted c.args.flow.src c.index.result.now
     (lane_in trace cores (the_view c.self.inside) all c.args.flow.src c.index.result.now c.self.view_is stands c.requires.src c.index.ensures)
     c.args.flow.dst c.count.result c.count.ensures.opened
 
@@ -22,6 +22,6 @@ pub returns-clause-counts : goal.returns-clause-counts
 returns-clause-counts c =
     let all : RoundsContent = c.args.self.now in
     IfSome_then c.count.result c.count.ensures.counts (λ count of trace cores stands.
-    counted_is (setting_with trace cores all) all.collected all.published c.args.flow.src c.index.result.now
+    counted_is (setting_with trace cores all) all.collected all.counted c.args.flow.src c.index.result.now
     (lane_in trace cores (the_view c.self.inside) all c.args.flow.src c.index.result.now c.self.view_is stands c.requires.src c.index.ensures)
     c.args.flow.dst count (omega (arith, stands.endpoints, c.requires.dst)) of)

@@ -13,6 +13,6 @@ totals-requires c =
 pub returns : goal.returns
 returns c = λ trace cores stands.
     let all : RoundsContent = c.args.self.now in
-    sent_is (setting_with trace cores all) all.collected all.published c.args.flow.src c.index.result.now
+    sent_is (setting_with trace cores all) all.collected all.counted c.args.flow.src c.index.result.now
     (lane_in trace cores (the_view c.self.inside) all c.args.flow.src c.index.result.now c.self.view_is stands c.requires.src c.index.ensures)
     c.args.flow.dst c.totals.result c.totals.ensures.sent c.totals.ensures.missed

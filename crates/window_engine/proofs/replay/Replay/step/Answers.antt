@@ -63,6 +63,18 @@ publish-requires-clause-room g c =
     let fits = publish_fits trace cores _ c.collect.new.self c.in_ok-window.window stands (collects_with trace _ c.collect.new.self c.in_ok-played.ensures.frame c.in_ok-played.ensures.stands) next in
     subst (λ (w : WindowContent). w.span.count ≤ c.collect.new.self.g) (sym c.window.view_is) fits.1
 
+pub end-requires-clause-stands : goal.end-requires-clause-stands
+end-requires-clause-stands g c =
+    let trace = c.args.trace.now in
+    let laws = c.replays_hold.ensures in
+    let sound = c.rounds-rounds.ensures.sound in
+    let (cores, old) = c.requires.stands in
+    let stands = here_too trace cores _ _ c.self.view_is old in
+    let next = next_whole laws trace cores _ c.deref.result.now c.in_ok-window.window sound stands c.deref.ensures.value c.in_ok-window.ensures.span c.in_ok-window.ensures.window in
+    let publishes = publishes_with c.collect.new.self c.publish.new.self _ _ c.window.view_is c.publish.ensures.frame c.publish.ensures.first c.publish.ensures.stands in
+    let (run, named, is_trace, all, is) = publish_next laws trace cores _ c.collect.new.self c.in_ok-window.window sound stands (collects_with trace _ c.collect.new.self c.in_ok-played.ensures.frame c.in_ok-played.ensures.stands) next in
+    (run, named, publishes.stands run named is_trace all is)
+
 pub end-requires-clause-allocated : goal.end-requires-clause-allocated
 end-requires-clause-allocated g c =
     let trace = c.args.trace.now in
@@ -93,7 +105,8 @@ returns-clause-published g c =
     let collects = collects_with trace _ c.collect.new.self c.in_ok-played.ensures.frame c.in_ok-played.ensures.stands in
     let next = next_whole c.replays_hold.ensures trace cores _ c.deref.result.now c.in_ok-window.window c.rounds-rounds.ensures.sound stands c.deref.ensures.value c.in_ok-window.ensures.span c.in_ok-window.ensures.window in
     let publishes = publishes_with c.collect.new.self c.publish.new.self _ _ c.window.view_is c.publish.ensures.frame c.publish.ensures.first c.publish.ensures.stands in
-    ap (λ (all : RoundsContent). all.published) (c.end.ensures.lanes ∙ lanes_after trace cores _ c.collect.new.self c.publish.new.self c.in_ok-window.window stands collects next publishes)
+    ap (λ (all : RoundsContent). all.published) c.end.ensures.lanes
+    ∙ ap (λ (all : RoundsContent). all.published) (lanes_after trace cores _ c.collect.new.self c.publish.new.self c.in_ok-window.window stands collects next publishes)
     ∙ ap (λ (e : ReplayState). e.lanes.collected) c.self.view_is
 
 pub returns-clause-played : goal.returns-clause-played
@@ -144,7 +157,7 @@ returns-clause-stands g c cores old named =
     let goes = subst (λ (bs : List DemandBatch). Goes c.self.inside.allocation bs c.window_of_any.new.self) c.deref.ensures.value c.in_ok-window.ensures.stands in
     let has = replay_allocated laws trace cores _ c.window_of_any.new.self sound stands goes in
     stands_next laws trace cores _ c.collect.new.self c.publish.new.self c.in_ok-window.window c.end.new.self sound stands collects next publishes
-    (subst (λ (e : ReplayState). HasCores e c.in_ok-window.window cores) (sym c.self.view_is) named) c.end.ensures.lanes c.end.ensures.rounds
+    (subst (λ (e : ReplayState). HasCores e c.in_ok-window.window cores) (sym c.self.view_is) named) c.end.ensures.lanes (c.end.ensures.stands trace cores) c.end.ensures.rounds
     (c.end.ensures.waiting ∙ (c.in_ok-self-inside.ensures ∙ (c.batches.ensures ∙ ap (λ (p : Played). p.batches) (c.in_ok-played.ensures.played cores stands.lanes))))
     (subst (λ (half : Allocated). HasAllocated trace.net c.self.inside.lanes.g (replayed (setting_of trace c.self.inside.lanes.b c.self.inside.lanes.g cores) c.self.inside.lanes.collected).batches half) (sym c.end.ensures.allocation) has)
-    (ap (λ (half : Allocated). half.b) c.end.ensures.allocation ∙ c.in_ok-window.ensures.b) c.end.ensures.pending c.end.ensures.ended
+    (ap (λ (half : Allocated). half.b) c.end.ensures.allocation ∙ c.in_ok-window.ensures.b) c.end.ensures.pending c.end.ensures.ended c.end.ensures.counted
