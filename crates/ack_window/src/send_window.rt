@@ -89,6 +89,13 @@ impl<T> SendWindow<T> {
         }
     }
 
+    /// Whether no number is unresolved.
+    pub fn is_settled(&self) -> bool
+        ensures { IsTrue result ↔ (self.now.outstanding.unresolved ≡ []) }
+    {
+        self.unresolved.is_empty()
+    }
+
     /// The newest number and its content, which go again where no new number may be sent.
     pub fn newest(&self) -> (u32, &T)
         requires { ¬ MaySend self.now }

@@ -15,8 +15,7 @@ ghost use Rattle.endpoint_history.specs.Confirmed.{total_named};
 
 use crate::NoMemory;
 use crate::line::Line;
-use crate::telling::Telling;
-use crate::tellings::PLACES;
+use crate::places::Places;
 use ack_window::Decided;
 use fcp_framing::{Demand, Told};
 use greedy_rules::{Batch, Flow};
@@ -100,14 +99,8 @@ pub(crate) fn restart(lines: &mut [Line])
 
 /// Counts the slots that lie at the places of the numbers that are decided, as lost or as acknowledged, and marks the flows of
 /// those that are lost.
-pub(crate) fn decide(
-    lines: &mut [Line],
-    risen: &mut Marks,
-    found: &[Decided<()>],
-    places: &[Telling],
-)
+pub(crate) fn decide(lines: &mut [Line], risen: &mut Marks, found: &[Decided<()>], places: &Places)
     requires few { length lines.old ≤ 256 }
-    requires places { length places.now ≡ 129 }
     requires destinations { All (λ (number : DecidedNumber TellingOf). All (λ (slot : ToldSlot). slot.dst < length lines.old) number.content.told) (map (decided_with places.now) found.now) }
     requires in_flight { AreInFlight (λ dst. slots_shown (map (decided_with places.now) found.now) dst + slots_lost (map (decided_with places.now) found.now) dst) lines.old }
     ensures decided { Become (λ dst. DecidesSlots (slots_shown (map (decided_with places.now) found.now) dst) (slots_lost (map (decided_with places.now) found.now) dst)) lines.old lines.new }
@@ -118,16 +111,14 @@ pub(crate) fn decide(
     }
 }
 
-fn decide_one(lines: &mut [Line], risen: &mut Marks, number: &Decided<()>, places: &[Telling])
+fn decide_one(lines: &mut [Line], risen: &mut Marks, number: &Decided<()>, places: &Places)
     requires few { length lines.old ≤ 256 }
-    requires places { length places.now ≡ 129 }
     requires destinations { All (λ (slot : ToldSlot). slot.dst < length lines.old) (telling_at places.now number.now.number).told }
     requires in_flight { AreInFlight (λ dst. slots_to dst (telling_at places.now number.now.number).told) lines.old }
     ensures decided { Become (λ dst. DecidesSlots (slots_shown (decided_with places.now number.now ∷ []) dst) (slots_lost (decided_with places.now number.now ∷ []) dst)) lines.old lines.new }
     ensures marked { AreMarked risen.old lines.old → AreMarked risen.new lines.new }
 {
-    let telling = &places[(number.number % PLACES) as usize];
-    let told = telling.told();
+    let told = places.at(number.number).told();
     if number.lost {
         lose(lines, risen, told);
     } else {

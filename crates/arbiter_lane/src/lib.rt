@@ -6,6 +6,7 @@ mod flows;
 mod lane;
 mod laws;
 mod line;
+mod places;
 mod refusal;
 mod telling;
 mod tellings;

@@ -11,6 +11,7 @@ ghost use Rattle.arbiter_lane.specs.Lines.{Become, DecidesSlots, slots_shown, sl
 ghost use Rattle.arbiter_lane.specs.Parts.{AreMarked};
 
 use crate::line::Line;
+use crate::places::Places;
 use crate::telling::Telling;
 use crate::{NoMemory, flows};
 use ack_window::{Decided, SendWindow, readings_move_what_they_decide, senders_go_on_by_step};
@@ -20,30 +21,27 @@ use line_marks::Marks;
 use std::alloc::Global;
 use std::marker::Model;
 
-/// How many places there are: numbers that are unresolved at once are less than so many apart, so no two have the same.
-pub(crate) const PLACES: u32 = 129;
-
-/// The numbers of a connection with what was told under those that are unresolved. What is told under number n is written into
-/// place n % 129 over what was there, and read where it lies.
+/// The numbers of a connection with what was told under those that are unresolved: it is written into the place of its number over
+/// what was there, and read where it lies.
 #[derive(Drop)]
 pub(crate) struct Tellings {
     sent: SendWindow<()>,
-    places: Vec<Telling>,
+    places: Places,
     /// What an acknowledgement decides. Empty between two calls.
     found: ArrayVec<Decided<()>, 129>,
 }
 
 impl Model for Tellings {
-    ghost use Rattle.std.specs.Prelude.{◌≡◌, [], length};
+    ghost use Rattle.std.specs.Prelude.{◌≡◌, []};
     ghost use Rattle.ack_window.specs.Windows.{Sender};
     ghost use Rattle.endpoint_history.specs.Packets.{Telling as TellingOf};
     ghost use Rattle.arbiter_lane.specs.Places.{with_contents};
 
     ghost Value = { Sender TellingOf };
 
-    ghost view = { λ tellings. with_contents tellings.places.items tellings.sent };
+    ghost view = { λ tellings. with_contents tellings.places tellings.sent };
 
-    ghost invariant = { λ tellings. (length tellings.places.items ≡ 129) × (tellings.found.items ≡ []) };
+    ghost invariant = { λ tellings. tellings.found.items ≡ [] };
 }
 
 impl Tellings {
@@ -54,7 +52,7 @@ impl Tellings {
     {
         Ok(Tellings {
             sent: SendWindow::open(alloc, version)?,
-            places: blank_places(alloc)?,
+            places: Places::open(alloc)?,
             found: ArrayVec::new(),
         })
     }
@@ -76,7 +74,7 @@ impl Tellings {
     {
         senders_go_on_by_step::<Telling>();
         let (number, _) = self.sent.newest();
-        (number, &self.places[(number % PLACES) as usize])
+        (number, self.places.at(number))
     }
 
     /// Tells the slots of a batch under a new number, and answers the number.
@@ -92,8 +90,10 @@ impl Tellings {
             HasDone self.new (Sends (record { batch = batch; told = told.now }) ∷ history) }
     {
         senders_go_on_by_step::<Telling>();
+        let is_settled = self.sent.is_settled();
         let number = self.sent.push(());
-        write(&mut self.places, (number % PLACES) as usize, batch, told);
+        self.places.choose_place(number, is_settled);
+        self.places.put(number, batch, told);
         number
     }
 
@@ -129,24 +129,4 @@ impl Tellings {
     {
         self.sent.restart(version);
     }
-}
-
-/// A blank for each place.
-fn blank_places(alloc: Global) -> Result<Vec<Telling>, NoMemory>
-    ensures { IfOk result (λ places. length places.items ≡ 129) }
-{
-    let mut places = Vec::with_capacity(alloc, PLACES as usize)?;
-    for _ in 0..PLACES {
-        places.push(Telling::blank())?;
-    }
-    Ok(places)
-}
-
-/// Writes the slots of a batch into a place, over what was there.
-fn write(places: &mut [Telling], place: usize, batch: u32, told: &[Told])
-    requires place { place < length places.old }
-    requires few { length told.now ≤ 64 }
-    ensures { places.new ≡ slice_set places.old place (record { batch = batch; told = told.now }) }
-{
-    places[place].put(batch, told);
 }

@@ -1,4 +1,4 @@
-use Rattle.std.proofs.Common.{◌≡◌, ◌<◌, List, length, map, All, ◌∙◌, ap, sym, subst}
+use Rattle.std.proofs.Common.{◌≡◌, ◌<◌, List, length, map, All, ◌∙◌, ap, sym, subst, refl}
 use Rattle.fcp_framing.specs.declared.packet.Told.{Told as ToldSlot}
 use Rattle.ack_window.specs.declared.acknowledgement.Acknowledgement.{Acknowledgement}
 use Rattle.ack_window.specs.declared.send_window.Decided.{Decided as DecidedNumber}
@@ -8,13 +8,13 @@ use Rattle.ack_window.specs.Versions.{reorder_of, span_of}
 use Rattle.ack_window.specs.Windows.{Sender, HasDone}
 use Rattle.endpoint_history.specs.Packets.{Telling as TellingOf}
 use Rattle.arbiter_lane.specs.Lines.{Become, DecidesSlots, slots_shown, slots_lost}
-use Rattle.arbiter_lane.specs.Places.{decided_with, with_contents}
+use Rattle.arbiter_lane.specs.Places.{Places, decided_with, with_contents}
 use Rattle.arbiter_lane.proofs.Carrying.{found-is, goes-on-read}
 use Rattle.arbiter_lane.proofs.Reading.{decided-all, decided-in_flight}
 use Rattle.arbiter_lane.proofs.tellings.Tellings.read_ack.Goals as goal
 
 -- what the numbers that are found have at their places is what clauses say that is decided
-found-now : (law : SendersGoOnByStep TellingOf) (places read : List TellingOf) (sent : Sender (Unit {0})) (now : Sender TellingOf) (ack : Acknowledgement) (found : List (DecidedNumber (Unit {0}))) (events : List (Event TellingOf)) →
+found-now : (law : SendersGoOnByStep TellingOf) (places read : Places) (sent : Sender (Unit {0})) (now : Sender TellingOf) (ack : Acknowledgement) (found : List (DecidedNumber (Unit {0}))) (events : List (Event TellingOf)) →
     read ≡ places → found ≡ decided_for sent ack → with_contents places sent ≡ now → HasDone now events →
     map (decided_with read) found ≡ decided_by (reorder_of now.version) (span_of now.version) events ack
 found-now law places read sent now ack found events is_read is_found is_now done =
@@ -27,7 +27,7 @@ decide-requires-clause-destinations c =
     let stands = c.requires.stands in
     let a : Acknowledgement = record { high = c.args.high; mask = c.args.mask } in
     decided-all (λ (t : TellingOf). All (λ (slot : ToldSlot). slot.dst < length c.args.lines.now) t.told) c.args.self.now stands.0 a _ stands.1
-    (found-now c.senders_go_on_by_step.ensures c.self.inside.places.items c.deref.result.now c.self.inside.sent c.args.self.now a c.as_slice.result.now stands.0 c.deref.ensures.value (c.as_slice.ensures.value ∙ c.read_ack.ensures.found) c.self.view_is stands.1)
+    (found-now c.senders_go_on_by_step.ensures c.self.inside.places c.self.inside.places c.self.inside.sent c.args.self.now a c.as_slice.result.now stands.0 refl (c.as_slice.ensures.value ∙ c.read_ack.ensures.found) c.self.view_is stands.1)
     c.requires.destinations
 
 pub decide-requires-clause-in_flight : goal.decide-requires-clause-in_flight
@@ -35,17 +35,17 @@ decide-requires-clause-in_flight c =
     let stands = c.requires.stands in
     let a : Acknowledgement = record { high = c.args.high; mask = c.args.mask } in
     decided-in_flight c.readings_move_what_they_decide.ensures.moved c.args.self.now stands.0 a _ c.args.lines.now stands.1
-    (found-now c.senders_go_on_by_step.ensures c.self.inside.places.items c.deref.result.now c.self.inside.sent c.args.self.now a c.as_slice.result.now stands.0 c.deref.ensures.value (c.as_slice.ensures.value ∙ c.read_ack.ensures.found) c.self.view_is stands.1)
+    (found-now c.senders_go_on_by_step.ensures c.self.inside.places c.self.inside.places c.self.inside.sent c.args.self.now a c.as_slice.result.now stands.0 refl (c.as_slice.ensures.value ∙ c.read_ack.ensures.found) c.self.view_is stands.1)
     c.requires.in_flight
 
 pub returns-clause-lines : goal.returns-clause-lines
 returns-clause-lines c = λ events done.
     let a : Acknowledgement = record { high = c.args.high; mask = c.args.mask } in
     subst (λ (found : List (DecidedNumber TellingOf)). Become (λ dst. DecidesSlots (slots_shown found dst) (slots_lost found dst)) c.args.lines.now c.decide.new.lines)
-    (found-now c.senders_go_on_by_step.ensures c.self.inside.places.items c.deref.result.now c.self.inside.sent c.args.self.now a c.as_slice.result.now events c.deref.ensures.value (c.as_slice.ensures.value ∙ c.read_ack.ensures.found) c.self.view_is done)
+    (found-now c.senders_go_on_by_step.ensures c.self.inside.places c.self.inside.places c.self.inside.sent c.args.self.now a c.as_slice.result.now events refl (c.as_slice.ensures.value ∙ c.read_ack.ensures.found) c.self.view_is done)
     c.decide.ensures.decided
 
 pub returns-clause-sent : goal.returns-clause-sent
 returns-clause-sent c = λ events done.
     let before = subst (λ (w : Sender TellingOf). HasDone w events) (sym c.self.view_is) done in
-    goes-on-read c.senders_go_on_by_step.ensures c.self.inside.places.items c.self.inside.sent c.read_ack.new.self (record { high = c.args.high; mask = c.args.mask }) events c.read_ack.ensures.step before
+    goes-on-read c.senders_go_on_by_step.ensures c.self.inside.places c.self.inside.sent c.read_ack.new.self (record { high = c.args.high; mask = c.args.mask }) events c.read_ack.ensures.step before
