@@ -1,4 +1,4 @@
-use Rattle.std.proofs.Common.{◌≡◌, Bool, true, false, Option, IsSome, refl, subst}
+use Rattle.std.proofs.Common.{◌≡◌, Bool, true, false, IsSome, refl, subst}
 use Rattle.std.specs.Bool.{then_some}
 use Rattle.slot_batches.specs.declared.piece.Piece.{Piece}
 use Rattle.slot_batches.proofs.stage.Stage.emit.Goals as goal

@@ -2,7 +2,7 @@ use Rattle.std.proofs.Common.{List, length, drop, ap, arith, length-append}
 use Rattle.slot_batches.specs.Pieces.{Part, part_of}
 use Rattle.ring_core.specs.Streams.{items_of}
 use Rattle.ring_core.proofs.RoundLemmas.{by_first}
-use Rattle.ring_core.proofs.ring.take_list.Goals as goal
+use Rattle.ring_core.proofs.whole.take_list.Goals as goal
 
 pub append-requires : goal.append-requires
 append-requires c =

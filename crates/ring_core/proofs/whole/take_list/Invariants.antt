@@ -1,6 +1,6 @@
 use Rattle.std.proofs.Common.{◌≡◌, ◌≤◌, ◌+◌, ◌++◌, length}
 use Rattle.ring_core.specs.Streams.{items_of}
-use Rattle.ring_core.proofs.ring.take_list.Given as goal
+use Rattle.ring_core.proofs.whole.take_list.Given as goal
 
 abbrev pub invariant-loop-piece : goal.invariant-loop-piece
 invariant-loop-piece l = record {
