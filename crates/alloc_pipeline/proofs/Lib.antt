@@ -1,4 +1,5 @@
-pub mod WholeLists
 pub mod Weaving
 pub mod Places
+pub mod IdleLemmas
+pub mod RunLemmas
 pub mod RingLemmas

@@ -5,7 +5,6 @@
 mod batches;
 mod picked;
 mod ring;
-mod stages;
 mod weave;
 
 pub use no_memory::NoMemory;
