@@ -1,5 +1,6 @@
-pub mod WholeLists
 pub mod Weaving
 pub mod Places
+pub mod IdleLemmas
+pub mod RunLemmas
 pub mod RingLemmas
 pub mod Down

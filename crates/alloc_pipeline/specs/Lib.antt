@@ -1,3 +1,3 @@
 pub mod Ring
-pub mod Stages
+pub mod Idle
 pub mod Picked

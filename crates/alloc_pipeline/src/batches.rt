@@ -1,19 +1,8 @@
-ghost use Rattle.std.specs.Prelude.{◌≡◌, ◌<◌, ◌≤◌, ◌+◌, ◌-◌, ◌^◌, List, [], ◌++◌, length, take, drop, true, false, replicate, Some, All, slice_get};
-ghost use Rattle.greedy_rules.specs.declared.flows.Item.{Item};
-ghost use Rattle.greedy_rules.specs.Batches.{DemandBatch, entry_of};
-ghost use Rattle.greedy_rules.specs.Limits.{is_barred};
-ghost use Rattle.greedy_rules.specs.Schedule.{slot_in};
-ghost use Rattle.greedy_rules.specs.SlotTable.{IsSlotOf};
-ghost use Rattle.greedy_rules.specs.Demands.{need_with, AreBelow, OpensNewFlows, opened, after_batch};
-ghost use Rattle.greedy_rules.specs.Allocation.{batch_slots, list_after_slots};
-ghost use Rattle.slot_batches.specs.Feeding.{was_served};
-ghost use Rattle.slot_batches.specs.NextList.{IsListBefore};
-ghost use Rattle.slot_batches.specs.Stands.{endpoints_of, batch_size_of, first_slot_of, number_of, IsSameWork, Stands};
-ghost use Rattle.slot_batches.specs.Settled.{settled};
-ghost use Rattle.alloc_pipeline.specs.Stages.{table_with};
+//! Where a window's batches are parted: those that change nothing, and runs of others.
+ghost use Rattle.std.specs.Prelude.{◌≡◌, ◌<◌, ◌≤◌, [], length, take, true, All};
+ghost use Rattle.alloc_pipeline.specs.Idle.{AreIdle};
 
-use greedy_rules::{Batch, Item, SlotTable};
-use slot_batches::{Stage, lists_may_be_fed};
+use greedy_rules::{Batch, Item};
 
 /// The bits of all that the items need: none only where no item needs a slot.
 pub(crate) fn needs_of(items: &[Item]) -> u32
@@ -38,44 +27,42 @@ fn needs_none(items: &[Item]) -> bool
     true
 }
 
-/// Whether the batch changes nothing: no item needs a slot, and no entry comes.
-pub(crate) fn is_idle(items: &[Item], batch: &Batch) -> bool
-    ensures needs_none { result ≡ true → All (λ item. item.need ≡ 0) items.now }
-    ensures no_entry { result ≡ true → batch.now.entries ≡ [] }
+/// How many batches at the front change nothing: they have no entries, and no item needs a slot.
+pub(crate) fn count_idle(items: &[Item], batches: &[Batch]) -> usize
+    ensures count { result ≤ length batches.now }
+    ensures idle { AreIdle items.now (take result batches.now) }
 {
-    if !batch.is_empty() {
-        return false;
+    let count = count_empty(batches);
+    if count > 0 && needs_none(items) {
+        count
+    } else {
+        0
     }
-    needs_none(items)
 }
 
-/// Lets the stage, which is fed these items, fill the slots of a batch, and copies them.
-pub(crate) fn serve_batch(
-    stage: &mut Stage,
-    items: &[Item],
-    batch: &Batch,
-    number: u32,
-    first_slot: u32,
-    from: u16,
-    out: &mut SlotTable,
-)
-    requires endpoints { endpoints_of stage.old ≡ out.old.endpoints }
-    requires first { 1 ≤ first_slot }
-    requires numbers { first_slot + batch_size_of stage.old ≤ 2 ^ 32 }
-    requires before { IsListBefore first_slot items.now }
-    requires opens { OpensNewFlows batch.now.entries items.now }
-    requires in_range { AreBelow (endpoints_of stage.old) (items.now ++ opened batch.now.entries) }
-    requires needs { All (λ item. need_with (entry_of batch.now.entries item.flow) item.need < 2 ^ 32) items.now }
-    requires places { from + batch_size_of stage.old ≤ length out.old.slots }
-    requires empty { drop from out.old.slots ≡ replicate (length out.old.slots - from) [] }
-    ensures work { IsSameWork (endpoints_of stage.old) (batch_size_of stage.old) number first_slot stage.new }
-    ensures stands { Stands batch.now items.now true 0 stage.new }
-    ensures slots { out.new.slots ≡ table_with batch.now first_slot (batch_size_of stage.old) items.now from out.old.slots }
-    ensures endpoints { out.new.endpoints ≡ out.old.endpoints }
+/// How many batches at the front have no entries.
+fn count_empty(batches: &[Batch]) -> usize
+    ensures count { result ≤ length batches.now }
+    ensures empty { All (λ batch. batch.entries ≡ []) (take result batches.now) }
 {
-    lists_may_be_fed();
-    stage.begin(batch, number, first_slot);
-    stage.feed_items(batch, items);
-    stage.finish(batch);
-    out.copy(stage.slots(), from);
+    for count in 0..batches.len() {
+        if !batches[count].is_empty() {
+            return count;
+        }
+    }
+    batches.len()
+}
+
+/// How many batches are played at once: all up to the first without entries that comes behind one with entries.
+pub(crate) fn count_run(batches: &[Batch]) -> usize
+    requires { 0 < length batches.now }
+    ensures some { 0 < result }
+    ensures count { result ≤ length batches.now }
+{
+    for count in 1..batches.len() {
+        if batches[count].is_empty() && !batches[count - 1].is_empty() {
+            return count;
+        }
+    }
+    batches.len()
 }

@@ -6,7 +6,6 @@ mod batches;
 mod in_place;
 mod picked;
 mod ring;
-mod stages;
 mod weave;
 
 pub use no_memory::NoMemory;

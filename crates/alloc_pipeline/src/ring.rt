@@ -1,47 +1,47 @@
-ghost use Rattle.std.specs.Prelude.{◌≡◌, ◌<◌, ◌≤◌, ◌+◌, ◌-◌, ◌*◌, ◌^◌, [], ◌++◌, length, replicate, false, IfOk};
+ghost use Rattle.std.specs.Prelude.{◌≡◌, ◌<◌, ◌≤◌, ◌+◌, ◌-◌, ◌*◌, ◌^◌, [], ◌++◌, length, take, drop, replicate, IfOk};
 ghost use Rattle.greedy_rules.specs.Schedule.{first_slot, schedule_from, rest_from};
 ghost use Rattle.greedy_rules.specs.Recorded.{MayBeApplied};
 ghost use Rattle.slot_batches.specs.NextList.{IsListBefore};
-ghost use Rattle.alloc_pipeline.specs.Ring.{IsRing};
-ghost use Rattle.alloc_pipeline.specs.Stages.{AreFor};
+ghost use Rattle.ring_core.specs.Cores.{IsRing, IsSameRing};
 ghost use Rattle.alloc_pipeline.specs.Picked.{HasRoomFor};
+ghost use Rattle.alloc_pipeline.specs.Ring.{IsRing as MayBeOpened};
 
+use crate::batches::{count_idle, count_run};
 use crate::picked::Picked;
-use crate::stages::Stages;
 use fp_edge::Gate;
 use greedy_rules::{Batch, DemandList, SlotTable, flows_fit_pairs, schedules_go_on};
 use no_memory::NoMemory;
-use slot_batches::{every_batch_leaves_a_list, items_may_be_set_aside};
+use ring_core::{RingCore, every_window_is_small};
+use slot_batches::{every_batch_leaves_a_list, idle_lists_stay, items_may_be_set_aside};
 use std::alloc::Global;
 use std::marker::Model;
 
-/// Allocates the batches of a window, each by a stage of its own kind. So far two stages take turns, one batch after the
-/// other, on the caller's thread.
+// Room in each edge for twice the longest list, in pieces of 64 items.
+const ROOM: u32 = 2048;
+
+/// Allocates the batches of a window, each by a stage of its own, which the workers of a ring hand the list on to. So far the
+/// ring is played on the caller's thread.
 #[derive(Drop)]
 pub struct Ring {
-    batches: u16,
-    b: u8,
-    endpoints: u16,
-    stages: Stages,
+    core: RingCore,
     picked: Picked,
 }
 
 impl Model for Ring {
-    ghost use Rattle.std.specs.Prelude.{◌≡◌, ◌<◌, ◌≤◌, false};
-    ghost use Rattle.alloc_pipeline.specs.Stages.{AreFor};
+    ghost use Rattle.std.specs.Prelude.{◌≡◌, ◌<◌, ◌≤◌};
+    ghost use Rattle.ring_core.specs.Cores.{IsRing};
     ghost use Rattle.alloc_pipeline.specs.Picked.{HasRoomFor};
     ghost use Rattle.alloc_pipeline.specs.Ring.{RingWork};
 
     ghost Value = { RingWork };
 
-    ghost view = { λ r. record { endpoints = r.endpoints; batches = r.batches; b = r.b } };
+    ghost view = { λ r. record { endpoints = r.core.endpoints; batches = r.core.batches; b = r.core.b } };
 
-    ghost invariant = { λ r. AreFor r.endpoints r.b r.stages × (r.stages.holds ≡ false) × HasRoomFor r.endpoints r.picked × ((0 < r.b) × (r.b ≤ 64)) × (r.batches ≤ 16) };
+    ghost invariant = { λ r. IsRing r.core × HasRoomFor r.core.endpoints r.picked × (r.core.endpoints ≤ 256) × ((0 < r.core.b) × (r.core.b ≤ 64)) × (r.core.batches ≤ 16) × (r.core.room ≡ 2048) };
 }
 
 impl Ring {
-    /// For so many workers (1 to 16), endpoints, batches a window (1 to 16) and slots a batch (1 to 64). The workers' number
-    /// is not used yet.
+    /// For so many workers (1 to 16), endpoints, batches a window (1 to 16) and slots a batch (1 to 64).
     pub fn open(
         alloc: Global,
         workers: u16,
@@ -49,22 +49,18 @@ impl Ring {
         batches: u16,
         b: u8,
     ) -> Result<Ring, NoMemory>
-        requires sizes { IsRing workers endpoints batches b }
+        requires sizes { MayBeOpened workers endpoints batches b }
         ensures { IfOk result (λ ring. ring ≡ record { endpoints = endpoints; batches = batches; b = b }) }
     {
-        let _ = workers;
         Ok(Ring {
-            batches,
-            b,
-            endpoints,
-            stages: Stages::open(alloc, endpoints, b)?,
+            core: RingCore::open(alloc, workers, endpoints, batches, b, ROOM)?,
             picked: Picked::open(alloc, endpoints)?,
         })
     }
 
     /// Gives the batches their slots, the first of number `first_batch`, each applied to the list that the one before it
     /// left: slot i of the batch at place s, both counted from 0, stands at place `s * b + i` of `out`, and no other place is
-    /// filled. Takes no memory. `rt` and the gate are for workers, and not used yet.
+    /// filled. Takes no memory. `rt` and the gate are for threads, and not used yet.
     pub fn allocate<R: Sync, G: Gate + Sync>(
         &mut self,
         rt: &R,
@@ -91,12 +87,11 @@ impl Ring {
         let _ = rt;
         let _ = gate;
         allocate_window(
-            &mut self.stages,
+            &mut self.core,
             &mut self.picked,
             list,
             first_batch,
             batches,
-            self.b,
             out,
         );
     }
@@ -104,31 +99,32 @@ impl Ring {
 
 /// The batches over what of the list may change, where that is little of it, and else over the whole list.
 fn allocate_window(
-    stages: &mut Stages,
+    core: &mut RingCore,
     picked: &mut Picked,
     list: &mut DemandList,
     first_batch: u32,
     batches: &[Batch],
-    b: u8,
     out: &mut SlotTable,
 )
-    requires b { (0 < b) × (b ≤ 64) }
-    requires count { length batches.now ≤ 16 }
-    requires sizes { AreFor out.old.endpoints b stages.old }
-    requires none { stages.old.holds ≡ false }
-    requires memory { HasRoomFor out.old.endpoints picked.old }
-    requires may { MayBeApplied out.old.endpoints b first_batch list.old.items batches.now }
-    requires before { IsListBefore (first_slot b first_batch) list.old.items }
-    requires numbers { first_slot b (first_batch + length batches.now) ≤ 2 ^ 32 }
-    requires room { length (rest_from b first_batch list.old.items batches.now) ≤ length list.old.items + list.old.spare }
-    requires places { length batches.now * b ≤ length out.old.slots }
-    ensures sizes { AreFor out.old.endpoints b stages.new }
-    ensures none { stages.new.holds ≡ false }
-    ensures memory { HasRoomFor out.old.endpoints picked.new }
-    ensures list { list.new.items ≡ rest_from b first_batch list.old.items batches.now }
+    requires ring { IsRing core.old }
+    requires endpoints { core.old.endpoints ≤ 256 }
+    requires some_slots { 0 < core.old.b }
+    requires wide { 2048 ≤ core.old.room }
+    requires count { length batches.now ≤ core.old.batches }
+    requires memory { HasRoomFor core.old.endpoints picked.old }
+    requires may { MayBeApplied core.old.endpoints core.old.b first_batch list.old.items batches.now }
+    requires before { IsListBefore (first_slot core.old.b first_batch) list.old.items }
+    requires numbers { first_slot core.old.b (first_batch + length batches.now) ≤ 2 ^ 32 }
+    requires room { length (rest_from core.old.b first_batch list.old.items batches.now) ≤ length list.old.items + list.old.spare }
+    requires serves { out.old.endpoints ≡ core.old.endpoints }
+    requires places { length batches.now * core.old.b ≤ length out.old.slots }
+    ensures ring { IsRing core.new }
+    ensures same { IsSameRing core.old core.new }
+    ensures memory { HasRoomFor core.old.endpoints picked.new }
+    ensures list { list.new.items ≡ rest_from core.old.b first_batch list.old.items batches.now }
     ensures spare { length list.new.items + list.new.spare ≡ length list.old.items + list.old.spare }
-    ensures next { IsListBefore (first_slot b (first_batch + length batches.now)) list.new.items }
-    ensures slots { out.new.slots ≡ schedule_from b first_batch list.old.items batches.now ++ replicate (length out.old.slots - length batches.now * b) [] }
+    ensures next { IsListBefore (first_slot core.old.b (first_batch + length batches.now)) list.new.items }
+    ensures slots { out.new.slots ≡ schedule_from core.old.b first_batch list.old.items batches.now ++ replicate (length out.old.slots - length batches.now * core.old.b) [] }
     ensures endpoints { out.new.endpoints ≡ out.old.endpoints }
 {
     if batches.is_empty() {
@@ -138,53 +134,130 @@ fn allocate_window(
     every_batch_leaves_a_list();
     flows_fit_pairs();
     if !picked.pick(list.items(), batches) {
-        allocate_batches(stages, list, first_batch, batches, b, out);
+        allocate_runs(core, list, first_batch, batches, out);
         return;
     }
     items_may_be_set_aside();
-    allocate_batches(stages, &mut picked.items, first_batch, batches, b, out);
+    allocate_runs(core, &mut picked.items, first_batch, batches, out);
     picked.weave_into(list);
 }
 
-/// The batches one after the other, by the stages in turn.
-fn allocate_batches(
-    stages: &mut Stages,
+/// Gives the batches of a window their slots, run by run.
+fn allocate_runs(
+    core: &mut RingCore,
     list: &mut DemandList,
     first_batch: u32,
     batches: &[Batch],
-    b: u8,
     out: &mut SlotTable,
 )
-    requires b { (0 < b) × (b ≤ 64) }
-    requires count { length batches.now ≤ 16 }
-    requires sizes { AreFor out.old.endpoints b stages.old }
-    requires none { stages.old.holds ≡ false }
-    requires may { MayBeApplied out.old.endpoints b first_batch list.old.items batches.now }
-    requires before { IsListBefore (first_slot b first_batch) list.old.items }
-    requires numbers { first_slot b (first_batch + length batches.now) ≤ 2 ^ 32 }
-    requires room { length (rest_from b first_batch list.old.items batches.now) ≤ length list.old.items + list.old.spare }
-    requires places { length batches.now * b ≤ length out.old.slots }
-    ensures sizes { AreFor out.old.endpoints b stages.new }
-    ensures none { stages.new.holds ≡ false }
-    ensures list { list.new.items ≡ rest_from b first_batch list.old.items batches.now }
+    requires ring { IsRing core.old }
+    requires endpoints { core.old.endpoints ≤ 256 }
+    requires some_slots { 0 < core.old.b }
+    requires wide { 2048 ≤ core.old.room }
+    requires count { length batches.now ≤ core.old.batches }
+    requires may { MayBeApplied core.old.endpoints core.old.b first_batch list.old.items batches.now }
+    requires before { IsListBefore (first_slot core.old.b first_batch) list.old.items }
+    requires numbers { first_slot core.old.b (first_batch + length batches.now) ≤ 2 ^ 32 }
+    requires room { length (rest_from core.old.b first_batch list.old.items batches.now) ≤ length list.old.items + list.old.spare }
+    requires serves { out.old.endpoints ≡ core.old.endpoints }
+    requires places { length batches.now * core.old.b ≤ length out.old.slots }
+    ensures ring { IsRing core.new }
+    ensures same { IsSameRing core.old core.new }
+    ensures list { list.new.items ≡ rest_from core.old.b first_batch list.old.items batches.now }
     ensures spare { length list.new.items + list.new.spare ≡ length list.old.items + list.old.spare }
-    ensures next { IsListBefore (first_slot b (first_batch + length batches.now)) list.new.items }
-    ensures slots { out.new.slots ≡ schedule_from b first_batch list.old.items batches.now ++ replicate (length out.old.slots - length batches.now * b) [] }
+    ensures slots { out.new.slots ≡ schedule_from core.old.b first_batch list.old.items batches.now ++ replicate (length out.old.slots - length batches.now * core.old.b) [] }
     ensures endpoints { out.new.endpoints ≡ out.old.endpoints }
 {
     every_batch_leaves_a_list();
     schedules_go_on();
     out.clear();
-    for place in 0..batches.len() {
-        let number = first_batch + place as u32;
-        stages.allocate(
+    let mut served = 0;
+    while served < batches.len() {
+        served += allocate_run(
+            core,
+            served as u16,
             list,
-            &batches[place],
-            place as u32,
-            number * u32::from(b) + 1,
-            place as u16 * u16::from(b),
+            first_batch + served as u32,
+            &batches[served..],
             out,
         );
     }
-    stages.give(list);
+}
+
+/// Gives the first of these batches their slots, behind those of so many batches that came before, and answers how many they
+/// are: all at the front that change nothing, which are passed over, or else a run that is played.
+fn allocate_run(
+    core: &mut RingCore,
+    passed: u16,
+    list: &mut DemandList,
+    first_batch: u32,
+    batches: &[Batch],
+    out: &mut SlotTable,
+) -> usize
+    requires ring { IsRing core.old }
+    requires endpoints { core.old.endpoints ≤ 256 }
+    requires wide { 2048 ≤ core.old.room }
+    requires some { 0 < length batches.now }
+    requires count { length batches.now ≤ core.old.batches }
+    requires may { MayBeApplied core.old.endpoints core.old.b first_batch list.old.items batches.now }
+    requires before { IsListBefore (first_slot core.old.b first_batch) list.old.items }
+    requires numbers { first_slot core.old.b (first_batch + length batches.now) ≤ 2 ^ 32 }
+    requires room { length (rest_from core.old.b first_batch list.old.items batches.now) ≤ length list.old.items + list.old.spare }
+    requires serves { out.old.endpoints ≡ core.old.endpoints }
+    requires places { (passed + length batches.now) * core.old.b ≤ length out.old.slots }
+    requires empty { drop (passed * core.old.b) out.old.slots ≡ replicate (length out.old.slots - passed * core.old.b) [] }
+    ensures ring { IsRing core.new }
+    ensures same { IsSameRing core.old core.new }
+    ensures some { 0 < result }
+    ensures count { result ≤ length batches.now }
+    ensures list { list.new.items ≡ rest_from core.old.b first_batch list.old.items (take result batches.now) }
+    ensures spare { length list.new.items + list.new.spare ≡ length list.old.items + list.old.spare }
+    ensures slots { out.new.slots ≡ (take (passed * core.old.b) out.old.slots ++ schedule_from core.old.b first_batch list.old.items (take result batches.now)) ++ replicate (length out.old.slots - (passed + result) * core.old.b) [] }
+    ensures endpoints { out.new.endpoints ≡ out.old.endpoints }
+{
+    every_batch_leaves_a_list();
+    idle_lists_stay();
+    schedules_go_on();
+    let idle = count_idle(list.items(), batches);
+    if idle > 0 {
+        return idle;
+    }
+    let run = count_run(batches);
+    play_behind(core, passed, list, first_batch, &batches[..run], out);
+    run
+}
+
+/// Plays these batches by the ring; their slots stand behind those of so many batches that came before.
+fn play_behind(
+    core: &mut RingCore,
+    passed: u16,
+    list: &mut DemandList,
+    first_batch: u32,
+    batches: &[Batch],
+    out: &mut SlotTable,
+)
+    requires ring { IsRing core.old }
+    requires endpoints { core.old.endpoints ≤ 256 }
+    requires wide { 2048 ≤ core.old.room }
+    requires some { 0 < length batches.now }
+    requires count { length batches.now ≤ core.old.batches }
+    requires may { MayBeApplied core.old.endpoints core.old.b first_batch list.old.items batches.now }
+    requires before { IsListBefore (first_slot core.old.b first_batch) list.old.items }
+    requires numbers { first_slot core.old.b (first_batch + length batches.now) ≤ 2 ^ 32 }
+    requires room { length (rest_from core.old.b first_batch list.old.items batches.now) ≤ length list.old.items + list.old.spare }
+    requires serves { out.old.endpoints ≡ core.old.endpoints }
+    requires places { (passed + length batches.now) * core.old.b ≤ length out.old.slots }
+    requires empty { drop (passed * core.old.b) out.old.slots ≡ replicate (length out.old.slots - passed * core.old.b) [] }
+    ensures ring { IsRing core.new }
+    ensures same { IsSameRing core.old core.new }
+    ensures list { list.new.items ≡ rest_from core.old.b first_batch list.old.items batches.now }
+    ensures spare { length list.new.items + list.new.spare ≡ length list.old.items + list.old.spare }
+    ensures slots { out.new.slots ≡ (take (passed * core.old.b) out.old.slots ++ schedule_from core.old.b first_batch list.old.items batches.now) ++ replicate (length out.old.slots - (passed + length batches.now) * core.old.b) [] }
+    ensures endpoints { out.new.endpoints ≡ out.old.endpoints }
+{
+    flows_fit_pairs();
+    every_window_is_small();
+    core.begin(list, first_batch, batches);
+    let _turns = core.run_out(batches);
+    core.take_behind(passed, list, out);
 }

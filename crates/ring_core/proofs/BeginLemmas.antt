@@ -59,7 +59,7 @@ one_begun endpoints b first batches workers worker at stage stages old new batch
       (subst (λ (s : ℕ). HasBegun endpoints b first batches s new) (stage_is ∙ ap (own_stage workers worker) (sym same)) begun)
 ]
 
-none_fed : (n : ℕ) → nat_le (n / 64 + 1) 0 ≡ false
+pub none_fed : (n : ℕ) → nat_le (n / 64 + 1) 0 ≡ false
 none_fed n = of (n / 64 + 1) 0 (omega arith)
   where
     of : (a b : ℕ) → b < a → nat_le a b ≡ false

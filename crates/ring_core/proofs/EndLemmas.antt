@@ -12,7 +12,7 @@ use Rattle.ring_core.specs.Cores.{IsPlaying, IsFinished, HoldsTheLastList, windo
 use Rattle.ring_core.proofs.StreamLemmas.{own_here, own_not, next_own, after_small, after_last, into_other}
 
 -- where its next stage is no further than the workers' number, none of its own lies before it
-into_back : (window : Window) (worker s d : ℕ) → worker < window.workers → worker_of window.workers s ≡ worker → d < window.workers → d ≤ s → pieces_into window worker s ≡ pieces_into window worker (s - d)
+pub into_back : (window : Window) (worker s d : ℕ) → worker < window.workers → worker_of window.workers s ≡ worker → d < window.workers → d ≤ s → pieces_into window worker s ≡ pieces_into window worker (s - d)
 into_back window worker s zero below own near within = ap (pieces_into window worker) (let q : s ≡ s - 0 = omega arith in q)
 into_back window worker s (suc d) below own near within =
     let here : ℕ = s - suc d in
@@ -24,7 +24,7 @@ into_back window worker s (suc d) below own near within =
     own_not window.workers worker place (suc d) below (omega arith) near (ap (worker_of window.workers) there ∙ own) in
     into_back window worker s d below own (omega (arith, near)) (omega (arith, within)) ∙ (ap (pieces_into window worker) on ∙ into_other window worker here apart)
 
-between_back : {A : Type 0} (xs ys : List A) (n m : ℕ) → n ≡ length xs → m ≡ length (xs ++ ys) → between n m (xs ++ ys) ≡ ys
+pub between_back : {A : Type 0} (xs ys : List A) (n m : ℕ) → n ≡ length xs → m ≡ length (xs ++ ys) → between n m (xs ++ ys) ≡ ys
 between_back [] [] zero zero is all = refl
 between_back [] [] zero (suc m) is all = absurd (omega (arith, all))
 between_back [] (y ∷ ys) zero zero is all = absurd (omega (arith, all))

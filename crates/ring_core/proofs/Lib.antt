@@ -17,3 +17,6 @@ pub mod MoveLemmas
 pub mod TakeLemmas
 pub mod RunLemmas
 pub mod AskLemmas
+pub mod ServeLemmas
+pub mod WholeLemmas
+pub mod LyingLemmas

@@ -17,9 +17,10 @@ use Rattle.ring_core.specs.States.{WorkerState}
 use Rattle.ring_core.specs.Windows.{Window, MayBePlayed, list_before_stage, batch_of, first_slot_in, pieces_before, worker_of, worker_after, is_fed, items_fed, piece_given_next}
 use Rattle.ring_core.specs.Streams.{EdgeInto, pieces_into, edge_stream}
 use Rattle.ring_core.specs.Ends.{Ends, one_sent}
-use Rattle.ring_core.specs.Workers.{own_stage, StageIsAt, HasPlayed}
+use Rattle.ring_core.specs.Workers.{own_stage, StageIsAt, StageHasEnded, HasPlayed}
 use Rattle.ring_core.proofs.WindowLemmas.{one_list_on, list_before, few_pieces}
 use Rattle.ring_core.proofs.StreamLemmas.{own_here, next_own, stream_has, into_step, into_short, row_on}
+use Rattle.ring_core.proofs.BeginLemmas.{ended_slots}
 use Rattle.ring_core.proofs.PlayLemmas.{held_is}
 
 has_of : (has : Bool) (x p : Part) → cond has (Some x) None ≡ Some p → has ≡ true
@@ -244,10 +245,9 @@ module _ (batches : List DemandBatch) (ends : Ends) (w : WorkerState) (fed given
               let same : place ≡ w.place = omega (arith, earlier, here) in
               let stage_is : own_stage w.workers w.number place ≡ w.stage = ap (own_stage w.workers w.number) same ∙ sym played.stage in
               let was = played.present state is.0 (ap (slice_get w.stages) (sym same) ∙ at) in
-              let given_is : cond (is_some w.held) (given + 1) given ≡ pieces_before w_window (w.stage + 1) = ap (λ (o : Option Part). cond (is_some o) (given + 1) given) held ∙ whole in
-              subst (λ (s : ℕ). StageIsAt w.endpoints w_window s (pieces_before w_window s) (pieces_before w_window (s + 1)) state) (sym stage_is)
-              (subst (λ (f : ℕ). StageIsAt w.endpoints w_window w.stage f (pieces_before w_window (w.stage + 1)) state) all
-              (subst (λ (g : ℕ). StageIsAt w.endpoints w_window w.stage fed g state) given_is was))
+              let is_whole = subst (λ (f : ℕ). StageIsAt w.endpoints w_window w.stage f (cond (is_some w.held) (given + 1) given) state) all was in
+              subst (λ (s : ℕ). StageHasEnded w.endpoints w_window s state) (sym stage_is)
+              (record { work = was.work; slots = ended_slots w.endpoints w_window w.stage (cond (is_some w.held) (given + 1) given) state is_whole })
         ];
         present = λ state within at. subst (λ (s : ℕ). StageIsAt w.endpoints w_window s 0 0 state) on (played.later (w.place + 1) state (omega arith) (omega (arith, on, within)) at);
         later = λ place state after within at. played.later place state (omega (arith, after)) within at;

@@ -70,7 +70,7 @@ list_sent (e ∷ es) first count empty some sent (suc number) =
     no_edge sent_of (slice_get es number) refl (λ edge is. (empty (suc number) edge is).2) ∙ sym (ap (λ (b : Bool). cond b count 0) (ne_eqb (suc number) 0 (λ q. omega (arith, q))))
 
 -- the window's list is the front of the stream into worker 0
-front_of : (window : Window) (worker d s : ℕ) → (rest : List Part) × (pieces_into window worker (s + d) ≡ pieces_into window worker s ++ rest)
+pub front_of : (window : Window) (worker d s : ℕ) → (rest : List Part) × (pieces_into window worker (s + d) ≡ pieces_into window worker s ++ rest)
 front_of window worker zero s = ([], ap (pieces_into window worker) (let q : s + 0 ≡ s = omega arith in q) ∙ sym (nil_end (pieces_into window worker s)))
   where
     nil_end : (ps : List Part) → ps ++ [] ≡ ps
@@ -84,13 +84,13 @@ front_of window worker (suc d) s =
           ∙ (ap (λ (ps : List Part). ps ++ pieces_at window worker (s + d)) before.1 ∙ append_assoc (pieces_into window worker s) before.0 (pieces_at window worker (s + d))),
     )
 
-between_front : {A : Type 0} (xs ys : List A) (n : ℕ) → n ≡ length xs → between 0 n (xs ++ ys) ≡ xs
+pub between_front : {A : Type 0} (xs ys : List A) (n : ℕ) → n ≡ length xs → between 0 n (xs ++ ys) ≡ xs
 between_front [] ys zero is = refl
 between_front [] ys (suc n) is = absurd (omega (arith, is))
 between_front (x ∷ xs) ys zero is = absurd (omega (arith, is))
 between_front {A} (x ∷ xs) ys (suc n) is = ap (λ (zs : List A). x ∷ zs) (between_front xs ys n (omega (arith, is)))
 
-own_zero : (workers : ℕ) → 0 < workers → worker_of workers 0 ≡ 0
+pub own_zero : (workers : ℕ) → 0 < workers → worker_of workers 0 ≡ 0
 own_zero workers some = ap (worker_of workers) (let q : 0 ≡ 0 * workers + 0 = omega arith in q) ∙ mod-mul-add 0 workers 0 some
 
 holds_first : (window : Window) (edge : EdgeState) → 0 < window.workers → edge.pieces ≡ pieces 0 window.list → edge.taken ≡ 0 → edge.sent ≡ piece_count window.list → Holds (record { window = window; worker = 0 }) edge

@@ -27,7 +27,7 @@ one_list_on window stage below =
     let next : stage + 1 ≡ suc stage = omega arith in
     ap (list_after window.b window.first_batch window.list window.batches) next ∙ after_one window.b window.first_batch window.list window.batches stage below
 
-first_list : (window : Window) → list_before_stage window 0 ≡ window.list
+pub first_list : (window : Window) → list_before_stage window 0 ≡ window.list
 unfolding list_before_stage
 first_list window = refl
 
@@ -61,6 +61,21 @@ module _ (endpoints : ℕ) (window : Window) (may : MayBePlayed endpoints window
       let all : length list + length (opened batch.entries) ≤ endpoints * endpoints = pairs endpoints batch.entries list applies.rises applies.opens applies.once applies.below in
       let most : endpoints * endpoints ≤ 256 * 256 = mul-le endpoints endpoints 256 256 may.few_endpoints may.few_endpoints in
       omega (arith, long, keeps (is_barred batch.limits) (first_slot_in window stage) window.b batch.entries list, all, most)
+
+  -- no more than there are pairs of endpoints
+  pub few_before : FlowsFitPairs → (stage : ℕ) → stage < length window.batches → length (list_before_stage window stage) ≤ endpoints * endpoints
+  few_before pairs stage below =
+      let applies = may.applies stage below in
+      let all = pairs endpoints (batch_of window stage).entries (list_before_stage window stage) applies.rises applies.opens applies.once applies.below in
+      omega (arith, all)
+
+  pub few_after : EveryBatchKeepsItsFlows → FlowsFitPairs → (stage : ℕ) → stage < length window.batches → length (list_before_stage window (stage + 1)) ≤ endpoints * endpoints
+  few_after keeps pairs stage below =
+      let applies = may.applies stage below in
+      let batch : DemandBatch = batch_of window stage in
+      let list : List Item = list_before_stage window stage in
+      let all = pairs endpoints batch.entries list applies.rises applies.opens applies.once applies.below in
+      omega (arith, ap length (one_list_on window stage below), keeps (is_barred batch.limits) (first_slot_in window stage) window.b batch.entries list, all)
 
   pub few_pieces : EveryBatchKeepsItsFlows → FlowsFitPairs → (stage : ℕ) → stage ≤ length window.batches → pieces_before window stage ≤ 1024
   few_pieces keeps pairs stage within = let few = few_items keeps pairs stage within in omega (arith, few)

@@ -10,7 +10,7 @@ use Rattle.ring_core.specs.Streams.{pieces_at}
 use Rattle.ring_core.specs.Ends.{Ends}
 use Rattle.ring_core.specs.Workers.{IsWorker, Plays}
 use Rattle.ring_core.specs.Turns.{Answers, piece_to_push}
-use Rattle.ring_core.specs.Edges.{AllHold, StreamsAreShort, OthersStay, IsFoundEmpty, IsFoundFull, room_at, taken_at, sent_at, sum_below, ends_between}
+use Rattle.ring_core.specs.Edges.{AllHold, StreamsAreShort, OthersStay, IsFoundEmpty, IsFoundFull, room_at, taken_at, sent_at, ends_between}
 
 -- the worker of this number among so many, for windows of at most so many batches of b slots
 pub record IsCrewed (workers endpoints batches b number : ℕ) (worker : WorkerState) : Type 0 where
@@ -79,10 +79,6 @@ pub record OthersWait (number : ℕ) (old new : RingState) : Type 0 where
 pub record HasJustBegun (core : RingState) : Type 0 where
   pub none_taken : (number : ℕ) → taken_at core.edges number ≡ 0
   pub list_sent : (number : ℕ) → sent_at core.edges number ≡ (if number == 0 then piece_count core.list else 0)
-
--- how many pieces were taken and sent, on all edges together
-abbrev pub positions : RingState → ℕ
-positions core = sum_below (taken_at core.edges) core.workers + sum_below (sent_at core.edges) core.workers
 
 -- every stage of the window has ended
 abbrev pub IsFinished : RingState → Type 0

@@ -72,11 +72,6 @@ sent_at edges number = sent_of (slice_get edges number)
 abbrev pub room_at : List EdgeState → ℕ → ℕ
 room_at edges number = room_of (slice_get edges number)
 
--- the sum over the numbers below another
-abbrev pub sum_below : (ℕ → ℕ) → ℕ → ℕ
-sum_below f zero = 0
-sum_below f (suc n) = sum_below f n + f n
-
 -- the two ends of a worker that pops from one of the edges and pushes to another
 abbrev pub ends_between : Window → List EdgeState → ℕ → ℕ → Ends
 ends_between window edges before after =

@@ -8,3 +8,4 @@ pub mod Workers
 pub mod Turns
 pub mod Edges
 pub mod Cores
+pub mod Wholes

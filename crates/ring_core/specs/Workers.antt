@@ -3,9 +3,9 @@ use Rattle.std.specs.Prelude.{◌≡◌, ◌<◌, ◌≤◌, ℕ, ◌+◌, ◌*�
 use Rattle.greedy_rules.specs.Batches.{DemandBatch}
 use Rattle.greedy_rules.specs.Demands.{AreBelow, opened}
 use Rattle.greedy_rules.specs.Schedule.{first_slot}
-use Rattle.slot_batches.specs.Stands.{StageState, IsSameWork, Stands, endpoints_of, batch_size_of}
+use Rattle.slot_batches.specs.Stands.{StageState, IsSameWork, Stands, endpoints_of, batch_size_of, slots_of}
 use Rattle.ring_core.specs.States.{WorkerState}
-use Rattle.ring_core.specs.Windows.{Window, MayBePlayed, batch_at, batch_of, first_slot_in, pieces_before, worker_after, is_fed, items_fed, piece_given_next}
+use Rattle.ring_core.specs.Windows.{Window, MayBePlayed, batch_at, batch_of, first_slot_in, pieces_before, slots_in, worker_after, is_fed, items_fed, piece_given_next}
 use Rattle.ring_core.specs.Streams.{pieces_into}
 use Rattle.ring_core.specs.Ends.{Ends}
 
@@ -17,6 +17,11 @@ own_stage workers worker place = place * workers + worker
 pub record StageIsAt (endpoints : ℕ) (window : Window) (stage fed given : ℕ) (state : StageState) : Type 0 where
   pub work : IsSameWork endpoints window.b (stage + 1) (first_slot_in window stage) state
   pub stands : Stands (batch_of window stage) (items_fed window stage fed) (is_fed window stage fed) given state
+
+-- the stage has ended: its slots are those of its batch
+pub record StageHasEnded (endpoints : ℕ) (window : Window) (stage : ℕ) (state : StageState) : Type 0 where
+  pub work : IsSameWork endpoints window.b (stage + 1) (first_slot_in window stage) state
+  pub slots : slots_of state ≡ slots_in window stage
 
 -- the worker has its stages: each of its number of slots a batch, and one for each of its own batches
 pub record IsWorker (worker : WorkerState) : Type 0 where
@@ -85,8 +90,7 @@ pub record HasPlayed (batches : List DemandBatch) (ends : Ends) (worker : Worker
   pub held : IfSome worker.held (λ part. (worker.stage < length batches) × (piece_given_next ends.before.window worker.stage fed given ≡ Some part))
   pub past : length batches ≤ worker.stage → (fed ≡ 0) × (given ≡ 0)
   pub ended : (place : ℕ) (state : StageState) → place < worker.place → slice_get worker.stages place ≡ Some state
-      → StageIsAt worker.endpoints ends.before.window (own_stage worker.workers worker.number place) (pieces_before ends.before.window (own_stage worker.workers worker.number place))
-      (pieces_before ends.before.window (own_stage worker.workers worker.number place + 1)) state
+      → StageHasEnded worker.endpoints ends.before.window (own_stage worker.workers worker.number place) state
   pub present : (state : StageState) → worker.stage < length batches → slice_get worker.stages worker.place ≡ Some state
       → StageIsAt worker.endpoints ends.before.window worker.stage fed (given_by worker given) state
   pub later : (place : ℕ) (state : StageState) → worker.place < place → own_stage worker.workers worker.number place < length batches → slice_get worker.stages place ≡ Some state

@@ -139,14 +139,14 @@ impl Edge {
     }
 
     /// Sends a piece of these items, which are copied to where it is to lie.
-    pub(crate) fn send(&mut self, from: u32, items: &[Item], end: bool)
+    pub(crate) fn send(&mut self, stage: u32, from: u32, items: &[Item], end: bool)
         requires items { length items.now ≤ 64 }
         requires place { length self.old.pieces < self.old.room }
         requires sent { self.old.sent + 1 < 2 ^ 32 }
-        ensures { IsOneSent (record { stage = 0; from = from; items = items.now; end = end }) self.old self.new }
+        ensures { IsOneSent (record { stage = stage; from = from; items = items.now; end = end }) self.old self.new }
     {
         let behind = place_behind(self.places.len(), self.first, self.len);
-        self.places[behind].fill(0, from, items, end);
+        self.places[behind].fill(stage, from, items, end);
         self.len += 1;
         self.sent += 1;
     }
@@ -202,11 +202,17 @@ impl Edge {
         self.first = place_behind(self.places.len(), self.first, 1);
     }
 
-    /// How many pieces wait, by its positions.
-    pub(crate) fn waiting(&self) -> u32
-        ensures { result ≡ self.now.sent - self.now.taken }
+    /// A list of so many pieces goes through it whole.
+    pub(crate) fn pass(&mut self, pieces: u32)
+        requires taken { self.old.taken + pieces < 2 ^ 32 }
+        requires sent { self.old.sent + pieces < 2 ^ 32 }
+        ensures pieces { self.new.pieces ≡ self.old.pieces }
+        ensures taken { self.new.taken ≡ self.old.taken + pieces }
+        ensures sent { self.new.sent ≡ self.old.sent + pieces }
+        ensures room { self.new.room ≡ self.old.room }
     {
-        self.sent.saturating_sub(self.taken)
+        self.taken += pieces;
+        self.sent += pieces;
     }
 
     /// Whether it can hold one more piece.

@@ -6,6 +6,7 @@ mod laws;
 mod link;
 mod ring;
 mod turn;
+mod whole;
 mod worker;
 
 pub use laws::{every_window_is_small, small_windows};

@@ -5,27 +5,25 @@ ghost use Rattle.greedy_rules.specs.Schedule.{first_slot, schedule_from, rest_fr
 ghost use Rattle.slot_batches.specs.NextList.{IsListBefore};
 ghost use Rattle.slot_batches.specs.Pieces.{part_of, piece_count, piece_at, pieces};
 ghost use Rattle.ring_core.specs.States.{EdgeState, WorkerState};
-ghost use Rattle.ring_core.specs.Windows.{window_of, turns_of, worker_after};
+ghost use Rattle.ring_core.specs.Windows.{Window, window_of, turns_of, worker_after};
 ghost use Rattle.ring_core.specs.Workers.{Plays, IsWorker, MayBegin, HasBegunWith, IsSameWorker};
 ghost use Rattle.ring_core.specs.declared.turn.Turn.TheVariants.{Moved};
 ghost use Rattle.ring_core.specs.Streams.{items_of};
 ghost use Rattle.ring_core.specs.Turns.{Answers};
 ghost use Rattle.ring_core.specs.Edges.{room_at, AllHold, StreamsAreShort, OthersStay, IsFoundEmpty, IsFoundFull, ends_between};
-ghost use Rattle.ring_core.specs.Cores.{IsRing, IsSameRing, IsFinished, IsGoing, HoldsTheLastList, HasJustBegun, HasRoomForTwo, AreCrewed, IsPlaying, AnswersIn, CanMove, OthersWait, window_in, positions};
+ghost use Rattle.ring_core.specs.Wholes.{room_for, StandsBefore};
+ghost use Rattle.ring_core.specs.Cores.{IsRing, IsSameRing, IsFinished, IsGoing, HoldsTheLastList, HasJustBegun, HasRoomForTwo, AreCrewed, IsPlaying, AnswersIn, CanMove, OthersWait, window_in};
 
 use crate::edge::{Edge, ListLink};
 use crate::turn::Turn;
-use crate::worker::Worker;
+use crate::whole::Whole;
+use crate::worker::{Worker, count_pieces};
 use greedy_rules::{Batch, DemandList, SlotTable, flows_fit_pairs};
 use no_memory::NoMemory;
 use slot_batches::{early_pieces_are_of_the_list, every_batch_leaves_a_list};
 use std::alloc::Global;
 use std::marker::Model;
 use std::snapshot::Snapshot;
-
-// After so many pieces the worker after goes on, where as many still wait for this one: what a stage looks at stays in the nearest
-// cache while it is fed these, and so do the pieces; and an edge into a worker that keeps up is emptied every time.
-const PIECES_IN_A_ROW: u32 = 16;
 
 /// A ring of workers over edges of fixed room, of which any may take the next turn.
 #[derive(Drop)]
@@ -39,16 +37,22 @@ pub struct RingCore {
     list: Snapshot<DemandList>,
     first_batch: u32,
     stages: usize,
+    // A list that lies whole; contracts see its pieces among those of the edges.
+    whole: Whole,
     edges: Vec<Edge>,
     crew: Vec<Worker>,
 }
 
 impl Model for RingCore {
+    ghost use Rattle.std.specs.Prelude.{◌≤◌, ◌*◌};
     ghost use Rattle.ring_core.specs.States.{RingState};
+    ghost use Rattle.ring_core.specs.Wholes.{with_list, room_for, MayBeSent};
 
     ghost Value = { RingState };
 
-    ghost view = { λ r. record { workers = r.workers; endpoints = r.endpoints; batches = r.batches; b = r.b; room = r.room; list = r.list.value.items; first_batch = r.first_batch; stages = r.stages; edges = r.edges.items; crew = r.crew.items } };
+    ghost view = { λ r. record { workers = r.workers; endpoints = r.endpoints; batches = r.batches; b = r.b; room = r.room; list = r.list.value.items; first_batch = r.first_batch; stages = r.stages; edges = with_list r.whole.stage r.workers r.whole.list.items r.edges.items; crew = r.crew.items } };
+
+    ghost invariant = { λ r. (r.endpoints * r.endpoints ≤ room_for r.whole.list) × (r.endpoints * r.endpoints ≤ room_for r.whole.left) × MayBeSent r.whole.stage r.workers r.whole.list.items r.edges.items };
 }
 
 impl RingCore {
@@ -73,6 +77,7 @@ impl RingCore {
         ensures room { IfOk result (λ core. core.room ≡ room) }
     {
         let none = DemandList::open(alloc, 0)?;
+        let whole = Whole::open(alloc, endpoints)?;
         let edges = open_edges(alloc, workers, room)?;
         let crew = open_crew(alloc, workers, endpoints, batches, b)?;
         Ok(RingCore {
@@ -84,6 +89,7 @@ impl RingCore {
             list: Snapshot::of(&none),
             first_batch: 0,
             stages: 0,
+            whole,
             edges,
             crew,
         })
@@ -112,7 +118,7 @@ impl RingCore {
         self.first_batch = first_batch;
         self.stages = batches.len();
         empty_edges(&mut self.edges);
-        let pieces = give_list(&mut self.edges[0], list);
+        let pieces = self.whole.take_over(list, &mut self.edges);
         begin_crew(&mut self.crew, first_batch, batches, pieces);
         list.clear();
     }
@@ -143,6 +149,7 @@ impl RingCore {
     {
         let before = worker as usize;
         let after = self.worker_after(worker) as usize;
+        self.whole.send(self.workers, &mut self.edges);
         turn_at(
             &mut self.crew[before],
             &self.list,
@@ -172,8 +179,9 @@ impl RingCore {
         least
     }
 
-    /// Plays the window to its end, each turn that of a worker that can move, and answers how many turns these were: as many as
-    /// the stages take up and give pieces.
+    /// Plays the window to its end, stage after stage: the worker of each takes all pieces of its list in a row, and hands on all
+    /// of those that it leaves, as so many turns would. Answers how many turns these are: as many as the stages take up and give
+    /// pieces.
     pub fn run_out(&mut self, batches: &[Batch]) -> u64
         requires playing { IsPlaying batches.now self.old }
         requires begun { HasJustBegun self.old }
@@ -186,74 +194,14 @@ impl RingCore {
     {
         every_batch_leaves_a_list();
         flows_fit_pairs();
-        let mut turns = 0;
-        let mut worker = 0;
-        while let Some(next) = self.move_one(batches, worker) {
-            worker = next;
-            turns += 1;
+        if self.stages == 0 {
+            return 0;
         }
+        self.whole.lift(&mut self.edges[0]);
+        empty_edges(&mut self.edges);
+        let turns = play_stages(&mut self.crew, &mut self.edges, &mut self.whole, batches);
+        self.whole.stage = Some(self.stages as u32);
         turns
-    }
-
-    /// Moves a piece, by a turn of this worker or of the one after it where one of them can move, and else by one of a movable one;
-    /// answers the worker to go on with. None where every stage has ended.
-    fn move_one(&mut self, batches: &[Batch], worker: u16) -> Option<u16>
-        requires playing { IsPlaying batches.now self.old }
-        requires worker { worker < self.old.workers }
-        requires room { HasRoomForTwo batches.now self.old }
-        ensures playing { IsPlaying batches.now self.new }
-        ensures window { window_in batches.now self.new ≡ window_in batches.now self.old }
-        ensures same { IsSameRing self.old self.new }
-        ensures next { MatchOption result
-            (IsFinished self.new × (positions self.new ≡ positions self.old))
-            (λ next. (next < self.old.workers) × (positions self.new ≡ positions self.old + 1)) }
-    {
-        if let Some(next) = self.move_by(batches, worker) {
-            return Some(next);
-        }
-        let after = self.worker_after(worker);
-        if let Some(next) = self.move_by(batches, after) {
-            return Some(next);
-        }
-        if self.finished() {
-            return None;
-        }
-        let least = self.movable();
-        self.move_by(batches, least)
-    }
-
-    /// A turn of this worker; answers the worker to go on with. None where it could not move.
-    fn move_by(&mut self, batches: &[Batch], worker: u16) -> Option<u16>
-        requires playing { IsPlaying batches.now self.old }
-        requires worker { worker < self.old.workers }
-        ensures playing { IsPlaying batches.now self.new }
-        ensures window { window_in batches.now self.new ≡ window_in batches.now self.old }
-        ensures same { IsSameRing self.old self.new }
-        ensures next { MatchOption result
-            ((CanMove batches.now self.old worker → ⊥) × (positions self.new ≡ positions self.old))
-            (λ next. (next < self.old.workers) × (positions self.new ≡ positions self.old + 1)) }
-    {
-        let sent = self.crew[worker as usize].sent();
-        let Turn::Moved = self.step(batches, worker) else {
-            return None;
-        };
-        Some(self.goes_on(worker, sent))
-    }
-
-    /// The worker to go on with after a turn of this one, before which it had sent so many pieces: the one after it, where it
-    /// sent the last of sixteen and as many still wait for it, and else the same one.
-    fn goes_on(&self, worker: u16, before: u32) -> u16
-        requires ring { IsRing self.now }
-        requires worker { worker < self.now.workers }
-        ensures { result < self.now.workers }
-    {
-        let sent = self.crew[worker as usize].sent();
-        let waiting = self.edges[worker as usize].waiting();
-        if sent > before && sent % PIECES_IN_A_ROW == 0 && waiting >= PIECES_IN_A_ROW {
-            self.worker_after(worker)
-        } else {
-            worker
-        }
     }
 
     /// The worker after this one.
@@ -306,9 +254,8 @@ impl RingCore {
         ensures empty { (number : ℕ) (edge : EdgeState) → slice_get self.new.edges number ≡ Some edge → edge.pieces ≡ [] }
     {
         self.copy_slots(passed, out);
-        list.clear();
         let last = self.stages % self.edges.len();
-        take_list(&mut self.edges[last], list);
+        self.whole.hand_over(&mut self.edges[last], list);
         empty_edges(&mut self.edges);
     }
 
@@ -330,20 +277,6 @@ impl RingCore {
             let place = (passed as usize + stage) * self.b as usize;
             out.copy(worker.slots(stage as u32), place as u16);
         }
-    }
-}
-
-/// Takes all pieces out of an edge, and appends their items to the list.
-fn take_list(edge: &mut Edge, list: &mut DemandList)
-    requires room { length (items_of edge.old.pieces) ≤ list.old.spare }
-    requires counts { edge.old.taken + length edge.old.pieces + 1 < 2 ^ 32 }
-    ensures items { list.new.items ≡ list.old.items ++ items_of edge.old.pieces }
-    ensures spare { length list.new.items + list.new.spare ≡ length list.old.items + list.old.spare }
-    ensures room { edge.new.room ≡ edge.old.room }
-{
-    while let Some(piece) = edge.first() {
-        list.append(&piece.items);
-        edge.drop_first();
     }
 }
 
@@ -390,25 +323,27 @@ fn empty_edges(edges: &mut [Edge])
     }
 }
 
-/// Sends the pieces of the list into an edge that is empty, and answers how many these are.
-fn give_list(edge: &mut Edge, list: &DemandList) -> u32
-    requires few { length list.now.items ≤ 65536 }
-    requires empty { (edge.old.pieces ≡ []) × (edge.old.taken ≡ 0) × (edge.old.sent ≡ 0) }
-    requires room { piece_count list.now.items ≤ edge.old.room }
-    ensures pieces { edge.new.pieces ≡ pieces 0 list.now.items }
-    ensures taken { edge.new.taken ≡ 0 }
-    ensures sent { edge.new.sent ≡ piece_count list.now.items }
-    ensures room { edge.new.room ≡ edge.old.room }
-    ensures count { result ≡ piece_count list.now.items }
+/// Plays every stage, each at once, and answers how many pieces they took up and gave. The list that is left lies whole.
+fn play_stages(crew: &mut [Worker], edges: &mut [Edge], whole: &mut Whole, batches: &[Batch]) -> u64
+    requires stands { (endpoints most : ℕ) × (window : Window) × StandsBefore endpoints most batches.now window 0 crew.old edges.old whole.old.list.items × (endpoints * endpoints ≤ room_for whole.old.list) × (endpoints * endpoints ≤ room_for whole.old.left) × StreamsAreShort window }
+    ensures stands { (endpoints most : ℕ) (window : Window) →
+        StandsBefore endpoints most batches.now window 0 crew.old edges.old whole.old.list.items →
+        StandsBefore endpoints most batches.now window (length batches.now) crew.new edges.new whole.new.list.items × (result ≡ turns_of window) }
+    ensures rooms { (number : ℕ) → room_at edges.new number ≡ room_at edges.old number }
+    ensures list { (pairs : ℕ) → pairs ≤ room_for whole.old.list → pairs ≤ room_for whole.old.left → (pairs ≤ room_for whole.new.list) × (pairs ≤ room_for whole.new.left) }
 {
-    let items = list.items();
-    let count = items.len().saturating_sub(1) / 64 + 1;
-    for place in 0..count {
-        let from = place * 64;
-        let end = items.len() <= from + 64;
-        edge.send(from as u32, &items[from..items.len().min(from + 64)], end);
+    every_batch_leaves_a_list();
+    flows_fit_pairs();
+    let mut turns = 0;
+    for stage in 0..batches.len() {
+        let number = stage % crew.len();
+        let taken = count_pieces(whole.list.items());
+        edges[number].pass(taken);
+        whole.serve(&mut crew[number], batches);
+        let sent = count_pieces(whole.list.items());
+        turns += u64::from(taken) + u64::from(sent);
     }
-    count as u32
+    turns
 }
 
 /// Begins the window with every worker; `pieces` were sent into the edge into worker 0, which is the last one's.

@@ -1,18 +1,18 @@
-ghost use Rattle.std.specs.Prelude.{◌≡◌, ◌<◌, ◌≤◌, ◌+◌, ◌*◌, ◌^◌, ℕ, List, ◌++◌, length, false, None, Some, IfOk, option_map, All, nat_le, nat_lt, if◌then◌else◌};
-ghost use Rattle.greedy_rules.specs.declared.flows.Item.{Item};
+ghost use Rattle.std.specs.Prelude.{◌≡◌, ◌<◌, ◌≤◌, ◌+◌, ◌*◌, ◌^◌, ℕ, List, ◌++◌, [], length, false, None, Some, IfOk, option_map, All, nat_le, nat_lt, if◌then◌else◌};
 ghost use Rattle.greedy_rules.specs.Batches.{DemandBatch, entry_of};
 ghost use Rattle.greedy_rules.specs.Demands.{need_with, AreBelow, opened};
-ghost use Rattle.slot_batches.specs.Pieces.{Part, part_of};
+ghost use Rattle.slot_batches.specs.Pieces.{Part, part_of, piece_count};
 ghost use Rattle.slot_batches.specs.Stands.{endpoints_of, batch_size_of, first_slot_of, number_of, IsSameWork, MayBeFed, Stands};
-ghost use Rattle.ring_core.specs.Windows.{Window, slots_in};
+ghost use Rattle.ring_core.specs.Windows.{Window, list_before_stage, slots_in};
 ghost use Rattle.ring_core.specs.Streams.{IsPieceAt};
 ghost use Rattle.ring_core.specs.Ends.{Ends, one_taken, one_sent};
 ghost use Rattle.ring_core.specs.Workers.{IsWorker, MayBegin, IsWindowOf, first_ends, HaveBegun, Plays, IsAt, IsSameWorker, IsEndedStage};
+ghost use Rattle.ring_core.specs.Wholes.{room_for, StartsStage};
 ghost use Rattle.ring_core.specs.Turns.{piece_to_push, Answers};
 
 use crate::link::Link;
 use crate::turn::Turn;
-use greedy_rules::{Batch, SlotTable, flows_fit_pairs};
+use greedy_rules::{Batch, DemandList, Item, SlotTable, flows_fit_pairs};
 use no_memory::NoMemory;
 use slot_batches::{
     Piece, Stage, early_pieces_are_of_the_list, every_batch_leaves_a_list, lists_may_be_fed,
@@ -138,13 +138,6 @@ impl Worker {
         ensures { result ≡ self.now.taken }
     {
         self.taken
-    }
-
-    /// How many pieces it has sent.
-    pub(crate) fn sent(&self) -> u32
-        ensures { result ≡ self.now.sent }
-    {
-        self.sent
     }
 
     /// Whether it is at an earlier stage than the other.
@@ -317,6 +310,32 @@ impl Worker {
         feed_stage(&mut self.stages[self.place], batch, piece);
     }
 
+    /// Serves the whole list of the present stage at once, of which it has taken nothing, and hands over the list that its batch
+    /// leaves. The next stage follows.
+    pub(crate) fn serve_list(&mut self, batches: &[Batch], items: &[Item], left: &mut DemandList)
+        requires starts { (window : Window) × StartsStage batches.now window self.old × (items.now ≡ list_before_stage window self.old.stage) }
+        requires going { self.old.stage < length batches.now }
+        requires none { left.old.items ≡ [] }
+        requires room { self.old.endpoints * self.old.endpoints ≤ left.old.spare }
+        ensures starts { (window : Window) →
+            StartsStage batches.now window self.old →
+            items.now ≡ list_before_stage window self.old.stage →
+            StartsStage batches.now window self.new × (left.new.items ≡ list_before_stage window (self.old.stage + 1)) }
+        ensures stage { self.new.stage ≡ self.old.stage + self.old.workers }
+        ensures spare { room_for left.new ≡ left.old.spare }
+        ensures worker { IsSameWorker self.old self.new }
+    {
+        lists_may_be_fed();
+        every_batch_leaves_a_list();
+        flows_fit_pairs();
+        let batch = &batches[self.stage as usize];
+        self.stages[self.place].serve_list(batch, items, left);
+        self.taken += count_pieces(items);
+        self.sent += count_pieces(left.items());
+        self.stage += u32::from(self.workers);
+        self.place += 1;
+    }
+
     /// The slots of an own stage that has ended.
     pub fn slots(&self, stage: u32) -> &SlotTable
         requires { (batches : List DemandBatch) × (ends : Ends) × Plays batches ends self.now × IsEndedStage self.now stage }
@@ -373,4 +392,12 @@ fn feed_stage(stage: &mut Stage, batch: &Batch, piece: &Piece)
     if piece.end {
         stage.finish(batch);
     }
+}
+
+/// How many pieces a list of these items has.
+pub(crate) fn count_pieces(items: &[Item]) -> u32
+    requires { length items.now ≤ 65536 }
+    ensures { result ≡ piece_count items.now }
+{
+    (items.len().saturating_sub(1) / 64 + 1) as u32
 }

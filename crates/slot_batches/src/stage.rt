@@ -2,7 +2,7 @@ ghost use Rattle.std.specs.Prelude.{◌≡◌, ◌<◌, ◌≤◌, ◌+◌, ◌^
 ghost use Rattle.greedy_rules.specs.Batches.{DemandBatch, entry_of};
 ghost use Rattle.greedy_rules.specs.Demands.{need_with, AreBelow, opened};
 ghost use Rattle.slot_batches.specs.Stands.{endpoints_of, batch_size_of, first_slot_of, number_of, slots_of, left_to_give, IsSameWork, MayBeFed, Stands};
-ghost use Rattle.slot_batches.specs.Settled.{settled};
+ghost use Rattle.slot_batches.specs.Settled.{settled, slots_filled};
 ghost use Rattle.slot_batches.specs.Pieces.{part_of, next_piece};
 
 use crate::filling::Filling;
@@ -216,6 +216,37 @@ impl Stage {
         ensures stays { self.new ≡ record self.old { fill = record self.old.fill { waiting = self.new.fill.waiting } } }
     {
         give_items(&mut self.filling.waiting, list);
+    }
+
+    /// Serves a whole list at once: it is fed all of it, and hands over the list that the batch leaves, as a list with the room that
+    /// this one had.
+    pub fn serve_list(&mut self, batch: &Batch, items: &[Item], left: &mut DemandList)
+        requires begun { Stands batch.now [] false 0 self.old }
+        requires may { MayBeFed batch.now.entries (endpoints_of self.old) (first_slot_of self.old) items.now }
+        requires needs { All (λ item. need_with (entry_of batch.now.entries item.flow) item.need < 2 ^ 32) items.now }
+        requires none { left.old.items ≡ [] }
+        requires room { length (settled batch.now (first_slot_of self.old) (batch_size_of self.old) items.now true) ≤ left.old.spare }
+        ensures work { IsSameWork (endpoints_of self.old) (batch_size_of self.old) (number_of self.old) (first_slot_of self.old) self.new }
+        ensures slots { slots_of self.new ≡ slots_filled batch.now (first_slot_of self.old) (batch_size_of self.old) items.now true }
+        ensures left { left.new.items ≡ settled batch.now (first_slot_of self.old) (batch_size_of self.old) items.now true }
+        ensures spare { length left.new.items + left.new.spare ≡ left.old.spare }
+    {
+        self.take_room(left);
+        self.feed_items(batch, items);
+        self.finish(batch);
+        self.give(left);
+    }
+
+    /// The items that are to wait will lie in the room of this list, where both lists have as much.
+    fn take_room(&mut self, list: &mut DemandList)
+        requires waiting { self.old.fill.waiting ≡ [] }
+        requires none { list.old.items ≡ [] }
+        ensures same { self.new ≡ self.old }
+        ensures list { list.new ≡ list.old }
+    {
+        if list.room() == self.filling.waiting.capacity() {
+            list.exchange(&mut self.filling.waiting);
+        }
     }
 
     /// The slots of the batch, counted from 0.

@@ -1,4 +1,4 @@
-use Rattle.std.proofs.Common.{◌≡◌, ◌≤◌, ◌<◌, ℕ, All}
+use Rattle.std.proofs.Common.{◌≡◌, ◌≤◌, ℕ, All}
 use Rattle.greedy_rules.specs.Batches.{IsAboveLast}
 use Rattle.ring_core.specs.Examples.{OpensOneSlot}
 use Rattle.ring_core.proofs.tests.asks.Given as goal

@@ -1,10 +1,9 @@
-use Rattle.std.proofs.Common.{◌≡◌, ◌≤◌, ◌+◌, ◌*◌, ℕ, List, [], length, refl, sym, ap, ◌∙◌, subst, arith}
+use Rattle.std.proofs.Common.{◌≡◌, ◌+◌, ◌*◌, List, [], length, sym, ap, ◌∙◌, subst, arith}
 use Rattle.std.proofs.lemmas.List.{length-replicate}
 use Rattle.greedy_rules.specs.declared.flows.Flow.{Flow}
 use Rattle.greedy_rules.specs.Batches.{DemandBatch}
 use Rattle.greedy_rules.specs.Recorded.{AreRecorded}
 use Rattle.greedy_rules.specs.Schedule.{first_slot}
-use Rattle.ring_core.specs.States.{RingState}
 use Rattle.ring_core.specs.Cores.{IsPlaying}
 use Rattle.ring_core.proofs.AskLemmas.{asks_apply, none_before}
 use Rattle.ring_core.proofs.tests.two_workers_take_forty_six_turns.Goals as goal

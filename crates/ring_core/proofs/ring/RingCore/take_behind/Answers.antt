@@ -1,64 +1,114 @@
-use Rattle.std.proofs.Common.{◌≡◌, ◌<◌, ◌%◌, ℕ, List, ◌++◌, length, get_or, Some, slice_get, refl, sym, ap, ◌∙◌, subst, arith, length-set}
+use Rattle.std.proofs.Common.{◌≡◌, ◌≢◌, ◌<◌, ◌≤◌, ◌+◌, ◌%◌, ℕ, List, [], length, get_or, Option, Some, None, slice_get, sym, ap, ◌∙◌, subst, arith, length-set}
 use Rattle.std.specs.Vec.{with_item}
 use Rattle.std.proofs.lemmas.Nat.{mod_below}
 use Rattle.std.proofs.lemmas.Option.{slice_get_read}
-use Rattle.greedy_rules.specs.declared.flows.Item.{Item}
+use Rattle.greedy_rules.specs.Batches.{DemandBatch}
+use Rattle.greedy_rules.specs.Schedule.{rest_from}
 use Rattle.ring_core.specs.contracts.ring.RingCore.{the_view}
+use Rattle.ring_core.specs.declared.whole.Whole.{Whole}
 use Rattle.ring_core.specs.States.{EdgeState, RingState}
-use Rattle.ring_core.specs.Streams.{items_of}
 use Rattle.ring_core.specs.Edges.{room_at, room_of}
-use Rattle.ring_core.specs.Cores.{IsRing}
+use Rattle.ring_core.specs.Cores.{IsRing, IsPlaying, IsFinished, window_in}
+use Rattle.ring_core.specs.Wholes.{with_list}
 use Rattle.ring_core.proofs.BeginLemmas.{written}
 use Rattle.ring_core.proofs.EdgeLemmas.{room_kept}
+use Rattle.ring_core.proofs.EndLemmas.{get_some, last_list}
+use Rattle.ring_core.proofs.StreamLemmas.{at_other}
 use Rattle.ring_core.proofs.TakeLemmas.{last_items, counts_fit, ring_with}
+use Rattle.ring_core.proofs.WholeLemmas.{list_length, list_room}
+use Rattle.ring_core.proofs.LyingLemmas.{lying, counts}
 use Rattle.ring_core.proofs.ring.RingCore.take_behind.Goals as goal
 
--- the edge that the code reads
-edge_here : (core : RingState) (edges : List EdgeState) (len stages n : ℕ) (edge : EdgeState) → IsRing core → edges ≡ core.edges → len ≡ core.workers → stages ≡ n → edge ≡ get_or edges (stages % len) edge → slice_get core.edges (n % core.workers) ≡ Some edge
-edge_here core edges len stages n edge ring same len_is stages_are is =
-    ap (λ (es : List EdgeState). slice_get es (n % core.workers)) (sym same)
-    ∙ slice_get_read edges core.workers (n % core.workers) edge (sym (ap length same ∙ ring.edge_count)) (mod_below n core.workers ring.some_workers) (is ∙ (λ i. get_or edges (stages_are i % len_is i) edge))
+others_empty : (batches : List DemandBatch) (core : RingState) → IsPlaying batches core → IsFinished core → (number : ℕ) (e : EdgeState) → number ≢ length batches % core.workers → slice_get core.edges number ≡ Some e → e.pieces ≡ []
+others_empty batches core playing finished number e other is = last_list batches core playing finished number e is ∙ at_other (window_in batches core) number (length batches) (λ q. other (sym q))
 
-pub take_list-requires-clause-room : goal.take_list-requires-clause-room
-take_list-requires-clause-room c =
-    let core : RingState = c.args.self.now in
+pub hand_over-requires-clause-room : goal.hand_over-requires-clause-room
+hand_over-requires-clause-room c =
     let batches = c.requires.room.0 in
-    let playing = c.requires.room.1 in
-    let edges = ap (λ (v : RingState). v.edges) c.self.view_is in
-    let len : c.len.result ≡ core.workers = omega (arith, c.len.ensures, c.self.inside.edges.ok.0, ap length edges, playing.ring.edge_count) in
-    let here = edge_here core c.self.inside.edges.items c.len.result c.self.inside.stages (length batches) c.index_mut.result.now playing.ring edges len (ap (λ (v : RingState). v.stages) c.self.view_is ∙ playing.stages) c.index_mut.ensures.value in
-    omega (arith, ap length (last_items batches core playing c.requires.finished c.index_mut.result.now here), c.requires.room.2, c.clear.ensures.spare)
+    let core : RingState = the_view c.self.inside in
+    let playing : IsPlaying batches core = subst (IsPlaying c.requires.room.0) (sym c.self.view_is) c.requires.room.1 in
+    let finished : IsFinished core = subst IsFinished (sym c.self.view_is) c.requires.finished in
+    let raw : List EdgeState = c.self.inside.edges.items in
+    let whole = c.self.inside.whole in
+    let count : length raw ≡ core.workers = sym (list_length whole.stage core.workers whole.list.items raw) ∙ playing.ring.edge_count in
+    let len : c.len.result ≡ core.workers = omega (arith, c.len.ensures, c.self.inside.edges.ok.0, count) in
+    let at : ℕ = length batches % core.workers in
+    let within : at < core.workers = mod_below (length batches) core.workers playing.ring.some_workers in
+    let old : EdgeState = c.index_mut.result.now in
+    let old_is : slice_get raw at ≡ Some old = slice_get_read raw core.workers at old (sym count) within (c.index_mut.ensures.value ∙ (λ i. get_or raw (playing.stages i % len i) old)) in
+    let edge = get_some core.edges at (omega (arith, within, playing.ring.edge_count)) in
+    let others = others_empty batches core playing finished in
+    let lies = lying core.workers whole.list.items raw at old edge.0 playing.ring.some_workers count old_is whole.stage others edge.1 in
+    let rest = last_items batches core playing finished edge.0 edge.1 in
+    let fits = subst (λ (v : RingState). length (rest_from v.b v.first_batch v.list batches) ≤ length c.args.list.now.items + c.args.list.now.spare) (sym c.self.view_is) c.requires.room.2 in
+    omega (arith, ap length (lies ∙ rest), fits)
 
-pub take_list-requires-clause-counts : goal.take_list-requires-clause-counts
-take_list-requires-clause-counts c =
-    let core : RingState = c.args.self.now in
+pub hand_over-requires-clause-counts : goal.hand_over-requires-clause-counts
+hand_over-requires-clause-counts c =
     let batches = c.requires.room.0 in
-    let playing = c.requires.room.1 in
-    let edges = ap (λ (v : RingState). v.edges) c.self.view_is in
-    let len : c.len.result ≡ core.workers = omega (arith, c.len.ensures, c.self.inside.edges.ok.0, ap length edges, playing.ring.edge_count) in
-    let here = edge_here core c.self.inside.edges.items c.len.result c.self.inside.stages (length batches) c.index_mut.result.now playing.ring edges len (ap (λ (v : RingState). v.stages) c.self.view_is ∙ playing.stages) c.index_mut.ensures.value in
-    counts_fit batches core playing (length batches % core.workers) c.index_mut.result.now here
+    let core : RingState = the_view c.self.inside in
+    let playing : IsPlaying batches core = subst (IsPlaying c.requires.room.0) (sym c.self.view_is) c.requires.room.1 in
+    let finished : IsFinished core = subst IsFinished (sym c.self.view_is) c.requires.finished in
+    let raw : List EdgeState = c.self.inside.edges.items in
+    let whole = c.self.inside.whole in
+    let count : length raw ≡ core.workers = sym (list_length whole.stage core.workers whole.list.items raw) ∙ playing.ring.edge_count in
+    let len : c.len.result ≡ core.workers = omega (arith, c.len.ensures, c.self.inside.edges.ok.0, count) in
+    let at : ℕ = length batches % core.workers in
+    let within : at < core.workers = mod_below (length batches) core.workers playing.ring.some_workers in
+    let old : EdgeState = c.index_mut.result.now in
+    let old_is : slice_get raw at ≡ Some old = slice_get_read raw core.workers at old (sym count) within (c.index_mut.ensures.value ∙ (λ i. get_or raw (playing.stages i % len i) old)) in
+    let edge = get_some core.edges at (omega (arith, within, playing.ring.edge_count)) in
+    let others = others_empty batches core playing finished in
+    counts core.workers whole.list.items raw at old edge.0 playing.ring.some_workers count old_is whole.stage others edge.1 c.self.invariant.2 (counts_fit batches core playing at edge.0 edge.1)
 
 pub returns-clause-list : goal.returns-clause-list
-returns-clause-list c = λ batches playing.
-    let core : RingState = c.args.self.now in
-    let edges = ap (λ (v : RingState). v.edges) c.self.view_is in
-    let len : c.len.result ≡ core.workers = omega (arith, c.len.ensures, c.self.inside.edges.ok.0, ap length edges, playing.ring.edge_count) in
-    let here = edge_here core c.self.inside.edges.items c.len.result c.self.inside.stages (length batches) c.index_mut.result.now playing.ring edges len (ap (λ (v : RingState). v.stages) c.self.view_is ∙ playing.stages) c.index_mut.ensures.value in
-    c.take_list.ensures.items ∙ (ap (λ (xs : List Item). xs ++ items_of c.index_mut.result.now.pieces) c.clear.ensures.empty ∙ last_items batches core playing c.requires.finished c.index_mut.result.now here)
+returns-clause-list c =
+    rw (← c.self.view_is) (λ every plays.
+    let batches = every in
+    let core : RingState = the_view c.self.inside in
+    let playing : IsPlaying batches core = plays in
+    let finished : IsFinished core = subst IsFinished (sym c.self.view_is) c.requires.finished in
+    let raw : List EdgeState = c.self.inside.edges.items in
+    let whole = c.self.inside.whole in
+    let count : length raw ≡ core.workers = sym (list_length whole.stage core.workers whole.list.items raw) ∙ playing.ring.edge_count in
+    let len : c.len.result ≡ core.workers = omega (arith, c.len.ensures, c.self.inside.edges.ok.0, count) in
+    let at : ℕ = length batches % core.workers in
+    let within : at < core.workers = mod_below (length batches) core.workers playing.ring.some_workers in
+    let old : EdgeState = c.index_mut.result.now in
+    let old_is : slice_get raw at ≡ Some old = slice_get_read raw core.workers at old (sym count) within (c.index_mut.ensures.value ∙ (λ i. get_or raw (playing.stages i % len i) old)) in
+    let edge = get_some core.edges at (omega (arith, within, playing.ring.edge_count)) in
+    let others = others_empty batches core playing finished in
+    let lies = lying core.workers whole.list.items raw at old edge.0 playing.ring.some_workers count old_is whole.stage others edge.1 in
+    c.hand_over.ensures.items ∙ (lies ∙ last_items batches core playing finished edge.0 edge.1))
+
+-- with no list that lies whole the edges are as the code has them
+left_whole : (workers : ℕ) (new : Whole) (edges items : List EdgeState) → new.stage ≡ None → items ≡ edges → with_list new.stage workers new.list.items items ≡ edges
+left_whole workers new edges items none is = ap (λ (o : Option ℕ). with_list o workers new.list.items items) none ∙ is
 
 pub returns-clause-ring : goal.returns-clause-ring
 returns-clause-ring c =
-    let ring : IsRing (the_view c.self.inside) = subst IsRing (sym c.self.view_is) c.requires.room.1.ring in
-    let at : ℕ = c.self.inside.stages % c.len.result in
-    let edges : List EdgeState = c.self.inside.edges.items in
-    let edge : EdgeState = c.take_list.new.edge in
+    let batches = c.requires.room.0 in
+    let core : RingState = the_view c.self.inside in
+    let playing : IsPlaying batches core = subst (IsPlaying c.requires.room.0) (sym c.self.view_is) c.requires.room.1 in
+    let finished : IsFinished core = subst IsFinished (sym c.self.view_is) c.requires.finished in
+    let raw : List EdgeState = c.self.inside.edges.items in
+    let whole = c.self.inside.whole in
+    let count : length raw ≡ core.workers = sym (list_length whole.stage core.workers whole.list.items raw) ∙ playing.ring.edge_count in
+    let len : c.len.result ≡ core.workers = omega (arith, c.len.ensures, c.self.inside.edges.ok.0, count) in
+    let at : ℕ = length batches % core.workers in
+    let within : at < core.workers = mod_below (length batches) core.workers playing.ring.some_workers in
+    let old : EdgeState = c.index_mut.result.now in
+    let old_is : slice_get raw at ≡ Some old = slice_get_read raw core.workers at old (sym count) within (c.index_mut.ensures.value ∙ (λ i. get_or raw (playing.stages i % len i) old)) in
+    let edge = get_some core.edges at (omega (arith, within, playing.ring.edge_count)) in
+    let others = others_empty batches core playing finished in
+    let here : ℕ = c.self.inside.stages % c.len.result in
+    let here_is : here ≡ at = λ i. playing.stages i % len i in
+    let new : EdgeState = c.hand_over.new.edge in
     let empty : List EdgeState = c.empty_edges.new.edges in
-    let some : 0 < c.len.result = omega (arith, c.len.ensures, c.self.inside.edges.ok.0, ring.edge_count, ring.some_workers) in
-    let within : at < length edges = omega (arith, mod_below c.self.inside.stages c.len.result some, c.len.ensures, c.self.inside.edges.ok.0) in
-    let room : edge.room ≡ room_at edges at = c.take_list.ensures.room ∙ sym (ap room_of (slice_get_read edges (length edges) at c.index_mut.result.now refl within c.index_mut.ensures.value)) in
-    let were = written (with_item c.self.inside.edges at edge) empty c.deref_mut.result.now c.deref_mut.ensures.value c.empty_edges.ensures.count in
-    let count : length empty ≡ length edges = c.empty_edges.ensures.count ∙ (ap length c.deref_mut.ensures.value ∙ length-set edges at edge) in
-    subst (λ (es : List EdgeState). IsRing (record (the_view c.self.inside) { edges = es })) (sym were)
-    (ring_with (the_view c.self.inside) empty ring count
-    (λ number. c.empty_edges.ensures.rooms number ∙ (ap (λ (es : List EdgeState). room_at es number) c.deref_mut.ensures.value ∙ room_kept edges at edge number room within)))
+    let inside : here < length raw = omega (arith, here_is, within, count) in
+    let room : new.room ≡ room_at raw here = c.hand_over.ensures.edge ∙ (sym (ap room_of old_is) ∙ ap (room_at raw) (sym here_is)) in
+    let were = written (with_item c.self.inside.edges here new) empty c.deref_mut.result.now c.deref_mut.ensures.value c.empty_edges.ensures.count in
+    let empty_count : length empty ≡ length core.edges = c.empty_edges.ensures.count ∙ (ap length c.deref_mut.ensures.value ∙ (length-set raw here new ∙ (count ∙ sym playing.ring.edge_count))) in
+    subst (λ (es : List EdgeState). IsRing (record core { edges = es })) (sym (left_whole core.workers c.hand_over.new.self empty _ c.hand_over.ensures.none were))
+    (ring_with core empty playing.ring empty_count
+    (λ k. c.empty_edges.ensures.rooms k ∙ (ap (λ (es : List EdgeState). room_at es k) c.deref_mut.ensures.value ∙ (room_kept raw here new k room inside ∙ sym (list_room whole.stage core.workers whole.list.items raw k)))))

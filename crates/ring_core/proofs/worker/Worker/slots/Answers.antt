@@ -1,14 +1,14 @@
-use Rattle.std.proofs.Common.{◌≡◌, ◌<◌, ◌+◌, ◌/◌, ℕ, List, length, get_or, refl, sym, ap, ◌∙◌, subst, arith}
+use Rattle.std.proofs.Common.{◌≡◌, ◌<◌, ◌/◌, ℕ, List, length, get_or, refl, sym, ap, ◌∙◌, subst, arith}
 use Rattle.std.proofs.lemmas.Option.{slice_get_read}
 use Rattle.greedy_rules.specs.Batches.{DemandBatch}
 use Rattle.slot_batches.specs.Stands.{StageState}
 use Rattle.ring_core.specs.contracts.worker.Worker.{the_view}
 use Rattle.ring_core.specs.States.{WorkerState}
-use Rattle.ring_core.specs.Windows.{pieces_before, slots_in}
+use Rattle.ring_core.specs.Windows.{slots_in}
 use Rattle.ring_core.specs.Ends.{Ends}
-use Rattle.ring_core.specs.Workers.{own_stage, HasPlayed, Plays, IsEndedStage, StageIsAt}
+use Rattle.ring_core.specs.Workers.{own_stage, HasPlayed, Plays, IsEndedStage, StageHasEnded}
 use Rattle.ring_core.proofs.PlayLemmas.{place_within}
-use Rattle.ring_core.proofs.BeginLemmas.{ended_slots, ended_within, place_of}
+use Rattle.ring_core.proofs.BeginLemmas.{ended_within, place_of}
 use Rattle.ring_core.proofs.worker.Worker.slots.Goals as goal
 
 -- the place of an ended stage
@@ -21,7 +21,7 @@ at_place w stage by place by_is below is = (λ i. is i / by_is i) ∙ place_of w
 
 -- what the code reads there
 read : (batches : List DemandBatch) (ends : Ends) (w : WorkerState) (fed given place at : ℕ) (state : StageState) → HasPlayed batches ends w fed given → place < w.place → at ≡ place → state ≡ get_or w.stages at state
-    → StageIsAt w.endpoints ends.before.window (own_stage w.workers w.number place) (pieces_before ends.before.window (own_stage w.workers w.number place)) (pieces_before ends.before.window (own_stage w.workers w.number place + 1)) state
+    → StageHasEnded w.endpoints ends.before.window (own_stage w.workers w.number place) state
 read batches ends w fed given place at state played before at_is is =
     played.ended place state before
     (slice_get_read w.stages (length w.stages) place state refl (within batches ends w fed given place played before) (is ∙ ap (λ (n : ℕ). get_or w.stages n state) at_is))
@@ -42,7 +42,7 @@ returns-clause-slots c =
     let ended : IsEndedStage w c.args.stage = subst (λ (v : WorkerState). IsEndedStage v c.args.stage) (sym c.self.view_is) c.requires.3 in
     let at = at_place w c.args.stage c.from.result ended.0 c.from.ensures plays.2.is_worker.number ended.2 in
     let stage = read batches ends w plays.0 plays.1 ended.0 (c.args.stage / c.from.result) c.index.result.now plays.2 ended.1 at c.index.ensures in
-    c.slots.ensures.slots ∙ (ended_slots w.endpoints ends.before.window (own_stage w.workers w.number ended.0) _ c.index.result.now stage ∙ ap (slots_in ends.before.window) (sym ended.2)))
+    c.slots.ensures.slots ∙ (stage.slots ∙ ap (slots_in ends.before.window) (sym ended.2)))
 
 pub returns-clause-endpoints : goal.returns-clause-endpoints
 returns-clause-endpoints c =

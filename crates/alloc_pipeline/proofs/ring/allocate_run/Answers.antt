@@ -1,0 +1,41 @@
+use Rattle.std.proofs.Common.{◌≡◌, ◌≤◌, ◌+◌, ◌*◌, ℕ, List, [], length, take, replicate, sym, ap, ◌∙◌, subst, arith}
+use Rattle.std.proofs.lemmas.Nat.{mul-le}
+use Rattle.std.proofs.lemmas.List.{length-take-le}
+use Rattle.greedy_rules.specs.declared.flows.Flow.{Flow}
+use Rattle.greedy_rules.specs.declared.flows.Item.{Item}
+use Rattle.greedy_rules.specs.Schedule.{schedule_from}
+use Rattle.alloc_pipeline.specs.Idle.{AreIdle}
+use Rattle.alloc_pipeline.proofs.IdleLemmas.{idle_stay, places_stay}
+use Rattle.alloc_pipeline.proofs.RunLemmas.{run_may, run_room}
+use Rattle.alloc_pipeline.proofs.ring.allocate_run.Goals as goal
+
+pub returns-then-idle-gt0-clause-list : goal.returns-then-idle-gt0-clause-list
+returns-then-idle-gt0-clause-list c =
+    let list : List Item = c.args.list.now.items in
+    let front = take c.count_idle-idle.result c.args.batches.now in
+    let idle = subst (λ (xs : List Item). AreIdle xs front) c.items.ensures c.count_idle-idle.ensures.idle in
+    sym (idle_stay c.args.core.now.b c.args.first_batch list front c.idle_lists_stay.ensures c.requires.before.in_order idle).1
+
+pub returns-then-idle-gt0-clause-slots : goal.returns-then-idle-gt0-clause-slots
+returns-then-idle-gt0-clause-slots c =
+    let list : List Item = c.args.list.now.items in
+    let none : List Flow = [] in
+    let b : ℕ = c.args.core.now.b in
+    let count : ℕ = c.count_idle-idle.result in
+    let front = take count c.args.batches.now in
+    let idle = subst (λ (xs : List Item). AreIdle xs front) c.items.ensures c.count_idle-idle.ensures.idle in
+    let long : length front ≡ count = length-take-le count c.args.batches.now c.count_idle-idle.ensures.count in
+    let fits : (c.args.passed + count) * b ≤ length c.args.out.now.slots = omega (arith, mul-le (c.args.passed + count) b (c.args.passed + length c.args.batches.now) b (omega (arith, c.count_idle-idle.ensures.count)) (omega arith), c.requires.places) in
+    places_stay c.args.passed count b c.args.out.now.slots (schedule_from b c.args.first_batch list front) fits c.requires.empty
+    ((idle_stay b c.args.first_batch list front c.idle_lists_stay.ensures c.requires.before.in_order idle).0 ∙ ap (λ (n : ℕ). replicate (n * b) none) long)
+
+pub play_behind-requires-clause-may : goal.play_behind-requires-clause-may
+play_behind-requires-clause-may c = run_may c.args.core.now.endpoints c.args.core.now.b c.args.first_batch c.count_run-run.result c.args.list.now.items c.args.batches.now c.requires.may
+
+pub play_behind-requires-clause-room : goal.play_behind-requires-clause-room
+play_behind-requires-clause-room c =
+    omega (
+      arith,
+      run_room c.args.core.now.b c.args.first_batch c.count_run-run.result c.args.list.now.items c.args.batches.now c.schedules_go_on.ensures.more c.every_batch_leaves_a_list.ensures.flows,
+      c.requires.room,
+    )
