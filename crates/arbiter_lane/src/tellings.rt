@@ -57,7 +57,7 @@ impl Tellings {
         })
     }
 
-    /// As of a [`SendWindow`].
+    /// Whether a new number may be sent: none is unresolved, or it is at most the span above the oldest that is.
     pub(crate) fn may_send(&self) -> bool
         ensures { IsTrue result ↔ MaySend self.now }
     {

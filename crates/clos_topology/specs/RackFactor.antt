@@ -1,4 +1,4 @@
--- A factor that finds racks: the product with an endpoint's number, divided by 65,536, is the endpoint's rack.
+-- A factor that finds racks (this project's own profile): the product with an endpoint's number, divided by 65,536, is its rack.
 use Rattle.std.specs.Prelude.{◌<◌, ◌≤◌, ℕ, ◌+◌, ◌*◌}
 
 -- for racks of so many hosts: the least that comes to more than 65,536 a rack
