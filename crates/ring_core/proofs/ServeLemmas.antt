@@ -1,5 +1,5 @@
 -- A worker that serves the whole list of its present stage at once.
-use Rattle.std.proofs.Common.{◌≡◌, ◌<◌, ◌≤◌, ◌+◌, ◌-◌, ◌*◌, ◌^◌, ℕ, Bool, true, false, cond, List, [], ◌++◌, length, get_or, set, Option, Some, None, slice_get, refl, sym, ap, ◌∙◌, subst, arith, inl, inr, length-set}
+use Rattle.std.proofs.Common.{◌≡◌, ◌<◌, ◌≤◌, ◌+◌, ◌-◌, ◌*◌, ◌^◌, ℕ, zero, Bool, true, false, cond, List, [], ◌++◌, length, get_or, set, Option, Some, None, slice_get, refl, sym, ap, ◌∙◌, subst, arith, inl, inr, length-set}
 use Rattle.std.specs.Prelude.{IfSome, is_some}
 use Rattle.std.proofs.lemmas.Bool.{cases_lt}
 use Rattle.std.proofs.lemmas.Nat.{mod_below}
@@ -24,11 +24,11 @@ use Rattle.ring_core.proofs.PlayLemmas.{get_set_same, get_set_other, idle_state}
 use Rattle.ring_core.proofs.BeginLemmas.{none_fed}
 
 -- a stage that was fed nothing gives nothing
-pub none_first : (window : Window) (stage : ℕ) → piece_given_next window stage 0 0 ≡ None
+pub none_first : (window : Window) (stage : ℕ) → piece_given_next window stage zero zero ≡ None
 none_first window stage =
     ap (λ (b : Bool). next_piece (stage + 1) b 0 (settled (batch_of window stage) (first_slot_in window stage) window.b [] b)) (none_fed (length (list_before_stage window stage) - 1))
 
-none_held : (below : Type 0) (window : Window) (stage : ℕ) (held : Option Part) → IfSome held (λ part. below × (piece_given_next window stage 0 0 ≡ Some part)) → held ≡ None
+none_held : (below : Type 0) (window : Window) (stage : ℕ) (held : Option Part) → IfSome held (λ part. below × (piece_given_next window stage zero zero ≡ Some part)) → held ≡ None
 none_held below window stage None told = refl
 none_held below window stage (Some part) told = let is = sym (none_first window stage) ∙ told.1 in absurd (cc)
 
@@ -45,7 +45,7 @@ module _ (batches : List DemandBatch) (window : Window) (w : WorkerState) (start
   pub held_none : w.held ≡ None
   held_none = none_held (w.stage < length batches) window w.stage w.held starts.held
 
-  pub state_at : (state : StageState) → state ≡ get_or w.stages w.place state → StageIsAt w.endpoints window w.stage 0 0 state
+  pub state_at : (state : StageState) → state ≡ get_or w.stages w.place state → StageIsAt w.endpoints window w.stage zero zero state
   state_at state is = idle_state batches (own_ends window w) w 0 0 starts state below held_none is
 
   pub begun : (state : StageState) → state ≡ get_or w.stages w.place state → Stands batch [] false 0 state
@@ -134,7 +134,7 @@ module _ (batches : List DemandBatch) (window : Window) (w : WorkerState) (start
         sent_is = omega (arith, sent_on, sent_is, starts.sent_is);
         fed_within = omega arith;
         given_within = omega arith;
-        held = subst (λ (h : Option Part). IfSome h (λ part. (stage < length batches) × (piece_given_next window stage 0 0 ≡ Some part))) (sym held_none) tt;
+        held = subst (λ (h : Option Part). IfSome h (λ part. (stage < length batches) × (piece_given_next window stage zero zero ≡ Some part))) (sym held_none) tt;
         past = λ past. (refl, refl);
         ended = λ place s earlier there. elim (cases_lt place w.place) [
           | inl before ↦ starts.ended place s before (other place s (λ q. omega (arith, q, before)) there)
@@ -145,6 +145,6 @@ module _ (batches : List DemandBatch) (window : Window) (w : WorkerState) (start
         ];
         present = λ s within there.
             let later : StageIsAt w.endpoints window (own_stage w.workers w.number (w.place + 1)) 0 0 s = starts.later (w.place + 1) s (omega arith) (omega (arith, on, within)) (other (w.place + 1) s (λ q. omega (arith, q)) there) in
-            subst (λ (h : Option Part). StageIsAt w.endpoints window stage 0 (cond (is_some h) (0 + 1) 0) s) (sym held_none) (subst (λ (n : ℕ). StageIsAt w.endpoints window n 0 0 s) on later);
+            subst (λ (h : Option Part). StageIsAt w.endpoints window stage zero (cond (is_some h) (0 + 1) 0) s) (sym held_none) (subst (λ (n : ℕ). StageIsAt w.endpoints window n 0 0 s) on later);
         later = λ place s after within there. starts.later place s (omega (arith, after)) within (other place s (λ q. omega (arith, q, after)) there);
       }
