@@ -24,10 +24,10 @@ due_in-append xs ys round =
 
 -- ---- one packet
 
-due_in-one : (flight : InFlight) (round : ℕ) → is_due round flight ≡ true → due_in (flight ∷ []) round ≡ flight.bytes ∷ []
+pub due_in-one : (flight : InFlight) (round : ℕ) → is_due round flight ≡ true → due_in (flight ∷ []) round ≡ flight.bytes ∷ []
 due_in-one flight round due = ap (map (λ (f : InFlight). f.bytes)) (cond-true (is_due round flight) (flight ∷ []) [] due)
 
-due_in-none : (flight : InFlight) (round : ℕ) → is_due round flight ≡ false → due_in (flight ∷ []) round ≡ []
+pub due_in-none : (flight : InFlight) (round : ℕ) → is_due round flight ≡ false → due_in (flight ∷ []) round ≡ []
 due_in-none flight round due = ap (map (λ (f : InFlight). f.bytes)) (cond-false (is_due round flight) (flight ∷ []) [] due)
 
 -- from a number to itself there is one number, and to the next one there are two

@@ -1,15 +1,16 @@
 -- What a send and an ask change of a history.
-use Rattle.std.proofs.Common.{◌≡◌, ℕ, ◌+◌, ◌<◌, ◌≤◌, ◌||◌, ◌==◌, min, Bool, true, false, cond, List, [], ◌∷◌, ◌++◌, length, take, drop, filter, All, Some, None, slice_get, option_to_list, sym, ◌∙◌, ap, subst, refl, inl, inr, arith, append_assoc, length-append, append-nil}
-use Rattle.std.proofs.lemmas.Bool.{cases_eq, cases_lt, cases_Bool, eq-eqb, ne_eqb, or_left}
+use Rattle.std.proofs.Common.{◌≡◌, ℕ, ◌+◌, ◌<◌, ◌≤◌, ◌||◌, ◌==◌, min, Bool, true, false, cond, leb, List, [], ◌∷◌, ◌++◌, length, take, drop, filter, All, Some, None, slice_get, option_to_list, sym, ◌∙◌, ap, subst, refl, inl, inr, arith, append_assoc, length-append, append-nil}
+use Rattle.std.proofs.lemmas.Bool.{cases_eq, cases_lt, cases_Bool, eq-eqb, ne_eqb, or_left, and_from, and_right, le-leb, lt-leb}
 use Rattle.std.proofs.lemmas.List.{drop-append-le, drop-drop}
 use Rattle.std.proofs.lemmas.List.Elements.{All-nil, All-cons, All-append, All-same}
 use Rattle.std.proofs.Math.Seq.{drop-length}
 use Rattle.std.proofs.Math.ListN.{drop_of_length-le}
 use Rattle.std.proofs.Math.Nat.{max-eq_left}
 use Rattle.loss_world.specs.Arrivals.{Departure, arrivals}
-use Rattle.loss_world.specs.InTransit.{InFlight, Held, flight_of, is_due, due_in, IsToCome}
+use Rattle.loss_world.specs.AtOnce.{PacketsPassAtOnce}
+use Rattle.loss_world.specs.InTransit.{InFlight, Held, with_packet, flight_of, is_due, due_in, IsToCome}
 use Rattle.loss_world.specs.History.{WorldCall, Departs, AsksFor, departures_of, asked_of, is_asked, given_in, arrivals_left, next_arrival, answers_in, EachAskTakesOne, WorldStandsFor}
-use Rattle.loss_world.proofs.Flights.{arrivals-append, due_in-append, is_kept, taken_off, due_in-flight_of, due_in-forget, due_in-first, due_in-taken_off, none_arrives_early, IsToCome-flight_of, IsToCome-forget, IsToCome-taken_off}
+use Rattle.loss_world.proofs.Flights.{arrivals-append, due_in-append, due_in-one, due_in-none, is_kept, taken_off, due_in-flight_of, due_in-forget, due_in-first, due_in-taken_off, none_arrives_early, IsToCome-flight_of, IsToCome-forget, IsToCome-taken_off}
 
 -- ---- what is left of a round
 
@@ -148,6 +149,44 @@ WorldStandsFor-some round flights after history at flight ready here before due 
     (ap (λ xs. due_in xs round) left ∙ sym (ap (drop 1) (due_in-first flights at flight round here before due)))
     (λ later above. ap (λ xs. due_in xs later) left ∙ due_in-taken_off flights at flight round later here due above)
     (All-same (IsToCome round) after.flights (taken_off flights at flight round) left (IsToCome-taken_off flights at flight round ready.to_come))
+
+-- ---- a packet that passes at once
+
+abbrev only : ℕ → List ℕ → InFlight
+only round bytes = record { rounds = record { next = round; last = round }; bytes = bytes }
+
+only-due : (world : Held) (round : ℕ) (bytes : List ℕ) → world.flights ≡ [] → due_in (with_packet round bytes world).flights round ≡ bytes ∷ []
+only-due world round bytes none =
+    let from_itself = le-leb round round (omega arith) in
+    ap (λ (fs : List InFlight). due_in (fs ++ only round bytes ∷ []) round) none
+    ∙ due_in-one (only round bytes) round (and_from (leb round round) (leb round round) from_itself from_itself)
+
+only-later : (world : Held) (round : ℕ) (bytes : List ℕ) (later : ℕ) → world.flights ≡ [] → round < later → due_in (with_packet round bytes world).flights later ≡ []
+only-later world round bytes later none above =
+    ap (λ (fs : List InFlight). due_in (fs ++ only round bytes ∷ []) later) none
+    ∙ due_in-none (only round bytes) later (and_right (leb round later) (leb later round) (lt-leb later round above))
+
+only-gone : (world : Held) (history : List WorldCall) (round : ℕ) (bytes : List ℕ) → world.flights ≡ [] → WorldStandsFor (with_packet round bytes world) history → asked_of history ≤ round →
+    WorldStandsFor world (AsksFor round ∷ history)
+only-gone world history round bytes none stands order =
+    let none_to_come : All (IsToCome round) world.flights = All-same (IsToCome round) world.flights [] none (All-nil (IsToCome round)) in
+    let ready : IsReady round (with_packet round bytes world).flights history = record {
+      left = λ later from. stands.left later (omega arith);
+      to_come = All-append (IsToCome round) world.flights (only round bytes ∷ []) none_to_come (IsToCome-flight_of (record { round = round; fate = None; bytes = bytes }) round (omega arith));
+      order = order;
+    } in
+    WorldStandsFor-asks round (with_packet round bytes world).flights world history ready
+    (ap (λ (fs : List InFlight). due_in fs round) none ∙ sym (ap (drop 1) (only-due world round bytes none)))
+    (λ later above. ap (λ (fs : List InFlight). due_in fs later) none ∙ sym (only-later world round bytes later none above))
+    none_to_come
+
+pub packets_pass_at_once : PacketsPassAtOnce
+packets_pass_at_once = record {
+  sent = λ world history round bytes stands order.
+      WorldStandsFor-send world (with_packet round bytes world) history (record { round = round; fate = None; bytes = bytes }) stands order refl;
+  due = only-due;
+  gone = only-gone;
+}
 
 -- the flights that are left after a world has forgotten the earlier rounds are ready
 pub IsReady-kept : (world : Held) (kept : List InFlight) (history : List WorldCall) (round : ℕ) → WorldStandsFor world history → asked_of history ≤ round →

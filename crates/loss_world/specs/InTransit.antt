@@ -1,5 +1,5 @@
 -- The packets that are still to arrive, in the order of sending, each with the rounds in which it is. From this project's own profile.
-use Rattle.std.specs.Prelude.{ℕ, ◌+◌, ◌≤◌, Bool, ◌&&◌, nat_le, List, [], ◌∷◌, map, filter, Option, Some, None, option_map, option_to_list, if◌then◌else◌}
+use Rattle.std.specs.Prelude.{ℕ, ◌+◌, ◌≤◌, Bool, ◌&&◌, nat_le, List, [], ◌∷◌, ◌++◌, map, filter, Option, Some, None, option_map, option_to_list, if◌then◌else◌}
 use Rattle.loss_world.specs.declared.fate.Fate.{Fate}
 use Rattle.loss_world.specs.declared.fate.Fate.TheVariants.{Lose, Hold, Twice}
 use Rattle.loss_world.specs.declared.fate.Rounds.{Rounds}
@@ -41,6 +41,11 @@ rest_of round flight =
     if nat_le flight.rounds.last round
     then []
     else record { rounds = record { next = round + 1; last = flight.rounds.last }; bytes = flight.bytes } ∷ []
+
+-- a world with one packet more, which is to arrive in this round alone
+abbrev pub with_packet : ℕ → List ℕ → Held → Held
+with_packet round bytes world =
+    record world { flights = world.flights ++ record { rounds = record { next = round; last = round }; bytes = bytes } ∷ [] }
 
 -- it is still to arrive, in a round that may be asked for when this one was
 pub record IsToCome (asked : ℕ) (flight : InFlight) : Type 0 where

@@ -1,4 +1,5 @@
 pub mod Arrivals
+pub mod AtOnce
 pub mod Examples
 pub mod History
 pub mod InTransit

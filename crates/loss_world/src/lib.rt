@@ -8,6 +8,8 @@ mod laws;
 mod world;
 
 pub use fate::Fate;
-pub use laws::{arrivals_are_given_in_order, no_packet_arrives_early, small_worlds};
+pub use laws::{
+    arrivals_are_given_in_order, no_packet_arrives_early, packets_pass_at_once, small_worlds,
+};
 pub use no_memory::NoMemory;
 pub use world::World;

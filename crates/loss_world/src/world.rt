@@ -1,5 +1,5 @@
 //! One direction of one endpoint.
-ghost use Rattle.std.specs.Prelude.{◌≡◌, ℕ, ◌+◌, ◌-◌, ◌<◌, ◌≤◌, max, nat_le, List, [], ◌∷◌, ◌++◌, length, take, drop, filter, remove, IfOk, OnOk, OnErr, IfSome, IfNone, IsTrue, option_map, unwrap_or, slice_get, Some, vec_len};
+ghost use Rattle.std.specs.Prelude.{◌≡◌, ◌↔◌, ℕ, ◌+◌, ◌-◌, ◌<◌, ◌≤◌, max, nat_le, List, [], ◌∷◌, ◌++◌, length, take, drop, filter, remove, IfOk, OnOk, OnErr, IfSome, IfNone, IsTrue, option_map, unwrap_or, slice_get, Some, None, vec_len};
 ghost use Rattle.loss_world.specs.History.{WorldCall, Departs, AsksFor, asked_of, next_arrival, WorldStandsFor};
 ghost use Rattle.loss_world.specs.InTransit.{InFlight, is_due, due_in, rest_of};
 
@@ -57,6 +57,14 @@ impl World {
             Some(rounds) => self.dispatch(rounds, bytes),
             None => Ok(()),
         }
+    }
+
+    /// Whether a packet that is sent now would arrive at once and leave nothing: it has no fate, and none is under way.
+    /// [`packets_pass_at_once`](crate::packets_pass_at_once) says what the world stands for where it is read and not sent.
+    pub fn passes_at_once(&self, fate: Option<Fate>) -> bool
+        ensures { IsTrue result ↔ ((fate ≡ None) × (self.now.flights ≡ [])) }
+    {
+        fate.is_none() && self.under_way == 0
     }
 
     /// The next packet that arrives in this round, by the order of sending: its bytes are the front of `buf`. It is taken away
