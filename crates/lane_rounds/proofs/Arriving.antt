@@ -60,3 +60,11 @@ pub all-come : {T : Type 0} (spell : T → List ℕ) (Q : T → Type 0) (Stands 
 all-come spell Q Stands due packets none some =
     let empty = none-left spell due some.after some.left none in
     subst Stands (sym (some.parts ∙ ap (λ xs. some.before ++ xs) empty ∙ append-nil some.before)) some.stands
+
+-- what is at hand is all that arrives
+pub at_hand-comes : {T : Type 0} (spell : T → List ℕ) (Q : T → Type 0) (Stands Now : List T → Type 0) (due : List (List ℕ)) (packets : List T) (bytes : List ℕ) →
+    due ≡ bytes ∷ [] → ((before : List T) (p : T) → Q p → bytes ≡ spell p → Stands before → Now (before ++ p ∷ [])) →
+    due ≡ map spell packets → Each Q packets → Stands [] → Now packets
+at_hand-comes spell Q Stands Now due packets bytes one step is each stands =
+    all-come spell Q Now (drop 1 due) packets (sym (ap (λ (d : List (List ℕ)). slice_get (drop 1 d) 0) one))
+    (one-more spell Q Stands Now due (drop 1 due) packets bytes (sym (ap (λ (d : List (List ℕ)). slice_get d 0) one)) refl step (none-yet spell Q Stands due packets is each stands))

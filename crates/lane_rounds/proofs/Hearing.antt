@@ -3,7 +3,8 @@ use Rattle.std.proofs.Common.{◌≡◌, ℕ, ◌+◌, ◌≤◌, Bool, cond, Li
 use Rattle.std.proofs.lemmas.Bool.{le-leb}
 use Rattle.loss_world.specs.Arrivals.{Departure}
 use Rattle.loss_world.specs.History.{WorldCall, Departs, AsksFor, asked_of, WorldStandsFor}
-use Rattle.loss_world.specs.InTransit.{Held}
+use Rattle.loss_world.specs.AtOnce.{PacketsPassAtOnce}
+use Rattle.loss_world.specs.InTransit.{Held, with_packet}
 use Rattle.fcp_framing.specs.declared.packet.Told.{Told}
 use Rattle.fcp_framing.specs.Fields.{up_of, down_of}
 use Rattle.endpoint_history.specs.Reading.{AsksBelow}
@@ -46,6 +47,13 @@ carried-asked world next round sent arrives it = record {
   handed = it.handed;
   asked = (omega arith, it.asked);
 }
+
+-- what was at hand is gone once it is read
+pub carried-at_hand : (passes : PacketsPassAtOnce) (world : Held) (round : ℕ) (bytes : List ℕ) (sent : List Departure) → world.flights ≡ [] →
+    HasCarried (with_packet round bytes world) round sent → HasCarried world (round + 1) sent
+carried-at_hand passes world round bytes sent none it =
+    carried-asked (with_packet round bytes world) world round sent (λ history stands order. passes.gone world history round bytes none stands order)
+    (carried-begins (with_packet round bytes world) round sent it)
 
 -- ---- the agent
 

@@ -1,7 +1,8 @@
 -- What the parts of a round make of each end and of each direction. From this project's own profile.
-use Rattle.std.specs.Prelude.{◌≡◌, ◌≢◌, ℕ, ◌+◌, ◌*◌, ◌<◌, ◌≤◌, true, List, [], ◌∷◌, Option, option_map, option_to_list}
+use Rattle.std.specs.Prelude.{◌≡◌, ◌≢◌, ℕ, ◌+◌, ◌*◌, ◌<◌, ◌≤◌, true, List, [], ◌∷◌, take, Option, None, Some, option_map, option_to_list}
 use Rattle.loss_world.specs.declared.fate.Fate.{Fate}
 use Rattle.loss_world.specs.Arrivals.{Departure}
+use Rattle.loss_world.specs.InTransit.{Held, with_packet}
 use Rattle.fcp_framing.specs.Fields.{up_of, down_of}
 use Rattle.endpoint_history.specs.Packets.{DownPacket, UpPacket, up_packet, down_packet, slots_to}
 use Rattle.endpoint_history.specs.Agent.{AgentHistory, TakesDown, takes, missed}
@@ -65,3 +66,8 @@ MayHear endpoints b g round calls (p ∷ packets) =
 -- what is handed to a direction for a packet, if there is one
 abbrev pub handed : {T : Type 0} → (T → List ℕ) → ℕ → Option Fate → Option T → List Departure
 handed spell round fate packet = option_to_list (option_map (λ p. record { round = round; fate = fate; bytes = spell p }) packet)
+
+-- a direction with what is at hand, if anything is: the front of what was made is a packet that arrives in this round alone
+abbrev pub with_at_hand : ℕ → Option ℕ → List ℕ → Held → Held
+with_at_hand round None made world = world
+with_at_hand round (Some length) made world = with_packet round (take length made) world

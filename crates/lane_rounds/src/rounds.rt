@@ -1,8 +1,9 @@
 //! One endpoint's rounds.
-ghost use Rattle.std.specs.Prelude.{◌≡◌, ◌<◌, ◌≤◌, ◌+◌, ◌^◌, ◌++◌, ◌↔◌, true, false, ℕ, List, [], ◌∷◌, map, replicate, slice_get, IfOk, OnOk, OnErr, IfSome, IsSome, Some};
+ghost use Rattle.std.specs.Prelude.{◌≡◌, ◌<◌, ◌≤◌, ◌+◌, ◌^◌, ◌++◌, ◌↔◌, true, false, ℕ, List, [], ◌∷◌, map, take, replicate, slice_get, IfOk, OnOk, OnErr, IfSome, IsSome, Some};
 ghost use Rattle.greedy_rules.specs.Batches.{IsAboveLast};
 ghost use Rattle.flow_ledger.specs.FlowCount.{pending};
 ghost use Rattle.loss_world.specs.Arrivals.{Departure};
+ghost use Rattle.loss_world.specs.History.{WorldCall, Departs, asked_of, WorldStandsFor};
 ghost use Rattle.loss_world.specs.InTransit.{due_in};
 ghost use Rattle.fcp_framing.specs.Versions.{IsVersion};
 ghost use Rattle.endpoint_history.specs.Packets.{DownPacket, UpPacket};
@@ -23,7 +24,7 @@ ghost use Rattle.lane_rounds.specs.Outside.{round_of, packets_in};
 ghost use Rattle.lane_rounds.specs.Refused.{refused_by, refused_in, with_raw, with_bytes, numbered};
 ghost use Rattle.lane_rounds.specs.State.{MayAsk, with_each};
 ghost use Rattle.lane_rounds.specs.Standing.{StandsFor, HasCarried, IsDownOf, IsUpOf, spell_down, spell_up, played_by};
-ghost use Rattle.lane_rounds.specs.Parts.{IsSameAgent, IsSameLane, IsReadDown, IsReadUp, Each, MayHear, hearing, reading, handed};
+ghost use Rattle.lane_rounds.specs.Parts.{IsSameAgent, IsSameLane, IsReadDown, IsReadUp, Each, MayHear, hearing, reading, handed, with_at_hand};
 
 use crate::NoMemory;
 use crate::events::{Events, RawPacket, RefusedList};
@@ -39,7 +40,7 @@ use endpoint_history::{
 use fcp_framing::{Told, what_is_encoded_is_read_back};
 use flow_ledger::FlowCount;
 use greedy_rules::Batch;
-use loss_world::{Fate, World, arrivals_are_given_in_order};
+use loss_world::{Fate, World, arrivals_are_given_in_order, packets_pass_at_once};
 use std::alloc::Global;
 use std::marker::Model;
 
@@ -162,7 +163,7 @@ impl LaneRounds {
         let buf = &mut self.buf;
         boot_all(&mut self.agent, events.boots, events.version);
         ask_all(&mut self.agent, events.asks.as_slice());
-        post_down(
+        let down = post_down(
             &mut self.lane,
             &mut self.down,
             round,
@@ -170,9 +171,9 @@ impl LaneRounds {
             told,
             buf,
         )?;
-        hear(&mut self.agent, &mut self.down, round, buf);
-        post_up(&mut self.agent, &mut self.up, round, events.up, buf)?;
-        read(&mut self.lane, &mut self.up, round, buf);
+        hear(&mut self.agent, &mut self.down, round, down, buf);
+        let up = post_up(&mut self.agent, &mut self.up, round, events.up, buf)?;
+        read(&mut self.lane, &mut self.up, round, up, buf);
         read_raw(&mut self.lane, round, events.raw.as_slice(), refused)?;
         self.lane.record(round, batch)?;
         self.agent.send_due(round, sent);
@@ -255,7 +256,7 @@ fn ask_all(agent: &mut Agent, asks: &[(u16, u32)])
     }
 }
 
-/// Makes the downward packet of the round, if there is one, and hands it to the world.
+/// Makes the downward packet of the round, if there is one, and hands it over. Answers its length where it is at hand.
 fn post_down(
     lane: &mut Lane,
     world: &mut World,
@@ -263,7 +264,7 @@ fn post_down(
     fate: Option<Fate>,
     told: &ArrayVec<Told, 64>,
     buf: &mut [u8; 2048],
-) -> Result<(), NoMemory>
+) -> Result<Option<usize>, NoMemory>
     requires round { round ≡ lane.old.round }
     requires rounds { round < 100000 }
     requires once { lane.old.is_made ≡ false }
@@ -276,20 +277,83 @@ fn post_down(
     ensures spelled { (history : LaneHistory) (allocations : List Allocation) →
         lanes.StandsFor lane.old history allocations →
         IfSome (packet_down lane.old.g history round told.now.items) (IsDownOf lane.old.endpoint lane.old.endpoints lane.old.b) }
-    ensures carried { OnOk result ((history : LaneHistory) (allocations : List Allocation) (departures : List Departure) →
+    ensures within { IfOk result (λ at_hand. IfSome at_hand (λ length. length ≤ 2048)) }
+    ensures alone { IfOk result (λ at_hand. IsSome at_hand → world.new.flights ≡ []) }
+    ensures carried { IfOk result (λ at_hand. (history : LaneHistory) (allocations : List Allocation) (departures : List Departure) →
         lanes.StandsFor lane.old history allocations →
         HasCarried world.old round departures →
-        HasCarried world.new round (departures ++ handed (spell_down lane.old.endpoint) round fate (packet_down lane.old.g history round told.now.items))) }
+        HasCarried (with_at_hand round at_hand buf.new world.new) round (departures ++ handed (spell_down lane.old.endpoint) round fate (packet_down lane.old.g history round told.now.items))) }
 {
     rounds_are_read_in_order();
     match lane.make_down(round, told, buf) {
-        Some(length) => world.send(round, fate, &buf[..length]),
-        None => Ok(()),
+        Some(length) => hand_over(world, round, fate, buf, length),
+        None => Ok(None),
     }
 }
 
-/// Takes what arrives at the agent in this round.
-fn hear(agent: &mut Agent, world: &mut World, round: u32, buf: &mut [u8; 2048])
+/// Hands the front of what was made to the world, unless it would arrive at once: then it is at hand where it lies, and its
+/// length is answered.
+fn hand_over(
+    world: &mut World,
+    round: u32,
+    fate: Option<Fate>,
+    made: &[u8; 2048],
+    length: usize,
+) -> Result<Option<usize>, NoMemory>
+    requires { length ≤ 2048 }
+    ensures within { IfOk result (λ at_hand. IfSome at_hand (λ length. length ≤ 2048)) }
+    ensures alone { IfOk result (λ at_hand. IsSome at_hand → world.new.flights ≡ []) }
+    ensures stands { IfOk result (λ at_hand. (history : List WorldCall) →
+        WorldStandsFor world.old history →
+        asked_of history ≤ round →
+        WorldStandsFor (with_at_hand round at_hand made.now world.new) (Departs (record { round = round; fate = fate; bytes = take length made.now }) ∷ history)) }
+{
+    packets_pass_at_once();
+    if world.passes_at_once(fate) {
+        return Ok(Some(length));
+    }
+    world.send(round, fate, &made[..length])?;
+    Ok(None)
+}
+
+/// Takes what arrives at the agent in this round: what is at hand, which then is all, or else what the world has.
+fn hear(
+    agent: &mut Agent,
+    world: &mut World,
+    round: u32,
+    at_hand: Option<usize>,
+    buf: &mut [u8; 2048],
+)
+    requires round { round ≡ agent.old.round }
+    requires rounds { round < 100000 }
+    requires within { IfSome at_hand (λ length. length ≤ 2048) }
+    requires alone { IsSome at_hand → world.old.flights ≡ [] }
+    requires may_hear { (calls : AgentHistory) × (packets : List DownPacket) × agents.StandsFor agent.old calls
+        × (due_in (with_at_hand round at_hand buf.old world.old).flights round ≡ map (spell_down agent.old.me) packets)
+        × Each (IsReadDown agent.old.me agent.old.endpoints agent.old.b) packets
+        × MayHear agent.old.endpoints agent.old.b agent.old.g round calls packets }
+    ensures same { IsSameAgent agent.old agent.new }
+    ensures stands { (calls : AgentHistory) (packets : List DownPacket) →
+        agents.StandsFor agent.old calls →
+        due_in (with_at_hand round at_hand buf.old world.old).flights round ≡ map (spell_down agent.old.me) packets →
+        Each (IsReadDown agent.old.me agent.old.endpoints agent.old.b) packets →
+        agents.StandsFor agent.new (hearing round packets calls) }
+    ensures carried { (departures : List Departure) →
+        HasCarried (with_at_hand round at_hand buf.old world.old) round departures →
+        HasCarried world.new (round + 1) departures }
+{
+    packets_pass_at_once();
+    match at_hand {
+        Some(length) => {
+            let bytes = &buf[..length];
+            let _ = agent.take_down(round, bytes);
+        }
+        None => hear_all(agent, world, round, buf),
+    }
+}
+
+/// Takes what of the world's arrives at the agent in this round.
+fn hear_all(agent: &mut Agent, world: &mut World, round: u32, buf: &mut [u8; 2048])
     requires round { round ≡ agent.old.round }
     requires rounds { round < 100000 }
     requires may_hear { (calls : AgentHistory) × (packets : List DownPacket) × agents.StandsFor agent.old calls
@@ -311,14 +375,14 @@ fn hear(agent: &mut Agent, world: &mut World, round: u32, buf: &mut [u8; 2048])
     }
 }
 
-/// Makes the upward packet of the round, and hands it to the world.
+/// Makes the upward packet of the round, and hands it over. Answers its length where it is at hand.
 fn post_up(
     agent: &mut Agent,
     world: &mut World,
     round: u32,
     fate: Option<Fate>,
     buf: &mut [u8; 2048],
-) -> Result<(), NoMemory>
+) -> Result<Option<usize>, NoMemory>
     requires once { agent.old.is_made ≡ false }
     ensures frame { agent.new ≡ record agent.old { sent = agent.new.sent; named = agent.new.named; is_made = true } }
     ensures stands { (calls : AgentHistory) →
@@ -327,18 +391,51 @@ fn post_up(
     ensures spelled { (calls : AgentHistory) →
         agents.StandsFor agent.old calls →
         IsUpOf agent.old.me agent.old.endpoints (packet_up agent.old.endpoints agent.old.g calls) }
-    ensures carried { OnOk result ((calls : AgentHistory) (departures : List Departure) →
+    ensures within { IfOk result (λ at_hand. IfSome at_hand (λ length. length ≤ 2048)) }
+    ensures alone { IfOk result (λ at_hand. IsSome at_hand → world.new.flights ≡ []) }
+    ensures carried { IfOk result (λ at_hand. (calls : AgentHistory) (departures : List Departure) →
         agents.StandsFor agent.old calls →
         HasCarried world.old round departures →
-        HasCarried world.new round (departures ++ handed (spell_up agent.old.me) round fate (Some (packet_up agent.old.endpoints agent.old.g calls)))) }
+        HasCarried (with_at_hand round at_hand buf.new world.new) round (departures ++ handed (spell_up agent.old.me) round fate (Some (packet_up agent.old.endpoints agent.old.g calls)))) }
 {
     rounds_are_read_in_order();
     let length = agent.make_up(buf);
-    world.send(round, fate, &buf[..length])
+    hand_over(world, round, fate, buf, length)
 }
 
-/// Takes what arrives at the lane in this round.
-fn read(lane: &mut Lane, world: &mut World, round: u32, buf: &mut [u8; 2048])
+/// Takes what arrives at the lane in this round: what is at hand, which then is all, or else what the world has.
+fn read(
+    lane: &mut Lane,
+    world: &mut World,
+    round: u32,
+    at_hand: Option<usize>,
+    buf: &mut [u8; 2048],
+)
+    requires round { round ≡ lane.old.round }
+    requires within { IfSome at_hand (λ length. length ≤ 2048) }
+    requires alone { IsSome at_hand → world.old.flights ≡ [] }
+    ensures same { IsSameLane lane.old lane.new }
+    ensures stands { (history : LaneHistory) (allocations : List Allocation) (packets : List UpPacket) →
+        lanes.StandsFor lane.old history allocations →
+        due_in (with_at_hand round at_hand buf.old world.old).flights round ≡ map (spell_up lane.old.endpoint) packets →
+        Each (IsReadUp lane.old.endpoint lane.old.endpoints) packets →
+        lanes.StandsFor lane.new (reading round packets history) allocations }
+    ensures carried { (departures : List Departure) →
+        HasCarried (with_at_hand round at_hand buf.old world.old) round departures →
+        HasCarried world.new (round + 1) departures }
+{
+    packets_pass_at_once();
+    match at_hand {
+        Some(length) => {
+            let bytes = &buf[..length];
+            let _ = lane.take_up(round, bytes);
+        }
+        None => read_all(lane, world, round, buf),
+    }
+}
+
+/// Takes what of the world's arrives at the lane in this round.
+fn read_all(lane: &mut Lane, world: &mut World, round: u32, buf: &mut [u8; 2048])
     requires round { round ≡ lane.old.round }
     ensures same { IsSameLane lane.old lane.new }
     ensures stands { (history : LaneHistory) (allocations : List Allocation) (packets : List UpPacket) →

@@ -1,8 +1,9 @@
 use Rattle.std.proofs.Common.{Some, None, take}
-use Rattle.std.proofs.lemmas.Result.{on_ok_weaker}
+use Rattle.std.proofs.lemmas.Result.{IfOk-weaker}
 use Rattle.endpoint_history.specs.Lane.{packet_down}
 use Rattle.arbiter_lane.specs.State.{LaneState}
 use Rattle.lane_rounds.specs.Standing.{spell_down}
+use Rattle.lane_rounds.specs.Parts.{with_at_hand}
 use Rattle.lane_rounds.proofs.Posting.{made-spells, carried-none, carried-one}
 use Rattle.lane_rounds.proofs.rounds.post_down.Goals as goal
 
@@ -21,11 +22,11 @@ returns-in-None-clause-spelled c = λ history allocations stood.
 pub returns-in-Some-clause-carried : goal.returns-in-Some-clause-carried
 returns-in-Some-clause-carried c =
     let lane : LaneState = c.args.lane.now in
-    on_ok_weaker c.send.result
-    (λ sends history allocations departures stood it.
-    carried-one c.rounds_are_read_in_order.ensures.next (spell_down lane.endpoint) c.args.world.now c.send.new.self c.args.round c.args.fate (packet_down lane.g history c.args.round c.args.told.now.items) (take c.in-Some.length c.make_down.new.buf) departures
-    (c.in-Some.ensures.packet history allocations stood) sends it)
-    c.send.ensures.stands
+    IfOk-weaker c.hand_over.result _ _
+    (λ at_hand hands history allocations departures stood it.
+    carried-one c.rounds_are_read_in_order.ensures.next (spell_down lane.endpoint) c.args.world.now (with_at_hand c.args.round at_hand c.make_down.new.buf c.hand_over.new.world) c.args.round c.args.fate (packet_down lane.g history c.args.round c.args.told.now.items) (take c.in-Some.length c.make_down.new.buf) departures
+    (c.in-Some.ensures.packet history allocations stood) hands it)
+    c.hand_over.ensures.stands
 
 pub returns-in-None-clause-carried : goal.returns-in-None-clause-carried
 returns-in-None-clause-carried c = λ history allocations departures stood it.

@@ -1,56 +1,41 @@
-use Rattle.std.proofs.Common.{take, sym, ◌∙◌, subst, refl}
-use Rattle.loss_world.specs.InTransit.{due_in}
+use Rattle.std.proofs.Common.{◌≡◌, ℕ, Option, map, take, sym, subst, refl}
+use Rattle.std.specs.Prelude.{IsSome}
+use Rattle.loss_world.specs.InTransit.{Held, with_packet, due_in}
 use Rattle.endpoint_history.specs.Lane.{LaneHistory, TakesUp}
 use Rattle.arbiter_lane.specs.State.{LaneState}
 use Rattle.arbiter_lane.specs.Standing as lanes
-use Rattle.lane_rounds.specs.Standing.{spell_up}
-use Rattle.lane_rounds.specs.Parts.{IsReadUp, reading}
-use Rattle.lane_rounds.proofs.Arriving.{with_each-more, none-yet, one-more, all-come}
-use Rattle.lane_rounds.proofs.Hearing.{carried-begins, carried-asked, read-one}
+use Rattle.lane_rounds.specs.Standing.{HasCarried, spell_up}
+use Rattle.lane_rounds.specs.Parts.{IsSameLane, IsReadUp, reading, with_at_hand}
+use Rattle.lane_rounds.proofs.Arriving.{with_each-more, at_hand-comes}
+use Rattle.lane_rounds.proofs.Hearing.{carried-at_hand, read-one}
 use Rattle.lane_rounds.proofs.rounds.read.Goals as goal
 
-pub loop-length-init : goal.loop-length-init
-loop-length-init c =
-    let was : LaneState = c.args.lane.now in
-    record {
-      same = record { endpoint = refl; endpoints = refl; b = refl; g = refl; round = refl; is_made = refl };
-      stands = λ history allocations packets stood is each.
-          none-yet (spell_up was.endpoint) (IsReadUp was.endpoint was.endpoints) (λ heard. lanes.StandsFor was (reading c.args.round heard history) allocations) (due_in c.args.world.now.flights c.args.round) packets is each stood;
-      carried = λ departures it. carried-begins c.args.world.now c.args.round departures it;
-    }
-
-pub loop-length-preserved : goal.loop-length-preserved
-loop-length-preserved c =
-    let was : LaneState = c.args.lane.now in
-    let lane : LaneState = c.loop-length.lane in
+pub returns-in-Some-clause-stands : goal.returns-in-Some-clause-stands
+returns-in-Some-clause-stands c = λ history allocations packets stood due each.
+    let lane : LaneState = c.args.lane.now in
     let new : LaneState = c.take_up.new.self in
-    let bytes = take c.in-Some.length c.arrive.new.buf in
-    let inv = c.loop-length.invariant in
-    let same = inv.same in
-    let took = c.take_up.ensures in
-    record {
-      same = record {
-        endpoint = took.endpoint ∙ same.endpoint;
-        endpoints = took.endpoints ∙ same.endpoints;
-        b = took.b ∙ same.b;
-        g = took.g ∙ same.g;
-        round = took.round ∙ same.round;
-        is_made = took.is_made ∙ same.is_made;
-      };
-      stands = λ history allocations packets stood is each.
-          one-more (spell_up was.endpoint) (IsReadUp was.endpoint was.endpoints) (λ heard. lanes.StandsFor lane (reading c.args.round heard history) allocations) (λ heard. lanes.StandsFor new (reading c.args.round heard history) allocations)
-          (due_in c.loop-length.world.flights c.args.round) (due_in c.arrive.new.self.flights c.args.round) packets bytes c.in-Some.ensures.first c.arrive.ensures.taken
-          (λ heard p q b stood. subst (λ (h : LaneHistory). lanes.StandsFor new h allocations) (sym (with_each-more (TakesUp c.args.round) heard p history)) (read-one was lane new c.args.round bytes p (reading c.args.round heard history) allocations same took.stands b q stood))
-          (inv.stands history allocations packets stood is each);
-      carried = λ departures it. carried-asked c.loop-length.world c.arrive.new.self c.args.round departures c.arrive.ensures.stands (inv.carried departures it);
-    }
+    let world : Held = c.args.world.now in
+    let round = c.args.round in
+    let bytes = take c.in-Some.length c.args.buf.now in
+    let none = c.requires.alone (subst IsSome (sym c.in-Some.is) refl) in
+    let same : IsSameLane lane lane = record { endpoint = refl; endpoints = refl; b = refl; g = refl; round = refl; is_made = refl } in
+    at_hand-comes (spell_up lane.endpoint) (IsReadUp lane.endpoint lane.endpoints) (λ heard. lanes.StandsFor lane (reading round heard history) allocations) (λ heard. lanes.StandsFor new (reading round heard history) allocations)
+    (due_in (with_packet round bytes world).flights round) packets bytes (c.packets_pass_at_once.ensures.due world round bytes none)
+    (λ heard p q b stood. subst (λ (h : LaneHistory). lanes.StandsFor new h allocations) (sym (with_each-more (TakesUp round) heard p history)) (read-one lane lane new round bytes p (reading round heard history) allocations same c.take_up.ensures.stands b q stood))
+    (subst (λ (at_hand : Option ℕ). due_in (with_at_hand round at_hand c.args.buf.now world).flights round ≡ map (spell_up lane.endpoint) packets) c.in-Some.is due)
+    each stood
 
-pub returns-clause-stands : goal.returns-clause-stands
-returns-clause-stands c = λ history allocations packets stood is each.
-    let was : LaneState = c.args.lane.now in
-    all-come (spell_up was.endpoint) (IsReadUp was.endpoint was.endpoints) (λ heard. lanes.StandsFor c.loop-length.lane (reading c.args.round heard history) allocations)
-    (due_in c.loop-length.world.flights c.args.round) packets c.in_default.ensures.first (c.loop-length.invariant.stands history allocations packets stood is each)
+pub returns-in-Some-clause-carried : goal.returns-in-Some-clause-carried
+returns-in-Some-clause-carried c = λ departures it.
+    let world : Held = c.args.world.now in
+    let round = c.args.round in
+    carried-at_hand c.packets_pass_at_once.ensures world round (take c.in-Some.length c.args.buf.now) departures
+    (c.requires.alone (subst IsSome (sym c.in-Some.is) refl))
+    (subst (λ (at_hand : Option ℕ). HasCarried (with_at_hand round at_hand c.args.buf.now world) round departures) c.in-Some.is it)
 
-pub returns-clause-carried : goal.returns-clause-carried
-returns-clause-carried c = λ departures it.
-    carried-asked c.loop-length.world c.arrive.new.self c.args.round departures c.arrive.ensures.stands (c.loop-length.invariant.carried departures it)
+pub returns-in-None-clause-stands : goal.returns-in-None-clause-stands
+returns-in-None-clause-stands c = λ history allocations packets stood due each.
+    let lane : LaneState = c.args.lane.now in
+    c.read_all.ensures.stands history allocations packets stood
+    (subst (λ (at_hand : Option ℕ). due_in (with_at_hand c.args.round at_hand c.args.buf.now c.args.world.now).flights c.args.round ≡ map (spell_up lane.endpoint) packets) c.in-None.is due)
+    each

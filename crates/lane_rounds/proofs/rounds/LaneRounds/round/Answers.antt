@@ -1,7 +1,7 @@
 use Rattle.std.proofs.Common.{◌≡◌, ◌≤◌, ◌++◌, ℕ, true, List, ◌∷◌, map, replicate, Some, sym, ◌∙◌, ap, subst}
 use Rattle.std.specs.List.{filter_map, range_with_len}
 use Rattle.loss_world.specs.Arrivals.{Departure}
-use Rattle.loss_world.specs.InTransit.{due_in}
+use Rattle.loss_world.specs.InTransit.{Held, due_in}
 use Rattle.endpoint_history.specs.Packets.{DownPacket, UpPacket}
 use Rattle.endpoint_history.specs.Agent.{AgentHistory, Boots, Asks, MakesUp, packet_up}
 use Rattle.endpoint_history.specs.Counts.{Allocation}
@@ -19,7 +19,7 @@ use Rattle.lane_rounds.specs.Outside.{round_of}
 use Rattle.lane_rounds.specs.Refused.{with_raw, refused_in, refused_by}
 use Rattle.lane_rounds.specs.Standing.{StandsFor, HasCarried, IsUpOf, spell_down, spell_up, played_by}
 use Rattle.lane_rounds.specs.State.{RoundsState, with_each, MayAsk}
-use Rattle.lane_rounds.specs.Parts.{Each, IsReadDown, IsReadUp, hearing, reading, handed}
+use Rattle.lane_rounds.specs.Parts.{Each, IsReadDown, IsReadUp, hearing, reading, handed, with_at_hand}
 use Rattle.lane_rounds.specs.contracts.rounds.LaneRounds.{the_view}
 use Rattle.lane_rounds.proofs.Coming.{Laws}
 use Rattle.lane_rounds.proofs.Playing.{heard_calls, read_calls}
@@ -57,6 +57,7 @@ ask_all-requires c =
 pub hear-requires-clause-may_hear : goal.hear-requires-clause-may_hear
 hear-requires-clause-may_hear c =
     let was : RoundsState = the_view c.self.inside in
+    let below : Held = with_at_hand c.args.round c.in_ok-down.down c.post_down.new.buf c.post_down.new.world in
     let is = c.self.view_is in
     let e = was.lane.endpoint in
     let n = was.lane.endpoints in
@@ -86,14 +87,16 @@ hear-requires-clause-may_hear c =
       good = c.each_number_is_taken_once.ensures.for_good;
     } in
     let len = number-is order was number has.rounds has.allocations number_is has.stands in
-    let down = went-down laws was number (round_in was events told) c.post_down.new.world has.rounds has.allocations len c.post_down.ensures.spelled c.in_ok-post_down.ensures.carried has.stands in
-    may-hear-now laws heard_laws order was number events told asked c.post_down.new.world has.rounds has.allocations len c.requires.rounds one.slots slots has.stands down asks asked_sizes
+    let down = went-down laws was number (round_in was events told) below has.rounds has.allocations len c.post_down.ensures.spelled c.in_ok-down.ensures.carried has.stands in
+    may-hear-now laws heard_laws order was number events told asked below has.rounds has.allocations len c.requires.rounds one.slots slots has.stands down asks asked_sizes
 
 -- ---- what the round leaves
 
 pub invariant_of-self-2 : goal.invariant_of-self-2
 invariant_of-self-2 c = λ done_whole.
     let was : RoundsState = the_view c.self.inside in
+    let below : Held = with_at_hand c.args.round c.in_ok-down.down c.post_down.new.buf c.post_down.new.world in
+    let above : Held = with_at_hand c.args.round c.in_ok-up.up c.post_up.new.buf c.post_up.new.world in
     let is = c.self.view_is in
     let e = was.lane.endpoint in
     let n = was.lane.endpoints in
@@ -145,19 +148,19 @@ invariant_of-self-2 c = λ done_whole.
       b = ap (λ (l : LaneState). l.b) record_frame ∙ raw_sizes.b;
       g = ap (λ (l : LaneState). l.g) record_frame ∙ raw_sizes.g;
     } in
-    let run : Run was number events told asked heard made ended told_to read_by raw_by done c.post_down.new.world c.hear.new.world c.post_up.new.world c.read.new.world = record {
+    let run : Run was number events told asked heard made ended told_to read_by raw_by done below c.hear.new.world above c.read.new.world = record {
       slots = slots;
       number_is = number_is;
       asks = asks;
-      makes_down = c.in_ok-post_down.ensures.stands;
+      makes_down = c.in_ok-down.ensures.stands;
       spells_down = c.post_down.ensures.spelled;
-      carries_down = c.in_ok-post_down.ensures.carried;
-      hears = by_sizes asked e n b g asked_sizes (λ x y z w. (calls : AgentHistory) (packets : List DownPacket) → agents.StandsFor asked calls → due_in c.post_down.new.world.flights number ≡ map (spell_down x) packets → Each (IsReadDown x y z) packets → agents.StandsFor heard (hearing number packets calls)) c.hear.ensures.stands;
+      carries_down = c.in_ok-down.ensures.carried;
+      hears = by_sizes asked e n b g asked_sizes (λ x y z w. (calls : AgentHistory) (packets : List DownPacket) → agents.StandsFor asked calls → due_in below.flights number ≡ map (spell_down x) packets → Each (IsReadDown x y z) packets → agents.StandsFor heard (hearing number packets calls)) c.hear.ensures.stands;
       goes_down = c.hear.ensures.carried;
       makes_up = c.post_up.ensures.stands;
       spells_up = by_sizes heard e n b g heard_sizes (λ x y z w. (calls : AgentHistory) → agents.StandsFor heard calls → IsUpOf x y (packet_up y w calls)) c.post_up.ensures.spelled;
-      carries_up = by_sizes heard e n b g heard_sizes (λ x y z w. (calls : AgentHistory) (departures : List Departure) → agents.StandsFor heard calls → HasCarried was.up number departures → HasCarried c.post_up.new.world number (departures ++ handed (spell_up x) number events.up (Some (packet_up y w calls)))) c.in_ok-post_up.ensures.carried;
-      reads = lane_sizes told_to e n b g told_sizes (λ x y z w. (history : LaneHistory) (allocations : List Allocation) (packets : List UpPacket) → lanes.StandsFor told_to history allocations → due_in c.post_up.new.world.flights number ≡ map (spell_up x) packets → Each (IsReadUp x y) packets → lanes.StandsFor read_by (reading number packets history) allocations) c.read.ensures.stands;
+      carries_up = by_sizes heard e n b g heard_sizes (λ x y z w. (calls : AgentHistory) (departures : List Departure) → agents.StandsFor heard calls → HasCarried was.up number departures → HasCarried above number (departures ++ handed (spell_up x) number events.up (Some (packet_up y w calls)))) c.in_ok-up.ensures.carried;
+      reads = lane_sizes told_to e n b g told_sizes (λ x y z w. (history : LaneHistory) (allocations : List Allocation) (packets : List UpPacket) → lanes.StandsFor told_to history allocations → due_in above.flights number ≡ map (spell_up x) packets → Each (IsReadUp x y) packets → lanes.StandsFor read_by (reading number packets history) allocations) c.read.ensures.stands;
       goes_up = c.read.ensures.carried;
       reads_raw = subst (λ (raw : List Raw). (history : LaneHistory) (allocations : List Allocation) → lanes.StandsFor read_by history allocations → lanes.StandsFor raw_by (with_raw e n number raw history) allocations) c.as_slice-2.ensures
           (lane_sizes read_by e n b g read_sizes (λ x y z w. (history : LaneHistory) (allocations : List Allocation) → lanes.StandsFor read_by history allocations → lanes.StandsFor raw_by (with_raw x y number c.as_slice-2.result.now history) allocations) c.in_ok-read_raw.ensures.stands);
@@ -165,7 +168,7 @@ invariant_of-self-2 c = λ done_whole.
       sends = c.send_due.ensures.stands;
       last = done_sizes;
     } in
-    let all = ran laws order was number events told asked heard made ended told_to read_by raw_by done c.post_down.new.world c.hear.new.world c.post_up.new.world c.read.new.world run in
+    let all = ran laws order was number events told asked heard made ended told_to read_by raw_by done below c.hear.new.world above c.read.new.world run in
     let it = all has.rounds has.allocations has.stands in
     let send_frame = c.send_due.ensures.frame in (
       record {
@@ -188,6 +191,8 @@ invariant_of-self-2 c = λ done_whole.
 pub returns-clause-entries : goal.returns-clause-entries
 returns-clause-entries c =
     let was : RoundsState = the_view c.self.inside in
+    let below : Held = with_at_hand c.args.round c.in_ok-down.down c.post_down.new.buf c.post_down.new.world in
+    let above : Held = with_at_hand c.args.round c.in_ok-up.up c.post_up.new.buf c.post_up.new.world in
     let is = c.self.view_is in
     let e = was.lane.endpoint in
     let n = was.lane.endpoints in
@@ -239,19 +244,19 @@ returns-clause-entries c =
       b = ap (λ (l : LaneState). l.b) record_frame ∙ raw_sizes.b;
       g = ap (λ (l : LaneState). l.g) record_frame ∙ raw_sizes.g;
     } in
-    let run : Run was number events told asked heard made ended told_to read_by raw_by done c.post_down.new.world c.hear.new.world c.post_up.new.world c.read.new.world = record {
+    let run : Run was number events told asked heard made ended told_to read_by raw_by done below c.hear.new.world above c.read.new.world = record {
       slots = slots;
       number_is = number_is;
       asks = asks;
-      makes_down = c.in_ok-post_down.ensures.stands;
+      makes_down = c.in_ok-down.ensures.stands;
       spells_down = c.post_down.ensures.spelled;
-      carries_down = c.in_ok-post_down.ensures.carried;
-      hears = by_sizes asked e n b g asked_sizes (λ x y z w. (calls : AgentHistory) (packets : List DownPacket) → agents.StandsFor asked calls → due_in c.post_down.new.world.flights number ≡ map (spell_down x) packets → Each (IsReadDown x y z) packets → agents.StandsFor heard (hearing number packets calls)) c.hear.ensures.stands;
+      carries_down = c.in_ok-down.ensures.carried;
+      hears = by_sizes asked e n b g asked_sizes (λ x y z w. (calls : AgentHistory) (packets : List DownPacket) → agents.StandsFor asked calls → due_in below.flights number ≡ map (spell_down x) packets → Each (IsReadDown x y z) packets → agents.StandsFor heard (hearing number packets calls)) c.hear.ensures.stands;
       goes_down = c.hear.ensures.carried;
       makes_up = c.post_up.ensures.stands;
       spells_up = by_sizes heard e n b g heard_sizes (λ x y z w. (calls : AgentHistory) → agents.StandsFor heard calls → IsUpOf x y (packet_up y w calls)) c.post_up.ensures.spelled;
-      carries_up = by_sizes heard e n b g heard_sizes (λ x y z w. (calls : AgentHistory) (departures : List Departure) → agents.StandsFor heard calls → HasCarried was.up number departures → HasCarried c.post_up.new.world number (departures ++ handed (spell_up x) number events.up (Some (packet_up y w calls)))) c.in_ok-post_up.ensures.carried;
-      reads = lane_sizes told_to e n b g told_sizes (λ x y z w. (history : LaneHistory) (allocations : List Allocation) (packets : List UpPacket) → lanes.StandsFor told_to history allocations → due_in c.post_up.new.world.flights number ≡ map (spell_up x) packets → Each (IsReadUp x y) packets → lanes.StandsFor read_by (reading number packets history) allocations) c.read.ensures.stands;
+      carries_up = by_sizes heard e n b g heard_sizes (λ x y z w. (calls : AgentHistory) (departures : List Departure) → agents.StandsFor heard calls → HasCarried was.up number departures → HasCarried above number (departures ++ handed (spell_up x) number events.up (Some (packet_up y w calls)))) c.in_ok-up.ensures.carried;
+      reads = lane_sizes told_to e n b g told_sizes (λ x y z w. (history : LaneHistory) (allocations : List Allocation) (packets : List UpPacket) → lanes.StandsFor told_to history allocations → due_in above.flights number ≡ map (spell_up x) packets → Each (IsReadUp x y) packets → lanes.StandsFor read_by (reading number packets history) allocations) c.read.ensures.stands;
       goes_up = c.read.ensures.carried;
       reads_raw = subst (λ (raw : List Raw). (history : LaneHistory) (allocations : List Allocation) → lanes.StandsFor read_by history allocations → lanes.StandsFor raw_by (with_raw e n number raw history) allocations) c.as_slice-2.ensures
           (lane_sizes read_by e n b g read_sizes (λ x y z w. (history : LaneHistory) (allocations : List Allocation) → lanes.StandsFor read_by history allocations → lanes.StandsFor raw_by (with_raw x y number c.as_slice-2.result.now history) allocations) c.in_ok-read_raw.ensures.stands);
@@ -259,7 +264,7 @@ returns-clause-entries c =
       sends = c.send_due.ensures.stands;
       last = done_sizes;
     } in
-    let all = ran laws order was number events told asked heard made ended told_to read_by raw_by done c.post_down.new.world c.hear.new.world c.post_up.new.world c.read.new.world run in
+    let all = ran laws order was number events told asked heard made ended told_to read_by raw_by done below c.hear.new.world above c.read.new.world run in
     subst (λ (s : RoundsState). (rounds : List Round) (allocations : List Allocation) → StandsFor s rounds allocations →
     c.record.new.batch.entries ≡ c.args.batch.now.entries ++ entries_by s.lane.endpoint s.lane.endpoints s.lane.g (round_of s.lane.endpoint s.lane.endpoints events told ∷ rounds)) is
     (λ rounds allocations stood.
@@ -272,6 +277,8 @@ returns-clause-entries c =
 pub returns-clause-sends : goal.returns-clause-sends
 returns-clause-sends c =
     let was : RoundsState = the_view c.self.inside in
+    let below : Held = with_at_hand c.args.round c.in_ok-down.down c.post_down.new.buf c.post_down.new.world in
+    let above : Held = with_at_hand c.args.round c.in_ok-up.up c.post_up.new.buf c.post_up.new.world in
     let is = c.self.view_is in
     let e = was.lane.endpoint in
     let n = was.lane.endpoints in
@@ -323,19 +330,19 @@ returns-clause-sends c =
       b = ap (λ (l : LaneState). l.b) record_frame ∙ raw_sizes.b;
       g = ap (λ (l : LaneState). l.g) record_frame ∙ raw_sizes.g;
     } in
-    let run : Run was number events told asked heard made ended told_to read_by raw_by done c.post_down.new.world c.hear.new.world c.post_up.new.world c.read.new.world = record {
+    let run : Run was number events told asked heard made ended told_to read_by raw_by done below c.hear.new.world above c.read.new.world = record {
       slots = slots;
       number_is = number_is;
       asks = asks;
-      makes_down = c.in_ok-post_down.ensures.stands;
+      makes_down = c.in_ok-down.ensures.stands;
       spells_down = c.post_down.ensures.spelled;
-      carries_down = c.in_ok-post_down.ensures.carried;
-      hears = by_sizes asked e n b g asked_sizes (λ x y z w. (calls : AgentHistory) (packets : List DownPacket) → agents.StandsFor asked calls → due_in c.post_down.new.world.flights number ≡ map (spell_down x) packets → Each (IsReadDown x y z) packets → agents.StandsFor heard (hearing number packets calls)) c.hear.ensures.stands;
+      carries_down = c.in_ok-down.ensures.carried;
+      hears = by_sizes asked e n b g asked_sizes (λ x y z w. (calls : AgentHistory) (packets : List DownPacket) → agents.StandsFor asked calls → due_in below.flights number ≡ map (spell_down x) packets → Each (IsReadDown x y z) packets → agents.StandsFor heard (hearing number packets calls)) c.hear.ensures.stands;
       goes_down = c.hear.ensures.carried;
       makes_up = c.post_up.ensures.stands;
       spells_up = by_sizes heard e n b g heard_sizes (λ x y z w. (calls : AgentHistory) → agents.StandsFor heard calls → IsUpOf x y (packet_up y w calls)) c.post_up.ensures.spelled;
-      carries_up = by_sizes heard e n b g heard_sizes (λ x y z w. (calls : AgentHistory) (departures : List Departure) → agents.StandsFor heard calls → HasCarried was.up number departures → HasCarried c.post_up.new.world number (departures ++ handed (spell_up x) number events.up (Some (packet_up y w calls)))) c.in_ok-post_up.ensures.carried;
-      reads = lane_sizes told_to e n b g told_sizes (λ x y z w. (history : LaneHistory) (allocations : List Allocation) (packets : List UpPacket) → lanes.StandsFor told_to history allocations → due_in c.post_up.new.world.flights number ≡ map (spell_up x) packets → Each (IsReadUp x y) packets → lanes.StandsFor read_by (reading number packets history) allocations) c.read.ensures.stands;
+      carries_up = by_sizes heard e n b g heard_sizes (λ x y z w. (calls : AgentHistory) (departures : List Departure) → agents.StandsFor heard calls → HasCarried was.up number departures → HasCarried above number (departures ++ handed (spell_up x) number events.up (Some (packet_up y w calls)))) c.in_ok-up.ensures.carried;
+      reads = lane_sizes told_to e n b g told_sizes (λ x y z w. (history : LaneHistory) (allocations : List Allocation) (packets : List UpPacket) → lanes.StandsFor told_to history allocations → due_in above.flights number ≡ map (spell_up x) packets → Each (IsReadUp x y) packets → lanes.StandsFor read_by (reading number packets history) allocations) c.read.ensures.stands;
       goes_up = c.read.ensures.carried;
       reads_raw = subst (λ (raw : List Raw). (history : LaneHistory) (allocations : List Allocation) → lanes.StandsFor read_by history allocations → lanes.StandsFor raw_by (with_raw e n number raw history) allocations) c.as_slice-2.ensures
           (lane_sizes read_by e n b g read_sizes (λ x y z w. (history : LaneHistory) (allocations : List Allocation) → lanes.StandsFor read_by history allocations → lanes.StandsFor raw_by (with_raw x y number c.as_slice-2.result.now history) allocations) c.in_ok-read_raw.ensures.stands);
@@ -343,7 +350,7 @@ returns-clause-sends c =
       sends = c.send_due.ensures.stands;
       last = done_sizes;
     } in
-    let all = ran laws order was number events told asked heard made ended told_to read_by raw_by done c.post_down.new.world c.hear.new.world c.post_up.new.world c.read.new.world run in
+    let all = ran laws order was number events told asked heard made ended told_to read_by raw_by done below c.hear.new.world above c.read.new.world run in
     subst (λ (s : RoundsState). (rounds : List Round) (allocations : List Allocation) → StandsFor s rounds allocations →
     slots_sent c.send_due.new.into.items ≡ sent_by s.lane.endpoints s.lane.b s.lane.g (round_of s.lane.endpoint s.lane.endpoints events told ∷ rounds)) is
     (λ rounds allocations stood.
@@ -355,6 +362,8 @@ returns-clause-sends c =
 pub returns-clause-refused : goal.returns-clause-refused
 returns-clause-refused c =
     let was : RoundsState = the_view c.self.inside in
+    let below : Held = with_at_hand c.args.round c.in_ok-down.down c.post_down.new.buf c.post_down.new.world in
+    let above : Held = with_at_hand c.args.round c.in_ok-up.up c.post_up.new.buf c.post_up.new.world in
     let is = c.self.view_is in
     let e = was.lane.endpoint in
     let n = was.lane.endpoints in
@@ -406,19 +415,19 @@ returns-clause-refused c =
       b = ap (λ (l : LaneState). l.b) record_frame ∙ raw_sizes.b;
       g = ap (λ (l : LaneState). l.g) record_frame ∙ raw_sizes.g;
     } in
-    let run : Run was number events told asked heard made ended told_to read_by raw_by done c.post_down.new.world c.hear.new.world c.post_up.new.world c.read.new.world = record {
+    let run : Run was number events told asked heard made ended told_to read_by raw_by done below c.hear.new.world above c.read.new.world = record {
       slots = slots;
       number_is = number_is;
       asks = asks;
-      makes_down = c.in_ok-post_down.ensures.stands;
+      makes_down = c.in_ok-down.ensures.stands;
       spells_down = c.post_down.ensures.spelled;
-      carries_down = c.in_ok-post_down.ensures.carried;
-      hears = by_sizes asked e n b g asked_sizes (λ x y z w. (calls : AgentHistory) (packets : List DownPacket) → agents.StandsFor asked calls → due_in c.post_down.new.world.flights number ≡ map (spell_down x) packets → Each (IsReadDown x y z) packets → agents.StandsFor heard (hearing number packets calls)) c.hear.ensures.stands;
+      carries_down = c.in_ok-down.ensures.carried;
+      hears = by_sizes asked e n b g asked_sizes (λ x y z w. (calls : AgentHistory) (packets : List DownPacket) → agents.StandsFor asked calls → due_in below.flights number ≡ map (spell_down x) packets → Each (IsReadDown x y z) packets → agents.StandsFor heard (hearing number packets calls)) c.hear.ensures.stands;
       goes_down = c.hear.ensures.carried;
       makes_up = c.post_up.ensures.stands;
       spells_up = by_sizes heard e n b g heard_sizes (λ x y z w. (calls : AgentHistory) → agents.StandsFor heard calls → IsUpOf x y (packet_up y w calls)) c.post_up.ensures.spelled;
-      carries_up = by_sizes heard e n b g heard_sizes (λ x y z w. (calls : AgentHistory) (departures : List Departure) → agents.StandsFor heard calls → HasCarried was.up number departures → HasCarried c.post_up.new.world number (departures ++ handed (spell_up x) number events.up (Some (packet_up y w calls)))) c.in_ok-post_up.ensures.carried;
-      reads = lane_sizes told_to e n b g told_sizes (λ x y z w. (history : LaneHistory) (allocations : List Allocation) (packets : List UpPacket) → lanes.StandsFor told_to history allocations → due_in c.post_up.new.world.flights number ≡ map (spell_up x) packets → Each (IsReadUp x y) packets → lanes.StandsFor read_by (reading number packets history) allocations) c.read.ensures.stands;
+      carries_up = by_sizes heard e n b g heard_sizes (λ x y z w. (calls : AgentHistory) (departures : List Departure) → agents.StandsFor heard calls → HasCarried was.up number departures → HasCarried above number (departures ++ handed (spell_up x) number events.up (Some (packet_up y w calls)))) c.in_ok-up.ensures.carried;
+      reads = lane_sizes told_to e n b g told_sizes (λ x y z w. (history : LaneHistory) (allocations : List Allocation) (packets : List UpPacket) → lanes.StandsFor told_to history allocations → due_in above.flights number ≡ map (spell_up x) packets → Each (IsReadUp x y) packets → lanes.StandsFor read_by (reading number packets history) allocations) c.read.ensures.stands;
       goes_up = c.read.ensures.carried;
       reads_raw = subst (λ (raw : List Raw). (history : LaneHistory) (allocations : List Allocation) → lanes.StandsFor read_by history allocations → lanes.StandsFor raw_by (with_raw e n number raw history) allocations) c.as_slice-2.ensures
           (lane_sizes read_by e n b g read_sizes (λ x y z w. (history : LaneHistory) (allocations : List Allocation) → lanes.StandsFor read_by history allocations → lanes.StandsFor raw_by (with_raw x y number c.as_slice-2.result.now history) allocations) c.in_ok-read_raw.ensures.stands);
@@ -426,7 +435,7 @@ returns-clause-refused c =
       sends = c.send_due.ensures.stands;
       last = done_sizes;
     } in
-    let all = ran laws order was number events told asked heard made ended told_to read_by raw_by done c.post_down.new.world c.hear.new.world c.post_up.new.world c.read.new.world run in
+    let all = ran laws order was number events told asked heard made ended told_to read_by raw_by done below c.hear.new.world above c.read.new.world run in
     subst (λ (s : RoundsState). (rounds : List Round) (allocations : List Allocation) → StandsFor s rounds allocations →
     c.read_raw.new.refused ≡ c.args.refused.now ++ refused_by s.lane.endpoint s.lane.endpoints s.lane.g events told rounds) is
     (λ rounds allocations stood.
@@ -439,6 +448,8 @@ returns-clause-refused c =
 pub returns-clause-stands : goal.returns-clause-stands
 returns-clause-stands c =
     let was : RoundsState = the_view c.self.inside in
+    let below : Held = with_at_hand c.args.round c.in_ok-down.down c.post_down.new.buf c.post_down.new.world in
+    let above : Held = with_at_hand c.args.round c.in_ok-up.up c.post_up.new.buf c.post_up.new.world in
     let is = c.self.view_is in
     let e = was.lane.endpoint in
     let n = was.lane.endpoints in
@@ -490,19 +501,19 @@ returns-clause-stands c =
       b = ap (λ (l : LaneState). l.b) record_frame ∙ raw_sizes.b;
       g = ap (λ (l : LaneState). l.g) record_frame ∙ raw_sizes.g;
     } in
-    let run : Run was number events told asked heard made ended told_to read_by raw_by done c.post_down.new.world c.hear.new.world c.post_up.new.world c.read.new.world = record {
+    let run : Run was number events told asked heard made ended told_to read_by raw_by done below c.hear.new.world above c.read.new.world = record {
       slots = slots;
       number_is = number_is;
       asks = asks;
-      makes_down = c.in_ok-post_down.ensures.stands;
+      makes_down = c.in_ok-down.ensures.stands;
       spells_down = c.post_down.ensures.spelled;
-      carries_down = c.in_ok-post_down.ensures.carried;
-      hears = by_sizes asked e n b g asked_sizes (λ x y z w. (calls : AgentHistory) (packets : List DownPacket) → agents.StandsFor asked calls → due_in c.post_down.new.world.flights number ≡ map (spell_down x) packets → Each (IsReadDown x y z) packets → agents.StandsFor heard (hearing number packets calls)) c.hear.ensures.stands;
+      carries_down = c.in_ok-down.ensures.carried;
+      hears = by_sizes asked e n b g asked_sizes (λ x y z w. (calls : AgentHistory) (packets : List DownPacket) → agents.StandsFor asked calls → due_in below.flights number ≡ map (spell_down x) packets → Each (IsReadDown x y z) packets → agents.StandsFor heard (hearing number packets calls)) c.hear.ensures.stands;
       goes_down = c.hear.ensures.carried;
       makes_up = c.post_up.ensures.stands;
       spells_up = by_sizes heard e n b g heard_sizes (λ x y z w. (calls : AgentHistory) → agents.StandsFor heard calls → IsUpOf x y (packet_up y w calls)) c.post_up.ensures.spelled;
-      carries_up = by_sizes heard e n b g heard_sizes (λ x y z w. (calls : AgentHistory) (departures : List Departure) → agents.StandsFor heard calls → HasCarried was.up number departures → HasCarried c.post_up.new.world number (departures ++ handed (spell_up x) number events.up (Some (packet_up y w calls)))) c.in_ok-post_up.ensures.carried;
-      reads = lane_sizes told_to e n b g told_sizes (λ x y z w. (history : LaneHistory) (allocations : List Allocation) (packets : List UpPacket) → lanes.StandsFor told_to history allocations → due_in c.post_up.new.world.flights number ≡ map (spell_up x) packets → Each (IsReadUp x y) packets → lanes.StandsFor read_by (reading number packets history) allocations) c.read.ensures.stands;
+      carries_up = by_sizes heard e n b g heard_sizes (λ x y z w. (calls : AgentHistory) (departures : List Departure) → agents.StandsFor heard calls → HasCarried was.up number departures → HasCarried above number (departures ++ handed (spell_up x) number events.up (Some (packet_up y w calls)))) c.in_ok-up.ensures.carried;
+      reads = lane_sizes told_to e n b g told_sizes (λ x y z w. (history : LaneHistory) (allocations : List Allocation) (packets : List UpPacket) → lanes.StandsFor told_to history allocations → due_in above.flights number ≡ map (spell_up x) packets → Each (IsReadUp x y) packets → lanes.StandsFor read_by (reading number packets history) allocations) c.read.ensures.stands;
       goes_up = c.read.ensures.carried;
       reads_raw = subst (λ (raw : List Raw). (history : LaneHistory) (allocations : List Allocation) → lanes.StandsFor read_by history allocations → lanes.StandsFor raw_by (with_raw e n number raw history) allocations) c.as_slice-2.ensures
           (lane_sizes read_by e n b g read_sizes (λ x y z w. (history : LaneHistory) (allocations : List Allocation) → lanes.StandsFor read_by history allocations → lanes.StandsFor raw_by (with_raw x y number c.as_slice-2.result.now history) allocations) c.in_ok-read_raw.ensures.stands);
@@ -510,7 +521,7 @@ returns-clause-stands c =
       sends = c.send_due.ensures.stands;
       last = done_sizes;
     } in
-    let all = ran laws order was number events told asked heard made ended told_to read_by raw_by done c.post_down.new.world c.hear.new.world c.post_up.new.world c.read.new.world run in
+    let all = ran laws order was number events told asked heard made ended told_to read_by raw_by done below c.hear.new.world above c.read.new.world run in
     subst (λ (s : RoundsState). (rounds : List Round) (allocations : List Allocation) → StandsFor s rounds allocations →
     StandsFor (record { agent = ended; lane = done; down = c.hear.new.world; up = c.read.new.world; is_whole = true }) (round_of s.lane.endpoint s.lane.endpoints events told ∷ rounds) allocations) is
     (λ rounds allocations stood.

@@ -7,7 +7,7 @@ use Rattle.endpoint_agent.specs.Standing as agents
 use Rattle.lane_rounds.specs.Standing.{HasCarried, spell_down}
 use Rattle.lane_rounds.specs.Parts.{IsSameAgent, IsReadDown, Each, MayHear, hearing}
 use Rattle.lane_rounds.proofs.Arriving.{HaveCome}
-use Rattle.lane_rounds.proofs.rounds.hear.Given as goal
+use Rattle.lane_rounds.proofs.rounds.hear_all.Given as goal
 
 abbrev pub invariant-loop-length : goal.invariant-loop-length
 invariant-loop-length l = record {

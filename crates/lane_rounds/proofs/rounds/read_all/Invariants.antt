@@ -8,7 +8,7 @@ use Rattle.arbiter_lane.specs.Standing as lanes
 use Rattle.lane_rounds.specs.Standing.{HasCarried, spell_up}
 use Rattle.lane_rounds.specs.Parts.{IsSameLane, IsReadUp, Each, reading}
 use Rattle.lane_rounds.proofs.Arriving.{HaveCome}
-use Rattle.lane_rounds.proofs.rounds.read.Given as goal
+use Rattle.lane_rounds.proofs.rounds.read_all.Given as goal
 
 abbrev pub invariant-loop-length : goal.invariant-loop-length
 invariant-loop-length l = record {
