@@ -44,6 +44,7 @@ impl World {
 
     /// Sends a packet in this round, which is not below one that was asked for. A buffer is made only where each one that the
     /// world has is under way.
+    #[inline(never)]
     pub fn send(&mut self, round: u32, fate: Option<Fate>, bytes: &[u8]) -> Result<(), NoMemory>
         requires { length bytes.now ≤ 2048 }
         ensures refused { OnErr result (self.new ≡ self.old) }
