@@ -83,8 +83,8 @@ slid_up mask below i within =
     ]
 
 -- the low bits are kept where a mask is cut to span bits
-bit_at-kept : (mask span i : ℕ) → i < span → bit_at (bit_and mask (2 ^ span - 1)) i ≡ bit_at mask i
-bit_at-kept mask span i within = ap (λ m. bit_at m i) (and_mask mask span) ∙ bit_at-mod mask span i within
+pub bit_at-kept : (mask span ones i : ℕ) → ones ≡ 2 ^ span - 1 → i < span → bit_at (bit_and mask ones) i ≡ bit_at mask i
+bit_at-kept mask span ones i is within = ap (λ m. bit_at (bit_and mask m) i) is ∙ ap (λ m. bit_at m i) (and_mask mask span) ∙ bit_at-mod mask span i within
 
 one_bit : (k i : ℕ) → k < 128 → i < 128 → bit_at (1 * 2 ^ k % 2 ^ 128) i ≡ cond (i == k) 1 0
 one_bit k i fits within =
@@ -94,7 +94,7 @@ one_bit k i fits within =
       | inr other ↦ plain ∙ bit_at-pow_other k i other ∙ sym (cond-false (i == k) 1 0 (ne_eqb i k other))
     ]
 
-bit_at-slid : (mask ahead i : ℕ) → 1 ≤ ahead → ahead ≤ 128 → i < 128 →
+pub bit_at-slid : (mask ahead i : ℕ) → 1 ≤ ahead → ahead ≤ 128 → i < 128 →
     bit_at (bit_or (mask * 2 ^ (ahead - 1) % 2 ^ 128 * 2 % 2 ^ 128) (1 * 2 ^ (ahead - 1) % 2 ^ 128)) i
     ≡ (if i + 1 == ahead then 1 else (if nat_lt i ahead then 0 else bit_at mask (i - ahead)))
 bit_at-slid mask ahead i some few within =
@@ -110,13 +110,12 @@ bit_at-slid mask ahead i some few within =
     by_place : (mask ahead i : ℕ) → 1 ≤ ahead → bit_at mask (i - ahead) < 2 → max (cond (nat_lt i ahead) 0 (bit_at mask (i - ahead))) (cond (i == ahead - 1) 1 0) ≡ (if i + 1 == ahead then 1 else (if nat_lt i ahead then 0 else bit_at mask (i - ahead)))
     by_place mask ahead i some small = grind (arith, nat_tests)
 
--- and the same, cut to span bits
-pub bit_at-slid_kept : (mask ahead span ones i : ℕ) → ones ≡ 2 ^ span - 1 → span ≤ 128 → 1 ≤ ahead → ahead ≤ span → i < span →
-    bit_at (bit_and (bit_or (mask * 2 ^ (ahead - 1) % 2 ^ 128 * 2 % 2 ^ 128) (1 * 2 ^ (ahead - 1) % 2 ^ 128)) ones) i
-    ≡ (if i + 1 == ahead then 1 else (if nat_lt i ahead then 0 else bit_at mask (i - ahead)))
-bit_at-slid_kept mask ahead span ones i is fits some few within =
-    let slid = bit_or (mask * 2 ^ (ahead - 1) % 2 ^ 128 * 2 % 2 ^ 128) (1 * 2 ^ (ahead - 1) % 2 ^ 128) in
-    ap (λ m. bit_at (bit_and slid m) i) is ∙ bit_at-kept slid span i within ∙ bit_at-slid mask ahead i some (omega arith) (omega arith)
+-- and by one place
+pub bit_at-slid_once : (mask i : ℕ) → mask < 2 ^ 128 → i < 128 →
+    bit_at (bit_or (mask * 2 % 2 ^ 128) 1) i ≡ (if i + 1 == 1 then 1 else (if nat_lt i 1 then 0 else bit_at mask (i - 1)))
+bit_at-slid_once mask i fits within =
+    let whole : mask * 2 ^ (1 - 1) % 2 ^ 128 ≡ mask = omega arith in
+    ap (λ m. bit_at (bit_or (m * 2 % 2 ^ 128) 1) i) (sym whole) ∙ bit_at-slid mask 1 i (omega arith) (omega arith) within
 
 -- the test `mask & (1 << k) != 0`
 pub bit_at-tested : (mask k : ℕ) → k < 128 → (bit_and mask (1 * 2 ^ k % 2 ^ 128) ≡ 0 → ⊥) → bit_at mask k ≡ 1

@@ -1,5 +1,6 @@
 //! The sender's side.
-ghost use Rattle.std.specs.Prelude.{◌≡◌, ℕ, ◌+◌, ◌^◌, ◌<◌, ◌≤◌, ◌↔◌, List, [], ◌∷◌, ◌++◌, Some, IsTrue, IfOk, All, length, take, drop, vec_len, vec_capacity};
+ghost use Rattle.std.specs.Prelude.{◌≡◌, ℕ, ◌+◌, ◌^◌, ◌<◌, ◌≤◌, ◌↔◌, List, [], ◌∷◌, ◌++◌, Some, IsTrue, IfOk, All, length, take, drop, slice_index_or, vec_len, vec_capacity};
+ghost use Rattle.std.specs.List.{remove};
 ghost use Rattle.std.specs.Bool.{OnFalse};
 ghost use Rattle.arrayvec.specs.ArrayVec.{array_vec_len};
 ghost use Rattle.ack_window.specs.Acknowledgement.{decision_by};
@@ -219,7 +220,7 @@ fn judge<T: Drop>(
 {
     match ack.decision(version, unresolved[at].number) {
         Some(decision) => {
-            let Unresolved { number, content } = unresolved.remove(at);
+            let Unresolved { number, content } = take_out(unresolved, at);
             found.push(Decided {
                 number,
                 lost: decision.is_lost(),
@@ -228,5 +229,20 @@ fn judge<T: Drop>(
             at
         }
         None => at + 1,
+    }
+}
+
+/// Takes the number at this place out. Mostly it is the last.
+fn take_out<T: Drop>(unresolved: &mut Vec<Unresolved<T>>, at: usize) -> Unresolved<T>
+    requires { at < vec_len unresolved.old }
+    ensures value { result ≡ slice_index_or unresolved.old.items at result }
+    ensures items { unresolved.new.items ≡ remove unresolved.old.items at }
+    ensures len { vec_len unresolved.new + 1 ≡ vec_len unresolved.old }
+    ensures capacity { vec_capacity unresolved.new ≡ vec_capacity unresolved.old }
+{
+    if at + 1 == unresolved.len() {
+        unresolved.pop().unwrap()
+    } else {
+        unresolved.remove(at)
     }
 }

@@ -111,7 +111,32 @@ fn mask_up_to(version: u8, high: u32, mask: u128, seq: u32) -> u128
     if high == 0 || ahead > span(version) {
         return 0;
     }
+    slid(mask, ahead) & all_bits(version)
+}
+
+/// The mask moved up by so many places, with a bit for the number that was the greatest. Mostly it is one place.
+fn slid(mask: u128, ahead: u32) -> u128
+    requires some { 1 ≤ ahead }
+    requires most { ahead ≤ 128 }
+    ensures { (i : ℕ) → i < 128 → bit_at result i ≡
+        (if i + 1 == ahead then 1
+        else (if nat_lt i ahead then 0
+        else bit_at mask (i - ahead))) }
+{
+    if ahead == 1 {
+        return (mask << 1) | 1;
+    }
     let below = ahead - 1;
-    let slid = (mask << below << 1) | (1 << below);
-    slid & (u128::MAX >> (128 - span(version)))
+    (mask << below << 1) | (1 << below)
+}
+
+/// Every bit that a mask may have.
+fn all_bits(version: u8) -> u128
+    ensures { result ≡ 2 ^ span_of version - 1 }
+{
+    if version == 2 {
+        u128::MAX
+    } else {
+        0xffff_ffff_ffff_ffff
+    }
 }

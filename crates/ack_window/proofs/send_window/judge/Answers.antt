@@ -6,7 +6,7 @@ use Rattle.ack_window.proofs.send_window.judge.Goals as goal
 pub returns-in-Some-clause-rest : goal.returns-in-Some-clause-rest
 returns-in-Some-clause-rest g c =
     let all = c.args.unresolved.now.items in
-    let removed = c.remove-number.ensures.items in
+    let removed = c.take_out-number.ensures.items in
     let long = c.args.unresolved.now.ok.0 in
     let front : length (take c.args.at all) ≡ c.args.at = simp length-take (omega arith) in
     let next : suc c.args.at ≡ c.args.at + 1 = omega arith in
