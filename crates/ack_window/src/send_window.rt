@@ -1,5 +1,5 @@
 //! The sender's side.
-ghost use Rattle.std.specs.Prelude.{◌≡◌, ℕ, ◌+◌, ◌^◌, ◌<◌, ◌≤◌, ◌↔◌, List, [], ◌∷◌, ◌++◌, Some, IsTrue, IfOk, All, length, take, drop, slice_index_or, vec_len, vec_capacity};
+ghost use Rattle.std.specs.Prelude.{◌≡◌, ℕ, ◌+◌, ◌^◌, ◌<◌, ◌≤◌, ◌↔◌, List, [], ◌∷◌, ◌++◌, Some, IsTrue, IfOk, IfSome, IfNone, OnSome, IsSome, All, map, length, take, drop, slice_index_or, vec_len, vec_capacity};
 ghost use Rattle.std.specs.List.{remove};
 ghost use Rattle.std.specs.Bool.{OnFalse};
 ghost use Rattle.arrayvec.specs.ArrayVec.{array_vec_len};
@@ -153,6 +153,27 @@ impl<T: Drop> SendWindow<T> {
         }
     }
 
+    /// Takes the number `high` out where no other is unresolved: every acknowledgement of this `high` decides just that. None where
+    /// it isn't so; then nothing is read.
+    pub fn take_only(&mut self, high: u32) -> Option<Decided<T>>
+        ensures some { IsSome result ↔ (map (λ s. s.number) self.old.outstanding.unresolved ≡ high ∷ []) }
+        ensures found { IfSome result (λ decided. (mask : ℕ) → decided ∷ [] ≡ decided_for self.old (record { high = high; mask = mask })) }
+        ensures step { OnSome result ((mask : ℕ) → self.new ≡ after_reading self.old (record { high = high; mask = mask })) }
+        ensures none { IfNone result (self.new ≡ self.old) }
+        ensures newest { self.new.outstanding.newest ≡ self.old.outstanding.newest }
+        ensures version { self.new.version ≡ self.old.version }
+    {
+        if !is_only(&self.unresolved, high) {
+            return None;
+        }
+        let Unresolved { number, content } = self.unresolved.pop().unwrap();
+        Some(Decided {
+            number,
+            lost: false,
+            content,
+        })
+    }
+
     /// Starts the connection anew, with this version: nothing is sent, and nothing is unresolved.
     pub fn restart(&mut self, version: u8)
         ensures version { self.new.version ≡ version }
@@ -162,6 +183,13 @@ impl<T: Drop> SendWindow<T> {
         self.newest = 0;
         self.unresolved.clear();
     }
+}
+
+/// Whether this number alone is unresolved.
+fn is_only<T>(unresolved: &[Unresolved<T>], number: u32) -> bool
+    ensures { IsTrue result ↔ (map (λ s. s.number) unresolved.now ≡ number ∷ []) }
+{
+    unresolved.len() == 1 && unresolved[0].number == number
 }
 
 /// Moves each number that the acknowledgement decides to `found`. At most the reorder window and one
