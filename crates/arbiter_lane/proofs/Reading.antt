@@ -66,3 +66,9 @@ decided-in_flight law sent events ack found lines done is held dst line here =
     ap (sum_by (λ (s : Unresolved Telling). slots_to dst s.content.told)) done.unresolved in
     let same : sum_by (λ (d : Decided Telling). slots_to dst d.content.told) found ≡ sum_by (λ (d : Decided Telling). slots_to dst d.content.told) decided = ap (sum_by (λ (d : Decided Telling). slots_to dst d.content.told)) is in
     omega (arith, shown_or_lost found dst, same, moved, opened, held dst line here)
+
+-- and so are those of one that is decided alone
+pub one-in_flight : (d : Decided Telling) (lines : List Line) → AreInFlight (λ dst. slots_shown (d ∷ []) dst + slots_lost (d ∷ []) dst) lines → AreInFlight (λ dst. slots_to dst d.content.told) lines
+one-in_flight d lines held dst line here =
+    let none : sum_by (λ (e : Decided Telling). slots_to dst e.content.told) [] ≡ 0 = refl in
+    omega (arith, held dst line here, shown_or_lost (d ∷ []) dst, sum_by-cons (λ (e : Decided Telling). slots_to dst e.content.told) d [], none)

@@ -111,7 +111,13 @@ pub(crate) fn decide(lines: &mut [Line], risen: &mut Marks, found: &[Decided<()>
     }
 }
 
-fn decide_one(lines: &mut [Line], risen: &mut Marks, number: &Decided<()>, places: &Places)
+/// Counts the slots that lie at the place of a number that is decided, as [`decide`] does.
+pub(crate) fn decide_one(
+    lines: &mut [Line],
+    risen: &mut Marks,
+    number: &Decided<()>,
+    places: &Places,
+)
     requires few { length lines.old ≤ 256 }
     requires destinations { All (λ (slot : ToldSlot). slot.dst < length lines.old) (telling_at places.now number.now.number).told }
     requires in_flight { AreInFlight (λ dst. slots_to dst (telling_at places.now number.now.number).told) lines.old }
@@ -146,6 +152,9 @@ pub(crate) fn record(
     ensures marked { AreMarked risen.new lines.new }
 {
     mark_entries(lines, risen, resets);
+    if risen.next_from(0) >= lines.len() {
+        return Ok(());
+    }
     enter(lines, risen, endpoint, resets, batch)?;
     settle(lines, risen);
     risen.clear_all();

@@ -63,7 +63,7 @@ impl Places {
         ensures front { is_settled ≡ true → place_of self.new.first number ≡ 0 }
     {
         if is_settled {
-            self.first = (PLACES - number % PLACES) % PLACES;
+            self.first = first_before(number);
         }
     }
 }
@@ -74,7 +74,21 @@ fn place(first: u32, number: u32) -> usize
     ensures place { result ≡ place_of first number }
     ensures within { result < 129 }
 {
-    ((number % PLACES + first) % PLACES) as usize
+    let at = number % PLACES + first;
+    if at < PLACES {
+        at as usize
+    } else {
+        (at - PLACES) as usize
+    }
+}
+
+/// The place of number 0 where this number has the one in front.
+fn first_before(number: u32) -> u32
+    ensures front { place_of result number ≡ 0 }
+    ensures within { result < 129 }
+{
+    let beyond = number % PLACES;
+    if beyond == 0 { 0 } else { PLACES - beyond }
 }
 
 /// A blank for each place.

@@ -117,6 +117,10 @@ impl Tellings {
     {
         readings_move_what_they_decide::<Telling>();
         senders_go_on_by_step::<Telling>();
+        if let Some(number) = self.sent.take_only(high) {
+            flows::decide_one(lines, risen, &number, &self.places);
+            return;
+        }
         self.sent.read_ack(high, mask, &mut self.found);
         flows::decide(lines, risen, self.found.as_slice(), &self.places);
         self.found.clear();
