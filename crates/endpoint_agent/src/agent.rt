@@ -22,7 +22,7 @@ ghost use Rattle.line_marks.specs.Places.{is_marked};
 use crate::lines::{FlowLine, Sent, mark_all, miss_all, name_unconfirmed, send_all};
 use crate::waiting::{Waiting, open_places};
 use crate::{DownRefused, NoMemory};
-use ack_window::{Decided, SendWindow, TakeWindow, Taken};
+use ack_window::{Decided, SendWindow, TakeWindow, Taken, senders_go_on_by_step};
 use arrayvec::ArrayVec;
 use endpoint_history::{agents_count_slots, requests_name_unconfirmed_totals};
 use fcp_framing::{Down, Up, decode_down, encode_req, encode_reset};
@@ -363,16 +363,24 @@ fn read_ack(
         HasDone sent.old events →
         HasDone sent.new (Reads (record { high = down.now.high; mask = down.now.mask }) ∷ events) }
 {
-    empty(found);
+    senders_go_on_by_step::<()>();
+    if let Some(only) = sent.take_only(down.high) {
+        return greater_of(acknowledged, &only);
+    }
+    found.clear();
     sent.read_ack(down.high, down.mask, found);
     greatest_of(acknowledged, found.as_slice())
 }
 
-/// Empties the list, which seldom holds more than one number.
-fn empty(found: &mut ArrayVec<Decided<()>, 129>)
-    ensures { found.new.items ≡ [] }
+/// The greater of a number and one that is found acknowledged.
+fn greater_of(so_far: u32, decided: &Decided<()>) -> u32
+    ensures { result ≡ greatest_shown so_far (decided.now ∷ []) }
 {
-    while found.pop().is_some() {}
+    if decided.lost {
+        so_far
+    } else {
+        so_far.max(decided.number)
+    }
 }
 
 /// The greatest of a number and those that are found acknowledged.
