@@ -25,7 +25,7 @@ use crate::{DownRefused, NoMemory};
 use ack_window::{Decided, SendWindow, TakeWindow, Taken, senders_go_on_by_step};
 use arrayvec::ArrayVec;
 use endpoint_history::{agents_count_slots, requests_name_unconfirmed_totals};
-use fcp_framing::{Down, Up, decode_down, encode_req, encode_reset};
+use fcp_framing::{Demand, Down, Up, decode_down, encode_req, encode_reset};
 use line_marks::Marks;
 use std::alloc::Global;
 use std::marker::Model;
@@ -123,7 +123,6 @@ impl Agent {
     {
         let sent = SendWindow::open(alloc, FIRST_VERSION)?;
         let lines = vec![in alloc; FlowLine::default(); endpoints as usize]?;
-        let waiting = open_places(alloc)?;
         Ok(Agent {
             me,
             endpoints,
@@ -138,7 +137,7 @@ impl Agent {
             request: Up::default(),
             lines,
             unconfirmed: Marks::new(),
-            waiting,
+            waiting: open_places(),
             round: 0,
             is_made: false,
             down: Down::default(),
@@ -420,9 +419,17 @@ fn renew(
 {
     if sent.may_send() {
         request.seq = sent.push(());
-        request.demands.clear();
+        clear(&mut request.demands);
         name_unconfirmed(lines, acknowledged, unconfirmed, &mut request.demands);
     }
+}
+
+/// Empties the list, which seldom names more than one flow.
+fn clear(demands: &mut ArrayVec<Demand, 255>)
+    ensures { demands.new.items ≡ [] }
+{
+    let _ = demands.pop();
+    demands.clear();
 }
 
 /// Lets the slots of a packet wait where they are in time, and counts them as missed where they are not. `next` is the number of

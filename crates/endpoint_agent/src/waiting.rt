@@ -1,38 +1,36 @@
 //! The slots that wait.
-ghost use Rattle.std.specs.Prelude.{◌≡◌, ◌≤◌, [], ◌∷◌, length, IfOk};
+ghost use Rattle.std.specs.Prelude.{◌≡◌, ◌≤◌, [], ◌∷◌, length, take};
 
-use crate::NoMemory;
 use fcp_framing::Told;
-use std::alloc::Global;
 use std::marker::Model;
 
-/// How many slots may be told of one batch.
-const MOST_TOLD: usize = 64;
-
-/// The slots of one batch that wait, at most 64. Clauses see them.
+/// The slots of one batch that wait, at most 64. Clauses see them. What lies behind them is not read before it is written anew.
 #[derive(Drop)]
 pub(crate) struct Waiting {
-    told: Vec<Told>,
+    count: u8,
+    slots: [Told; 64],
 }
 
 impl Model for Waiting {
-    ghost use Rattle.std.specs.Prelude.{◌≤◌, List, vec_len, vec_capacity};
+    ghost use Rattle.std.specs.Prelude.{◌≤◌, List, take};
     ghost use Rattle.fcp_framing.specs.declared.packet.Told.{Told as ToldSlot};
 
     ghost Value = { List ToldSlot };
 
-    ghost view = { λ waiting. waiting.told.items };
+    ghost view = { λ waiting. take waiting.count waiting.slots };
 
-    ghost invariant = { λ waiting. (64 ≤ vec_capacity waiting.told) × (vec_len waiting.told ≤ 64) };
+    ghost invariant = { λ waiting. waiting.count ≤ 64 };
 }
 
 impl Waiting {
-    /// A place with the memory for all slots that may ever wait there.
-    pub(crate) fn open(alloc: Global) -> Result<Waiting, NoMemory>
-        ensures { IfOk result (λ waiting. waiting ≡ []) }
+    /// A place in which no slot waits.
+    pub(crate) fn new() -> Waiting
+        ensures { result ≡ [] }
     {
-        let told = Vec::with_capacity(alloc, MOST_TOLD)?;
-        Ok(Waiting { told })
+        Waiting {
+            count: 0,
+            slots: [Told::default(); 64],
+        }
     }
 
     /// Puts these slots in place of those that wait.
@@ -40,30 +38,35 @@ impl Waiting {
         requires { length told.now ≤ 64 }
         ensures { self.new ≡ told.now }
     {
-        self.told.clear();
-        let _ = self.told.extend_from_slice(told);
+        self.count = told.len() as u8;
+        write_front(&mut self.slots, told);
     }
 
     pub(crate) fn clear(&mut self)
         ensures { self.new ≡ [] }
     {
-        self.told.clear();
+        self.count = 0;
     }
 
     pub(crate) fn as_slice(&self) -> &[Told]
         ensures slots { result.now ≡ self.now }
         ensures fits { length result.now ≤ 64 }
     {
-        &self.told
+        &self.slots[..self.count as usize]
     }
 }
 
-/// Three places in which no slots wait.
-pub(crate) fn open_places(alloc: Global) -> Result<[Waiting; 3], NoMemory>
-    ensures { IfOk result (λ places. places ≡ [] ∷ [] ∷ [] ∷ []) }
+/// Writes these slots over the first of a row.
+fn write_front(row: &mut [Told; 64], told: &[Told])
+    requires { length told.now ≤ 64 }
+    ensures { take (length told.now) row.new ≡ told.now }
 {
-    let first = Waiting::open(alloc)?;
-    let second = Waiting::open(alloc)?;
-    let third = Waiting::open(alloc)?;
-    Ok([first, second, third])
+    row[..told.len()].copy_from_slice(told);
+}
+
+/// Three places in which no slots wait.
+pub(crate) fn open_places() -> [Waiting; 3]
+    ensures { result ≡ [] ∷ [] ∷ [] ∷ [] }
+{
+    [Waiting::new(), Waiting::new(), Waiting::new()]
 }

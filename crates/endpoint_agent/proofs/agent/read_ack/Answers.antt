@@ -1,7 +1,6 @@
-use Rattle.std.proofs.Common.{◌≡◌, [], ◌∷◌, List, sym, ◌∙◌, ap, subst, rules}
+use Rattle.std.proofs.Common.{◌≡◌, ◌∷◌, sym, ◌∙◌, ap, subst, rules}
 use Rattle.ack_window.specs.declared.acknowledgement.Acknowledgement.{Acknowledgement}
-use Rattle.ack_window.specs.Sends.{Event, Reads, decided_by}
-use Rattle.ack_window.specs.Versions.{reorder_of, span_of}
+use Rattle.ack_window.specs.Sends.{Reads}
 use Rattle.ack_window.specs.Windows.{Sender, HasDone}
 use Rattle.endpoint_agent.specs.Carrying.{greatest_shown}
 use Rattle.endpoint_agent.proofs.agent.read_ack.Goals as goal

@@ -25,8 +25,8 @@ invariant_of-result c =
     let long : length lines ≡ endpoints = ap (λ (ls : List FlowLine). length ls) is ∙ length-replicate endpoints line in
     let newest = c.in_ok-sent.ensures.stands.newest in
     let named = c.default-2.ensures.1.1.1.1.1.1.1 in
-    let waiting = c.in_ok-waiting.ensures in
-    let whole : record (opened me endpoints b g heard sent lines) { named = c.default-2.result.demands.items; waiting = c.in_ok-waiting.waiting } ≡ opened me endpoints b g heard sent lines = λ i. record (opened me endpoints b g heard sent lines) { named = named i; waiting = waiting i } in
+    let waiting = c.open_places.ensures in
+    let whole : record (opened me endpoints b g heard sent lines) { named = c.default-2.result.demands.items; waiting = c.open_places.result } ≡ opened me endpoints b g heard sent lines = λ i. record (opened me endpoints b g heard sent lines) { named = named i; waiting = waiting i } in
     let both = subst (λ (a : AgentState). IsSound a × HasHistory a) (sym whole) (
       Sound-opens me endpoints b g heard sent lines c.requires.own c.requires.endpoints c.new.ensures.version c.in_ok-sent.ensures.version newest long none,
       ([], StandsFor-opens me endpoints b g heard sent lines c.new.ensures.stands c.in_ok-sent.ensures.stands none),
