@@ -129,5 +129,7 @@ fn put_slots(list: &mut ArrayVec<Told, 64>, told: &[Told])
     list.truncate(told.len());
     let (front, rest) = told.split_at(list.len());
     list.as_mut_slice().copy_from_slice(front);
-    let _ = list.try_extend_from_slice(rest);
+    if !rest.is_empty() {
+        let _ = list.try_extend_from_slice(rest);
+    }
 }
