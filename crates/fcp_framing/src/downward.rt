@@ -64,14 +64,22 @@ fn read_allocation(
     ensures unchanged { OnErr result (into.new ≡ into.old) }
 {
     check_allocation(bytes, endpoints, slots)?;
-    into.version = bytes[0];
-    into.dst = u16_at(bytes, 2);
-    into.epoch = u32_at(bytes, 4);
-    into.seq = u32_at(bytes, 8);
-    into.high = u32_at(bytes, 12);
-    into.mask = mask_in(bytes);
-    into.batch = u32_at(bytes, mask_end(bytes[0]));
-    told_slots::read(told_slots::entries_of(bytes), &mut into.told);
+    let version = bytes[0];
+    let dst = u16_at(bytes, 2);
+    let epoch = u32_at(bytes, 4);
+    let seq = u32_at(bytes, 8);
+    let high = u32_at(bytes, 12);
+    let mask = mask_in(bytes);
+    let batch = u32_at(bytes, mask_end(version));
+    let entries = told_slots::entries_of(bytes);
+    into.version = version;
+    into.dst = dst;
+    into.epoch = epoch;
+    into.seq = seq;
+    into.high = high;
+    into.mask = mask;
+    into.batch = batch;
+    told_slots::read(entries, &mut into.told);
     Ok(())
 }
 

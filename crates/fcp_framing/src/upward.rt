@@ -89,14 +89,21 @@ fn read_request(bytes: &[u8], endpoints: u16, into: &mut Up) -> Result<(), Frame
     ensures unchanged { OnErr result (into.new ≡ into.old) }
 {
     check_request(bytes, endpoints)?;
-    into.version = bytes[0];
+    let version = bytes[0];
+    let src = u16_at(bytes, 2);
+    let epoch = u32_at(bytes, 4);
+    let seq = u32_at(bytes, 8);
+    let high = u32_at(bytes, 12);
+    let mask = mask_in(bytes);
+    let entries = demands::entries_of(bytes);
+    into.version = version;
     into.reset = false;
-    into.src = u16_at(bytes, 2);
-    into.epoch = u32_at(bytes, 4);
-    into.seq = u32_at(bytes, 8);
-    into.high = u32_at(bytes, 12);
-    into.mask = mask_in(bytes);
-    demands::read(demands::entries_of(bytes), &mut into.demands);
+    into.src = src;
+    into.epoch = epoch;
+    into.seq = seq;
+    into.high = high;
+    into.mask = mask;
+    demands::read(entries, &mut into.demands);
     Ok(())
 }
 

@@ -8,7 +8,7 @@ use crate::put::spell;
 #[derive(Clone, Copy, Debug)]
 pub(crate) struct ShortField {
     pub(crate) bytes: [u8; 4],
-    pub(crate) end: u8,
+    pub(crate) end: u32,
 }
 
 /// Spells a number below 1,000.
@@ -22,6 +22,6 @@ pub(crate) fn short_field(number: u16) -> ShortField
     let end = spell(number.into(), &mut bytes);
     ShortField {
         bytes,
-        end: end as u8,
+        end: end as u32,
     }
 }

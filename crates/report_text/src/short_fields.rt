@@ -37,7 +37,7 @@ impl ShortFields {
     {
         if number < u32::from(SMALL) {
             let field = self.fields[number as usize];
-            return put_front(buf, at, &field.bytes, field.end.into());
+            return put_front(buf, at, &field.bytes, field.end as usize);
         }
         put_long(buf, at, number)
     }
