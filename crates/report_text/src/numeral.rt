@@ -48,8 +48,16 @@ impl Numeral {
         ensures { self.new ≡ number }
     {
         if number != self.number {
-            *self = Numeral::new(number);
+            self.spell_anew(number);
         }
+    }
+
+    /// Spells another number.
+    #[inline(never)]
+    fn spell_anew(&mut self, number: u32)
+        ensures { self.new ≡ number }
+    {
+        *self = Numeral::new(number);
     }
 
     /// Puts the field at this place, and answers where it ends.

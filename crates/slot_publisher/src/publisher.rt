@@ -310,8 +310,8 @@ fn byte_of(core: Option<u16>) -> u8
     ensures { IfSome core (λ core. core < 64) → result ≡ unwrap_or core 255 }
 {
     match core {
-        Some(core) if core < 64 => core as u8,
-        _ => NO_CORE,
+        Some(core) => (core % 256) as u8,
+        None => NO_CORE,
     }
 }
 
