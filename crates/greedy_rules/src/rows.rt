@@ -91,7 +91,8 @@ impl Rows {
         }
     }
 
-    /// Gives a slot that has none a row in which nobody sends, and answers where it begins.
+    /// Gives a slot that has none a row in which nobody sends, and answers where it begins. Most calls of `reach` find a row.
+    #[inline(never)]
     fn add_row(&mut self, slot: u16) -> usize
         requires table { IsTable self.old }
         requires slot { slot < vec_len self.old.places }
