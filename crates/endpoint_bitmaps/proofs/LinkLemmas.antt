@@ -6,7 +6,7 @@ use Rattle.std.proofs.lemmas.List.{get_or-set_same, get_or-set_other, get_or_rea
 use Rattle.std.proofs.lemmas.Nat.Bits.{bit_at-pow_same, bit_at-pow_other}
 use Rattle.endpoint_bitmaps.specs.Slots.{has_slot}
 use Rattle.endpoint_bitmaps.specs.Links.{taken_in, HasTakenLinks, ShowsLeft}
-use Rattle.endpoint_bitmaps.proofs.WordLemmas.{has_slot-without, has_slot-first, has_slot-none, and_true, lowest_is, without_lowest}
+use Rattle.endpoint_bitmaps.proofs.WordLemmas.{has_slot-without, has_slot-first, and_true, lowest_is, without_lowest}
 
 pub shows_cleared : (cores before : ℕ) (counts words counts' words' : List ℕ) → 1 ≤ cores → ShowsLeft before counts words → counts' ≡ replicate (length counts) 0
     → words' ≡ replicate (length words) (2 ^ 64 - 1) → ShowsLeft cores counts' words'
@@ -123,9 +123,9 @@ taking_more cores rack slots rest old counts words counts' words' fits some taki
       part = λ k is. taking.part k (and_parts (has_slot rest k) (not (k == t)) (sym (without_lowest rest k fits some) ∙ is)).0;
     }
 
--- no slot is to come
-pub taking_ends : (cores rack slots rest : ℕ) (old counts words : List ℕ) → rest ≡ 0 → IsTaking cores rack slots rest old counts words → HasTakenLinks rack (has_slot slots) old counts
-taking_ends cores rack slots rest old counts words none taking = λ at k within.
+-- the slots that are to come are left as they are
+pub taking_stops : (cores rack slots rest : ℕ) (old counts words : List ℕ) → slots < 2 ^ 64 → rest < 2 ^ 64 → IsTaking cores rack slots rest old counts words
+    → HasTakenLinks rack (has_slot (bit_and slots (2 ^ 64 - 1 - rest))) old counts
+taking_stops cores rack slots rest old counts words fits rest_fits taking = λ at k within.
     taking.taken at k within
-    ∙ ap (λ (b : Bool). taken_in old at k + cond ((at == rack) && b) 1 0)
-    (ap (λ (n : ℕ). has_slot slots k && not (has_slot n k)) none ∙ (ap (λ (b : Bool). has_slot slots k && not b) (has_slot-none k) ∙ and_true (has_slot slots k)))
+    ∙ ap (λ (b : Bool). taken_in old at k + cond ((at == rack) && b) 1 0) (sym (has_slot-without slots rest k fits rest_fits))

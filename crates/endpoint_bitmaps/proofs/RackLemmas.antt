@@ -5,7 +5,7 @@ use Rattle.std.proofs.lemmas.Bool.{cases_lt, and_left, and_parts, eq-eqb, ne_eqb
 use Rattle.std.proofs.lemmas.List.{get_or_read}
 use Rattle.greedy_rules.specs.declared.limits.Limits.{Limits}
 use Rattle.greedy_rules.specs.Limits.{rack_of, is_outward}
-use Rattle.endpoint_bitmaps.specs.Slots.{has_slot, count_below, is_among_lowest}
+use Rattle.endpoint_bitmaps.specs.Slots.{has_slot}
 use Rattle.endpoint_bitmaps.specs.Links.{taken_in, ShowsLeft, HasTakenLinks}
 use Rattle.endpoint_bitmaps.specs.Fit.{Fit}
 use Rattle.endpoint_bitmaps.specs.FreeSlots.{FreeSlots, may_send, may_receive, leaving_in, entering_in, rack_in, is_between, has_links, is_common}
@@ -87,17 +87,15 @@ module _ (n : ℕ) (limits : Limits) (senders receivers racks leaving leaving_le
       needs both false links all is = (and_parts both links all).1
       needs both true links all is = absurd (both_ways true is refl)
 
-  pub taken_links_left : (src dst from to need common taken slot : ℕ) → common < 2 ^ 64 → from ≡ rack_of limits.hosts src → to ≡ rack_of limits.hosts dst → (from == to) ≡ false
-      → ((k : ℕ) → has_slot common k ≡ is_common maps src dst k) → ((k : ℕ) → has_slot taken k ≡ is_among_lowest (has_slot common) need k) → has_slot taken slot ≡ true
-      → (slot < 64) × (has_links maps src dst slot ≡ true)
-  taken_links_left src dst from to need common taken slot fits from_is to_is apart common_is lowest_is here =
-      let in_common : has_slot common slot ≡ true = (and_parts (has_slot common slot) (nat_lt (count_below (has_slot common) slot) need) (sym (lowest_is slot) ∙ here)).0 in
+  pub common_links_left : (src dst from to common slot : ℕ) → common < 2 ^ 64 → from ≡ rack_of limits.hosts src → to ≡ rack_of limits.hosts dst → (from == to) ≡ false
+      → ((k : ℕ) → has_slot common k ≡ is_common maps src dst k) → has_slot common slot ≡ true → (slot < 64) × (has_links maps src dst slot ≡ true)
+  common_links_left src dst from to common slot fits from_is to_is apart common_is here =
       let differ : (rack_of limits.hosts src == rack_of limits.hosts dst) ≡ false = ap (λ (r : ℕ). r == rack_of limits.hosts dst) (sym from_is) ∙ (ap (λ (r : ℕ). from == r) (sym to_is) ∙ apart) in (
         elim (cases_lt slot 64) [
           | inl within ↦ within
-          | inr above ↦ absurd (both_ways (has_slot common slot) (has_slot-above common slot fits above) in_common)
+          | inr above ↦ absurd (both_ways (has_slot common slot) (has_slot-above common slot fits above) here)
         ],
-        links_left src dst slot (sym (common_is slot) ∙ in_common) differ,
+        links_left src dst slot (sym (common_is slot) ∙ here) differ,
       )
 
   pub up_left : (src dst from slot : ℕ) → src < length senders → slot < 64 → from ≡ rack_of limits.hosts src → has_links maps src dst slot ≡ true

@@ -125,22 +125,26 @@ impl FreeMaps {
         ensures count { (b : ℕ) → NoneFrom b (is_common self.old src dst) → count_ones result ≡ min need (count_below (is_common self.old src dst) b) }
         ensures taken { HasTaken src dst (has_slot result) self.old self.new }
     {
-        let taken = lowest(self.common(src, dst), need);
-        if taken == 0 {
-            return taken;
+        if need == 0 {
+            return 0;
         }
-        take_slots(&mut self.senders, &mut self.sending, src, taken);
-        self.receivers[dst as usize] &= !taken;
+        let common = self.common(src, dst);
+        if common == 0 {
+            return 0;
+        }
         let from = self.racks[src as usize];
         let to = self.racks[dst as usize];
-        take_links(
+        let taken = take_links(
             &mut self.leaving,
             &mut self.entering,
             from,
             to,
-            taken,
+            common,
+            need,
             self.limits.cores,
         );
+        take_slots(&mut self.senders, &mut self.sending, src, taken);
+        self.receivers[dst as usize] &= !taken;
         taken
     }
 }
@@ -159,15 +163,17 @@ fn take_slots(words: &mut [u64], count: &mut usize, endpoint: u16, slots: u64)
     *count -= usize::from(*word == 0);
 }
 
-/// Takes the links of a flow from one rack to another; within a rack it has none.
+/// Takes the lowest `need` of these slots for a flow, or all where there are fewer, and answers them. From one rack to another
+/// it takes a link of each in each of them; within a rack it needs none.
 fn take_links(
     leaving: &mut RackLinks,
     entering: &mut RackLinks,
     from: u16,
     to: u16,
     slots: u64,
+    need: u32,
     cores: u16,
-)
+) -> u64
     requires cores { cores ≤ 64 }
     requires from { from < vec_len leaving.old.left }
     requires to { to < vec_len entering.old.left }
@@ -177,19 +183,65 @@ fn take_links(
     requires entering_left { (from == to) ≡ false → (slot : ℕ) → has_slot slots slot ≡ true → has_slot (slice_index_or entering.old.left.items to 0) slot ≡ true }
     requires leaving_used { IsUsed leaving.old.used leaving.old.taken.items }
     requires entering_used { IsUsed entering.old.used entering.old.taken.items }
+    ensures lowest { (slot : ℕ) → has_slot result slot ≡ is_among_lowest (has_slot slots) need slot }
     ensures leaving_used { IsUsed leaving.new.used leaving.new.taken.items }
     ensures entering_used { IsUsed entering.new.used entering.new.taken.items }
     ensures leaving_racks { vec_len leaving.new.left ≡ vec_len leaving.old.left }
     ensures entering_racks { vec_len entering.new.left ≡ vec_len entering.old.left }
     ensures leaving_shown { ShowsLeft cores leaving.new.taken.items leaving.new.left.items }
     ensures entering_shown { ShowsLeft cores entering.new.taken.items entering.new.left.items }
-    ensures leaving { HasTakenLinks from (λ slot. not (from == to) && has_slot slots slot) leaving.old.taken.items leaving.new.taken.items }
-    ensures entering { HasTakenLinks to (λ slot. not (from == to) && has_slot slots slot) entering.old.taken.items entering.new.taken.items }
+    ensures leaving { HasTakenLinks from (λ slot. not (from == to) && has_slot result slot) leaving.old.taken.items leaving.new.taken.items }
+    ensures entering { HasTakenLinks to (λ slot. not (from == to) && has_slot result slot) entering.old.taken.items entering.new.taken.items }
 {
-    if from != to {
-        leaving.take(from, slots, cores);
-        entering.take(to, slots, cores);
+    if from == to {
+        lowest(slots, need)
+    } else {
+        take_between(leaving, entering, from, to, slots, need, cores)
     }
+}
+
+/// Takes the lowest `need` of these slots, or all where there are fewer, and in each a link of both racks, and answers them.
+fn take_between(
+    leaving: &mut RackLinks,
+    entering: &mut RackLinks,
+    from: u16,
+    to: u16,
+    slots: u64,
+    need: u32,
+    cores: u16,
+) -> u64
+    requires cores { cores ≤ 64 }
+    requires from { from < vec_len leaving.old.left }
+    requires to { to < vec_len entering.old.left }
+    requires leaving { ShowsLeft cores leaving.old.taken.items leaving.old.left.items }
+    requires entering { ShowsLeft cores entering.old.taken.items entering.old.left.items }
+    requires leaving_left { (slot : ℕ) → has_slot slots slot ≡ true → has_slot (slice_index_or leaving.old.left.items from 0) slot ≡ true }
+    requires entering_left { (slot : ℕ) → has_slot slots slot ≡ true → has_slot (slice_index_or entering.old.left.items to 0) slot ≡ true }
+    requires leaving_used { IsUsed leaving.old.used leaving.old.taken.items }
+    requires entering_used { IsUsed entering.old.used entering.old.taken.items }
+    ensures lowest { (slot : ℕ) → has_slot result slot ≡ is_among_lowest (has_slot slots) need slot }
+    ensures leaving_used { IsUsed leaving.new.used leaving.new.taken.items }
+    ensures entering_used { IsUsed entering.new.used entering.new.taken.items }
+    ensures leaving_racks { vec_len leaving.new.left ≡ vec_len leaving.old.left }
+    ensures entering_racks { vec_len entering.new.left ≡ vec_len entering.old.left }
+    ensures leaving_shown { ShowsLeft cores leaving.new.taken.items leaving.new.left.items }
+    ensures entering_shown { ShowsLeft cores entering.new.taken.items entering.new.left.items }
+    ensures leaving { HasTakenLinks from (has_slot result) leaving.old.taken.items leaving.new.taken.items }
+    ensures entering { HasTakenLinks to (has_slot result) entering.old.taken.items entering.new.taken.items }
+{
+    leaving.use_rack(from);
+    entering.use_rack(to);
+    let mut free = slots;
+    for _ in 0..need {
+        if free == 0 {
+            break;
+        }
+        let slot = free.trailing_zeros();
+        leaving.take_one(from, slot, cores);
+        entering.take_one(to, slot, cores);
+        free &= free - 1;
+    }
+    slots & !free
 }
 
 /// Numbers the racks of so many endpoints each, where there were `before` a rack.

@@ -1,4 +1,4 @@
-ghost use Rattle.std.specs.Prelude.{◌≡◌, ◌<◌, ◌≤◌, ◌==◌, ℕ, IfOk, vec_len, true, length, replicate};
+ghost use Rattle.std.specs.Prelude.{◌≡◌, ◌<◌, ◌≤◌, ◌*◌, ◌==◌, ℕ, IfOk, vec_len, true, length, replicate};
 ghost use Rattle.std.specs.List.{slice_index_or};
 ghost use Rattle.endpoint_bitmaps.specs.Slots.{has_slot};
 ghost use Rattle.endpoint_bitmaps.specs.Links.{taken_in, HasTakenLinks, ShowsLeft, IsUsed};
@@ -44,27 +44,21 @@ impl RackLinks {
         self.left.fill(u64::MAX);
     }
 
-    /// Takes one of the rack's `cores` links in each of these slots, in which it has one left.
-    pub(crate) fn take(&mut self, rack: u16, slots: u64, cores: u16)
-        requires cores { cores ≤ 64 }
+    /// Lets the rack be one of those that have taken links.
+    pub(crate) fn use_rack(&mut self, rack: u16)
         requires rack { rack < vec_len self.old.left }
-        requires shows { ShowsLeft cores self.old.taken.items self.old.left.items }
-        requires left { (slot : ℕ) → has_slot slots slot ≡ true → has_slot (slice_index_or self.old.left.items rack 0) slot ≡ true }
+        requires count { length self.old.taken.items ≡ vec_len self.old.left * 64 }
         requires used { IsUsed self.old.used self.old.taken.items }
-        ensures racks { vec_len self.new.left ≡ vec_len self.old.left }
-        ensures taken { HasTakenLinks rack (has_slot slots) self.old.taken.items self.new.taken.items }
-        ensures shows { ShowsLeft cores self.new.taken.items self.new.left.items }
+        ensures below { rack < self.new.used }
         ensures used { IsUsed self.new.used self.new.taken.items }
+        ensures taken { self.new.taken ≡ self.old.taken }
+        ensures left { self.new.left ≡ self.old.left }
     {
         self.used = self.used.max(rack as usize + 1);
-        let mut rest = slots;
-        while rest != 0 {
-            self.take_one(rack, rest.trailing_zeros(), cores);
-            rest &= rest - 1;
-        }
     }
 
-    fn take_one(&mut self, rack: u16, slot: u32, cores: u16)
+    /// Takes one of the rack's `cores` links in the slot, in which it has one left.
+    pub(crate) fn take_one(&mut self, rack: u16, slot: u32, cores: u16)
         requires cores { cores ≤ 64 }
         requires rack { rack < vec_len self.old.left }
         requires slot { slot < 64 }

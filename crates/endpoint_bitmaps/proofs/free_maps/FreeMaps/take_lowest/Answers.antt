@@ -1,82 +1,67 @@
-use Rattle.std.proofs.Common.{◌≡◌, ◌<◌, ◌^◌, ◌+◌, ℕ, List, cond, length, get_or, take, drop, ◌++◌, true, ap, sym, ◌∙◌, arith, rules, not, nat_lt, ◌&&◌, ◌||◌, ◌==◌, w64}
+use Rattle.std.proofs.Common.{◌≡◌, ◌<◌, ◌^◌, ◌+◌, ℕ, List, cond, length, get_or, take, drop, ◌++◌, true, ap, sym, ◌∙◌, arith, rules, not, nat_lt, ◌&&◌, ◌||◌, ◌==◌, false, w64}
 use Rattle.std.specs.Int.{trailing_zeros}
-use Rattle.std.proofs.lemmas.Bool.{and_parts}
+use Rattle.std.proofs.lemmas.Bool.{and_left, and_parts}
 use Rattle.std.proofs.lemmas.List.{take_at}
 use Rattle.std.specs.Prelude.{vec_len}
 use Rattle.greedy_rules.specs.Limits.{rack_of}
 use Rattle.endpoint_bitmaps.specs.Slots.{has_slot, count_below}
 use Rattle.endpoint_bitmaps.specs.FreeSlots.{FreeSlots, is_common, may_send, may_receive, has_links, leaving_in, entering_in, rack_in, is_between}
 use Rattle.endpoint_bitmaps.proofs.CountLemmas.{is_among_lowest-same}
-use Rattle.endpoint_bitmaps.proofs.WordLemmas.{has_slot-above, lowest_is}
+use Rattle.endpoint_bitmaps.proofs.WordLemmas.{has_slot-above, has_slot-none, lowest_is}
 use Rattle.endpoint_bitmaps.proofs.NamingLemmas.{names_some}
 use Rattle.endpoint_bitmaps.proofs.LowestLemmas.{count_is}
 use Rattle.endpoint_bitmaps.proofs.MapLemmas.{without_taken}
-use Rattle.endpoint_bitmaps.proofs.MapLemmas.{none_taken}
-use Rattle.endpoint_bitmaps.proofs.RackLemmas.{seen_below, seen_rack, taken_links_left, up_left, down_left, links_taken}
+use Rattle.endpoint_bitmaps.proofs.RackLemmas.{seen_below, seen_rack, common_links_left, up_left, down_left, links_taken}
 use Rattle.endpoint_bitmaps.proofs.free_maps.FreeMaps.take_lowest.Goals as goal
 
-pub take_links-requires-clause-leaving_left : goal.take_links-requires-clause-leaving_left
-take_links-requires-clause-leaving_left c = λ apart slot here.
+pub take_links-taken-requires-clause-leaving_left : goal.take_links-taken-requires-clause-leaving_left
+take_links-taken-requires-clause-leaving_left c = λ apart slot here.
     let m = c.self.inside in
     let fit = c.self.invariant.0 in
     let count : vec_len m.senders ≡ length m.senders.items = omega (arith, m.senders.ok) in
     let from_is = seen_rack (vec_len m.senders) m.limits m.senders.items m.receivers.items m.racks.items m.leaving.taken.items m.leaving.left.items m.entering.taken.items m.entering.left.items fit c.args.self.now c.self.view_is count c.args.src c.requires.src_in_range c.index-from.result.now c.index-from.ensures in
     let to_is = seen_rack (vec_len m.senders) m.limits m.senders.items m.receivers.items m.racks.items m.leaving.taken.items m.leaving.left.items m.entering.taken.items m.entering.left.items fit c.args.self.now c.self.view_is count c.args.dst c.requires.dst_in_range c.index-to.result.now c.index-to.ensures in
-    let left = taken_links_left (vec_len m.senders) m.limits m.senders.items m.receivers.items m.racks.items m.leaving.taken.items m.leaving.left.items m.entering.taken.items m.entering.left.items
-    fit c.args.src c.args.dst c.index-from.result.now c.index-to.result.now c.args.need c.common.result c.lowest-taken.result slot (search rules) from_is to_is apart
-    (λ k. c.common.ensures k ∙ ap (λ (v : FreeSlots). is_common v c.args.src c.args.dst k) (sym c.self.view_is)) c.lowest-taken.ensures here in
+    let left = common_links_left (vec_len m.senders) m.limits m.senders.items m.receivers.items m.racks.items m.leaving.taken.items m.leaving.left.items m.entering.taken.items m.entering.left.items
+    fit c.args.src c.args.dst c.index-from.result.now c.index-to.result.now c.common-common.result slot (search rules) from_is to_is apart
+    (λ k. c.common-common.ensures k ∙ ap (λ (v : FreeSlots). is_common v c.args.src c.args.dst k) (sym c.self.view_is)) here in
     up_left (vec_len m.senders) m.limits m.senders.items m.receivers.items m.racks.items m.leaving.taken.items m.leaving.left.items m.entering.taken.items m.entering.left.items
     fit c.args.src c.args.dst c.index-from.result.now slot (seen_below (vec_len m.senders) m.limits m.senders.items m.receivers.items m.racks.items m.leaving.taken.items m.leaving.left.items m.entering.taken.items m.entering.left.items fit c.args.self.now c.self.view_is count c.args.src c.requires.src_in_range) left.0 from_is left.1
 
-pub take_links-requires-clause-entering_left : goal.take_links-requires-clause-entering_left
-take_links-requires-clause-entering_left c = λ apart slot here.
+pub take_links-taken-requires-clause-entering_left : goal.take_links-taken-requires-clause-entering_left
+take_links-taken-requires-clause-entering_left c = λ apart slot here.
     let m = c.self.inside in
     let fit = c.self.invariant.0 in
     let count : vec_len m.senders ≡ length m.senders.items = omega (arith, m.senders.ok) in
     let from_is = seen_rack (vec_len m.senders) m.limits m.senders.items m.receivers.items m.racks.items m.leaving.taken.items m.leaving.left.items m.entering.taken.items m.entering.left.items fit c.args.self.now c.self.view_is count c.args.src c.requires.src_in_range c.index-from.result.now c.index-from.ensures in
     let to_is = seen_rack (vec_len m.senders) m.limits m.senders.items m.receivers.items m.racks.items m.leaving.taken.items m.leaving.left.items m.entering.taken.items m.entering.left.items fit c.args.self.now c.self.view_is count c.args.dst c.requires.dst_in_range c.index-to.result.now c.index-to.ensures in
-    let left = taken_links_left (vec_len m.senders) m.limits m.senders.items m.receivers.items m.racks.items m.leaving.taken.items m.leaving.left.items m.entering.taken.items m.entering.left.items
-    fit c.args.src c.args.dst c.index-from.result.now c.index-to.result.now c.args.need c.common.result c.lowest-taken.result slot (search rules) from_is to_is apart
-    (λ k. c.common.ensures k ∙ ap (λ (v : FreeSlots). is_common v c.args.src c.args.dst k) (sym c.self.view_is)) c.lowest-taken.ensures here in
+    let left = common_links_left (vec_len m.senders) m.limits m.senders.items m.receivers.items m.racks.items m.leaving.taken.items m.leaving.left.items m.entering.taken.items m.entering.left.items
+    fit c.args.src c.args.dst c.index-from.result.now c.index-to.result.now c.common-common.result slot (search rules) from_is to_is apart
+    (λ k. c.common-common.ensures k ∙ ap (λ (v : FreeSlots). is_common v c.args.src c.args.dst k) (sym c.self.view_is)) here in
     down_left (vec_len m.senders) m.limits m.senders.items m.receivers.items m.racks.items m.leaving.taken.items m.leaving.left.items m.entering.taken.items m.entering.left.items
     fit c.args.src c.args.dst c.index-to.result.now slot (seen_below (vec_len m.senders) m.limits m.senders.items m.receivers.items m.racks.items m.leaving.taken.items m.leaving.left.items m.entering.taken.items m.entering.left.items fit c.args.self.now c.self.view_is count c.args.dst c.requires.dst_in_range) left.0 to_is left.1
 
 pub take_slots-requires-clause-some : goal.take_slots-requires-clause-some
 take_slots-requires-clause-some c =
     let maps = c.args.self.now in
-    let taken : ℕ = c.lowest-taken.result in
-    let common : ℕ = c.common.result in
-    let slot : ℕ = trailing_zeros w64 taken in
-    let here : has_slot taken slot ≡ true = lowest_is taken (search rules) c.if-taken-eq0.false in
-    let in_common : has_slot common slot ≡ true = (and_parts (has_slot common slot) (nat_lt (count_below (has_slot common) slot) c.args.need) (sym (c.lowest-taken.ensures slot) ∙ here)).0 in
-    let both = (and_parts (may_send maps c.args.src slot && may_receive maps c.args.dst slot) (not (is_between maps c.args.src c.args.dst) || has_links maps c.args.src c.args.dst slot) (sym (c.common.ensures slot) ∙ in_common)).0 in
+    let common : ℕ = c.common-common.result in
+    let slot : ℕ = trailing_zeros w64 common in
+    let in_common : has_slot common slot ≡ true = lowest_is common (search rules) c.if-common-eq0.false in
+    let both = (and_parts (may_send maps c.args.src slot && may_receive maps c.args.dst slot) (not (is_between maps c.args.src c.args.dst) || has_links maps c.args.src c.args.dst slot) (sym (c.common-common.ensures slot) ∙ in_common)).0 in
     names_some (get_or c.deref_mut.result.now c.args.src 0) slot
     (ap (λ (words : List ℕ). has_slot (get_or words c.args.src 0) slot) c.deref_mut.ensures.value
     ∙ ap (λ (v : FreeSlots). may_send v c.args.src slot) c.self.view_is ∙ (and_parts (may_send maps c.args.src slot) (may_receive maps c.args.dst slot) both).0)
 
 pub returns-clause-lowest : goal.returns-clause-lowest
 returns-clause-lowest c = λ slot.
-    c.lowest-taken.ensures slot ∙ is_among_lowest-same (has_slot c.common.result) (is_common c.args.self.now c.args.src c.args.dst) c.args.need slot c.common.ensures
-
-pub returns-then-taken-eq0-clause-lowest : goal.returns-then-taken-eq0-clause-lowest
-returns-then-taken-eq0-clause-lowest c = λ slot.
-    c.lowest-taken.ensures slot ∙ is_among_lowest-same (has_slot c.common.result) (is_common c.args.self.now c.args.src c.args.dst) c.args.need slot c.common.ensures
+    c.take_links-taken.ensures.lowest slot ∙ is_among_lowest-same (has_slot c.common-common.result) (is_common c.args.self.now c.args.src c.args.dst) c.args.need slot c.common-common.ensures
 
 pub returns-clause-count : goal.returns-clause-count
 returns-clause-count c = λ b none.
     let common = is_common c.args.self.now c.args.src c.args.dst in
-    let common_fits : c.common.result < 2 ^ 64 = search rules in
-    count_is 64 c.lowest-taken.result c.args.need b common (search rules)
-    (λ slot. c.lowest-taken.ensures slot ∙ is_among_lowest-same (has_slot c.common.result) common c.args.need slot c.common.ensures)
-    (λ slot from. sym (c.common.ensures slot) ∙ has_slot-above c.common.result slot common_fits from) none
-
-pub returns-then-taken-eq0-clause-count : goal.returns-then-taken-eq0-clause-count
-returns-then-taken-eq0-clause-count c = λ b none.
-    let common = is_common c.args.self.now c.args.src c.args.dst in
-    let common_fits : c.common.result < 2 ^ 64 = search rules in
-    count_is 64 c.lowest-taken.result c.args.need b common (search rules)
-    (λ slot. c.lowest-taken.ensures slot ∙ is_among_lowest-same (has_slot c.common.result) common c.args.need slot c.common.ensures)
-    (λ slot from. sym (c.common.ensures slot) ∙ has_slot-above c.common.result slot common_fits from) none
+    let common_fits : c.common-common.result < 2 ^ 64 = search rules in
+    count_is 64 c.take_links-taken.result c.args.need b common (search rules)
+    (λ slot. c.take_links-taken.ensures.lowest slot ∙ is_among_lowest-same (has_slot c.common-common.result) common c.args.need slot c.common-common.ensures)
+    (λ slot from. sym (c.common-common.ensures slot) ∙ has_slot-above c.common-common.result slot common_fits from) none
 
 pub returns-clause-taken : goal.returns-clause-taken
 returns-clause-taken c =
@@ -87,7 +72,7 @@ returns-clause-taken c =
     let view_is = c.self.view_is in
     let src = c.args.src in
     let dst = c.args.dst in
-    let taken = c.lowest-taken.result in
+    let taken = c.take_links-taken.result in
     let src_below : src < length m.senders.items = seen_below (vec_len m.senders) m.limits m.senders.items m.receivers.items m.racks.items m.leaving.taken.items m.leaving.left.items m.entering.taken.items m.entering.left.items fit now view_is count src c.requires.src_in_range in
     let dst_below : dst < length m.receivers.items = omega (arith, seen_below (vec_len m.senders) m.limits m.senders.items m.receivers.items m.racks.items m.leaving.taken.items m.leaving.left.items m.entering.taken.items m.entering.left.items fit now view_is count dst c.requires.dst_in_range, fit.receivers_count) in
     let from_is = seen_rack (vec_len m.senders) m.limits m.senders.items m.receivers.items m.racks.items m.leaving.taken.items m.leaving.left.items m.entering.taken.items m.entering.left.items fit now view_is count src c.requires.src_in_range c.index-from.result.now c.index-from.ensures in
@@ -110,13 +95,16 @@ returns-clause-taken c =
           ∙ ap (λ (v : FreeSlots). may_receive v endpoint slot && not ((endpoint == dst) && has_slot taken slot)) view_is;
       leaving = λ rack slot below.
           links_taken m.limits.hosts src dst c.index-from.result.now c.index-from.result.now c.index-to.result.now (rack_of m.limits.hosts src) slot (has_slot taken) m.leaving.taken.items
-          c.take_links.new.leaving.taken.items below from_is from_is to_is c.take_links.ensures.leaving rack
+          c.take_links-taken.new.leaving.taken.items below from_is from_is to_is c.take_links-taken.ensures.leaving rack
           ∙ ap (λ (v : FreeSlots). leaving_in v rack slot + cond ((rack == rack_in v src) && (is_between v src dst && has_slot taken slot)) 1 0) view_is;
       entering = λ rack slot below.
           links_taken m.limits.hosts src dst c.index-to.result.now c.index-from.result.now c.index-to.result.now (rack_of m.limits.hosts dst) slot (has_slot taken) m.entering.taken.items
-          c.take_links.new.entering.taken.items below to_is from_is to_is c.take_links.ensures.entering rack
+          c.take_links-taken.new.entering.taken.items below to_is from_is to_is c.take_links-taken.ensures.entering rack
           ∙ ap (λ (v : FreeSlots). entering_in v rack slot + cond ((rack == rack_in v dst) && (is_between v src dst && has_slot taken slot)) 1 0) view_is;
     }
 
-pub returns-then-taken-eq0-clause-taken : goal.returns-then-taken-eq0-clause-taken
-returns-then-taken-eq0-clause-taken c = none_taken c.args.src c.args.dst c.lowest-taken.result c.args.self.now c.if-taken-eq0.true
+pub returns-then-common-eq0-clause-count : goal.returns-then-common-eq0-clause-count
+returns-then-common-eq0-clause-count c = λ b none.
+    let common = is_common c.args.self.now c.args.src c.args.dst in
+    let is_none : (slot : ℕ) → common slot ≡ false = λ slot. sym (c.common-common.ensures slot) ∙ ap (λ (n : ℕ). has_slot n slot) c.if-common-eq0.true ∙ has_slot-none slot in
+    count_is 64 0 c.args.need b common (search rules) (λ slot. has_slot-none slot ∙ sym (and_left (common slot) (nat_lt (count_below common slot) c.args.need) (is_none slot))) (λ slot from. is_none slot) none
