@@ -1,11 +1,11 @@
 -- Words as sets of slots: both of two, one without another, without its lowest, the first ones, and how many.
-use Rattle.std.proofs.Common.{◌≡◌, ◌≢◌, ◌<◌, ◌≤◌, ◌-◌, ◌/◌, ◌%◌, ◌^◌, ℕ, zero, suc, Bool, true, false, not, ◌==◌, ◌&&◌, nat_lt, cond, min, bit_and, count_ones, w64, pow-suc, refl, sym, ap, ◌∙◌, arith, inl, inr}
+use Rattle.std.proofs.Common.{◌≡◌, ◌≢◌, ◌<◌, ◌≤◌, ◌+◌, ◌-◌, ◌/◌, ◌%◌, ◌^◌, ℕ, zero, suc, Bool, true, false, not, ◌==◌, ◌&&◌, nat_lt, cond, min, bit_and, count_ones, w64, pow-suc, refl, sym, ap, ◌∙◌, arith, inl, inr}
 use Rattle.std.specs.Int.{bit_at, trailing_zeros}
 use Rattle.std.specs.Int.Count.{ones_step}
-use Rattle.std.proofs.lemmas.Bool.{cases_lt, cases_eq, and_left, and_right, lt-ltb, le-ltb, eq-eqb, ne_eqb}
+use Rattle.std.proofs.lemmas.Bool.{cases_lt, cases_eq, and_left, and_right, lt-ltb, le-ltb, eq-eqb, ne_eqb, both_ways}
 use Rattle.std.proofs.lemmas.Nat.Bits.{bit_at-lt, bit_at_lowest, bit_at-suc, bit_at-zero, bit_at_and, bit_at_not, bit_at_above, bit_at_ones, bit_at_ones_above, bit_at-trailing_zeros}
 use Rattle.endpoint_bitmaps.specs.Slots.{has_slot, count_below}
-use Rattle.endpoint_bitmaps.proofs.CountLemmas.{count_below-same}
+use Rattle.endpoint_bitmaps.proofs.CountLemmas.{count_below-same, count_below-more}
 
 both_bits : (x y : ℕ) → x < 2 → y < 2 → (min x y == 1) ≡ ((x == 1) && (y == 1))
 both_bits zero zero x_is y_is = refl
@@ -98,3 +98,37 @@ pub without_lowest : (rest k : ℕ) → rest < 2 ^ 64 → rest ≢ 0 → has_slo
 without_lowest rest k fits some =
     let at = bit_at-trailing_zeros w64 rest (omega (arith, some)) fits in
     has_slot-without_lowest rest (trailing_zeros w64 rest) k at.1 at.2
+
+-- one less where one that passes is left out
+count_less : (p : ℕ → Bool) (n t : ℕ) → t < n → p t ≡ true → count_below (λ k. p k && not (k == t)) n + 1 ≡ count_below p n
+count_less p zero t below passes = absurd (omega (arith, below))
+count_less p (suc n) t below passes =
+    let q : ℕ → Bool = λ k. p k && not (k == t) in
+    let one : Bool → ℕ = λ b. cond b 1 0 in
+    let more : count_below p (suc n) ≡ count_below p n + one (p n) = count_below-more p n in
+    let less : count_below q (suc n) ≡ count_below q n + one (q n) = count_below-more q n in
+    elim (cases_lt t n) [
+      | inl before ↦
+          let same : q n ≡ p n = ap (λ (b : Bool). p n && not b) (ne_eqb n t (λ is. absurd (omega (arith, is, before)))) ∙ and_true (p n) in
+          let as_before : one (q n) ≡ one (p n) = ap one same in
+          let so_far = count_less p n t before passes in
+          omega (arith, more, less, so_far, as_before)
+      | inr from ↦
+          let is : n ≡ t = omega (arith, from, below) in
+          let there : one (p n) ≡ 1 = ap (λ (k : ℕ). one (p k)) is ∙ ap one passes in
+          let out : one (q n) ≡ 0 = ap one (and_right (p n) _ (ap not (eq-eqb n t is))) in
+          let before = count_below-same q p n (λ k under. ap (λ (b : Bool). p k && not b) (ne_eqb k t (λ same. absurd (omega (arith, same, is, under)))) ∙ and_true (p k)) in
+          omega (arith, more, less, before, there, out)
+    ]
+
+-- a word without its lowest slot has one less
+pub ones_without_lowest : (rest : ℕ) → rest < 2 ^ 64 → bit_and rest (rest - 1) < 2 ^ 64 → rest ≢ 0 → count_ones (bit_and rest (rest - 1)) + 1 ≡ count_ones rest
+ones_without_lowest rest fits less_fits some =
+    let t : ℕ = trailing_zeros w64 rest in
+    let here = lowest_is rest fits some in
+    let within : t < 64 = elim (cases_lt t 64) [
+      | inl below ↦ below
+      | inr above ↦ absurd (both_ways (has_slot rest t) (has_slot-above rest t fits above) here)
+    ] in
+    let same = count_below-same (has_slot (bit_and rest (rest - 1))) (λ k. has_slot rest k && not (k == t)) 64 (λ k below. without_lowest rest k fits some) in
+    omega (arith, count_ones_is 64 rest fits, count_ones_is 64 (bit_and rest (rest - 1)) less_fits, same, count_less (has_slot rest) 64 t within here)

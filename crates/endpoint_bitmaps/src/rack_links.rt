@@ -70,9 +70,9 @@ impl RackLinks {
         ensures shows { ShowsLeft cores self.new.taken.items self.new.left.items }
         ensures used { (self.new.used ≡ self.old.used) × IsUsed self.new.used self.new.taken.items }
     {
-        let place = rack as usize * 64 + slot as usize;
-        self.taken[place] += 1;
-        if u16::from(self.taken[place]) == cores {
+        let taken = &mut self.taken[rack as usize * 64 + slot as usize];
+        *taken += 1;
+        if u16::from(*taken) == cores {
             self.left[rack as usize] &= !(1 << slot);
         }
     }

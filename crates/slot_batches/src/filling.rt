@@ -82,11 +82,11 @@ impl Filling {
             self.waiting.push_reserved(item);
             return;
         }
-        let greatest = put_flow(&mut self.slots, places, item.flow);
+        let put = put_flow(&mut self.slots, places, item.flow);
         self.served.push_reserved(Item {
             flow: item.flow,
-            need: item.need - places.count_ones(),
-            last: self.first_slot + greatest,
+            need: item.need - put.count,
+            last: self.first_slot + put.greatest,
         });
     }
 
@@ -128,8 +128,15 @@ impl Filling {
     }
 }
 
-/// Puts the flow into the slots at these places, and answers the greatest of them.
-fn put_flow(slots: &mut SlotTable, places: u64, flow: Flow) -> u32
+/// The places of a flow's slots: how many they are, and the greatest.
+#[derive(Drop)]
+struct PutPlaces {
+    count: u32,
+    greatest: u32,
+}
+
+/// Puts the flow into the slots at these places, and answers how many they are and the greatest of them.
+fn put_flow(slots: &mut SlotTable, places: u64, flow: Flow) -> PutPlaces
     requires some { places ≢ 0 }
     requires src { flow.src < slots.old.endpoints }
     requires dst { flow.dst < slots.old.endpoints }
@@ -137,16 +144,19 @@ fn put_flow(slots: &mut SlotTable, places: u64, flow: Flow) -> u32
     requires free { (place : ℕ) → has_slot places place ≡ true → destination_of (slot_in slots.old.slots place) flow.src ≡ None }
     ensures slots { HasAdded flow (has_slot places) slots.old.slots slots.new.slots }
     ensures endpoints { slots.new.endpoints ≡ slots.old.endpoints }
-    ensures greatest { IsGreatest (has_slot places) result }
-    ensures below { result < 64 }
+    ensures count { result.count ≡ count_ones places }
+    ensures greatest { IsGreatest (has_slot places) result.greatest }
+    ensures below { result.greatest < 64 }
 {
     let mut rest = places;
+    let mut count = 0;
     loop {
-        let lowest = rest.trailing_zeros();
-        slots.put(lowest as u16, flow.src, flow.dst);
+        let greatest = rest.trailing_zeros();
+        slots.put(greatest as u16, flow.src, flow.dst);
+        count += 1;
         rest &= rest - 1;
         if rest == 0 {
-            return lowest;
+            return PutPlaces { count, greatest };
         }
     }
 }

@@ -1,6 +1,6 @@
-use Rattle.std.proofs.Common.{◌<◌, ◌^◌, length, w64, ◌∙◌, rules, arith}
+use Rattle.std.proofs.Common.{◌≡◌, ◌<◌, ◌-◌, ◌^◌, length, bit_and, count_ones, w64, ap, ◌∙◌, rules, arith}
 use Rattle.std.specs.Int.{trailing_zeros}
-use Rattle.endpoint_bitmaps.proofs.Facts.{lowest_is}
+use Rattle.endpoint_bitmaps.proofs.Facts.{lowest_is, ones_without_lowest}
 use Rattle.slot_batches.proofs.PutLemmas.{put_one, put_all, last_is_greatest, not_yet}
 use Rattle.slot_batches.proofs.filling.put_flow.Goals as goal
 
@@ -31,6 +31,13 @@ returns-then-rest-eq0-clause-greatest c =
     let fits : c.loop-rest.rest < 2 ^ 64 = search rules in
     last_is_greatest c.args.flow c.args.places c.loop-rest.rest c.args.slots.now.slots c.loop-rest.slots.slots fits c.loop-rest.invariant.1 c.if-rest-eq0.true c.loop-rest.invariant.0
 
+pub returns-then-rest-eq0-clause-count : goal.returns-then-rest-eq0-clause-count
+unfolding lib.Count.ones
+returns-then-rest-eq0-clause-count c =
+    let fits : c.loop-rest.rest < 2 ^ 64 = search rules in
+    let none : count_ones (bit_and c.loop-rest.rest (c.loop-rest.rest - 1)) ≡ 0 = ap count_ones c.if-rest-eq0.true in
+    omega (arith, c.loop-rest.invariant.3, ones_without_lowest c.loop-rest.rest fits (search rules) c.loop-rest.invariant.1, none)
+
 pub loop-rest-preserved : goal.loop-rest-preserved
 loop-rest-preserved c =
     let fits : c.loop-rest.rest < 2 ^ 64 = search rules in
@@ -40,4 +47,5 @@ loop-rest-preserved c =
           (put_one c.args.flow c.args.places c.loop-rest.rest c.args.slots.now.slots c.loop-rest.slots.slots fits c.loop-rest.invariant.1 c.loop-rest.invariant.0 within),
       c.if-rest-eq0.false,
       c.put.ensures.endpoints ∙ c.loop-rest.invariant.2,
+      omega (arith, c.loop-rest.invariant.3, ones_without_lowest c.loop-rest.rest fits (search rules) c.loop-rest.invariant.1),
     )
