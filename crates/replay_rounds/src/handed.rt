@@ -14,11 +14,12 @@ use lane_rounds::{AskList, Events, RawList};
 use slot_publisher::Publisher;
 use trace_text::Trace;
 
-/// Where the next endpoint's asks and fates of a round are looked for first.
+/// Where the next endpoint's asks, fates and boots of a round are looked for first.
 #[derive(Clone, Copy, Debug, Default)]
 pub(crate) struct Near {
     asks: usize,
     fates: usize,
+    boots: usize,
 }
 
 /// Writes what the trace says of the round and endpoint. The sources are those of the round's raw packets.
@@ -35,10 +36,11 @@ pub(crate) fn fill_events(
     requires sources { sources.now ≡ sources_in trace.now round }
     ensures { OnOk result (events.new ≡ events_for trace.now round endpoint) }
 {
-    events.boots = trace.boots(round, endpoint);
-    events.version = trace.boot_version(round, endpoint).unwrap_or(1);
-    (events.down, near.fates) = trace.fate_near(round, endpoint, false, near.fates);
-    (events.up, near.fates) = trace.fate_near(round, endpoint, true, near.fates);
+    let (boots, version, next) = trace.boots_near(round, endpoint, near.boots);
+    events.boots = boots;
+    events.version = version.unwrap_or(1);
+    near.boots = next;
+    (events.down, events.up, near.fates) = trace.fates_near(round, endpoint, near.fates);
     near.asks = fill_asks(&mut events.asks, trace, round, endpoint, near.asks)?;
     fill_raw(&mut events.raw, trace, round, endpoint, sources)
 }

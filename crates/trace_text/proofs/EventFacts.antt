@@ -1,5 +1,5 @@
 -- Fates, boots and raw packets in order: what a part of their ranks holds, and that the order changes nothing of what is told.
-use Rattle.std.proofs.Common.{◌≡◌, ℕ, zero, suc, ◌+◌, ◌*◌, ◌<◌, ◌≤◌, List, [], ◌∷◌, length, get_or, map, filter, drop, Bool, true, false, cond, All, Some, IfSome, refl, sym, ap, ◌∙◌, arith, length-take}
+use Rattle.std.proofs.Common.{◌≡◌, ℕ, zero, suc, ◌+◌, ◌*◌, ◌<◌, ◌≤◌, List, [], ◌∷◌, length, get_or, map, filter, drop, Bool, true, false, cond, All, Some, None, IfSome, refl, sym, ap, ◌∙◌, arith, length-take}
 use Rattle.std.specs.Prelude.{◌==◌, ◌&&◌, not, slice_get, option_map}
 use Rattle.std.specs.List.Sorted.{IsStableByKey, IsPermutation, ties}
 use Rattle.std.specs.Ordering.{is_lt, nat_cmp}
@@ -15,6 +15,7 @@ use Rattle.trace_text.specs.Events.{AreAmong, IsBootAmong, IsFateAmong, IsWithin
 use Rattle.trace_text.specs.declared.events.GivenFate.{GivenFate}
 use Rattle.trace_text.specs.declared.events.Boot.{Boot}
 use Rattle.trace_text.specs.declared.events.RawPacket.{RawPacket}
+use Rattle.trace_text.proofs.RankFacts.{filter-filter}
 use mathlib.Core.Path.{fun_ext}
 
 -- tests that agree at the elements of a list
@@ -178,6 +179,27 @@ pub fate-first : (n : ℕ) (fates xs : List GivenFate) (round endpoint : ℕ) (u
 fate-first n fates xs round endpoint up few low among is =
     first-map (λ (given : GivenFate). given.fate) (filter (is_fate_of round endpoint up) fates)
     ∙ ap (λ l. option_map (λ (given : GivenFate). given.fate) (slice_get l 0)) (sym (is ∙ fates-of n fates round endpoint up few low among))
+
+-- where no fate has a rank of a round and endpoint, no row gives either of its fates
+pub fate-none : (n : ℕ) (fates : List GivenFate) (round endpoint : ℕ) (up : Bool) → n ≤ 256 → endpoint < n → All (IsFateAmong n) fates
+    → filter (has_rank_in fate_rank ((round * 256 + endpoint) * 2) ((round * 256 + endpoint) * 2 + 2)) fates ≡ []
+    → slice_get (map (λ given. given.fate) (filter (is_fate_of round endpoint up) fates)) 0 ≡ None
+fate-none n fates round endpoint up few low among gap =
+    fate-first n fates [] round endpoint up few low among
+    (ap (filter (has_rank_in fate_rank (rank + way_number up) (rank + way_number up + 1))) (sym gap)
+    ∙ filter-filter fate_rank fates (rank + way_number up) (rank + way_number up + 1) rank (rank + 2) (omega arith) (by up))
+  where
+    rank : ℕ
+    rank = (round * 256 + endpoint) * 2
+
+    by : (u : Bool) → rank + way_number u + 1 ≤ rank + 2
+    by true = omega arith
+    by false = omega arith
+
+-- and so of boots
+pub boots-none : (n : ℕ) (boots : List Boot) (round endpoint : ℕ) → n ≤ 256 → endpoint < n → All (IsBootAmong n) boots
+    → filter (has_rank_in boot_rank (round * 256 + endpoint) (round * 256 + endpoint + 1)) boots ≡ [] → map (λ boot. boot.version) (filter (is_boot_of round endpoint) boots) ≡ []
+boots-none n boots round endpoint few low among gap = ap (map (λ (boot : Boot). boot.version)) (sym (boots-of n boots round endpoint few low among) ∙ gap)
 
 -- one of what is told
 pub at-map : {X Y : Type 0} (f : X → Y) (xs : List X) (at : ℕ) (d : X) → at < length xs → slice_get (map f xs) at ≡ Some (f (get_or xs at d))

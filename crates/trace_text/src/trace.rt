@@ -1,5 +1,5 @@
 // What a trace holds.
-ghost use Rattle.std.specs.Prelude.{◌≡◌, ◌<◌, ◌≤◌, ◌^◌, ℕ, Some, length, map, slice_get, sum_by, All, IfOk};
+ghost use Rattle.std.specs.Prelude.{◌≡◌, ◌<◌, ◌≤◌, ◌^◌, ℕ, true, false, Some, length, map, slice_get, sum_by, All, IfOk};
 ghost use Rattle.clos_topology.specs.Network.{endpoints_of};
 ghost use Rattle.clos_topology.specs.Limits.{IsNetwork};
 ghost use Rattle.trace_text.specs.Asks.{slots_asked, slots_for, ask_for, asks_in, IsAmong};
@@ -12,7 +12,9 @@ use crate::events::{
     Boot, EventRows, GivenFate, RawPacket, boot_rank, bytes_are_below_256, fate_rank, packet_of,
     raws_of,
 };
-use crate::order::{between, between_near, first_near, of_round, settle, sort, starts_of};
+use crate::order::{
+    between, between_near, first_near, is_gap, of_round, settle, sort, start_near, starts_of,
+};
 use clos_topology::Net;
 use loss_world::Fate;
 use no_memory::NoMemory;
@@ -172,18 +174,19 @@ impl Trace {
         requires src { src < endpoints_of self.now.net }
         ensures { result.now ≡ map (ask_for round src) (asked_at self.now round src) }
     {
-        self.asks_near(round, src, 0).0
+        let asks = of_round(&self.asks, &self.ask_starts, round);
+        let low = (u64::from(round) * 256 + u64::from(src)) * 256;
+        between(asks, low, low + 256)
     }
 
-    /// The same, which are looked for at this place of the round's asks first; and the place after them.
+    /// The same, and the place after them. This place among all asks of the trace is tried first.
     pub fn asks_near(&self, round: u32, src: u16, near: usize) -> (&[Ask], usize)
         requires round { round < self.now.rounds }
         requires src { src < endpoints_of self.now.net }
         ensures { result.0.now ≡ map (ask_for round src) (asked_at self.now round src) }
     {
-        let asks = of_round(&self.asks, &self.ask_starts, round);
         let low = (u64::from(round) * 256 + u64::from(src)) * 256;
-        between_near(asks, low, low + 256, near)
+        between_near(&self.asks, low, low + 256, near)
     }
 
     /// What befalls the packet that goes up from the endpoint in the round, or down to it; None where no row names it.
@@ -217,6 +220,29 @@ impl Trace {
         }
     }
 
+    /// What befalls the packet that goes down to the endpoint in the round and the one that goes up from it, and the place after them. This
+    /// place among all fates of the trace is tried first.
+    #[inline]
+    pub fn fates_near(
+        &self,
+        round: u32,
+        endpoint: u16,
+        near: usize,
+    ) -> (Option<Fate>, Option<Fate>, usize)
+        requires round { round < self.now.rounds }
+        requires endpoint { endpoint < endpoints_of self.now.net }
+        ensures down { result.0 ≡ fate_at self.now round endpoint false }
+        ensures up { result.1 ≡ fate_at self.now round endpoint true }
+    {
+        let low = fate_rank(round, endpoint, false);
+        if is_gap(&self.fates, low, low + 2, near) {
+            return (None, None, near);
+        }
+        let down = self.fate(round, endpoint, false);
+        let up = self.fate(round, endpoint, true);
+        (down, up, start_near(&self.fates, low + 2, near))
+    }
+
     /// How often the endpoint boots in the round.
     pub fn boots(&self, round: u32, endpoint: u16) -> u32
         requires round { round < self.now.rounds }
@@ -236,6 +262,24 @@ impl Trace {
             Some(boot) => Some(boot.version),
             None => None,
         }
+    }
+
+    /// How often the endpoint boots in the round, the version of the last of these boots, and the place after them. This place among all
+    /// boots of the trace is tried first.
+    #[inline]
+    pub fn boots_near(&self, round: u32, endpoint: u16, near: usize) -> (u32, Option<u8>, usize)
+        requires round { round < self.now.rounds }
+        requires endpoint { endpoint < endpoints_of self.now.net }
+        ensures count { result.0 ≡ length (boots_at self.now round endpoint) }
+        ensures version { result.1 ≡ last_of (boots_at self.now round endpoint) }
+    {
+        let rank = boot_rank(round, endpoint);
+        if is_gap(&self.boots, rank, rank + 1, near) {
+            return (0, None, near);
+        }
+        let boots = self.boots(round, endpoint);
+        let version = self.boot_version(round, endpoint);
+        (boots, version, start_near(&self.boots, rank + 1, near))
     }
 
     fn boots_of(&self, round: u32, endpoint: u16) -> &[Boot]
