@@ -21,6 +21,9 @@ use std::alloc::Global;
 use std::marker::Model;
 use trace_text::Trace;
 
+// Room for so many departures of each endpoint is made before a round is played; if more are sent, it grows.
+const DEPARTURES_EACH: usize = 8;
+
 /// What an endpoint is handed in a round, and what it gives: memory that is kept from one round to the next.
 #[derive(Drop)]
 pub(crate) struct Buffers {
@@ -96,7 +99,7 @@ impl RoundInPlay {
             batch: Batch::with_limits(alloc, limits),
             sources,
             answers,
-            departures: Vec::new(alloc),
+            departures: Vec::with_capacity(alloc, usize::from(net.endpoints()) * DEPARTURES_EACH)?,
             near: Near::default(),
         })
     }
