@@ -1,3 +1,5 @@
+mod Crossing
+mod ReplayBeside
 pub mod AskLemmas
 pub mod RoundAsks
 pub mod EntryLemmas

@@ -8,3 +8,4 @@ pub mod Settings
 pub mod Ready
 pub mod Replay
 pub mod Premises
+pub mod Beside

@@ -10,6 +10,7 @@ ghost use Rattle.window_engine.specs.Replay.{StandsForReplay, HasCoresOf, run_of
 ghost use Rattle.window_engine.specs.Settings.{IsSetting};
 ghost use Rattle.window_engine.specs.Standing.{Needs, HasAllocated};
 ghost use Rattle.window_engine.specs.Step.{IsWindowOf, jobs_for};
+ghost use Rattle.window_engine.specs.Beside.{MayPlay, HasPlayed, MayAllocate, HasGiven};
 
 use crate::allocation::Allocation;
 use crate::collection::place;
@@ -25,11 +26,14 @@ use replay_rounds::{Played, ReplayRounds};
 use std::alloc::Global;
 use std::marker::Model;
 use std::sync::Wait;
-use std::thread::Threads;
+use std::thread::{Threads, join_mut};
 use trace_text::Trace;
 
-/// Replays a trace, window after window of rounds: in each step the rounds of a window are collected, and the batches of the window
-/// before get their slots. What clauses say of it holds for all cores for which it stands.
+/// From so many entries on, a window's batches are allocated while a thread plays the next rounds.
+const MANY: usize = 16;
+
+/// Replays a trace, window after window of rounds: in each step the rounds of a window are collected, and beside that the batches of
+/// the window before get their slots. What clauses say of it holds for all cores for which it stands.
 #[derive(Drop)]
 pub struct Replay {
     alloc: Global,
@@ -69,6 +73,15 @@ impl Model for ReplayStep {
     ghost Value = { ReplayStepContent };
 
     ghost view = { λ s. record { first = s.first; played = s.played; window = s.window } };
+}
+
+/// Whether the batches have so many entries that they are allocated beside a thread.
+fn have_many(batches: &[Batch]) -> bool {
+    let mut entries = 0usize;
+    for batch in batches {
+        entries = entries.saturating_add(batch.len());
+    }
+    entries >= MANY
 }
 
 /// A copy of each batch.
@@ -179,6 +192,42 @@ impl Replay {
         }
     }
 
+    /// Plays the next window of rounds in a thread of its own, and beside it gives the batches that wait their slots and cores. Where
+    /// these have few entries no thread is started.
+    fn play_beside<R: Threads + Wait + Sync, G: Gate + Sync>(
+        &mut self,
+        rt: &R,
+        gate: &G,
+        trace: &Trace,
+    ) -> Result<(Played, Window), NoMemory>
+        requires may_play { MayPlay trace.now self.old.lanes }
+        requires may_allocate { MayAllocate self.old.allocation self.old.waiting }
+        ensures others { self.new ≡ record self.old { lanes = self.new.lanes; allocation = self.new.allocation } }
+        ensures rounds { IfOk result (λ both. HasPlayed trace.now self.old.lanes self.new.lanes both.0) }
+        ensures given { IfOk result (λ both. HasGiven self.old.allocation self.old.waiting self.new.allocation both.1) }
+    {
+        let alloc = self.alloc;
+        let lanes = &mut self.lanes;
+        let allocation = &mut self.allocation;
+        let batches = self.waiting.as_slice();
+        if !have_many(batches) {
+            let window = allocation.window_of_any(alloc, rt, gate, batches)?;
+            return Ok((lanes.collect(alloc, trace)?, window));
+        }
+        let (played, window) = join_mut(
+            rt,
+            &mut || -> Result<Played, NoMemory>
+                requires { MayPlay trace.now lanes.now }
+                ensures { IfOk result (HasPlayed trace.entry.now lanes.entry.now lanes.exit.now) }
+            { lanes.collect(alloc, trace) },
+            &mut || -> Result<Window, NoMemory>
+                requires { MayAllocate allocation.now batches.now }
+                ensures { IfOk result (HasGiven allocation.entry.now batches.entry.now allocation.exit.now) }
+            { allocation.window_of_any(alloc, rt, gate, batches) },
+        );
+        Ok((played?, window?))
+    }
+
     /// Plays the next window of `g` rounds, or of those that are left, and gives the batches of the window before their slots and
     /// cores, which are then published. The trace is the one given to `open`; after want of memory the replay is only to be dropped.
     pub fn step<R: Threads + Wait + Sync, G: Gate + Sync>(
@@ -208,10 +257,7 @@ impl Replay {
         replays_hold();
         let _rounds = trace.rounds();
         let first = self.lanes.collected();
-        let played = self.lanes.collect(self.alloc, trace)?;
-        let window = self
-            .allocation
-            .window_of_any(self.alloc, rt, gate, &self.waiting)?;
+        let (played, window) = self.play_beside(rt, gate, trace)?;
         self.lanes
             .publish(window.span.count as u16, &window.slots, &window.cores);
         self.waiting = copied(self.alloc, played.batches())?;
