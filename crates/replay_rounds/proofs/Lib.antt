@@ -12,6 +12,8 @@ pub mod OpenedLanes
 pub mod PublishedWindows
 pub mod LoopLemmas
 pub mod PlayLemmas
+pub mod SortLemmas
+pub mod DepartureLemmas
 pub mod PartLemmas
 pub mod RowLemmas
 pub mod AnswerLemmas

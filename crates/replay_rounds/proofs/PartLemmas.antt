@@ -4,7 +4,6 @@ use Rattle.std.specs.List.{flat_map, filter_map, cons_option, range_with_len}
 use Rattle.std.proofs.lemmas.Bool.{lt-ltb, cond_both}
 use Rattle.std.proofs.lemmas.Grind.{flat_map-append}
 use Rattle.std.proofs.lemmas.List.{append-nil, map-append}
-use Rattle.list_facts.specs.Order.{sort_by}
 use Rattle.std.proofs.lemmas.List.FromFn.{get_or-map-range_with_len, length-map-range_with_len}
 use Rattle.greedy_rules.specs.declared.flows.Entry.{Entry}
 use Rattle.greedy_rules.specs.Batches.{DemandBatch, IsAboveLast}
@@ -17,7 +16,9 @@ use Rattle.trace_run.specs.Run.{Setting, next_rounds, replayed}
 use Rattle.replay_rounds.specs.declared.played.Departure.{Departure}
 use Rattle.replay_rounds.specs.Played.{Played, departures_of}
 use Rattle.replay_rounds.specs.Collecting.{answers_below, entries_in, part_of, played_of, with_endpoint, with_numbers, with_round, AreRoundsFrom, RoundPart}
+use Rattle.replay_rounds.specs.Departures.{by_slot}
 use Rattle.replay_rounds.proofs.PlayLemmas.{same_part}
+use Rattle.replay_rounds.proofs.SortLemmas.{sort_front}
 
 -- ---- lists
 
@@ -55,7 +56,8 @@ parts_more setting trace bound numbers =
     (λ number. same_part (with_endpoint setting trace bound (part_of setting trace bound number)) (part_of setting trace (bound + 1) number) refl refl
     (sym (flat_map_more (entries_in setting number) bound)) refl
     (ap (answers_below setting trace number) (sym (add-one bound)))
-    (sym (flat_map_more (departures_of setting number) bound))) numbers
+    (sort_front (λ (d : Departure). d.slot) (flat_map (departures_of setting number) (range_with_len 0 bound)) (departures_of setting number bound)
+    ∙ ap by_slot (sym (flat_map_more (departures_of setting number) bound)))) numbers
 
 -- ---- what is recorded lies below the bound
 
@@ -135,4 +137,4 @@ played_more parts part =
     same_played (with_round part (played_of parts)) (played_of (parts ++ part ∷ []))
     (sym (map-append (λ (p : RoundPart). p.batch) parts (part ∷ [])))
     (sym (map-append (λ (p : RoundPart). p.answers) parts (part ∷ [])))
-    (sym (map-append (λ (p : RoundPart). sort_by (λ (d : Departure). d.slot) p.departures) parts (part ∷ [])))
+    (sym (map-append (λ (p : RoundPart). p.departures) parts (part ∷ [])))

@@ -2,7 +2,6 @@
 use Rattle.std.proofs.Common.{◌≡◌, ◌<◌, ◌≤◌, ℕ, ◌+◌, ◌*◌, ◌-◌, min, List, map, get_or, refl, sym, ◌∙◌, subst, arith}
 use Rattle.std.specs.List.{range_with_len}
 use Rattle.std.proofs.lemmas.Option.{slice_get-get_or, slice_get_within, get_or_from_slice_get}
-use Rattle.list_facts.specs.Order.{sort_by}
 use Rattle.greedy_rules.specs.Schedule.{first_slot}
 use Rattle.clos_topology.specs.Network.{endpoints_of}
 use Rattle.lane_rounds.specs.State.{RoundsState}
@@ -10,7 +9,6 @@ use Rattle.trace_text.specs.Trace.{TraceContent}
 use Rattle.trace_text.specs.Valid.{IsTrace}
 use Rattle.trace_run.specs.Windows as windows
 use Rattle.trace_run.specs.Windows.{InWindows, batch_at}
-use Rattle.replay_rounds.specs.declared.played.Departure.{Departure}
 use Rattle.replay_rounds.specs.Setting.{Cores, setting_of}
 use Rattle.replay_rounds.specs.Standing.{LaneStands, RoundsContent, Stands, routed_from, slots_between}
 use Rattle.replay_rounds.specs.Played.{answers_in, departures_in, rounds_played}
@@ -31,7 +29,7 @@ rounds_give trace b g cores first count =
     same_played (played_of (map part numbers)) (rounds_played setting trace first count)
     (map_by (λ (p : RoundPart). p.batch) part (batch_at setting) (λ number. refl) numbers)
     (map_by (λ (p : RoundPart). p.answers) part (answers_in setting trace) (λ number. answers_are trace b g cores number) numbers)
-    (map_by (λ (p : RoundPart). sort_by (λ (d : Departure). d.slot) p.departures) part (departures_in setting) (λ number. refl) numbers)
+    (map_by (λ (p : RoundPart). p.departures) part (departures_in setting) (λ number. refl) numbers)
 
 -- ---- before it
 

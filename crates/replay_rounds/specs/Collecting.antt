@@ -2,7 +2,6 @@
 -- this project's own profile.
 use Rattle.std.specs.Prelude.{◌≡◌, ◌<◌, ◌≤◌, ℕ, zero, suc, ◌+◌, ◌*◌, ◌-◌, List, [], ◌∷◌, ◌++◌, length, map, Option, Some, None, option_map, is_none, slice_set, if◌then◌else◌}
 use Rattle.std.specs.List.{flat_map, range_with_len, slice_index_or}
-use Rattle.list_facts.specs.Order.{sort_by}
 use Rattle.fcp_framing.specs.Fields.{up_of}
 use Rattle.fcp_framing.specs.Refusals.{first_refusal, refuses_up, number_of}
 use Rattle.greedy_rules.specs.declared.flows.Entry.{Entry}
@@ -22,6 +21,7 @@ use Rattle.replay_rounds.specs.Standing.{LaneStands, routed_from, slots_between}
 use Rattle.replay_rounds.specs.Publishing.{IsPublished}
 use Rattle.replay_rounds.specs.Played.{Played, departures_of, lane_before_raw}
 use Rattle.replay_rounds.specs.Parts.{events_for}
+use Rattle.replay_rounds.specs.Departures.{by_slot}
 
 -- ---- raw packets
 
@@ -57,8 +57,8 @@ answers_below setting trace round (suc endpoint) =
 
 -- ---- a round in parts
 
--- what contracts see of a round that is being played: the batch and what is sent so far, the endpoint that each raw packet names,
--- and what the raw packets are answered so far
+-- what contracts see of a round that is being played: the batch so far, the endpoint that each raw packet names, what the raw packets
+-- are answered so far, and what is sent so far, in the order of slots
 pub record RoundPart : Type 0 where
   pub round : ℕ
   pub batch : DemandBatch
@@ -87,7 +87,7 @@ with_endpoint setting trace endpoint part = record {
   batch = record { entries = part.batch.entries ++ entries_in setting part.round endpoint; limits = part.batch.limits };
   sources = part.sources;
   answers = with_numbers (refused_of setting trace part.round endpoint) part.answers;
-  departures = part.departures ++ departures_of setting part.round endpoint;
+  departures = by_slot (part.departures ++ departures_of setting part.round endpoint);
 }
 
 -- with the endpoints below a bound
@@ -97,7 +97,7 @@ part_of setting trace bound number = record {
   batch = record { entries = flat_map (entries_in setting number) (range_with_len 0 bound); limits = setting.limits };
   sources = sources_in trace number;
   answers = answers_below setting trace number bound;
-  departures = flat_map (departures_of setting number) (range_with_len 0 bound);
+  departures = by_slot (flat_map (departures_of setting number) (range_with_len 0 bound));
 }
 
 -- a list has the rounds from this one on, with the endpoints that their raw packets name
@@ -142,17 +142,17 @@ pub record LanesStand (setting : Setting) (collected batches : ℕ) (lanes : Lis
 
 -- ---- what rounds give once every endpoint is played
 
--- with one round more, in which what is sent stands in the order of slots
+-- with one round more
 abbrev pub with_round : RoundPart → Played → Played
 with_round part played = record {
   batches = played.batches ++ part.batch ∷ [];
   answers = played.answers ++ part.answers ∷ [];
-  departures = played.departures ++ sort_by (λ d. d.slot) part.departures ∷ [];
+  departures = played.departures ++ part.departures ∷ [];
 }
 
 abbrev pub played_of : List RoundPart → Played
 played_of parts = record {
   batches = map (λ part. part.batch) parts;
   answers = map (λ part. part.answers) parts;
-  departures = map (λ part. sort_by (λ d. d.slot) part.departures) parts;
+  departures = map (λ part. part.departures) parts;
 }

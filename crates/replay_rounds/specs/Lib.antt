@@ -4,6 +4,7 @@ pub mod Played
 pub mod Standing
 pub mod Counts
 pub mod Parts
+pub mod Departures
 pub mod Collecting
 pub mod Counting
 pub mod Publishing

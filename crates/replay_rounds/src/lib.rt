@@ -2,6 +2,7 @@
 #![tactic(auto)]
 
 mod collect;
+mod departures;
 mod handed;
 mod laws;
 mod part;

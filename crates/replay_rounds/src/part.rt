@@ -1,17 +1,16 @@
 //! A round as it is played, endpoint after endpoint.
-ghost use Rattle.std.specs.Prelude.{◌≡◌, ◌<◌, ◌≤◌, ℕ, ◌+◌, [], ◌++◌, map, slice_set, Some, IfOk, OnOk};
+ghost use Rattle.std.specs.Prelude.{◌≡◌, ◌<◌, ◌≤◌, ℕ, ◌+◌, [], slice_set, Some, IfOk, OnOk};
 ghost use Rattle.greedy_rules.specs.Batches.{IsAboveLast};
 ghost use Rattle.clos_topology.specs.Network.{endpoints_of};
-ghost use Rattle.endpoint_agent.specs.Lines.{slots_sent};
 ghost use Rattle.replay_rounds.specs.Setting.{Cores};
 ghost use Rattle.replay_rounds.specs.Standing.{LaneStands};
-ghost use Rattle.replay_rounds.specs.Played.{departure};
 ghost use Rattle.replay_rounds.specs.Collecting.{blank_round, framed_answer, framed_in, published_by, setting_by, source_of, sources_in, with_endpoint, with_numbers, with_round, MayBeTold};
 
 use crate::NoMemory;
+use crate::departures::DeparturesBySlot;
 use crate::handed::{Near, fill_events, fill_told};
 use crate::laws::rounds_may_be_played;
-use crate::played::{Departure, Played};
+use crate::played::Played;
 use arrayvec::ArrayVec;
 use fcp_framing::{Told, Up, decode_up};
 use greedy_rules::{Batch, Limits};
@@ -20,9 +19,6 @@ use slot_publisher::Publisher;
 use std::alloc::Global;
 use std::marker::Model;
 use trace_text::Trace;
-
-// Room for so many departures of each endpoint is made before a round is played; if more are sent, it grows.
-const DEPARTURES_EACH: usize = 8;
 
 /// What an endpoint is handed in a round, and what it gives: memory that is kept from one round to the next.
 #[derive(Drop)]
@@ -60,7 +56,7 @@ pub(crate) struct RoundInPlay {
     sources: Vec<Option<u16>>,
     // The number of the refusal of each raw packet, if one refuses it so far.
     answers: Vec<Option<u8>>,
-    departures: Vec<Departure>,
+    departures: DeparturesBySlot,
     near: Near,
 }
 
@@ -74,7 +70,7 @@ impl Model for RoundInPlay {
       batch = r.batch;
       sources = r.sources.items;
       answers = r.answers.items;
-      departures = r.departures.items;
+      departures = r.departures;
     } };
 }
 
@@ -99,7 +95,7 @@ impl RoundInPlay {
             batch: Batch::with_limits(alloc, limits),
             sources,
             answers,
-            departures: Vec::with_capacity(alloc, usize::from(net.endpoints()) * DEPARTURES_EACH)?,
+            departures: DeparturesBySlot::open(alloc, net.endpoints())?,
             near: Near::default(),
         })
     }
@@ -148,25 +144,24 @@ impl RoundInPlay {
             &mut buffers.sent,
             &mut buffers.refused,
         )?;
-        note_sent(&mut self.departures, endpoint, &buffers.sent)?;
+        self.departures.note_sent(endpoint, &buffers.sent)?;
         note_refused(&mut self.answers, &buffers.refused);
         Ok(())
     }
 
-    /// Appends what it gives once every endpoint is played: what is sent stands in the order of slots.
+    /// Appends what it gives once every endpoint is played.
     pub(crate) fn add_to(self, played: &mut Played) -> Result<(), NoMemory>
         ensures { OnOk result (played.new ≡ with_round self played.old) }
     {
         let RoundInPlay {
             batch,
             answers,
-            mut departures,
+            departures,
             ..
         } = self;
-        departures.sort_by_key(|departure| departure.slot)?;
         played.batches.push(batch)?;
         played.answers.push(answers)?;
-        played.departures.push(departures)?;
+        played.departures.push(departures.into_list()?)?;
         Ok(())
     }
 }
@@ -204,24 +199,6 @@ fn read_one(bytes: &[u8], endpoints: u16, up: &mut Up) -> (Option<u16>, Option<u
         Ok(()) => (Some(up.src), None),
         Err(refusal) => (None, Some(refusal.number())),
     }
-}
-
-/// Appends what an endpoint sends.
-fn note_sent(
-    departures: &mut Vec<Departure>,
-    src: u16,
-    sent: &ArrayVec<Sent, 64>,
-) -> Result<(), NoMemory>
-    ensures { OnOk result (departures.new.items ≡ departures.old.items ++ map (departure src) (slots_sent sent.now.items)) }
-{
-    for one in sent.iter() {
-        departures.push(Departure {
-            slot: one.slot,
-            src,
-            dst: one.dst,
-        })?;
-    }
-    Ok(())
 }
 
 /// Writes the numbers of refusals at the places of the packets that are refused.

@@ -9,6 +9,7 @@ use Rattle.endpoint_agent.specs.Standing as agents
 use Rattle.lane_rounds.specs.State.{MayAsk, with_each}
 use Rattle.replay_rounds.specs.declared.played.Departure.{Departure}
 use Rattle.replay_rounds.specs.Played.{departures_of}
+use Rattle.replay_rounds.specs.Departures.{by_slot}
 use Rattle.replay_rounds.specs.Collecting.{RoundPart, MayBeTold, refused_of, with_endpoint, with_numbers, setting_by, published_by}
 use Rattle.replay_rounds.specs.Standing.{LaneStands}
 use Rattle.replay_rounds.proofs.PlayLemmas.{may_play, ready, of_lane, next_stands, entries_are, sends_are, refused_are, same_part}
@@ -70,8 +71,8 @@ returns-clause-part c = λ cores may_be stood.
     let stood_now = subst (λ (k : ℕ). LaneStands setting k published endpoint lane) (sym is) stood in
     let may = may_play c.rounds_may_be_played.ensures.rounds c.rounds_may_be_played.ensures.told trace c.args.g cores c.args.publisher.now number endpoint may_be_now c.requires.endpoint lane stood_now events told c.in_ok-fill_events.ensures c.fill_told.ensures in
     let said = c.in_ok-round.ensures in
-    let before : RoundPart = record { round = number; batch = c.self.inside.batch; sources = c.self.inside.sources.items; answers = c.self.inside.answers.items; departures = c.self.inside.departures.items } in
-    let after : RoundPart = record { round = number; batch = c.round.new.batch; sources = c.self.inside.sources.items; answers = (with_items c.self.inside.answers c.note_refused.new.answers).items; departures = c.note_sent.new.departures.items } in
+    let before : RoundPart = record { round = number; batch = c.self.inside.batch; sources = c.self.inside.sources.items; answers = c.self.inside.answers.items; departures = c.self.inside.departures } in
+    let after : RoundPart = record { round = number; batch = c.round.new.batch; sources = c.self.inside.sources.items; answers = (with_items c.self.inside.answers c.note_refused.new.answers).items; departures = c.note_sent.new.self } in
     let refused = refused_are setting number published endpoint lane events told stood_now may trace c.in_ok-fill_events.ensures c.clear-2.new.self c.round.new.refused c.clear-2.ensures said.refused in
     let sends = sends_are setting number published endpoint lane events told stood_now may (slots_sent c.round.new.sent.items) said.sends in
     let kept : length c.note_refused.new.answers ≡ c.self.inside.answers.len = c.note_refused.auto.answers ∙ (ap length c.deref_mut.ensures.value ∙ sym c.self.inside.answers.ok.0) in
@@ -79,7 +80,7 @@ returns-clause-part c = λ cores may_be stood.
     ∙ c.note_refused.ensures
     ∙ (ap (λ (zs : List (Option ℕ)). with_numbers c.round.new.refused zs) c.deref_mut.ensures.value
     ∙ ap (λ (rs : List (ℕ × ℕ)). with_numbers rs c.self.inside.answers.items) refused) in
-    let departures : after.departures ≡ before.departures ++ departures_of setting number endpoint = c.in_ok-note_sent.ensures ∙ ap (λ (ds : List Departure). c.self.inside.departures.items ++ ds) sends in
+    let departures : after.departures ≡ by_slot (before.departures ++ departures_of setting number endpoint) = c.in_ok-note_sent.ensures ∙ ap (λ (ds : List Departure). by_slot (before.departures ++ ds)) sends in
     same_part after (with_endpoint setting trace endpoint before) refl refl
     (entries_are setting number published endpoint lane events told stood_now may c.self.inside.batch.entries c.round.new.batch.entries said.entries)
     c.round.ensures.limits answers departures
