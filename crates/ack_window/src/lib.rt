@@ -17,6 +17,3 @@ pub use limits::{reorder, span};
 pub use no_memory::NoMemory;
 pub use send_window::{Decided, SendWindow, Unresolved};
 pub use take_window::{TakeWindow, Taken};
-
-#[cfg(test)]
-mod tests;

@@ -4,6 +4,3 @@
 mod lookup;
 
 pub use lookup::BatchLookup;
-
-#[cfg(test)]
-mod tests;

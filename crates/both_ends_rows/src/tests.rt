@@ -10,6 +10,7 @@ use std::alloc::{AllocError, Global};
 
 mod agent_calls;
 mod lane_calls;
+mod raw_refusals;
 mod rounds;
 
 /// What comes from outside.

@@ -9,6 +9,3 @@ pub use graph::RackGraph;
 pub use laws::small_networks;
 pub use net::{Net, NetRefused};
 pub use no_memory::NoMemory;
-
-#[cfg(test)]
-mod tests;

@@ -14,6 +14,3 @@ pub use laws::{
 };
 pub use no_memory::NoMemory;
 pub use table::{Table, colour};
-
-#[cfg(test)]
-mod tests;

@@ -6,6 +6,3 @@ mod rack_links;
 
 pub use free_maps::FreeMaps;
 pub use no_memory::NoMemory;
-
-#[cfg(test)]
-mod tests;

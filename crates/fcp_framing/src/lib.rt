@@ -25,6 +25,3 @@ pub use laws::{
 pub use packet::{Demand, Down, Told, Up};
 pub use refusal::FrameRefused;
 pub use upward::decode_up;
-
-#[cfg(test)]
-mod tests;

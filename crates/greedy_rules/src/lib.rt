@@ -25,6 +25,3 @@ pub use no_memory::NoMemory;
 pub use plain::plain_batch;
 pub use recorded::{every_recorded_slot, recorded_batches_may_be_applied};
 pub use slots::SlotTable;
-
-#[cfg(test)]
-mod tests;

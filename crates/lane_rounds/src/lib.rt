@@ -12,6 +12,3 @@ pub use events::{AskList, Events, RawList, RefusedList};
 pub use laws::no_loss_or_boot_harms;
 pub use no_memory::NoMemory;
 pub use rounds::LaneRounds;
-
-#[cfg(test)]
-mod tests;

@@ -5,4 +5,3 @@ pub mod PlayLemmas
 pub mod CrewLemmas
 pub mod RowLemmas
 pub mod TableLemmas
-pub mod TestLemmas

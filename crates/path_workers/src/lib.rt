@@ -10,6 +10,3 @@ mod seats;
 pub use core_table::CoreTable;
 pub use no_memory::NoMemory;
 pub use paths::Paths;
-
-#[cfg(test)]
-mod tests;

@@ -19,6 +19,3 @@ pub use line::Line;
 pub use numeral::Numeral;
 pub use read::read_line;
 pub use write::write_line;
-
-#[cfg(test)]
-mod tests;

@@ -16,7 +16,6 @@ pub mod CountLemmas
 pub mod MoveLemmas
 pub mod TakeLemmas
 pub mod RunLemmas
-pub mod AskLemmas
 pub mod ServeLemmas
 pub mod WholeLemmas
 pub mod LyingLemmas

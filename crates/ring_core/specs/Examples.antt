@@ -1,7 +1,6 @@
 -- Small windows in full.
-use Rattle.std.specs.Prelude.{◌≡◌, ◌<◌, ℕ, true, false, Bool, List, [], ◌∷◌, replicate}
+use Rattle.std.specs.Prelude.{◌≡◌, ℕ, true, false, Bool, List, [], ◌∷◌, replicate}
 use Rattle.greedy_rules.specs.declared.flows.Item.{Item}
-use Rattle.greedy_rules.specs.declared.flows.Entry.{Entry}
 use Rattle.greedy_rules.specs.Batches.{DemandBatch}
 use Rattle.greedy_rules.specs.Examples.{opening, waiting, in_one_rack}
 use Rattle.slot_batches.specs.Pieces.{Part}
@@ -46,7 +45,3 @@ abbrev pub EachPieceTakesATurn : Type 0
 EachPieceTakesATurn =
     (turns_of (window_of [] (in_one_rack (opening 0 1 3 ∷ []) ∷ in_one_rack [] ∷ []) 0 2 2) ≡ 4)
     × (turns_of (window_of (replicate 65 (waiting 0 1 0 0)) (in_one_rack [] ∷ []) 0 2 1) ≡ 4)
-
--- an entry that opens a flow to endpoint 0, of one slot
-abbrev pub OpensOneSlot : Entry → Type 0
-OpensOneSlot entry = (0 < entry.flow.src) × (entry.flow.src < 132) × (entry.flow.dst ≡ 0) × (entry.opens ≡ true) × (entry.clear ≡ false) × (entry.add ≡ 1)

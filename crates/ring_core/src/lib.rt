@@ -15,6 +15,3 @@ pub use no_memory::NoMemory;
 pub use ring::RingCore;
 pub use turn::Turn;
 pub use worker::Worker;
-
-#[cfg(test)]
-mod tests;

@@ -21,6 +21,3 @@ pub use laws::{
 pub use no_memory::NoMemory;
 pub use piece::Piece;
 pub use stage::{Stage, give_items};
-
-#[cfg(test)]
-mod tests;

@@ -7,6 +7,3 @@ mod publisher;
 pub use laws::small_window;
 pub use no_memory::NoMemory;
 pub use publisher::Publisher;
-
-#[cfg(test)]
-mod tests;

@@ -26,6 +26,3 @@ pub use fault::{Fault, TraceRefused};
 pub use make::make_trace;
 pub use read::read_trace;
 pub use trace::Trace;
-
-#[cfg(test)]
-mod tests;

@@ -1,6 +1,0 @@
-use Rattle.std.proofs.Common.{◌≡◌, ◌≤◌}
-use Rattle.clos_topology.specs.Network.{endpoints_of}
-use Rattle.edge_colouring.proofs.tests.random.colour_slots.Given as goal
-
-abbrev pub invariant-loop : goal.invariant-loop
-invariant-loop g l = (l.table.net ≡ l.net) × (endpoints_of l.net ≤ l.graph.room)

@@ -1,6 +1,0 @@
-use Rattle.std.proofs.Common.{◌≡◌, All, length}
-use Rattle.greedy_rules.specs.Matching.{IsMatching}
-use Rattle.path_workers.proofs.tests.put_all.Given as goal
-
-abbrev pub invariant-loop-source : goal.invariant-loop-source
-invariant-loop-source g l = All IsMatching l.slots.slots × (length l.slots.slots ≡ length l.fn.slots.slots)

@@ -1,6 +1,0 @@
-use Rattle.std.proofs.Common.{◌≡◌, All, length}
-use Rattle.greedy_rules.specs.Matching.{IsMatching}
-use Rattle.path_workers.proofs.tests.random.fill_slots.Given as goal
-
-abbrev pub invariant-loop-slot : goal.invariant-loop-slot
-invariant-loop-slot g l = All IsMatching l.slots.slots × (length l.slots.slots ≡ length l.fn.slots.slots)

@@ -1,8 +1,0 @@
-use Rattle.std.proofs.Common.{[], true}
-use Rattle.slot_batches.proofs.tests.a_rack_sends_two_packets_a_slot.Goals as goal
-
-pub finish-requires : goal.finish-requires
-finish-requires g c = ([], 0, c.begin.ensures.stands)
-
-pub emit-requires : goal.emit-requires
-emit-requires g c = (_, [], true, 0, c.finish.ensures.stands [] 0 c.begin.ensures.stands)

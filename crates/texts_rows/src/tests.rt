@@ -1,0 +1,2 @@
+mod report_text_rows;
+mod trace_text_rows;
