@@ -29,7 +29,7 @@ use std::sync::Wait;
 use std::thread::{Threads, join_mut};
 use trace_text::Trace;
 
-/// From so many entries on, a window's batches are allocated while a thread plays the next rounds.
+/// From so many entries on, a thread allocates a window's batches while the next rounds are played.
 const MANY: usize = 16;
 
 /// Replays a trace, window after window of rounds: in each step the rounds of a window are collected, and beside that the batches of
@@ -75,7 +75,7 @@ impl Model for ReplayStep {
     ghost view = { λ s. record { first = s.first; played = s.played; window = s.window } };
 }
 
-/// Whether the batches have so many entries that they are allocated beside a thread.
+/// Whether the batches have so many entries that a thread allocates them.
 fn have_many(batches: &[Batch]) -> bool {
     let mut entries = 0usize;
     for batch in batches {
@@ -192,8 +192,8 @@ impl Replay {
         }
     }
 
-    /// Plays the next window of rounds in a thread of its own, and beside it gives the batches that wait their slots and cores. Where
-    /// these have few entries no thread is started.
+    /// Gives the batches that wait their slots and cores in a thread of their own, and beside it plays the next window of rounds. Where
+    /// these batches have few entries no thread is started.
     fn play_beside<R: Threads + Wait + Sync, G: Gate + Sync>(
         &mut self,
         rt: &R,
@@ -214,16 +214,16 @@ impl Replay {
             let window = allocation.window_of_any(alloc, rt, gate, batches)?;
             return Ok((lanes.collect(alloc, trace)?, window));
         }
-        let (played, window) = join_mut(
+        let (window, played) = join_mut(
             rt,
-            &mut || -> Result<Played, NoMemory>
-                requires { MayPlay trace.now lanes.now }
-                ensures { IfOk result (HasPlayed trace.entry.now lanes.entry.now lanes.exit.now) }
-            { lanes.collect(alloc, trace) },
             &mut || -> Result<Window, NoMemory>
                 requires { MayAllocate allocation.now batches.now }
                 ensures { IfOk result (HasGiven allocation.entry.now batches.entry.now allocation.exit.now) }
             { allocation.window_of_any(alloc, rt, gate, batches) },
+            &mut || -> Result<Played, NoMemory>
+                requires { MayPlay trace.now lanes.now }
+                ensures { IfOk result (HasPlayed trace.entry.now lanes.entry.now lanes.exit.now) }
+            { lanes.collect(alloc, trace) },
         );
         Ok((played?, window?))
     }
