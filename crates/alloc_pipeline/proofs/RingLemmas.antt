@@ -1,5 +1,6 @@
 -- A window, and what was picked of its list.
-use Rattle.std.proofs.Common.{◌≡◌, ◌<◌, ◌≤◌, ◌+◌, ◌*◌, ℕ, List, [], ◌∷◌, length, false, true, not, ◌==◌, sym, ap, ◌∙◌, subst, arith}
+use Rattle.std.proofs.Common.{◌≡◌, ◌<◌, ◌≤◌, ◌+◌, ◌-◌, ◌*◌, ℕ, List, [], ◌∷◌, length, false, true, not, ◌==◌, sym, ap, ◌∙◌, subst, arith}
+use Rattle.std.proofs.lemmas.Nat.{mul-le}
 use Rattle.std.proofs.lemmas.Bool.{and_parts, eqb-true, not-true}
 use Rattle.std.proofs.lemmas.List.Elements.{All-weaker}
 use Rattle.greedy_rules.specs.declared.flows.Flow.{Flow}
@@ -12,21 +13,24 @@ use Rattle.greedy_rules.specs.Room.{FlowsFitPairs}
 use Rattle.slot_batches.specs.Marks.{WindowMarks, has_mark}
 use Rattle.slot_batches.specs.Woven.{picked, woven, OnlyOpen, HaveNoEntry, NeedNothing, ItemsMayBeSetAside, ListedFlowsAreOpen}
 use Rattle.alloc_pipeline.specs.Picked.{is_aside}
-use Rattle.slot_batches.specs.NextList.{IsListBefore, EveryBatchLeavesAList, EveryBatchKeepsItsFlows}
+use Rattle.slot_batches.specs.NextList.{IsListBefore, EveryBatchKeepsItsFlows}
 
 -- a list that a batch may be applied to has no more items than there are pairs of endpoints, and so has what batches leave of it
 module _ (endpoints b : ℕ) (fit : FlowsFitPairs) (flows : EveryBatchKeepsItsFlows) where
+  fewer_pairs : endpoints * (endpoints - 1) ≤ endpoints * endpoints
+  fewer_pairs = mul-le endpoints (endpoints - 1) endpoints endpoints (omega arith) (omega arith)
+
   few_left : (k : ℕ) (list : List Item) (batches : List DemandBatch) → length list ≤ endpoints * endpoints → MayBeApplied endpoints b k list batches
       → length (rest_from b k list batches) ≤ endpoints * endpoints
   few_left k list [] few may = few
   few_left k list (batch ∷ batches) few may =
-      let now = fit endpoints batch.entries list may.0.rises may.0.opens may.0.once may.0.below in
+      let now = fit endpoints batch.entries list may.0.rises may.0.opens may.0.once may.0.below may.0.apart in
       let more = flows (is_barred batch.limits) (first_slot b k) b batch.entries list in
-      few_left (k + 1) (list_then b k batch list) batches (omega (arith, now, more)) may.1
+      few_left (k + 1) (list_then b k batch list) batches (omega (arith, now, more, fewer_pairs)) may.1
 
   pub few_found : (k : ℕ) (list : List Item) (batches : List DemandBatch) → 0 < length batches → MayBeApplied endpoints b k list batches → length list ≤ endpoints * endpoints
   few_found k list [] some may = absurd (omega arith)
-  few_found k list (batch ∷ batches) some may = let now = fit endpoints batch.entries list may.0.rises may.0.opens may.0.once may.0.below in omega (arith, now)
+  few_found k list (batch ∷ batches) some may = let now = fit endpoints batch.entries list may.0.rises may.0.opens may.0.once may.0.below may.0.apart in omega (arith, now, fewer_pairs)
 
   pub few_rest : (k : ℕ) (list : List Item) (batches : List DemandBatch) → 0 < length batches → MayBeApplied endpoints b k list batches
       → length (rest_from b k list batches) ≤ endpoints * endpoints

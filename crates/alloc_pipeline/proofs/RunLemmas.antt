@@ -17,8 +17,8 @@ pub few_items : (endpoints b k : ℕ) (list : List Item) (batches : List DemandB
 few_items endpoints b k list [] pairs few some may = absurd (omega arith)
 few_items endpoints b k list (batch ∷ batches) pairs few some may =
     let applies = may.0 in
-    let fit = pairs endpoints batch.entries list applies.rises applies.opens applies.once applies.below in
-    omega (arith, fit, mul-le endpoints endpoints 256 256 few few)
+    let fit = pairs endpoints batch.entries list applies.rises applies.opens applies.once applies.below applies.apart in
+    omega (arith, fit, mul-le endpoints (endpoints - 1) 256 256 few (omega (arith, few)))
 
 slots_on : (k b : ℕ) → k * b + 1 + b ≡ (k + 1) * b + 1
 slots_on k b = grind arith

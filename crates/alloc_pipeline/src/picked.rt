@@ -117,7 +117,8 @@ pub(crate) struct Picked {
     // Where each of them stood in the list.
     places: Vec<usize>,
     whole: Vec<Item>,
-    // The window's list, while it is woven where it stands.
+    // The window's list, while it is woven where it stands. There is room for so many items that the list may have these in its
+    // place.
     list: Vec<Item>,
     // So many windows pass before it is tried again to pick few.
     pause: u8,
@@ -134,7 +135,7 @@ impl Picked {
             items: DemandList::open(alloc, pairs)?,
             places: Vec::with_capacity(alloc, pairs)?,
             whole: Vec::with_capacity(alloc, pairs)?,
-            list: Vec::new(alloc),
+            list: Vec::with_capacity(alloc, pairs)?,
             pause: 0,
         })
     }
@@ -192,7 +193,8 @@ impl Picked {
     }
 
     /// Puts the list together again from itself and what the batches left of the items that were picked from it. It has as much
-    /// room as before; where no item was picked and all that opened was served, that follows the list, and nothing is copied.
+    /// room as before. Where no item was picked and all that opened was served, that follows the list, and nothing is copied; a
+    /// list of other room than it was opened for is copied whole.
     pub(crate) fn weave_into(&mut self, list: &mut DemandList)
         requires list_order { IsInOrder list.old.items }
         requires order { IsInOrder self.old.items.items }
@@ -207,6 +209,10 @@ impl Picked {
     {
         if self.places.is_empty() && first_served(self.items.items()) == 0 {
             list.append(self.items.items());
+            return;
+        }
+        if list.room() != self.list.capacity() {
+            self.weave_anew(list);
             return;
         }
         list.exchange(&mut self.list);

@@ -19,4 +19,7 @@ mod RoomLemmas
 mod RangeLemmas
 mod SlotSources
 mod RecordedLemmas
+pub mod CellLemmas
+mod BatchLaws
+mod LeftOut
 pub mod Facts

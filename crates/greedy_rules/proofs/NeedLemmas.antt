@@ -13,13 +13,13 @@ use Rattle.greedy_rules.specs.Batches.{IsBatch, entry_of}
 use Rattle.list_facts.specs.Order.{insert_by, sort_by}
 use Rattle.greedy_rules.specs.Slot.{Bar, has_flow, slot_with, offered, chosen_after, greedy_slot}
 use Rattle.greedy_rules.specs.Limits.{is_barred}
-use Rattle.greedy_rules.specs.Demands.{HasEachFlowOnce, AreBelow, OpensNewFlows, item_of, need_in, is_listed, need_with, with_batch, opened, after_batch}
-use Rattle.greedy_rules.specs.Allocation.{served, after_slot, batch_slots, list_through, list_after_slots, slots_of}
-use Rattle.greedy_rules.specs.Balance.{EveryBatchBalances}
+use Rattle.greedy_rules.specs.Demands.{Key, last_served, HasEachFlowOnce, AreBelow, OpensNewFlows, item_of, need_in, is_listed, need_with, with_batch, opened, after_batch_by, after_batch}
+use Rattle.greedy_rules.specs.Allocation.{served, after_slot, batch_slots, list_through, list_after_slots_by, slots_of, list_after_slots}
+use Rattle.greedy_rules.specs.Balance.{EveryBatchBalancesBy, EveryBatchBalances}
 use Rattle.greedy_rules.proofs.FlowOrder.{same_flow-true, same_flow-refl, flow_below-not_same}
 use Rattle.list_facts.proofs.Pairs.{AllPairs-tail, AllPairs-head}
 use Rattle.greedy_rules.proofs.SlotLemmas.{any-slot_with}
-use Rattle.greedy_rules.proofs.OnceLemmas.{once-after_batch, below-after_batch, once-after_slot, once-sort_by, flows-after_slots, served_flow}
+use Rattle.greedy_rules.proofs.OnceLemmas.{once-after_batch_by, below-after_batch_by, once-after_slot, once-sort_by, flows-after_slots_by, served_flow}
 
 -- the need of a flow over a whole list
 abbrev pub needed : Flow → List Item → ℕ
@@ -235,10 +235,10 @@ both_parts batch list flow (Some entry) found opens =
           ap (λ (n : ℕ). n + cond entry.opens entry.add 0) (cond-false (is_listed list flow) (clears (needed flow list)) 0 not_listed) ∙ omega (arith, adds, cleared)
     ]
 
-needed-after_batch : (batch : List Entry) (list : List Item) (flow : Flow) → IsBatch batch → OpensNewFlows batch list → HasEachFlowOnce list
-    → needed flow (after_batch batch list) ≡ need_with (entry_of batch flow) (needed flow list)
-needed-after_batch batch list flow rising opens once =
-    needed-sort_by (λ item. item.last) flow (map (with_batch batch) list ++ opened batch)
+needed-after_batch_by : (key : Key) (batch : List Entry) (list : List Item) (flow : Flow) → IsBatch batch → OpensNewFlows batch list → HasEachFlowOnce list
+    → needed flow (after_batch_by key batch list) ≡ need_with (entry_of batch flow) (needed flow list)
+needed-after_batch_by key batch list flow rising opens once =
+    needed-sort_by (λ item. key item.need item.last) flow (map (with_batch batch) list ++ opened batch)
     ∙ (needed-append flow (map (with_batch batch) list) (opened batch)
     ∙ (omega (arith, needed-with_batch batch list flow once, (opened_of batch flow rising).0)
     ∙ both_parts batch list flow (entry_of batch flow) refl opens))
@@ -250,10 +250,10 @@ listed_part batch list flow (Some entry) found opens =
     let is : entry.opens ≡ not (is_listed list flow) = opens_of_entry batch list flow entry opens found in
     ap (λ b. is_listed list flow || b) is ∙ elim (is_listed list flow) as (λ b. (b || not b) ≡ (b || true)) [ true ↦ refl | false ↦ refl ]
 
-pub listed-after_batch : (batch : List Entry) (list : List Item) (flow : Flow) → IsBatch batch → OpensNewFlows batch list
-    → is_listed (after_batch batch list) flow ≡ (is_listed list flow || is_some (entry_of batch flow))
-listed-after_batch batch list flow rising opens =
-    listed-sort_by (λ item. item.last) flow (map (with_batch batch) list ++ opened batch)
+pub listed-after_batch_by : (key : Key) (batch : List Entry) (list : List Item) (flow : Flow) → IsBatch batch → OpensNewFlows batch list
+    → is_listed (after_batch_by key batch list) flow ≡ (is_listed list flow || is_some (entry_of batch flow))
+listed-after_batch_by key batch list flow rising opens =
+    listed-sort_by (λ item. key item.need item.last) flow (map (with_batch batch) list ++ opened batch)
     ∙ (list_any-append (λ item. same_flow item.flow flow) (map (with_batch batch) list) (opened batch)
     ∙ (ap (λ b. b || is_listed (opened batch) flow) (listed-map (with_batch batch) (λ x. refl) flow list)
     ∙ (ap (λ b. is_listed list flow || b) (opened_of batch flow rising).1
@@ -338,33 +338,56 @@ once-through bar number (suc count) list once = once-through bar (number + 1) co
 
 -- what a whole batch does
 
+pub once-after_slots_by : (key : Key) (bar : Bar) (number count : ℕ) (list : List Item) → HasEachFlowOnce list → HasEachFlowOnce (list_after_slots_by key bar number count list)
+once-after_slots_by key bar number count list once = once-sort_by (λ item. key item.need item.last) (list_through bar number count list) (once-through bar number count list once)
+
+pub below-after_slots_by : (key : Key) (bar : Bar) (endpoints number count : ℕ) (list : List Item) → AreBelow endpoints list → AreBelow endpoints (list_after_slots_by key bar number count list)
+below-after_slots_by key bar endpoints number count list below = flows-after_slots_by key (λ flow. (flow.src < endpoints) × (flow.dst < endpoints)) bar number count list below
+
+pub listed-after_slots_by : (key : Key) (bar : Bar) (number count : ℕ) (list : List Item) (flow : Flow) → is_listed (list_after_slots_by key bar number count list) flow ≡ is_listed list flow
+listed-after_slots_by key bar number count list flow = listed-sort_by (λ item. key item.need item.last) flow (list_through bar number count list) ∙ listed-through bar number count list flow
+
+pub balance_by : (key : Key) (bar : Bar) (number count : ℕ) (batch : List Entry) (list : List Item) (flow : Flow) → IsBatch batch → OpensNewFlows batch list → HasEachFlowOnce list
+    → need_in (item_of (list_after_slots_by key bar number count (after_batch_by key batch list)) flow) + slots_of flow (batch_slots bar number count (after_batch_by key batch list))
+    ≡ need_with (entry_of batch flow) (need_in (item_of list flow))
+balance_by key bar number count batch list flow rising opens once =
+    let applied : List Item = after_batch_by key batch list in
+    let once' : HasEachFlowOnce applied = once-after_batch_by key batch list rising opens once in
+    let left = need_in-item_of (list_after_slots_by key bar number count applied) flow (once-after_slots_by key bar number count applied once') in
+    omega (arith, left, needed-sort_by (λ item. key item.need item.last) flow (list_through bar number count applied), needed-through bar number count applied flow once')
+    ∙ (needed-after_batch_by key batch list flow rising opens once ∙ ap (need_with (entry_of batch flow)) (sym (need_in-item_of list flow once)))
+
+-- what the batch leaves
+pub every_batch_by : (key : Key) → EveryBatchBalancesBy key
+every_batch_by key limits endpoints number count entries list rising opens once below =
+    let bar : Bar = is_barred limits in
+    let applied : List Item = after_batch_by key entries list in
+    record {
+      once = once-after_slots_by key bar number count applied (once-after_batch_by key entries list rising opens once);
+      in_range = below-after_slots_by key bar endpoints number count applied (below-after_batch_by key endpoints entries list below);
+      listed = λ flow. listed-after_slots_by key bar number count applied flow ∙ listed-after_batch_by key entries list flow rising opens;
+      balance = λ flow. balance_by key bar number count entries list flow rising opens once;
+    }
+
+-- ---- by the slot in which a flow was last served
+
+pub listed-after_batch : (batch : List Entry) (list : List Item) (flow : Flow) → IsBatch batch → OpensNewFlows batch list
+    → is_listed (after_batch batch list) flow ≡ (is_listed list flow || is_some (entry_of batch flow))
+listed-after_batch = listed-after_batch_by last_served
+
 pub once-after_slots : (bar : Bar) (number count : ℕ) (list : List Item) → HasEachFlowOnce list → HasEachFlowOnce (list_after_slots bar number count list)
-once-after_slots bar number count list once = once-sort_by (λ item. item.last) (list_through bar number count list) (once-through bar number count list once)
+once-after_slots = once-after_slots_by last_served
 
 pub below-after_slots : (bar : Bar) (endpoints number count : ℕ) (list : List Item) → AreBelow endpoints list → AreBelow endpoints (list_after_slots bar number count list)
-below-after_slots bar endpoints number count list below = flows-after_slots (λ flow. (flow.src < endpoints) × (flow.dst < endpoints)) bar number count list below
+below-after_slots = below-after_slots_by last_served
 
 pub listed-after_slots : (bar : Bar) (number count : ℕ) (list : List Item) (flow : Flow) → is_listed (list_after_slots bar number count list) flow ≡ is_listed list flow
-listed-after_slots bar number count list flow = listed-sort_by (λ item. item.last) flow (list_through bar number count list) ∙ listed-through bar number count list flow
+listed-after_slots = listed-after_slots_by last_served
 
 pub balance : (bar : Bar) (number count : ℕ) (batch : List Entry) (list : List Item) (flow : Flow) → IsBatch batch → OpensNewFlows batch list → HasEachFlowOnce list
     → need_in (item_of (list_after_slots bar number count (after_batch batch list)) flow) + slots_of flow (batch_slots bar number count (after_batch batch list))
     ≡ need_with (entry_of batch flow) (need_in (item_of list flow))
-balance bar number count batch list flow rising opens once =
-    let applied : List Item = after_batch batch list in
-    let once' : HasEachFlowOnce applied = once-after_batch batch list rising opens once in
-    let left = need_in-item_of (list_after_slots bar number count applied) flow (once-after_slots bar number count applied once') in
-    omega (arith, left, needed-sort_by (λ item. item.last) flow (list_through bar number count applied), needed-through bar number count applied flow once')
-    ∙ (needed-after_batch batch list flow rising opens once ∙ ap (need_with (entry_of batch flow)) (sym (need_in-item_of list flow once)))
+balance = balance_by last_served
 
--- what the batch leaves
 pub every_batch : EveryBatchBalances
-every_batch limits endpoints number count entries list rising opens once below =
-    let bar : Bar = is_barred limits in
-    let applied : List Item = after_batch entries list in
-    record {
-      once = once-after_slots bar number count applied (once-after_batch entries list rising opens once);
-      in_range = below-after_slots bar endpoints number count applied (below-after_batch endpoints entries list below);
-      listed = λ flow. listed-after_slots bar number count applied flow ∙ listed-after_batch entries list flow rising opens;
-      balance = λ flow. balance bar number count entries list flow rising opens once;
-    }
+every_batch = every_batch_by last_served

@@ -9,8 +9,8 @@ use Rattle.greedy_rules.specs.Flows.{same_flow, flow_below}
 use Rattle.greedy_rules.specs.Batches.{IsBatch}
 use Rattle.list_facts.specs.Order.{insert_by, sort_by}
 use Rattle.greedy_rules.specs.Slot.{Bar, has_flow, greedy_slot}
-use Rattle.greedy_rules.specs.Demands.{HasEachFlowOnce, AreBelow, OpensNewFlows, is_listed, with_batch, opened, after_batch}
-use Rattle.greedy_rules.specs.Allocation.{served, after_slot, list_through, list_after_slots}
+use Rattle.greedy_rules.specs.Demands.{Key, last_served, HasEachFlowOnce, AreBelow, OpensNewFlows, is_listed, with_batch, opened, after_batch_by, after_batch}
+use Rattle.greedy_rules.specs.Allocation.{served, after_slot, list_through, list_after_slots_by, list_after_slots}
 use Rattle.greedy_rules.proofs.FlowOrder.{same_flow-refl, flow_below-not_same}
 use Rattle.list_facts.proofs.Pairs.{AllPairs-nil, AllPairs-cons, AllPairs-head, AllPairs-tail, AllPairs-append}
 use Rattle.list_facts.proofs.StableSort.{All-insert_by, All-sort_by}
@@ -77,15 +77,15 @@ not_listed (item ∷ list) flow none =
     All-cons (λ x. x.flow ≢ flow) item list differs (not_listed list flow parts.1)
 
 -- what a batch does to the list
-pub once-after_batch : (batch : List Entry) (list : List Item) → IsBatch batch → OpensNewFlows batch list → HasEachFlowOnce list → HasEachFlowOnce (after_batch batch list)
-once-after_batch batch list rising opens once =
+pub once-after_batch_by : (key : Key) (batch : List Entry) (list : List Item) → IsBatch batch → OpensNewFlows batch list → HasEachFlowOnce list → HasEachFlowOnce (after_batch_by key batch list)
+once-after_batch_by key batch list rising opens once =
     let fresh : All (λ item. All (λ x. x.flow ≢ item.flow) list) (opened batch) =
     All-opened (λ flow. All (λ x. x.flow ≢ flow) list) batch
     (All-weaker (λ entry. entry.opens ≡ not (is_listed list entry.flow)) (λ entry. IsTrue entry.opens → All (λ x. x.flow ≢ entry.flow) list)
     (λ entry is yes. not_listed list entry.flow (not-true (is_listed list entry.flow) (sym is ∙ yes))) batch opens) in
     let apart : All (λ x. All (Other x) (opened batch)) (map (with_batch batch) list) =
     All-map (λ x. All (Other x) (opened batch)) (with_batch batch) list (λ k d below j e within. fresh j e within k d below) in
-    once-sort_by (λ item. item.last) (map (with_batch batch) list ++ opened batch)
+    once-sort_by (λ item. key item.need item.last) (map (with_batch batch) list ++ opened batch)
     (AllPairs-append Other (map (with_batch batch) list) (opened batch) (once-map (with_batch batch) (λ x. refl) list once) (once-opened batch rising) apart)
 
 -- what holds of the flows of a list
@@ -97,13 +97,13 @@ All-map_front P f keeps [] ys all = all
 All-map_front P f keeps (x ∷ xs) ys all =
     All-cons P (f x) (map f xs ++ ys) (keeps x (All-head P x (xs ++ ys) all)) (All-map_front P f keeps xs ys (All-tail P x (xs ++ ys) all))
 
-pub flows-after_batch : (P : Flow → Type 0) (batch : List Entry) (list : List Item) → FlowsAre P (list ++ opened batch) → FlowsAre P (after_batch batch list)
-flows-after_batch P batch list are =
-    All-sort_by (λ (x : Item). P x.flow) (λ item. item.last) (map (with_batch batch) list ++ opened batch)
+pub flows-after_batch_by : (key : Key) → (P : Flow → Type 0) (batch : List Entry) (list : List Item) → FlowsAre P (list ++ opened batch) → FlowsAre P (after_batch_by key batch list)
+flows-after_batch_by key P batch list are =
+    All-sort_by (λ (x : Item). P x.flow) (λ item. key item.need item.last) (map (with_batch batch) list ++ opened batch)
     (All-map_front (λ (x : Item). P x.flow) (with_batch batch) (λ x holds. holds) list (opened batch) are)
 
-pub below-after_batch : (endpoints : ℕ) (batch : List Entry) (list : List Item) → AreBelow endpoints (list ++ opened batch) → AreBelow endpoints (after_batch batch list)
-below-after_batch endpoints batch list below = flows-after_batch (λ flow. (flow.src < endpoints) × (flow.dst < endpoints)) batch list below
+pub below-after_batch_by : (key : Key) (endpoints : ℕ) (batch : List Entry) (list : List Item) → AreBelow endpoints (list ++ opened batch) → AreBelow endpoints (after_batch_by key batch list)
+below-after_batch_by key endpoints batch list below = flows-after_batch_by key (λ flow. (flow.src < endpoints) × (flow.dst < endpoints)) batch list below
 
 pub served_flow : (number : ℕ) (slot : List Flow) (item : Item) → (served number slot item).flow ≡ item.flow
 served_flow number slot item =
@@ -126,9 +126,23 @@ pub flows-through : (P : Flow → Type 0) (bar : Bar) (number count : ℕ) (list
 flows-through P bar number zero list are = are
 flows-through P bar number (suc count) list are = flows-through P bar (number + 1) count (after_slot bar number list) (flows-after_slot P bar number list are)
 
-pub flows-after_slots : (P : Flow → Type 0) (bar : Bar) (number count : ℕ) (list : List Item) → FlowsAre P list → FlowsAre P (list_after_slots bar number count list)
-flows-after_slots P bar number count list are =
-    All-sort_by (λ (x : Item). P x.flow) (λ item. item.last) (list_through bar number count list) (flows-through P bar number count list are)
+pub flows-after_slots_by : (key : Key) → (P : Flow → Type 0) (bar : Bar) (number count : ℕ) (list : List Item) → FlowsAre P list → FlowsAre P (list_after_slots_by key bar number count list)
+flows-after_slots_by key P bar number count list are =
+    All-sort_by (λ (x : Item). P x.flow) (λ item. key item.need item.last) (list_through bar number count list) (flows-through P bar number count list are)
 
 abbrev pub InRange : ℕ → Item → Type 0
 InRange endpoints item = (item.flow.src < endpoints) × (item.flow.dst < endpoints)
+
+-- ---- by the slot in which a flow was last served
+
+pub once-after_batch : (batch : List Entry) (list : List Item) → IsBatch batch → OpensNewFlows batch list → HasEachFlowOnce list → HasEachFlowOnce (after_batch batch list)
+once-after_batch = once-after_batch_by last_served
+
+pub flows-after_batch : (P : Flow → Type 0) (batch : List Entry) (list : List Item) → FlowsAre P (list ++ opened batch) → FlowsAre P (after_batch batch list)
+flows-after_batch = flows-after_batch_by last_served
+
+pub below-after_batch : (endpoints : ℕ) (batch : List Entry) (list : List Item) → AreBelow endpoints (list ++ opened batch) → AreBelow endpoints (after_batch batch list)
+below-after_batch = below-after_batch_by last_served
+
+pub flows-after_slots : (P : Flow → Type 0) (bar : Bar) (number count : ℕ) (list : List Item) → FlowsAre P list → FlowsAre P (list_after_slots bar number count list)
+flows-after_slots = flows-after_slots_by last_served

@@ -6,16 +6,16 @@ use Rattle.greedy_rules.specs.declared.flows.Flow.{Flow}
 use Rattle.greedy_rules.specs.declared.flows.Item.{Item}
 use Rattle.greedy_rules.specs.declared.limits.Limits.{Limits}
 use Rattle.greedy_rules.specs.Batches.{DemandBatch}
-use Rattle.greedy_rules.specs.Demands.{AreBelow}
+use Rattle.greedy_rules.specs.Demands.{Key, last_served, AreBelow}
 use Rattle.greedy_rules.specs.Slot.{slot_with}
 use Rattle.greedy_rules.specs.Limits.{is_barred}
 use Rattle.greedy_rules.specs.SlotTable.{IsSlotOf}
 use Rattle.greedy_rules.specs.Allocation.{batch_slots}
-use Rattle.greedy_rules.specs.Matching.{AreAmong, HoldsOfEntries, EverySlotIsInRange, EverySlotsFlowsAreOfEntries, EveryFlowLeftIsOfEntries}
+use Rattle.greedy_rules.specs.Matching.{AreAmong, HoldsOfEntries, EverySlotIsInRangeBy, EverySlotsFlowsAreOfEntriesBy, EveryFlowLeftIsOfEntriesBy, EverySlotIsInRange, EverySlotsFlowsAreOfEntries, EveryFlowLeftIsOfEntries}
 use Rattle.list_facts.proofs.Pairs.{AllPairs-nil, AllPairs-cons, AllPairs-head, AllPairs-tail}
 use Rattle.greedy_rules.proofs.SlotLemmas.{Apart, apart_from_all, All-slot_with, Keeps}
 use Rattle.greedy_rules.proofs.BarLemmas.{not_taken}
-use Rattle.greedy_rules.proofs.KeptLemmas.{All-batch_slots, All-schedule, flows-rest_from}
+use Rattle.greedy_rules.proofs.KeptLemmas.{All-batch_slots, All-scheduleBy, flows-rest_from_by}
 
 abbrev Earlier : Flow → Flow → Type 0
 Earlier f g = f.src < g.src
@@ -51,18 +51,29 @@ pub slots-batch : (limits : Limits) (endpoints number count : ℕ) (list : List 
 slots-batch limits endpoints number count list below =
     All-batch_slots (is_barred limits) (IsBetween endpoints) (IsSlotOf endpoints) (keeps_slots limits endpoints) (empty_slot endpoints) number count list below
 
-pub every_slot_in_range : EverySlotIsInRange
-every_slot_in_range endpoints b batches among =
-    All-schedule (IsBetween endpoints) (IsSlotOf endpoints) (empty_slot endpoints) b batches
+pub every_slot_in_range_by : (key : Key) → EverySlotIsInRangeBy key
+every_slot_in_range_by key endpoints b batches among =
+    All-scheduleBy key (IsBetween endpoints) (IsSlotOf endpoints) (empty_slot endpoints) b batches
     (All-weaker (λ (batch : DemandBatch). AreAmong endpoints batch.entries) (λ batch. All (λ entry. IsBetween endpoints entry.flow) batch.entries × Keeps (is_barred batch.limits) (IsBetween endpoints) (IsSlotOf endpoints))
     (λ batch within. (within, keeps_slots batch.limits endpoints)) batches among)
 
-pub every_slots_flows : EverySlotsFlowsAreOfEntries
-every_slots_flows test b batches hold =
+pub every_slots_flows_by : (key : Key) → EverySlotsFlowsAreOfEntriesBy key
+every_slots_flows_by key test b batches hold =
     let Q : Flow → Type 0 = λ flow. IsTrue (test flow) in
-    All-schedule Q (All Q) (All-nil Q) b batches
+    All-scheduleBy key Q (All Q) (All-nil Q) b batches
     (All-weaker (λ (batch : DemandBatch). HoldsOfEntries test batch.entries) (λ batch. All (λ entry. Q entry.flow) batch.entries × Keeps (is_barred batch.limits) Q (All Q))
     (λ batch holds. (holds, λ slot flow here free there. All-slot_with Q flow slot here there)) batches hold)
 
+pub every_flow_left_by : (key : Key) → EveryFlowLeftIsOfEntriesBy key
+every_flow_left_by key test b batches hold = flows-rest_from_by key (λ flow. IsTrue (test flow)) b 0 [] batches hold (All-nil (λ (item : Item). IsTrue (test item.flow)))
+
+-- ---- by the slot in which a flow was last served
+
+pub every_slot_in_range : EverySlotIsInRange
+every_slot_in_range = every_slot_in_range_by last_served
+
+pub every_slots_flows : EverySlotsFlowsAreOfEntries
+every_slots_flows = every_slots_flows_by last_served
+
 pub every_flow_left : EveryFlowLeftIsOfEntries
-every_flow_left test b batches hold = flows-rest_from (λ flow. IsTrue (test flow)) b 0 [] batches hold (All-nil (λ (item : Item). IsTrue (test item.flow)))
+every_flow_left = every_flow_left_by last_served

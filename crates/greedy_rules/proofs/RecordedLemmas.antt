@@ -10,17 +10,18 @@ use Rattle.greedy_rules.specs.declared.flows.Entry.{Entry}
 use Rattle.greedy_rules.specs.declared.limits.Limits.{Limits}
 use Rattle.greedy_rules.specs.Flows.{same_flow}
 use Rattle.greedy_rules.specs.Batches.{DemandBatch, entry_of}
-use Rattle.greedy_rules.specs.Demands.{HasEachFlowOnce, is_listed, item_of, need_in, need_with, opened}
-use Rattle.greedy_rules.specs.Limits.{KeepsLimits}
-use Rattle.greedy_rules.specs.Schedule.{first_slot, list_then, rest_from, slot_limits, schedule, rest, slot_at, need_before, limits_at}
+use Rattle.greedy_rules.specs.Demands.{Key, last_served, HasEachFlowOnce, is_listed, item_of, need_in, need_with, opened, after_batch_by}
+use Rattle.greedy_rules.specs.Limits.{is_barred, KeepsLimits}
+use Rattle.greedy_rules.specs.Schedule.{first_slot, list_then_by, rest_from_by, slot_limits, schedule_by, rest_by, slot_at, need_before_by, limits_at}
 use Rattle.greedy_rules.specs.Balance.{is_recorded, AreInOrder}
 use Rattle.greedy_rules.specs.Matching.{AreAmong, IsMaximalMatching}
-use Rattle.greedy_rules.specs.Recorded.{demand_through, demand_of, IsRecordedAfter, AreRecordedAfter, AreRecorded, Applies, MayBeApplied, IsLeftBy, RecordedBatchesMayBeApplied, EveryFrontIsRecorded, LaterBatchesMayBeApplied, EveryRecordedSlot}
+use Rattle.greedy_rules.specs.Recorded.{demand_through, demand_of, IsRecordedAfter, AreRecordedAfter, AreRecorded, Applies, MayBeAppliedBy, IsLeftBy, RecordedBatchesMayBeAppliedBy, EveryFrontIsRecorded, LaterBatchesMayBeAppliedBy, EveryRecordedSlotBy, RecordedBatchesMayBeApplied, LaterBatchesMayBeApplied, EveryRecordedSlot}
 use Rattle.greedy_rules.proofs.FlowOrder.{same_flow-refl, same_flow-true}
-use Rattle.greedy_rules.proofs.NeedLemmas.{every_batch}
-use Rattle.greedy_rules.proofs.ScheduleLemmas.{every_slot, every_slot_keeps_its_limits}
-use Rattle.greedy_rules.proofs.RangeLemmas.{every_slot_in_range}
-use Rattle.greedy_rules.proofs.FrontLemmas.{every_batch_has_its_slots}
+use Rattle.greedy_rules.proofs.OnceLemmas.{flows-after_batch_by, flows-after_slots_by}
+use Rattle.greedy_rules.proofs.NeedLemmas.{every_batch_by}
+use Rattle.greedy_rules.proofs.ScheduleLemmas.{every_slot_by, every_slot_keeps_its_limits_by}
+use Rattle.greedy_rules.proofs.RangeLemmas.{every_slot_in_range_by}
+use Rattle.greedy_rules.proofs.FrontLemmas.{every_batch_has_its_slots_by}
 
 -- in a list that has each flow once, an item's need is that of its flow
 need_of_item : (items : List Item) (at : ℕ) (d : Item) → HasEachFlowOnce items → at < length items → need_in (item_of items (get_or items at d).flow) ≡ (get_or items at d).need
@@ -60,6 +61,7 @@ is_recorded-more earlier batch flow =
 next_applies : (endpoints : ℕ) (limits : Limits) (earlier : List DemandBatch) (batch : DemandBatch) (list : List Item) → IsRecordedAfter endpoints limits earlier batch → IsLeftBy endpoints earlier list → Applies endpoints batch list
 next_applies endpoints limits earlier batch list is left =
     let Within : Flow → Type 0 = λ flow. (flow.src < endpoints) × (flow.dst < endpoints) in
+    let Apart : Flow → Type 0 = λ flow. flow.src ≢ flow.dst in
     let opens : Entry → Item = λ entry. record { flow = entry.flow; need = entry.add; last = 0 } in
     record {
       rises = is.rises;
@@ -67,6 +69,8 @@ next_applies endpoints limits earlier batch list is left =
       once = left.once;
       below = All-append (λ (item : Item). Within item.flow) list (opened batch.entries) left.below
           (All-map (λ (item : Item). Within item.flow) opens (filter (λ (e : Entry). e.opens) batch.entries) (All-filter (λ (e : Entry). e.opens) (λ (e : Entry). Within e.flow) batch.entries is.in_range));
+      apart = All-append (λ (item : Item). Apart item.flow) list (opened batch.entries) left.apart
+          (All-map (λ (item : Item). Apart item.flow) opens (filter (λ (e : Entry). e.opens) batch.entries) (All-filter (λ (e : Entry). e.opens) (λ (e : Entry). Apart e.flow) batch.entries is.apart));
       needs = λ at d within.
           let item : Item = get_or list at d in
           omega (
@@ -78,14 +82,16 @@ next_applies endpoints limits earlier batch list is left =
     }
 
 -- and they leave such a list together
-next_left : (endpoints b k : ℕ) (limits : Limits) (earlier : List DemandBatch) (batch : DemandBatch) (list : List Item) → IsRecordedAfter endpoints limits earlier batch → IsLeftBy endpoints earlier list
-    → IsLeftBy endpoints (earlier ++ batch ∷ []) (list_then b k batch list)
-next_left endpoints b k limits earlier batch list is left =
+next_left_by : (key : Key) (endpoints b k : ℕ) (limits : Limits) (earlier : List DemandBatch) (batch : DemandBatch) (list : List Item) → IsRecordedAfter endpoints limits earlier batch → IsLeftBy endpoints earlier list
+    → IsLeftBy endpoints (earlier ++ batch ∷ []) (list_then_by key b k batch list)
+next_left_by key endpoints b k limits earlier batch list is left =
     let may = next_applies endpoints limits earlier batch list is left in
-    let what = every_batch batch.limits endpoints (first_slot b k) b batch.entries list may.rises may.opens may.once may.below in
+    let what = every_batch_by key batch.limits endpoints (first_slot b k) b batch.entries list may.rises may.opens may.once may.below in
     record {
       once = what.once;
       below = what.in_range;
+      apart = flows-after_slots_by key (λ flow. flow.src ≢ flow.dst) (is_barred batch.limits) (first_slot b k) b (after_batch_by key batch.entries list)
+          (flows-after_batch_by key (λ flow. flow.src ≢ flow.dst) batch.entries list may.apart);
       listed = λ flow. what.listed flow ∙ (ap (λ p. p || is_some (entry_of batch.entries flow)) (left.listed flow) ∙ sym (is_recorded-more earlier batch flow));
       needs = λ flow.
           omega (
@@ -96,20 +102,21 @@ next_left endpoints b k limits earlier batch list is left =
           );
     }
 
-applied : (endpoints b k : ℕ) (limits : Limits) (earlier batches : List DemandBatch) (list : List Item) → AreRecordedAfter endpoints limits earlier batches → IsLeftBy endpoints earlier list
-    → MayBeApplied endpoints b k list batches × IsLeftBy endpoints (earlier ++ batches) (rest_from b k list batches)
-applied endpoints b k limits earlier [] list are left = (tt, subst (λ (bs : List DemandBatch). IsLeftBy endpoints bs list) (sym (append-nil earlier)) left)
-applied endpoints b k limits earlier (batch ∷ batches) list are left =
-    let then : List Item = list_then b k batch list in
-    let later = applied endpoints b (k + 1) limits (earlier ++ batch ∷ []) batches then are.1 (next_left endpoints b k limits earlier batch list are.0 left) in (
+applied_by : (key : Key) (endpoints b k : ℕ) (limits : Limits) (earlier batches : List DemandBatch) (list : List Item) → AreRecordedAfter endpoints limits earlier batches → IsLeftBy endpoints earlier list
+    → MayBeAppliedBy key endpoints b k list batches × IsLeftBy endpoints (earlier ++ batches) (rest_from_by key b k list batches)
+applied_by key endpoints b k limits earlier [] list are left = (tt, subst (λ (bs : List DemandBatch). IsLeftBy endpoints bs list) (sym (append-nil earlier)) left)
+applied_by key endpoints b k limits earlier (batch ∷ batches) list are left =
+    let then : List Item = list_then_by key b k batch list in
+    let later = applied_by key endpoints b (k + 1) limits (earlier ++ batch ∷ []) batches then are.1 (next_left_by key endpoints b k limits earlier batch list are.0 left) in (
       (next_applies endpoints limits earlier batch list are.0 left, later.0),
-      subst (λ (bs : List DemandBatch). IsLeftBy endpoints bs (rest_from b (k + 1) then batches)) (append_assoc earlier (batch ∷ []) batches) later.1,
+      subst (λ (bs : List DemandBatch). IsLeftBy endpoints bs (rest_from_by key b (k + 1) then batches)) (append_assoc earlier (batch ∷ []) batches) later.1,
     )
 
 nothing_left : (endpoints : ℕ) → IsLeftBy endpoints [] []
 nothing_left endpoints = record {
   once = λ i j d lt within. absurd (omega arith);
   below = λ i d within. absurd (omega arith);
+  apart = λ i d within. absurd (omega arith);
   listed = λ flow. refl;
   needs = λ flow. omega arith;
 }
@@ -118,22 +125,22 @@ in_order : (endpoints : ℕ) (limits : Limits) (earlier batches : List DemandBat
 in_order endpoints limits earlier [] are = tt
 in_order endpoints limits earlier (batch ∷ batches) are = (are.0.rises, are.0.opens, in_order endpoints limits (earlier ++ batch ∷ []) batches are.1)
 
-pub may_be_applied : RecordedBatchesMayBeApplied
-may_be_applied endpoints b limits batches are =
-    let all = applied endpoints b 0 limits [] batches [] are (nothing_left endpoints) in
+pub may_be_applied_by : (key : Key) → RecordedBatchesMayBeAppliedBy key
+may_be_applied_by key endpoints b limits batches are =
+    let all = applied_by key endpoints b 0 limits [] batches [] are (nothing_left endpoints) in
     record { in_order = in_order endpoints limits [] batches are; may = all.0; left = all.1 }
 
-may-later : (endpoints b k : ℕ) (list : List Item) (xs ys : List DemandBatch) → MayBeApplied endpoints b k list (xs ++ ys) → MayBeApplied endpoints b (k + length xs) (rest_from b k list xs) ys
-may-later endpoints b k list [] ys may = subst (λ (n : ℕ). MayBeApplied endpoints b n list ys) (omega arith) may
-may-later endpoints b k list (x ∷ xs) ys may =
-    let then : List Item = list_then b k x list in
+may-later_by : (key : Key) (endpoints b k : ℕ) (list : List Item) (xs ys : List DemandBatch) → MayBeAppliedBy key endpoints b k list (xs ++ ys) → MayBeAppliedBy key endpoints b (k + length xs) (rest_from_by key b k list xs) ys
+may-later_by key endpoints b k list [] ys may = subst (λ (n : ℕ). MayBeAppliedBy key endpoints b n list ys) (omega arith) may
+may-later_by key endpoints b k list (x ∷ xs) ys may =
+    let then : List Item = list_then_by key b k x list in
     let on : k + 1 + length xs ≡ k + suc (length xs) = omega arith in
-    subst (λ (n : ℕ). MayBeApplied endpoints b n (rest_from b (k + 1) then xs) ys) on (may-later endpoints b (k + 1) then xs ys may.1)
+    subst (λ (n : ℕ). MayBeAppliedBy key endpoints b n (rest_from_by key b (k + 1) then xs) ys) on (may-later_by key endpoints b (k + 1) then xs ys may.1)
 
-pub later_may_be_applied : LaterBatchesMayBeApplied
-later_may_be_applied endpoints b limits front later are =
+pub later_may_be_applied_by : (key : Key) → LaterBatchesMayBeAppliedBy key
+later_may_be_applied_by key endpoints b limits front later are =
     let start : 0 + length front ≡ length front = omega arith in
-    subst (λ (n : ℕ). MayBeApplied endpoints b n (rest b front) later) start (may-later endpoints b 0 [] front later (may_be_applied endpoints b limits (front ++ later) are).may)
+    subst (λ (n : ℕ). MayBeAppliedBy key endpoints b n (rest_by key b front) later) start (may-later_by key endpoints b 0 [] front later (may_be_applied_by key endpoints b limits (front ++ later) are).may)
 
 recorded-front : (endpoints : ℕ) (limits : Limits) (earlier front later : List DemandBatch) → AreRecordedAfter endpoints limits earlier (front ++ later) → AreRecordedAfter endpoints limits earlier front
 recorded-front endpoints limits earlier [] later are = tt
@@ -166,20 +173,31 @@ length-slot_limits b (batch ∷ batches) =
     omega (arith, length-append (replicate b batch.limits) (slot_limits b batches), length-replicate b batch.limits, length-slot_limits b batches, times_more (length batches) b)
 
 -- the limits of each slot
-limits_are : (endpoints b : ℕ) (limits : Limits) (batches : List DemandBatch) (number : ℕ) → AreRecorded endpoints limits batches → 0 < number → number ≤ length (schedule b batches) → limits_at b batches number ≡ limits
-limits_are endpoints b limits batches number are positive within =
+limits_are_by : (key : Key) (endpoints b : ℕ) (limits : Limits) (batches : List DemandBatch) (number : ℕ) → AreRecorded endpoints limits batches → 0 < number → number ≤ length (schedule_by key b batches) → limits_at b batches number ≡ limits
+limits_are_by key endpoints b limits batches number are positive within =
     uniform b limits batches (recorded_all (λ (batch : DemandBatch). batch.limits ≡ limits) endpoints limits (λ earlier batch is. is.same_limits) [] batches are) (number - 1) (record { hosts = 0; cores = 0 })
-    (omega (arith, length-slot_limits b batches, every_batch_has_its_slots b 0 [] batches))
+    (omega (arith, length-slot_limits b batches, every_batch_has_its_slots_by key b 0 [] batches))
 
-pub every_recorded_slot : EveryRecordedSlot
-every_recorded_slot endpoints b limits batches are number positive within =
-    let same = limits_are endpoints b limits batches number are positive within in
-    let slot : List Flow = slot_at (schedule b batches) number in
-    let whole : IsMaximalMatching limits (need_before b batches number) slot = subst (λ (l : Limits). IsMaximalMatching l (need_before b batches number) slot) same (every_slot b batches number positive within) in
+pub every_recorded_slot_by : (key : Key) → EveryRecordedSlotBy key
+every_recorded_slot_by key endpoints b limits batches are number positive within =
+    let same = limits_are_by key endpoints b limits batches number are positive within in
+    let slot : List Flow = slot_at (schedule_by key b batches) number in
+    let whole : IsMaximalMatching limits (need_before_by key b batches number) slot = subst (λ (l : Limits). IsMaximalMatching l (need_before_by key b batches number) slot) same (every_slot_by key b batches number positive within) in
     let among = recorded_all (λ (batch : DemandBatch). AreAmong endpoints batch.entries) endpoints limits (λ earlier batch is. is.in_range) [] batches are in
     record {
       matching = whole.matching;
       maximal = whole.maximal;
-      keeps = subst (λ (l : Limits). KeepsLimits l slot) same (every_slot_keeps_its_limits b batches number);
-      in_range = every_slot_in_range endpoints b batches among (number - 1) [] (omega arith);
+      keeps = subst (λ (l : Limits). KeepsLimits l slot) same (every_slot_keeps_its_limits_by key b batches number);
+      in_range = every_slot_in_range_by key endpoints b batches among (number - 1) [] (omega arith);
     }
+
+-- ---- by the slot in which a flow was last served
+
+pub may_be_applied : RecordedBatchesMayBeApplied
+may_be_applied = may_be_applied_by last_served
+
+pub later_may_be_applied : LaterBatchesMayBeApplied
+later_may_be_applied = later_may_be_applied_by last_served
+
+pub every_recorded_slot : EveryRecordedSlot
+every_recorded_slot = every_recorded_slot_by last_served

@@ -4,7 +4,7 @@ use Rattle.std.specs.Prelude.{ℕ, zero, suc, ◌+◌, ◌-◌, List, [], ◌∷
 use Rattle.greedy_rules.specs.declared.flows.Flow.{Flow}
 use Rattle.greedy_rules.specs.declared.flows.Item.{Item}
 use Rattle.greedy_rules.specs.Slot.{Bar, has_flow, greedy_slot}
-use Rattle.greedy_rules.specs.Demands.{by_last}
+use Rattle.greedy_rules.specs.Demands.{Key, by_key, last_served}
 
 -- an item after the slot of this number: a flow of the slot needs one less, and was last served in it
 abbrev pub served : ℕ → List Flow → Item → Item
@@ -29,9 +29,12 @@ abbrev pub list_through : Bar → ℕ → ℕ → List Item → List Item
 list_through bar number zero list = list
 list_through bar number (suc count) list = list_through bar (number + 1) count (after_slot bar number list)
 
--- the list that the batch leaves
+-- the list that the batch leaves, sorted by a key, and so by the slot in which a flow was last served
+abbrev pub list_after_slots_by : Key → Bar → ℕ → ℕ → List Item → List Item
+list_after_slots_by key bar number count list = by_key key (list_through bar number count list)
+
 abbrev pub list_after_slots : Bar → ℕ → ℕ → List Item → List Item
-list_after_slots bar number count list = by_last (list_through bar number count list)
+list_after_slots bar number count list = list_after_slots_by last_served bar number count list
 
 -- in how many of these slots a flow is
 abbrev pub slots_of : Flow → List (List Flow) → ℕ

@@ -1,5 +1,6 @@
 -- What batches leave of the demand, flow by flow: what a flow still needs, and the slots that it got, are what its entries
 -- added (this project's own profile).
+-- A name that ends in By is said of lists sorted by any key; without By, of lists sorted by the slot in which a flow was last served.
 use Rattle.std.specs.Prelude.{◌≡◌, ℕ, ◌+◌, ◌*◌, List, [], ◌∷◌, ◌++◌, length, drop, sum_by, Bool, false, not, ◌||◌, Option, Some, None, is_some, All}
 use Rattle.std.specs.List.{list_any}
 use Rattle.greedy_rules.specs.declared.flows.Flow.{Flow}
@@ -7,10 +8,10 @@ use Rattle.greedy_rules.specs.declared.flows.Item.{Item}
 use Rattle.greedy_rules.specs.declared.flows.Entry.{Entry}
 use Rattle.greedy_rules.specs.declared.limits.Limits.{Limits}
 use Rattle.greedy_rules.specs.Batches.{DemandBatch, IsBatch, entry_of}
-use Rattle.greedy_rules.specs.Demands.{HasEachFlowOnce, AreBelow, OpensNewFlows, is_listed, item_of, need_in, need_with, opened, after_batch}
+use Rattle.greedy_rules.specs.Demands.{Key, last_served, HasEachFlowOnce, AreBelow, OpensNewFlows, is_listed, item_of, need_in, need_with, opened, after_batch_by}
 use Rattle.greedy_rules.specs.Limits.{is_barred}
-use Rattle.greedy_rules.specs.Allocation.{batch_slots, list_after_slots, slots_of}
-use Rattle.greedy_rules.specs.Schedule.{schedule, rest}
+use Rattle.greedy_rules.specs.Allocation.{batch_slots, list_after_slots_by, slots_of}
+use Rattle.greedy_rules.specs.Schedule.{schedule_by, rest_by}
 
 -- these entries came to this list, were given these slots, and left that list
 pub record Balances (endpoints : ℕ) (entries : List Entry) (list left : List Item) (slots : List (List Flow)) : Type 0 where
@@ -20,11 +21,14 @@ pub record Balances (endpoints : ℕ) (entries : List Entry) (list left : List I
   pub balance : (flow : Flow) → need_in (item_of left flow) + slots_of flow slots ≡ need_with (entry_of entries flow) (need_in (item_of list flow))
 
 -- for any limits, entries and list, from slot `number` on, and `count` slots
-abbrev pub EveryBatchBalances : Type 0
-EveryBatchBalances =
+abbrev pub EveryBatchBalancesBy : Key → Type 0
+EveryBatchBalancesBy key =
     (limits : Limits) (endpoints number count : ℕ) (entries : List Entry) (list : List Item)
     → IsBatch entries → OpensNewFlows entries list → HasEachFlowOnce list → AreBelow endpoints (list ++ opened entries)
-    → Balances endpoints entries list (list_after_slots (is_barred limits) number count (after_batch entries list)) (batch_slots (is_barred limits) number count (after_batch entries list))
+    → Balances endpoints entries list (list_after_slots_by key (is_barred limits) number count (after_batch_by key entries list)) (batch_slots (is_barred limits) number count (after_batch_by key entries list))
+
+abbrev pub EveryBatchBalances : Type 0
+EveryBatchBalances = EveryBatchBalancesBy last_served
 
 -- some batch has an entry of the flow
 abbrev pub is_recorded : List DemandBatch → Flow → Bool
@@ -37,10 +41,13 @@ AreInOrder before (batch ∷ later) =
     IsBatch batch.entries × All (λ entry. entry.opens ≡ not (is_recorded before entry.flow)) batch.entries × AreInOrder (before ++ batch ∷ []) later
 
 -- then the demand that is left has the flows of the batches, each once
-abbrev pub EveryRestIsListed : Type 0
-EveryRestIsListed =
+abbrev pub EveryRestIsListedBy : Key → Type 0
+EveryRestIsListedBy key =
     (b : ℕ) (batches : List DemandBatch) → AreInOrder [] batches
-    → HasEachFlowOnce (rest b batches) × ((flow : Flow) → is_listed (rest b batches) flow ≡ is_recorded batches flow)
+    → HasEachFlowOnce (rest_by key b batches) × ((flow : Flow) → is_listed (rest_by key b batches) flow ≡ is_recorded batches flow)
+
+abbrev pub EveryRestIsListed : Type 0
+EveryRestIsListed = EveryRestIsListedBy last_served
 
 -- what the entries of a flow add, and whether none of them starts its need again at 0
 abbrev pub added_by : Option Entry → ℕ
@@ -59,8 +66,11 @@ NoneClears flow batches = All (λ batch. clears (entry_of batch.entries flow) �
 
 -- from any batch on whose later ones do not clear the flow: its slots, and what is left, are what it needed once that batch
 -- was applied, and what the later ones added
-abbrev pub EveryScheduleBalances : Type 0
-EveryScheduleBalances =
+abbrev pub EveryScheduleBalancesBy : Key → Type 0
+EveryScheduleBalancesBy key =
     (b : ℕ) (front : List DemandBatch) (batch : DemandBatch) (later : List DemandBatch) (flow : Flow) → AreInOrder [] (front ++ batch ∷ later) → NoneClears flow later
-    → slots_of flow (drop (length front * b) (schedule b (front ++ batch ∷ later))) + need_in (item_of (rest b (front ++ batch ∷ later)) flow)
-    ≡ need_with (entry_of batch.entries flow) (need_in (item_of (rest b front) flow)) + added_of flow later
+    → slots_of flow (drop (length front * b) (schedule_by key b (front ++ batch ∷ later))) + need_in (item_of (rest_by key b (front ++ batch ∷ later)) flow)
+    ≡ need_with (entry_of batch.entries flow) (need_in (item_of (rest_by key b front) flow)) + added_of flow later
+
+abbrev pub EveryScheduleBalances : Type 0
+EveryScheduleBalances = EveryScheduleBalancesBy last_served

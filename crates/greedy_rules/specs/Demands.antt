@@ -31,9 +31,19 @@ is_listed list flow = list_any (λ item. same_flow item.flow flow) list
 abbrev pub HasEachFlowOnce : List Item → Type 0
 HasEachFlowOnce list = AllPairs (λ i j. i.flow ≢ j.flow) list
 
+-- what a list is sorted by: a number that comes of an item's need and the slot in which it was last served
+abbrev pub Key : Type 0
+Key = ℕ → ℕ → ℕ
+
+abbrev pub by_key : Key → List Item → List Item
+by_key key list = sort_by (λ item. key item.need item.last) list
+
 -- the order of the list: by the slot in which a flow was last served
+abbrev pub last_served : Key
+last_served need last = last
+
 abbrev pub by_last : List Item → List Item
-by_last list = sort_by (λ item. item.last) list
+by_last list = by_key last_served list
 
 -- an item's need once the batch's entry of its flow is applied, if there is one
 abbrev pub need_with : Option Entry → ℕ → ℕ
@@ -47,9 +57,12 @@ with_batch batch item = record item { need = need_with (entry_of batch item.flow
 abbrev pub opened : List Entry → List Item
 opened batch = map (λ (entry : Entry). record { flow = entry.flow; need = entry.add; last = 0 }) (filter (λ entry. entry.opens) batch)
 
--- the list once the batch is applied
+-- the list once the batch is applied, sorted by a key, and so by the slot in which a flow was last served
+abbrev pub after_batch_by : Key → List Entry → List Item → List Item
+after_batch_by key batch list = by_key key (map (with_batch batch) list ++ opened batch)
+
 abbrev pub after_batch : List Entry → List Item → List Item
-after_batch batch list = by_last (map (with_batch batch) list ++ opened batch)
+after_batch batch list = after_batch_by last_served batch list
 
 -- an entry opens exactly where its flow is not in the list
 abbrev pub OpensNewFlows : List Entry → List Item → Type 0
@@ -58,3 +71,7 @@ OpensNewFlows batch list = All (λ entry. entry.opens ≡ not (is_listed list en
 -- every flow of the list has its endpoints below this number
 abbrev pub AreBelow : ℕ → List Item → Type 0
 AreBelow endpoints list = All (λ item. (item.flow.src < endpoints) × (item.flow.dst < endpoints)) list
+
+-- no flow of the list is from an endpoint to itself
+abbrev pub HaveTwoEnds : List Item → Type 0
+HaveTwoEnds list = All (λ item. item.flow.src ≢ item.flow.dst) list

@@ -4,7 +4,8 @@ use Rattle.greedy_rules.specs.declared.flows.Flow.{Flow}
 use Rattle.greedy_rules.specs.declared.flows.Item.{Item}
 use Rattle.greedy_rules.specs.declared.flows.Entry.{Entry}
 use Rattle.greedy_rules.specs.Batches.{DemandBatch}
-use Rattle.greedy_rules.specs.Schedule.{schedule, rest}
+use Rattle.greedy_rules.specs.Demands.{Key}
+use Rattle.greedy_rules.specs.Schedule.{schedule, rest, schedule_by, rest_by}
 
 abbrev pub flow : ℕ → ℕ → Flow
 flow src dst = record { src = src; dst = dst }
@@ -48,6 +49,22 @@ abbrev pub WhatABatchLeavesGoesIntoTheNext : Type 0
 WhatABatchLeavesGoesIntoTheNext =
     (schedule 64 (in_one_rack (opening 0 1 65 ∷ []) ∷ in_one_rack [] ∷ []) ≡ replicate 65 (flow 0 1 ∷ []) ++ replicate 63 [])
     × (rest 64 (in_one_rack (opening 0 1 65 ∷ []) ∷ []) ≡ waiting 0 1 1 64 ∷ [])
+
+-- By another key: the flow that needs least comes first, by what it needs as a batch begins.
+abbrev pub remaining : Key
+remaining need last = need
+
+abbrev pub TheLeastNeedGoesFirst : Type 0
+TheLeastNeedGoesFirst =
+    schedule_by remaining 2 (in_one_rack (opening 0 1 3 ∷ opening 0 2 1 ∷ []) ∷ in_one_rack [] ∷ [])
+    ≡ (flow 0 2 ∷ []) ∷ (flow 0 1 ∷ []) ∷ (flow 0 1 ∷ []) ∷ (flow 0 1 ∷ []) ∷ []
+
+-- Of two that need the same, the one that stands first; once served it needs less.
+abbrev pub OfTwoNeedsTheFirstGoesFirst : Type 0
+OfTwoNeedsTheFirstGoesFirst =
+    (schedule_by remaining 1 (in_one_rack (opening 0 1 2 ∷ opening 0 2 2 ∷ []) ∷ in_one_rack [] ∷ in_one_rack [] ∷ [])
+    ≡ (flow 0 1 ∷ []) ∷ (flow 0 1 ∷ []) ∷ (flow 0 2 ∷ []) ∷ [])
+    × (rest_by remaining 1 (in_one_rack (opening 0 1 2 ∷ opening 0 2 2 ∷ []) ∷ in_one_rack [] ∷ in_one_rack [] ∷ []) ≡ waiting 0 1 0 2 ∷ waiting 0 2 1 3 ∷ [])
 
 -- Two racks of four hosts and two cores: two of four packets between the racks, and two more in the next slot.
 abbrev pub TwoCoresCarryTwoPackets : Type 0

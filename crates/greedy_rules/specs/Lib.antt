@@ -13,3 +13,5 @@ pub mod Balance
 pub mod Examples
 pub mod Room
 pub mod Recorded
+pub mod Cells
+pub mod LeftOut

@@ -1,13 +1,14 @@
 -- Demand batches as they are recorded, round after round, and the lists that they find and leave (this project's own profile).
+-- A name that ends in By is said of lists sorted by any key; without By, of lists sorted by the slot in which a flow was last served.
 use Rattle.std.specs.Prelude.{◌≡◌, ◌≢◌, ◌<◌, ◌≤◌, ℕ, ◌+◌, ◌^◌, List, [], ◌∷◌, ◌++◌, length, not, IsTrue, All}
 use Rattle.greedy_rules.specs.declared.flows.Flow.{Flow}
 use Rattle.greedy_rules.specs.declared.flows.Item.{Item}
 use Rattle.greedy_rules.specs.declared.limits.Limits.{Limits}
 use Rattle.greedy_rules.specs.Batches.{DemandBatch, IsBatch, entry_of}
-use Rattle.greedy_rules.specs.Demands.{HasEachFlowOnce, AreBelow, OpensNewFlows, is_listed, item_of, need_in, need_with, opened}
+use Rattle.greedy_rules.specs.Demands.{Key, last_served, HasEachFlowOnce, AreBelow, HaveTwoEnds, OpensNewFlows, is_listed, item_of, need_in, need_with, opened}
 use Rattle.greedy_rules.specs.Limits.{is_barred, KeepsLimits}
 use Rattle.greedy_rules.specs.SlotTable.{IsSlotOf}
-use Rattle.greedy_rules.specs.Schedule.{list_then, schedule, rest, slot_at, need_before}
+use Rattle.greedy_rules.specs.Schedule.{list_then_by, schedule_by, rest_by, slot_at, need_before_by}
 use Rattle.greedy_rules.specs.Balance.{is_recorded, AreInOrder}
 use Rattle.greedy_rules.specs.Matching.{AreAmong, IsMatching, IsMaximal}
 
@@ -44,37 +45,51 @@ pub record Applies (endpoints : ℕ) (batch : DemandBatch) (list : List Item) : 
   pub opens : OpensNewFlows batch.entries list
   pub once : HasEachFlowOnce list
   pub below : AreBelow endpoints (list ++ opened batch.entries)
+  pub apart : HaveTwoEnds (list ++ opened batch.entries)
   pub needs : All (λ item. need_with (entry_of batch.entries item.flow) item.need < 2 ^ 32) list
 
 -- each of these batches, the first one batch k, may be applied to the list that it finds
+abbrev pub MayBeAppliedBy : Key → ℕ → ℕ → ℕ → List Item → List DemandBatch → Type 0
+MayBeAppliedBy key endpoints b k list [] = Unit {0}
+MayBeAppliedBy key endpoints b k list (batch ∷ batches) = Applies endpoints batch list × MayBeAppliedBy key endpoints b (k + 1) (list_then_by key b k batch list) batches
+
 abbrev pub MayBeApplied : ℕ → ℕ → ℕ → List Item → List DemandBatch → Type 0
-MayBeApplied endpoints b k list [] = Unit {0}
-MayBeApplied endpoints b k list (batch ∷ batches) = Applies endpoints batch list × MayBeApplied endpoints b (k + 1) (list_then b k batch list) batches
+MayBeApplied = MayBeAppliedBy last_served
 
 -- a list that batches have left
 pub record IsLeftBy (endpoints : ℕ) (batches : List DemandBatch) (list : List Item) : Type 0 where
   pub once : HasEachFlowOnce list
   pub below : AreBelow endpoints list
+  pub apart : HaveTwoEnds list
   pub listed : (flow : Flow) → is_listed list flow ≡ is_recorded batches flow
   pub needs : (flow : Flow) → need_in (item_of list flow) ≤ demand_of batches flow
 
 -- recorded batches may be applied one after the other, from the empty list on
-pub record AreApplicable (endpoints b : ℕ) (batches : List DemandBatch) : Type 0 where
+pub record AreApplicableBy (key : Key) (endpoints b : ℕ) (batches : List DemandBatch) : Type 0 where
   pub in_order : AreInOrder [] batches
-  pub may : MayBeApplied endpoints b 0 [] batches
-  pub left : IsLeftBy endpoints batches (rest b batches)
+  pub may : MayBeAppliedBy key endpoints b 0 [] batches
+  pub left : IsLeftBy endpoints batches (rest_by key b batches)
+
+abbrev pub AreApplicable : ℕ → ℕ → List DemandBatch → Type 0
+AreApplicable = AreApplicableBy last_served
+
+abbrev pub RecordedBatchesMayBeAppliedBy : Key → Type 0
+RecordedBatchesMayBeAppliedBy key = (endpoints b : ℕ) (limits : Limits) (batches : List DemandBatch) → AreRecorded endpoints limits batches → AreApplicableBy key endpoints b batches
 
 abbrev pub RecordedBatchesMayBeApplied : Type 0
-RecordedBatchesMayBeApplied = (endpoints b : ℕ) (limits : Limits) (batches : List DemandBatch) → AreRecorded endpoints limits batches → AreApplicable endpoints b batches
+RecordedBatchesMayBeApplied = RecordedBatchesMayBeAppliedBy last_served
 
 -- the first of them are recorded, and later ones may be applied to what these leave
 abbrev pub EveryFrontIsRecorded : Type 0
 EveryFrontIsRecorded =
     (endpoints : ℕ) (limits : Limits) (front later : List DemandBatch) → AreRecorded endpoints limits (front ++ later) → AreRecorded endpoints limits front
 
+abbrev pub LaterBatchesMayBeAppliedBy : Key → Type 0
+LaterBatchesMayBeAppliedBy key =
+    (endpoints b : ℕ) (limits : Limits) (front later : List DemandBatch) → AreRecorded endpoints limits (front ++ later) → MayBeAppliedBy key endpoints b (length front) (rest_by key b front) later
+
 abbrev pub LaterBatchesMayBeApplied : Type 0
-LaterBatchesMayBeApplied =
-    (endpoints b : ℕ) (limits : Limits) (front later : List DemandBatch) → AreRecorded endpoints limits (front ++ later) → MayBeApplied endpoints b (length front) (rest b front) later
+LaterBatchesMayBeApplied = LaterBatchesMayBeAppliedBy last_served
 
 -- what a slot of recorded batches is
 pub record IsRecordedSlot (endpoints : ℕ) (limits : Limits) (need : Flow → ℕ) (slot : List Flow) : Type 0 where
@@ -83,7 +98,10 @@ pub record IsRecordedSlot (endpoints : ℕ) (limits : Limits) (need : Flow → �
   pub keeps : KeepsLimits limits slot
   pub in_range : IsSlotOf endpoints slot
 
-abbrev pub EveryRecordedSlot : Type 0
-EveryRecordedSlot =
+abbrev pub EveryRecordedSlotBy : Key → Type 0
+EveryRecordedSlotBy key =
     (endpoints b : ℕ) (limits : Limits) (batches : List DemandBatch) → AreRecorded endpoints limits batches
-    → (number : ℕ) → 0 < number → number ≤ length (schedule b batches) → IsRecordedSlot endpoints limits (need_before b batches number) (slot_at (schedule b batches) number)
+    → (number : ℕ) → 0 < number → number ≤ length (schedule_by key b batches) → IsRecordedSlot endpoints limits (need_before_by key b batches number) (slot_at (schedule_by key b batches) number)
+
+abbrev pub EveryRecordedSlot : Type 0
+EveryRecordedSlot = EveryRecordedSlotBy last_served

@@ -1,13 +1,27 @@
-ghost use Rattle.greedy_rules.specs.Matching.{EverySlotIsAMaximalMatching, EverySlotKeepsItsLimits, EverySlotKeepsTheLimits, EverySlotsFlowsAreOfEntries, EveryFlowLeftIsOfEntries, EverySlotIsInRange};
+ghost use Rattle.greedy_rules.specs.Matching.{EverySlotIsAMaximalMatching, EverySlotOfABatchIsAMaximalMatching, EverySlotKeepsItsLimits, EverySlotKeepsTheLimits, EverySlotsFlowsAreOfEntries, EveryFlowLeftIsOfEntries, EverySlotIsInRange};
 ghost use Rattle.greedy_rules.specs.Fronts.{SchedulesGoOn, FrontsAreFronts, EveryBatchHasItsSlots, SlotsOfABatch};
 ghost use Rattle.greedy_rules.specs.Room.{FlowsFitPairs};
+ghost use Rattle.greedy_rules.specs.Cells.{EveryTableMakesABatch};
+ghost use Rattle.greedy_rules.specs.LeftOut.{EverySlotIsFilledInOrder, EveryBatchKeepsItsOrder};
 ghost use Rattle.greedy_rules.specs.Balance.{EveryBatchBalances, EveryRestIsListed, EveryScheduleBalances};
-ghost use Rattle.greedy_rules.specs.Examples.{ThreeFlowsFillTwoSlots, TwoFlowsOfOneSourceTakeTurns, ALaterAskGoesFirst, WhatABatchLeavesGoesIntoTheNext, TwoCoresCarryTwoPackets, WithinARackNoCoreIsNeeded, ARackSendsOneForEachCore, ARackReceivesOneForEachCore};
+ghost use Rattle.greedy_rules.specs.Examples.{ThreeFlowsFillTwoSlots, TwoFlowsOfOneSourceTakeTurns, ALaterAskGoesFirst, WhatABatchLeavesGoesIntoTheNext, TheLeastNeedGoesFirst, OfTwoNeedsTheFirstGoesFirst, TwoCoresCarryTwoPackets, WithinARackNoCoreIsNeeded, ARackSendsOneForEachCore, ARackReceivesOneForEachCore};
 
 /// A law over every schedule (the SIGCOMM 2014 Fastpass paper): no two packets of a slot share a source or a
 /// destination, and no waiting demand could join it.
 pub fn every_slot_is_a_maximal_matching()
     ensures { EverySlotIsAMaximalMatching }
+{}
+
+/// The law over one batch, whatever list it finds and whatever the number of its first slot.
+pub fn every_slot_of_a_batch_is_a_maximal_matching()
+    ensures { EverySlotOfABatchIsAMaximalMatching }
+{}
+
+/// A law over one slot of any list: a waiting flow that is not in it is kept out by flows of items that stand before its own;
+/// and the list before each slot of a batch has the order of the batch's start list.
+pub fn every_slot_is_filled_in_order()
+    ensures slot { EverySlotIsFilledInOrder }
+    ensures batch { EveryBatchKeepsItsOrder }
 {}
 
 /// A law over every schedule: no rack sends or receives more packets between racks in a slot than its batch has cores.
@@ -36,7 +50,14 @@ pub fn schedules_go_on()
     ensures each { SlotsOfABatch }
 {}
 
-/// A law on memory: a list with room for as many items as there are pairs of endpoints has room for each batch.
+/// A law over tables: the entries of a table with a cell for each source and destination, walked rising, are a batch, in
+/// which each flow has the entry of its cell.
+pub fn every_table_makes_a_batch()
+    ensures { EveryTableMakesABatch }
+{}
+
+/// A law on memory: a list with room for as many items as there are pairs of two different endpoints has room
+/// for each batch.
 pub fn flows_fit_pairs()
     ensures { FlowsFitPairs }
 {}
@@ -60,6 +81,8 @@ pub fn small_schedules()
     ensures turns { TwoFlowsOfOneSourceTakeTurns }
     ensures later_ask { ALaterAskGoesFirst }
     ensures left_over { WhatABatchLeavesGoesIntoTheNext }
+    ensures least_need { TheLeastNeedGoesFirst }
+    ensures same_need { OfTwoNeedsTheFirstGoesFirst }
 {}
 
 /// Small schedules of racks with more hosts than cores.

@@ -4,6 +4,7 @@
 mod batches;
 mod demands;
 mod flows;
+mod keys;
 mod laws;
 mod limits;
 mod marks;
@@ -15,10 +16,16 @@ mod slots;
 pub use batches::Batch;
 pub use demands::DemandList;
 pub use flows::{Entry, Flow, Item};
+pub use keys::{
+    recorded_batches_by_key, schedules_by_key_balance, schedules_by_key_go_on,
+    slots_by_key_are_maximal_matchings,
+};
 pub use laws::{
     every_batch_balances, every_schedule_balances, every_slot_is_a_maximal_matching,
-    every_slot_is_in_range, every_slot_keeps_its_limits, every_slots_flows_are_of_entries,
-    flows_fit_pairs, schedules_go_on, small_schedules, small_schedules_between_racks,
+    every_slot_is_filled_in_order, every_slot_is_in_range, every_slot_keeps_its_limits,
+    every_slot_of_a_batch_is_a_maximal_matching, every_slots_flows_are_of_entries,
+    every_table_makes_a_batch, flows_fit_pairs, schedules_go_on, small_schedules,
+    small_schedules_between_racks,
 };
 pub use limits::Limits;
 pub use no_memory::NoMemory;

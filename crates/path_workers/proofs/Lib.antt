@@ -3,5 +3,6 @@ pub mod QueueLemmas
 pub mod PainterLemmas
 pub mod PlayLemmas
 pub mod CrewLemmas
+pub mod NamedCores
 pub mod RowLemmas
 pub mod TableLemmas

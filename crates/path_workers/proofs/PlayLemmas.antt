@@ -1,9 +1,11 @@
 -- What workers have done together: the jobs that were taken, and the rows of the slots that they name.
-use Rattle.std.proofs.Common.{◌≡◌, ◌<◌, ◌+◌, ◌-◌, ℕ, zero, suc, List, [], ◌∷◌, ◌++◌, length, get_or, set, Bool, true, false, ◌==◌, ◌||◌, All, IsTrue, vec_len, refl, sym, ap, ◌∙◌, subst, arith, inl, inr}
+use Rattle.std.proofs.Common.{◌≡◌, ◌<◌, ◌+◌, ◌-◌, ℕ, zero, suc, List, [], ◌∷◌, ◌++◌, length, get_or, set, Bool, true, false, cond, nat_lt, ◌==◌, ◌||◌, All, IsTrue, vec_len, refl, sym, ap, ◌∙◌, subst, arith, inl, inr}
 use Rattle.std.specs.List.{list_any}
-use Rattle.std.proofs.lemmas.Bool.{cases_lt, cond-true, eq-eqb, or_cases}
-use Rattle.std.proofs.lemmas.List.{append-nil, length_push, length-append, get_or_push, get_or_append_left}
+use Rattle.std.proofs.lemmas.Bool.{cases_lt, cond-true, cond-false, eq-eqb, le-ltb, or_cases}
+use Rattle.std.proofs.lemmas.Bool.Decides.{nat_tests}
+use Rattle.std.proofs.lemmas.List.{map-append, append-nil, length_push, length-append, get_or_push, get_or_append_left}
 use Rattle.std.proofs.lemmas.List.Elements.{All-push}
+use Rattle.std.proofs.lemmas.List.Sums.{sum_by-cons}
 use Rattle.std.proofs.lemmas.List.Folds.{list_any-append}
 use Rattle.crossbeam_queue.specs.Passes.{view}
 use Rattle.greedy_rules.specs.declared.flows.Flow.{Flow}
@@ -13,8 +15,9 @@ use Rattle.path_workers.specs.declared.jobs.Job.TheVariants.{Slot, End}
 use Rattle.path_workers.specs.declared.jobs.Hand.{Hand}
 use Rattle.path_workers.specs.declared.painter.Painter.{Painter}
 use Rattle.path_workers.specs.declared.seats.Seat.{Seat}
-use Rattle.path_workers.specs.Jobs.{hand, weigh, IsAtRest, is_slot, slot_jobs, end_jobs}
-use Rattle.path_workers.specs.Painters.{has_row, HasPainted, MayPaint, HasRowsOf, HaveRows}
+use Rattle.path_workers.specs.PathWork.{times_taken}
+use Rattle.path_workers.specs.Jobs.{hand, weigh, IsAtRest, is_slot, slots_named, slot_jobs, end_jobs}
+use Rattle.path_workers.specs.Painters.{numbers_of, has_row, HasPainted, MayPaint, HasRowsOf, HaveRows}
 use Rattle.path_workers.specs.Seats.{MayPlay, HasPlayed, HaveAllPlayed}
 use Rattle.path_workers.proofs.QueueLemmas.{weigh-append}
 use Rattle.path_workers.proofs.PainterLemmas.{resized}
@@ -39,23 +42,25 @@ pub record IsPlaying (slots : List (List Flow)) (old : Hand) (was : Painter) (no
   pub painted : HasPainted was.net (vec_len was.places) slots painter
   pub rows : HasRowsOf (length slots) old.taken now.taken painter
   pub keeps : (slot : ℕ) → IsTrue (has_row slot was) → IsTrue (has_row slot painter)
+  pub number : painter.number ≡ was.number
 
 pub begins_to_play : (slots : List (List Flow)) (now : Hand) (painter : Painter) → MayPaint slots painter → IsPlaying slots now painter now painter
-begins_to_play slots now painter may = record { parts = refl; put = refl; painted = may.painted; rows = no_rows (length slots) now.taken painter; keeps = λ slot has. has }
+begins_to_play slots now painter may = record { parts = refl; put = refl; painted = may.painted; rows = no_rows (length slots) now.taken painter; keeps = λ slot has. has; number = refl }
 
 pub plays_on : (slots : List (List Flow)) (old : Hand) (was : Painter) (v w : Hand) (p q : Painter) (job : Job) → IsPlaying slots old was v p → w ≡ hand v.parts v.put (v.taken ++ job ∷ []) → HasPainted p.net (vec_len p.places) slots q
-    → ((slot : ℕ) → IsTrue (has_row slot p) → IsTrue (has_row slot q)) → ((slot : ℕ) → slot < length slots → 0 < is_slot slot job → IsTrue (has_row slot q)) → IsPlaying slots old was w q
-plays_on slots old was v w p q job playing is painted keeps named = record {
+    → ((slot : ℕ) → IsTrue (has_row slot p) → IsTrue (has_row slot q)) → ((slot : ℕ) → slot < length slots → 0 < is_slot slot job → IsTrue (has_row slot q)) → q.number ≡ p.number → IsPlaying slots old was w q
+plays_on slots old was v w p q job playing is painted keeps named number = record {
   parts = ap (λ (h : Hand). h.parts) is ∙ playing.parts;
   put = ap (λ (h : Hand). h.put) is ∙ playing.put;
   painted = resized was.net (vec_len was.places) slots p q playing.painted.sized painted;
   rows = subst (λ (jobs : List Job). HasRowsOf (length slots) old.taken jobs q) (sym (ap (λ (h : Hand). h.taken) is)) (rows_more (length slots) old.taken v.taken job p q playing.rows keeps named);
   keeps = λ slot has. keeps slot (playing.keeps slot has);
+  number = number ∙ playing.number;
 }
 
 -- and when it has played
 pub has_played : (slots : List (List Flow)) (was seat : Seat) (queue : _) → was.pass.table_id ≡ queue → seat.pass.table_id ≡ queue → seat.pass.me.1 ≡ [] → IsPlaying slots (view was.pass) was.painter (view seat.pass) seat.painter → HasPlayed slots was seat
-has_played slots was seat queue was_queue same none playing = record { queue = same ∙ sym was_queue; none_out = none; parts = playing.parts; put = playing.put; painted = playing.painted; rows = playing.rows }
+has_played slots was seat queue was_queue same none playing = record { queue = same ∙ sym was_queue; none_out = none; parts = playing.parts; put = playing.put; painted = playing.painted; rows = playing.rows; number = playing.number }
 
 -- the slots' jobs name each slot
 pub slot_is_put : (slot count : ℕ) → slot < count → 0 < weigh (is_slot slot) (slot_jobs count)
@@ -96,6 +101,7 @@ none_played slots workers painters new was is same view_is =
       rows = λ slot below more. absurd (omega (arith, more, ap (weigh (is_slot slot)) taken));
       painted = λ net room all. subst (All (HasPainted net room slots)) (sym same) all;
       len = ap (λ (ps : List Painter). length ps) same;
+      numbers = ap numbers_of same;
     }
 
 or_left : (a b : Bool) → a ≡ true → (a || b) ≡ true
@@ -143,6 +149,9 @@ one_played slots workers all xs out ys x seat was v0 v1 v2 v3 all_is out_is some
           let y_painted : HasPainted net room slots y = subst (λ (n : Network). HasPainted n room slots y) net_is (subst (λ (k : ℕ). HasPainted was.painter.net k slots y) room_is played.painted) in
           subst (All (HasPainted net room slots)) (sym out_is) (All-push (HasPainted net room slots) ys y (rest.painted net room (All-front (HasPainted net room slots) all xs x all_is painted)) y_painted);
       len = omega (arith, rest.len, ap (λ (ps : List Painter). length ps) all_is, ap (λ (ps : List Painter). length ps) out_is, length_push xs x, length_push ys y);
+      numbers = ap numbers_of out_is
+          ∙ (map-append (λ (p : Painter). p.number) ys (y ∷ [])
+          ∙ ((λ i. rest.numbers i ++ (played.number ∙ ap (λ (p : Painter). p.number) same) i ∷ []) ∙ (sym (map-append (λ (p : Painter). p.number) xs (x ∷ [])) ∙ sym (ap numbers_of all_is))));
     }
 
 pub as_played : (slots : List (List Flow)) (workers : ℕ) (old ps qs : List Painter) (was v w : Hand) → qs ≡ ps → w ≡ v → HaveAllPlayed slots workers old was ps v → HaveAllPlayed slots workers old was qs w
@@ -199,6 +208,42 @@ at_rest_again left whole both left_is both_is rest =
         even = λ h. ap (weigh h) put ∙ (rest.even h ∙ sym (ap (weigh h) taken));
       },
       put,
+    )
+
+-- how often a slot is named
+times_are : (slot : ℕ) (jobs : List Job) → times_taken slot (slots_named jobs) ≡ weigh (is_slot slot) jobs
+times_are slot [] = refl
+times_are slot (Slot number ∷ jobs) = omega (arith, sum_by-cons (λ (n : ℕ). cond (n == slot) 1 0) number (slots_named jobs), times_are slot jobs)
+times_are slot (End ∷ jobs) = omega (arith, times_are slot jobs)
+
+-- each slot's job was put once
+slot_put : (slot count : ℕ) → weigh (is_slot slot) (slot_jobs count) ≡ cond (nat_lt slot count) 1 0
+slot_put slot zero = sym (cond-false (nat_lt slot 0) 1 0 (le-ltb slot 0 (omega arith)))
+slot_put slot (suc count) =
+    let sum : weigh (is_slot slot) (slot_jobs count ++ Slot count ∷ []) ≡ weigh (is_slot slot) (slot_jobs count) + (cond (count == slot) 1 0 + 0) = weigh-append (is_slot slot) (slot_jobs count) (Slot count ∷ []) in
+    let before = slot_put slot count in
+    grind (arith, nat_tests)
+
+no_slot_put : (slot workers : ℕ) → weigh (is_slot slot) (end_jobs workers) ≡ 0
+no_slot_put slot zero = refl
+no_slot_put slot (suc workers) = omega (arith, weigh-append (is_slot slot) (end_jobs workers) (End ∷ []), no_slot_put slot workers)
+
+-- and so it was taken once, if all that was put was taken
+pub taken_once : (slot count workers : ℕ) (before after : Hand) → IsAtRest before → IsAtRest after → after.put ≡ before.put ++ slot_jobs count ++ end_jobs workers
+    → times_taken slot (slots_named after.taken) ≡ times_taken slot (slots_named before.taken) + cond (nat_lt slot count) 1 0
+taken_once slot count workers before after was is put =
+    let h : Job → ℕ = is_slot slot in
+    omega (
+      arith,
+      was.even h,
+      is.even h,
+      ap (weigh h) put,
+      weigh-append h (before.put ++ slot_jobs count) (end_jobs workers),
+      weigh-append h before.put (slot_jobs count),
+      slot_put slot count,
+      no_slot_put slot workers,
+      times_are slot before.taken,
+      times_are slot after.taken,
     )
 
 -- how many jobs were put

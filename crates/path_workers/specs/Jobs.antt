@@ -49,6 +49,16 @@ abbrev pub is_slot : ℕ → Job → ℕ
 is_slot slot (Slot number) = if number == slot then 1 else 0
 is_slot slot End = 0
 
+-- the slots that jobs name
+abbrev pub slots_named : List Job → List ℕ
+slots_named [] = []
+slots_named (Slot number ∷ jobs) = number ∷ slots_named jobs
+slots_named (End ∷ jobs) = slots_named jobs
+
+-- the slots whose jobs a pass has taken
+abbrev pub slots_taken : Pass Job Hand → List ℕ
+slots_taken pass = slots_named (view pass).taken
+
 -- a job for each of the first slots
 abbrev pub slot_jobs : ℕ → List Job
 slot_jobs zero = []

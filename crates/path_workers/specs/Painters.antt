@@ -1,5 +1,5 @@
 -- A path worker's rows of cores: for each slot that it has coloured, the row that has its cores (this project's own profile).
-use Rattle.std.specs.Prelude.{◌≡◌, ◌<◌, ◌≤◌, ℕ, ◌*◌, List, length, Bool, true, Option, Some, None, All, IsTrue, is_some, take, drop, vec_len}
+use Rattle.std.specs.Prelude.{◌≡◌, ◌<◌, ◌≤◌, ℕ, ◌*◌, List, map, length, Bool, true, Option, Some, None, All, IsTrue, is_some, take, drop, vec_len}
 use Rattle.std.specs.List.{slice_index_or, list_any}
 use Rattle.greedy_rules.specs.declared.flows.Flow.{Flow}
 use Rattle.greedy_rules.specs.Matching.{IsMatching}
@@ -11,6 +11,10 @@ use Rattle.path_workers.specs.declared.jobs.Job.{Job}
 use Rattle.path_workers.specs.declared.painter.Painter.{Painter}
 use Rattle.path_workers.specs.Coloured.{IsFlowOf, IsWithinCores, HasItsCores}
 use Rattle.path_workers.specs.Jobs.{weigh, is_slot}
+
+-- the workers' numbers
+abbrev pub numbers_of : List Painter → List ℕ
+numbers_of painters = map (λ painter. painter.number) painters
 
 -- slots that may be given cores, at most as many as there is room for
 pub record AreColourable (net : Network) (room : ℕ) (slots : List (List Flow)) : Type 0 where

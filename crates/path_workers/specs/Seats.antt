@@ -7,7 +7,7 @@ use Rattle.path_workers.specs.declared.jobs.Hand.{Hand}
 use Rattle.path_workers.specs.declared.painter.Painter.{Painter}
 use Rattle.path_workers.specs.declared.seats.Seat.{Seat}
 use Rattle.path_workers.specs.Jobs.{slot_jobs, end_jobs}
-use Rattle.path_workers.specs.Painters.{MayPaint, HasPainted, HasRowsOf, HaveRowsOf}
+use Rattle.path_workers.specs.Painters.{numbers_of, MayPaint, HasPainted, HasRowsOf, HaveRowsOf}
 
 -- it has a part, and its worker may paint
 pub record MayPlay (slots : List (List Flow)) (seat : Seat) : Type 0 where
@@ -22,6 +22,7 @@ pub record HasPlayed (slots : List (List Flow)) (was seat : Seat) : Type 0 where
   pub put : (view seat.pass).put ≡ (view was.pass).put
   pub painted : HasPainted was.painter.net (vec_len was.painter.places) slots seat.painter
   pub rows : HasRowsOf (length slots) (view was.pass).taken (view seat.pass).taken seat.painter
+  pub number : seat.painter.number ≡ was.painter.number
 
 -- rows that were right are right
 abbrev pub StayPainted : List (List Flow) → List Painter → List Painter → Type 0
@@ -34,3 +35,4 @@ pub record HaveAllPlayed (slots : List (List Flow)) (workers : ℕ) (old : List 
   pub rows : HaveRowsOf (length slots) was.taken is.taken new
   pub painted : StayPainted slots old new
   pub len : length new ≡ length old
+  pub numbers : numbers_of new ≡ numbers_of old

@@ -40,7 +40,8 @@ impl Painter {
         slots: u16,
     ) -> Result<Painter, NoMemory>
         requires { slots ≤ 1024 }
-        ensures { IfOk result (IsPainter net.now slots) }
+        ensures sized { IfOk result (IsPainter net.now slots) }
+        ensures number { IfOk result (λ painter. painter.number ≡ number) }
     {
         let endpoints = net.endpoints();
         Ok(Painter {
@@ -56,7 +57,8 @@ impl Painter {
 
     /// Forgets which slots it has coloured.
     pub(crate) fn forget(&mut self)
-        ensures { (net : Network) (room : ℕ) (slots : List (List Flow)) → IsPainter net room self.old → HasPainted net room slots self.new }
+        ensures painted { (net : Network) (room : ℕ) (slots : List (List Flow)) → IsPainter net room self.old → HasPainted net room slots self.new }
+        ensures number { self.new.number ≡ self.old.number }
     {
         self.places.fill(None);
     }
@@ -67,6 +69,7 @@ impl Painter {
         ensures painted { HasPainted self.old.net (vec_len self.old.places) slots.now.slots self.new }
         ensures row { (slot : ℕ) → slot < length slots.now.slots → 0 < is_slot slot job → IsTrue (has_row slot self.new) }
         ensures keeps { (slot : ℕ) → IsTrue (has_row slot self.old) → IsTrue (has_row slot self.new) }
+        ensures number { self.new.number ≡ self.old.number }
     {
         match job {
             Job::Slot(slot) if slot < slots.slots() => {
@@ -85,6 +88,7 @@ impl Painter {
         ensures painted { HasPainted self.old.net (vec_len self.old.places) slots.now.slots self.new }
         ensures row { IsTrue (has_row slot self.new) }
         ensures keeps { (other : ℕ) → IsTrue (has_row other self.old) → IsTrue (has_row other self.new) }
+        ensures number { self.new.number ≡ self.old.number }
     {
         let place = self.make_row(slots, slot);
         self.places[slot as usize] = Some(place);
@@ -115,6 +119,7 @@ impl Painter {
         ensures painted { HasPainted self.old.net (vec_len self.old.places) slots.now.slots self.new }
         ensures row { HasRow self.old.net (vec_len self.old.places) slots.now.slots self.new slot result }
         ensures places { self.new.places ≡ self.old.places }
+        ensures number { self.new.number ≡ self.old.number }
     {
         every_colouring_makes_a_matching_clean();
         limits_are_degrees();

@@ -1,14 +1,15 @@
-ghost use Rattle.std.specs.Prelude.{◌≡◌, ◌<◌, ◌≤◌, ◌+◌, ℕ, List, true, length, All, IfOk};
-ghost use Rattle.std.specs.List.{list_any};
+ghost use Rattle.std.specs.Prelude.{◌≡◌, ◌<◌, ◌≤◌, ◌+◌, ℕ, List, [], true, length, All, IfOk};
+ghost use Rattle.std.specs.List.{list_any, range_with_len};
 ghost use Rattle.greedy_rules.specs.declared.flows.Flow.{Flow};
 ghost use Rattle.greedy_rules.specs.Matching.{IsMatching};
 ghost use Rattle.greedy_rules.specs.Schedule.{slot_in};
 ghost use Rattle.clos_topology.specs.Network.{Network, endpoints_of};
 ghost use Rattle.clos_topology.specs.Links.{IsClean};
 ghost use Rattle.edge_colouring.specs.Cores.{core_in};
+ghost use Rattle.path_workers.specs.PathWork.{AreTheSame, AreTakenOnce};
 ghost use Rattle.path_workers.specs.CoreTable.{core_of, NamesNone};
-ghost use Rattle.path_workers.specs.Coloured.{IsFlowOf, IsWithinCores, NamesNoOther, HasItsCores};
-ghost use Rattle.path_workers.specs.Painters.{IsPainter, HasPainted, MayPaint, HaveRows, has_row};
+ghost use Rattle.path_workers.specs.Coloured.{IsFlowOf, IsWithinCores, NamesNoOther, NamesBelow, HasItsCores};
+ghost use Rattle.path_workers.specs.Painters.{numbers_of, IsPainter, HasPainted, MayPaint, HaveRows, has_row};
 
 use crate::core_table::CoreTable;
 use crate::jobs;
@@ -42,19 +43,20 @@ pub struct Paths {
 
 impl Model for Paths {
     ghost use Rattle.std.specs.Prelude.{vec_len};
-    ghost use Rattle.path_workers.specs.Jobs.{jobs_put};
+    ghost use Rattle.path_workers.specs.Jobs.{jobs_put, slots_taken};
+    ghost use Rattle.path_workers.specs.Painters.{numbers_of};
     ghost use Rattle.path_workers.specs.PathWork.{PathWork};
     ghost use Rattle.path_workers.specs.Crews.{IsCrew};
 
     ghost Value = { PathWork };
 
-    ghost view = { λ p. record { net = p.net; slots = p.slots; paths = vec_len p.painters; jobs = jobs_put p.pass } };
+    ghost view = { λ p. record { net = p.net; slots = p.slots; paths = vec_len p.painters; numbers = numbers_of p.painters.items; jobs = jobs_put p.pass; taken = slots_taken p.pass } };
 
     ghost invariant = { IsCrew };
 }
 
 impl Paths {
-    /// For this network, so many path workers, and at most so many slots a call.
+    /// For this network, so many path workers, whose numbers are 0, 1, 2 and so on, and at most so many slots a call.
     pub fn open(alloc: Global, net: &Net, paths: u16, slots: u16) -> Result<Paths, NoMemory>
         requires some { 1 ≤ paths }
         requires few { paths ≤ 16 }
@@ -62,7 +64,9 @@ impl Paths {
         ensures net { IfOk result (λ opened. opened.net ≡ net.now) }
         ensures slots { IfOk result (λ opened. opened.slots ≡ slots) }
         ensures paths { IfOk result (λ opened. opened.paths ≡ paths) }
+        ensures numbers { IfOk result (λ opened. opened.numbers ≡ range_with_len 0 paths) }
         ensures jobs { IfOk result (λ opened. opened.jobs ≡ 0) }
+        ensures taken { IfOk result (λ opened. opened.taken ≡ []) }
     {
         let mut painters = Vec::with_capacity(alloc, paths as usize)?;
         for number in 0..paths {
@@ -80,7 +84,7 @@ impl Paths {
     }
 
     /// Gives each packet between racks of every slot its core, so that no two packets of a slot use one link. What `out`
-    /// named before is forgotten. Each slot is a job that one of the workers takes, whichever comes first, and each worker
+    /// named before is forgotten. Each slot is a job that is taken once, by whichever worker comes first, and each worker
     /// has an end as its last job. The cores of a slot depend on the slot alone.
     pub fn colour_slots<R: Threads + Wait + Sync, G: Gate + Sync>(
         &mut self,
@@ -97,13 +101,13 @@ impl Paths {
         requires endpoint_room { endpoints_of self.old.net ≤ out.old.endpoints }
         ensures clean { (at : ℕ) → at < length slots.now.slots → IsClean self.old.net.hosts self.old.net.cores (slot_in slots.now.slots at) (core_of out.new at) }
         ensures others { (at : ℕ) → at < length slots.now.slots → NamesNoOther self.old.net.hosts (slot_in slots.now.slots at) (core_of out.new at) }
+        ensures below { (at : ℕ) → at < length slots.now.slots → NamesBelow self.old.net.cores (core_of out.new at) }
         ensures past { (at : ℕ) → length slots.now.slots ≤ at → NamesNone (core_of out.new at) }
         ensures out_slots { out.new.slots ≡ out.old.slots }
         ensures out_endpoints { out.new.endpoints ≡ out.old.endpoints }
         ensures jobs { self.new.jobs ≡ self.old.jobs + length slots.now.slots + self.old.paths }
-        ensures net { self.new.net ≡ self.old.net }
-        ensures slots { self.new.slots ≡ self.old.slots }
-        ensures paths { self.new.paths ≡ self.old.paths }
+        ensures taken { AreTakenOnce (length slots.now.slots) self.old.taken self.new.taken }
+        ensures same { AreTheSame self.old self.new }
     {
         let workers = self.painters.len() as u16;
         let threads = workers > 1 && has_many(&self.net, slots);
@@ -160,7 +164,8 @@ fn between_racks(net: &Net, slots: &SlotTable, slot: u16) -> u16
 
 /// No worker has coloured a slot of the table that comes.
 fn forget(painters: &mut [Painter])
-    ensures { (net : Network) (room : ℕ) (slots : List (List Flow)) → All (IsPainter net room) painters.old → All (HasPainted net room slots) painters.new }
+    ensures painted { (net : Network) (room : ℕ) (slots : List (List Flow)) → All (IsPainter net room) painters.old → All (HasPainted net room slots) painters.new }
+    ensures numbers { numbers_of painters.new ≡ numbers_of painters.old }
 {
     for painter in painters {
         painter.forget();

@@ -2,7 +2,7 @@
 ghost use Rattle.std.specs.Prelude.{◌≡◌, ◌<◌, ◌≤◌, ◌++◌, ℕ, length, All, IsTrue, vec_len, vec_capacity};
 ghost use Rattle.crossbeam_queue.specs.Passes.{view, IsPassOf};
 ghost use Rattle.path_workers.specs.Jobs.{IsAtRest, slot_jobs, end_jobs};
-ghost use Rattle.path_workers.specs.Painters.{MayPaint, MayAllPaint, HasPainted, HasRowsOf, HaveRows, has_row};
+ghost use Rattle.path_workers.specs.Painters.{numbers_of, MayPaint, MayAllPaint, HasPainted, HasRowsOf, HaveRows, has_row};
 ghost use Rattle.path_workers.specs.Seats.{MayPlay, HasPlayed, StayPainted, HaveAllPlayed};
 
 use crate::jobs;
@@ -75,6 +75,7 @@ pub(crate) fn finish<R: Wait, G: Gate>(
     ensures painted { HasPainted painter.old.net (vec_len painter.old.places) slots.now.slots painter.new }
     ensures rows { HasRowsOf (length slots.now.slots) (view pass.old).taken (view pass.new).taken painter.new }
     ensures keeps { (slot : ℕ) → IsTrue (has_row slot painter.old) → IsTrue (has_row slot painter.new) }
+    ensures number { painter.new.number ≡ painter.old.number }
 {
     for _ in rt.forever() {
         let Some(job) = jobs::take_last(rt, queue, pass) else {
@@ -167,6 +168,7 @@ pub(crate) fn play<R: Threads + Wait + Sync, G: Gate + Sync>(
     ensures rows { HaveRows (length slots.now.slots) result.0.items }
     ensures painted { StayPainted slots.now.slots painters.items result.0.items }
     ensures len { vec_len result.0 ≡ vec_len painters }
+    ensures numbers { numbers_of result.0.items ≡ numbers_of painters.items }
 {
     let (mut painters, mut pass) = thread::scope(
         thread::scope_env(),

@@ -1,5 +1,5 @@
 -- The lists of a window, stage after stage.
-use Rattle.std.proofs.Common.{◌≡◌, ◌<◌, ◌≤◌, ◌+◌, ◌*◌, ℕ, zero, suc, List, [], ◌∷◌, length, refl, sym, ap, ◌∙◌, subst, arith}
+use Rattle.std.proofs.Common.{◌≡◌, ◌<◌, ◌≤◌, ◌+◌, ◌-◌, ◌*◌, ℕ, zero, suc, List, [], ◌∷◌, length, refl, sym, ap, ◌∙◌, subst, arith}
 use Rattle.std.proofs.lemmas.Nat.{mul-le}
 use Rattle.greedy_rules.specs.declared.flows.Item.{Item}
 use Rattle.greedy_rules.specs.Batches.{DemandBatch}
@@ -58,24 +58,27 @@ module _ (endpoints : ℕ) (window : Window) (may : MayBePlayed endpoints window
       let list : List Item = list_before_stage window stage in
       let next : stage + 1 ≡ suc stage = omega arith in
       let long : length (list_before_stage window (suc stage)) ≡ length (list_then window.b k batch list) = ap length (sym (ap (list_before_stage window) next) ∙ one_list_on window stage (omega arith)) in
-      let all : length list + length (opened batch.entries) ≤ endpoints * endpoints = pairs endpoints batch.entries list applies.rises applies.opens applies.once applies.below in
-      let most : endpoints * endpoints ≤ 256 * 256 = mul-le endpoints endpoints 256 256 may.few_endpoints may.few_endpoints in
+      let all : length list + length (opened batch.entries) ≤ endpoints * (endpoints - 1) = pairs endpoints batch.entries list applies.rises applies.opens applies.once applies.below applies.apart in
+      let most : endpoints * (endpoints - 1) ≤ 256 * 256 = mul-le endpoints (endpoints - 1) 256 256 may.few_endpoints (omega (arith, may.few_endpoints)) in
       omega (arith, long, keeps (is_barred batch.limits) (first_slot_in window stage) window.b batch.entries list, all, most)
+
+  fewer_pairs : endpoints * (endpoints - 1) ≤ endpoints * endpoints
+  fewer_pairs = mul-le endpoints (endpoints - 1) endpoints endpoints (omega arith) (omega arith)
 
   -- no more than there are pairs of endpoints
   pub few_before : FlowsFitPairs → (stage : ℕ) → stage < length window.batches → length (list_before_stage window stage) ≤ endpoints * endpoints
   few_before pairs stage below =
       let applies = may.applies stage below in
-      let all = pairs endpoints (batch_of window stage).entries (list_before_stage window stage) applies.rises applies.opens applies.once applies.below in
-      omega (arith, all)
+      let all = pairs endpoints (batch_of window stage).entries (list_before_stage window stage) applies.rises applies.opens applies.once applies.below applies.apart in
+      omega (arith, all, fewer_pairs)
 
   pub few_after : EveryBatchKeepsItsFlows → FlowsFitPairs → (stage : ℕ) → stage < length window.batches → length (list_before_stage window (stage + 1)) ≤ endpoints * endpoints
   few_after keeps pairs stage below =
       let applies = may.applies stage below in
       let batch : DemandBatch = batch_of window stage in
       let list : List Item = list_before_stage window stage in
-      let all = pairs endpoints batch.entries list applies.rises applies.opens applies.once applies.below in
-      omega (arith, ap length (one_list_on window stage below), keeps (is_barred batch.limits) (first_slot_in window stage) window.b batch.entries list, all)
+      let all = pairs endpoints batch.entries list applies.rises applies.opens applies.once applies.below applies.apart in
+      omega (arith, ap length (one_list_on window stage below), keeps (is_barred batch.limits) (first_slot_in window stage) window.b batch.entries list, all, fewer_pairs)
 
   pub few_pieces : EveryBatchKeepsItsFlows → FlowsFitPairs → (stage : ℕ) → stage ≤ length window.batches → pieces_before window stage ≤ 1024
   few_pieces keeps pairs stage within = let few = few_items keeps pairs stage within in omega (arith, few)

@@ -223,6 +223,9 @@ module _ (aside : Item → Bool) (start : ℕ) (list : List Item) where
     slots : batch_slots bar number count (after_batch batch.entries rest) ≡ batch_slots bar number count (after_batch batch.entries whole)
     next : AreWoven (number + count) (list_after_slots bar number count (after_batch batch.entries rest)) (list_after_slots bar number count (after_batch batch.entries whole))
 
+  abbrev TwoEnds : Item → Type 0
+  TwoEnds item = item.flow.src ≢ item.flow.dst
+
   abbrev NoEntry : List Entry → Item → Type 0
   NoEntry entries item = aside item ≡ true → entry_of entries item.flow ≡ None
 
@@ -236,6 +239,8 @@ module _ (aside : Item → Bool) (start : ℕ) (list : List Item) where
     below = All-append (InRange endpoints) rest (opened batch.entries)
         (rest_has (InRange endpoints) number rest whole are (All-front (InRange endpoints) whole (opened batch.entries) applies.below))
         (All-back (InRange endpoints) whole (opened batch.entries) applies.below);
+    apart = All-append TwoEnds rest (opened batch.entries) (rest_has TwoEnds number rest whole are (All-front TwoEnds whole (opened batch.entries) applies.apart))
+        (All-back TwoEnds whole (opened batch.entries) applies.apart);
     needs = rest_has (λ item. need_with (entry_of batch.entries item.flow) item.need < 2 ^ 32) number rest whole are applies.needs;
   }
 

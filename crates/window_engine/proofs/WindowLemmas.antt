@@ -5,7 +5,7 @@ use Rattle.std.proofs.lemmas.List.{append-nil, length-replicate, get_or-append_r
 use Rattle.greedy_rules.specs.declared.flows.Flow.{Flow}
 use Rattle.greedy_rules.specs.declared.flows.Item.{Item}
 use Rattle.greedy_rules.specs.Batches.{DemandBatch}
-use Rattle.greedy_rules.specs.Demands.{AreBelow}
+use Rattle.greedy_rules.specs.Demands.{AreBelow, HaveTwoEnds}
 use Rattle.greedy_rules.specs.Schedule.{first_slot, schedule, schedule_from, slot_in, slot_at, rest, rest_from}
 use Rattle.greedy_rules.specs.Fronts.{FrontsAreFronts, EveryBatchHasItsSlots}
 use Rattle.greedy_rules.specs.Recorded.{MayBeApplied, IsLeftBy, RecordedBatchesMayBeApplied, LaterBatchesMayBeApplied, EveryRecordedSlot}
@@ -28,7 +28,9 @@ fits : (endpoints : ℕ) (batches : List DemandBatch) (list : List Item) → Flo
 fits endpoints batches list fit left =
     omega (
       arith,
-      fit endpoints [] list (λ i j d lt below. absurd (omega arith)) (λ k d below. absurd (omega arith)) left.once (subst (AreBelow endpoints) (sym (append-nil list)) left.below),
+      fit endpoints [] list (λ i j d lt below. absurd (omega arith)) (λ k d below. absurd (omega arith)) left.once (subst (AreBelow endpoints) (sym (append-nil list)) left.below)
+          (subst HaveTwoEnds (sym (append-nil list)) left.apart),
+      mul-le endpoints (endpoints - 1) endpoints endpoints (omega arith) (omega arith),
     )
 
 fit_slot : (net : Network) (b : ℕ) (earlier batches : List DemandBatch) (window : List (List Flow)) → AreOfNet net (earlier ++ batches) → EveryRecordedSlot → EveryBatchHasItsSlots

@@ -5,7 +5,7 @@ ghost use Rattle.path_workers.specs.Coloured.{IsWithinCores};
 
 use clos_topology::{Net, RackGraph};
 use edge_colouring::{Table, limits_are_degrees};
-use fp_edge::OpenGate;
+use fp_edge::{Gate, OpenGate};
 use greedy_rules::SlotTable;
 use path_workers::{CoreTable, NoMemory, Paths};
 use std::alloc::Global;
@@ -15,6 +15,7 @@ use std::test::Fail;
 use std::thread::Threads;
 
 mod random;
+mod taken;
 
 // Lets a source send, where neither it nor the destination has a packet in the slot.
 fn put(rt: &impl Abort, slots: &mut SlotTable, slot: u16, source: u16, destination: u16)
@@ -64,8 +65,9 @@ fn check_degrees(
 }
 
 // Colours a table that serves the network's endpoints.
-fn colour<R: Abort + Threads + Wait + Sync>(
+fn colour<R: Abort + Threads + Wait + Sync, G: Gate + Sync>(
     rt: &R,
+    gate: &G,
     alloc: Global,
     paths: &mut Paths,
     net: &Net,
@@ -82,7 +84,7 @@ fn colour<R: Abort + Threads + Wait + Sync>(
     assert!(rt; slots.slots() <= out.slots());
     assert!(rt; net.endpoints() <= out.endpoints());
     check_degrees(rt, alloc, net, slots)?;
-    paths.colour_slots(rt, &OpenGate, slots, out);
+    paths.colour_slots(rt, gate, slots, out);
     Ok(())
 }
 
@@ -117,7 +119,7 @@ fn the_fourth_packet_flips_a_path(rt: HostRuntime) -> Result<(), Fail> {
     for workers in [1, 2, 16] {
         let mut paths = Paths::open(alloc, &net, workers, 1)?;
         let mut out = CoreTable::open(alloc, 1, 6)?;
-        colour(&rt, alloc, &mut paths, &net, &slots, &mut out)?;
+        colour(&rt, &OpenGate, alloc, &mut paths, &net, &slots, &mut out)?;
         check_row(
             &rt,
             &out,
@@ -139,7 +141,7 @@ fn a_table_coloured_again_keeps_nothing(rt: HostRuntime) -> Result<(), Fail> {
     put_all(&rt, &mut three, 0, &[(0, 2), (1, 4), (2, 0), (3, 5)]);
     put_all(&rt, &mut three, 1, &[(0, 1), (2, 4), (5, 3)]);
     put_all(&rt, &mut three, 2, &[(4, 0), (5, 1)]);
-    colour(&rt, alloc, &mut paths, &net, &three, &mut out)?;
+    colour(&rt, &OpenGate, alloc, &mut paths, &net, &three, &mut out)?;
     check_rows(
         &rt,
         &out,
@@ -152,7 +154,7 @@ fn a_table_coloured_again_keeps_nothing(rt: HostRuntime) -> Result<(), Fail> {
     );
     let mut one = SlotTable::open(alloc, 1, 6)?;
     put_all(&rt, &mut one, 0, &[(1, 5), (4, 2)]);
-    colour(&rt, alloc, &mut paths, &net, &one, &mut out)?;
+    colour(&rt, &OpenGate, alloc, &mut paths, &net, &one, &mut out)?;
     check_rows(
         &rt,
         &out,

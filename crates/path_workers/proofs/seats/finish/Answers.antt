@@ -7,5 +7,5 @@ loop-init g c = record { queue = c.requires.queue; playing = begins_to_play c.ar
 pub loop-preserved : goal.loop-preserved
 loop-preserved g c = record {
   queue = c.take_last.ensures.queue;
-  playing = plays_on c.args.slots.now.slots _ _ _ _ _ _ c.in-Some-take_last.job c.loop.invariant.playing c.in-Some-take_last.ensures.taken c.take_up.ensures.painted c.take_up.ensures.keeps c.take_up.ensures.row;
+  playing = plays_on c.args.slots.now.slots _ _ _ _ _ _ c.in-Some-take_last.job c.loop.invariant.playing c.in-Some-take_last.ensures.taken c.take_up.ensures.painted c.take_up.ensures.keeps c.take_up.ensures.row c.take_up.ensures.number;
 }

@@ -1,4 +1,5 @@
-use Rattle.std.proofs.Common.{◌<◌, List, length, All, IsTrue, sym, ◌∙◌, subst, arith}
+use Rattle.std.proofs.Common.{◌<◌, List, length, All, IsTrue, sym, ap, ◌∙◌, subst, arith}
+use Rattle.std.proofs.Math.Seq.{map-set_same}
 use Rattle.std.proofs.lemmas.List.{get_or_default}
 use Rattle.std.proofs.lemmas.List.Elements.{All-set}
 use Rattle.crossbeam_queue.specs.Passes.{view}
@@ -33,3 +34,10 @@ returns-clause-painted g c net room painted =
     let all : All (HasPainted net room slots) new = played.painted net room painted in
     let first : HasPainted net room slots c.index_mut.result.now = All-first (HasPainted net room slots) new c.index_mut.result.now c.index_mut.ensures.value some all in
     All-set (HasPainted net room slots) new 0 c.finish.new.painter (resized net room slots c.index_mut.result.now c.finish.new.painter first.sized c.finish.ensures.painted) all
+
+pub returns-clause-numbers : goal.returns-clause-numbers
+returns-clause-numbers g c =
+    let new : List Painter = c.scoped-painters.result.0.items in
+    map-set_same (λ (painter : Painter). painter.number) new 0 c.finish.new.painter c.index_mut.result.now
+    (c.finish.ensures.number ∙ ap (λ (painter : Painter). painter.number) c.index_mut.ensures.value)
+    ∙ c.scoped-painters.ensures.1.1.numbers

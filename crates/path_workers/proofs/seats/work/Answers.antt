@@ -16,7 +16,7 @@ loop-init g c = record { queue = c.requires.queue; playing = begins_to_play c.ar
 pub loop-preserved : goal.loop-preserved
 loop-preserved g c = record {
   queue = c.take.ensures.queue;
-  playing = plays_on c.args.slots.now.slots _ _ _ _ _ _ c.in-Some-take.job c.loop.invariant.playing c.in-Some-take.ensures.taken c.take_up.ensures.painted c.take_up.ensures.keeps c.take_up.ensures.row;
+  playing = plays_on c.args.slots.now.slots _ _ _ _ _ _ c.in-Some-take.job c.loop.invariant.playing c.in-Some-take.ensures.taken c.take_up.ensures.painted c.take_up.ensures.keeps c.take_up.ensures.row c.take_up.ensures.number;
 }
 
 pub returns : goal.returns
@@ -30,5 +30,5 @@ returns g c =
     elim c.match-next.branch [
       | in-None w ↦ done _ _ w.painter-is w.pass-is c.loop.invariant.queue c.loop.invariant.playing
       | in-Some+in-Some-take+then-not-take_up w ↦ done _ _ w.painter-is w.pass-is w.take.ensures.queue
-          (plays_on slots _ _ _ _ _ _ w.in-Some-take.job c.loop.invariant.playing w.in-Some-take.ensures.taken w.take_up.ensures.painted w.take_up.ensures.keeps w.take_up.ensures.row)
+          (plays_on slots _ _ _ _ _ _ w.in-Some-take.job c.loop.invariant.playing w.in-Some-take.ensures.taken w.take_up.ensures.painted w.take_up.ensures.keeps w.take_up.ensures.row w.take_up.ensures.number)
     ]

@@ -4,6 +4,7 @@ ghost use Rattle.greedy_rules.specs.Matching.{IsMatching};
 use super::super::draw;
 use super::{colour, core, put};
 use clos_topology::Net;
+use fp_edge::OpenGate;
 use greedy_rules::SlotTable;
 use path_workers::{CoreTable, NoMemory, Paths};
 use std::alloc::Global;
@@ -140,7 +141,7 @@ fn check_table<R: Abort + Threads + Wait + Sync>(
     assert!(rt; count <= 1024);
     let mut paths = Paths::open(alloc, net, 2, count)?;
     let mut out = CoreTable::open(alloc, count, net.endpoints())?;
-    colour(rt, alloc, &mut paths, net, &slots, &mut out)?;
+    colour(rt, &OpenGate, alloc, &mut paths, net, &slots, &mut out)?;
     for slot in 0..count {
         check_names(rt, net, &slots, &out, slot);
         check_links(rt, net, &slots, &out, slot);

@@ -1,8 +1,8 @@
 use Rattle.std.proofs.Common.{◌*◌, ℕ, ◌∙◌, ap, refl, arith}
 use Rattle.path_workers.proofs.painter.Painter.open.Goals as goal
 
-pub returns : goal.returns
-returns c = record {
+pub returns-clause-sized : goal.returns-clause-sized
+returns-clause-sized c = record {
   few = c.requires;
   same_net = refl;
   table = c.in_ok-open-2.ensures.net;

@@ -1,5 +1,6 @@
-use Rattle.std.proofs.Common.{◌≡◌, ◌<◌, ℕ, List, All, length, Vec, vec_len, get_or, sym, ap, ◌∙◌, subst, arith}
+use Rattle.std.proofs.Common.{◌≡◌, ◌<◌, ◌+◌, ℕ, List, ◌++◌, All, length, Vec, vec_len, nat_lt, cond, get_or, sym, ap, ◌∙◌, subst, arith}
 use Rattle.std.specs.List.{list_any}
+use Rattle.std.proofs.lemmas.List.{with_items_is}
 use Rattle.crossbeam_queue.specs.Passes.{view}
 use Rattle.greedy_rules.specs.declared.flows.Flow.{Flow}
 use Rattle.greedy_rules.specs.Schedule.{slot_in}
@@ -7,12 +8,14 @@ use Rattle.clos_topology.specs.Network.{Network, endpoints_of}
 use Rattle.path_workers.specs.declared.jobs.Job.{Job}
 use Rattle.path_workers.specs.declared.jobs.Hand.{Hand}
 use Rattle.path_workers.specs.declared.painter.Painter.{Painter}
-use Rattle.path_workers.specs.PathWork.{PathWork}
+use Rattle.path_workers.specs.Jobs.{slot_jobs, end_jobs}
+use Rattle.path_workers.specs.PathWork.{PathWork, times_taken}
 use Rattle.path_workers.specs.CoreTable.{core_of}
 use Rattle.path_workers.specs.Coloured.{HasItsCores}
-use Rattle.path_workers.specs.Painters.{MayAllPaint, HasPainted, MayPaint, has_row}
+use Rattle.path_workers.specs.Painters.{numbers_of, MayAllPaint, HasPainted, MayPaint, has_row}
 use Rattle.path_workers.proofs.CrewLemmas.{colourable, crew_ready, all_may}
-use Rattle.path_workers.proofs.PlayLemmas.{at_rest_again, jobs_counted}
+use Rattle.path_workers.proofs.PlayLemmas.{at_rest_again, taken_once, jobs_counted}
+use Rattle.path_workers.proofs.NamedCores.{named_below}
 use Rattle.path_workers.proofs.paths.Paths.colour_slots.Given.{Over}
 use Rattle.path_workers.proofs.paths.Paths.colour_slots.Goals.{After-gather}
 use Rattle.path_workers.proofs.paths.Paths.colour_slots.Goals as goal
@@ -22,7 +25,7 @@ ready : (g : Over) (c : goal.After-play-arg-1 g) → All (HasPainted c.self.insi
 ready g c =
     let net : Network = c.self.inside.net in
     let room : ℕ = c.self.inside.slots in
-    crew_ready net room c.args.slots.now.slots c.self.inside.painters c.replace-painters.result c.deref_mut.result.now c.forget.new.painters c.self.invariant.painters c.deref_mut.ensures.value (c.forget.ensures net room c.args.slots.now.slots) c.forget.auto.painters c.replace-painters.ensures.value
+    crew_ready net room c.args.slots.now.slots c.self.inside.painters c.replace-painters.result c.deref_mut.result.now c.forget.new.painters c.self.invariant.painters c.deref_mut.ensures.value (c.forget.ensures.painted net room c.args.slots.now.slots) c.forget.auto.painters c.replace-painters.ensures.value
 
 pub play-painters-requires-clause-may : goal.play-painters-requires-clause-may
 play-painters-requires-clause-may g c κs within =
@@ -36,7 +39,7 @@ painted g c =
     let net : Network = c.self.inside.net in
     let room : ℕ = c.self.inside.slots in
     c.play-painters.ensures.painted net room
-    (crew_ready net room c.args.slots.now.slots c.self.inside.painters c.replace-painters.result c.deref_mut.result.now c.forget.new.painters c.self.invariant.painters c.deref_mut.ensures.value (c.forget.ensures net room c.args.slots.now.slots) c.forget.auto.painters c.replace-painters.ensures.value)
+    (crew_ready net room c.args.slots.now.slots c.self.inside.painters c.replace-painters.result c.deref_mut.result.now c.forget.new.painters c.self.invariant.painters c.deref_mut.ensures.value (c.forget.ensures.painted net room c.args.slots.now.slots) c.forget.auto.painters c.replace-painters.ensures.value)
 
 pub gather-requires-clause-painted : goal.gather-requires-clause-painted
 gather-requires-clause-painted g c =
@@ -65,7 +68,7 @@ painted_then g c =
     let net : Network = c.self.inside.net in
     let room : ℕ = c.self.inside.slots in
     c.play-painters.ensures.painted net room
-    (crew_ready net room c.args.slots.now.slots c.self.inside.painters c.replace-painters.result c.deref_mut.result.now c.forget.new.painters c.self.invariant.painters c.deref_mut.ensures.value (c.forget.ensures net room c.args.slots.now.slots) c.forget.auto.painters c.replace-painters.ensures.value)
+    (crew_ready net room c.args.slots.now.slots c.self.inside.painters c.replace-painters.result c.deref_mut.result.now c.forget.new.painters c.self.invariant.painters c.deref_mut.ensures.value (c.forget.ensures.painted net room c.args.slots.now.slots) c.forget.auto.painters c.replace-painters.ensures.value)
 
 pub invariant_of-self : goal.invariant_of-self
 invariant_of-self g c =
@@ -98,6 +101,12 @@ returns-clause-clean g c = λ at below. (coloured g c at below).clean
 pub returns-clause-others : goal.returns-clause-others
 returns-clause-others g c = λ at below. (coloured g c at below).others
 
+pub returns-clause-below : goal.returns-clause-below
+returns-clause-below g c at below =
+    let net : Network = c.args.self.now.net in
+    let has = coloured g c at below in
+    named_below net.hosts net.cores (slot_in c.args.slots.now.slots at) (core_of c.gather.new.out at) has.clean has.others
+
 pub returns-clause-past : goal.returns-clause-past
 returns-clause-past g c at above = c.gather.ensures.past at (omega (arith, above, c.slots.ensures.count))
 
@@ -113,3 +122,29 @@ returns-clause-jobs g c =
       ap (λ (w : PathWork). w.paths) c.self.view_is,
       c.len-workers.ensures,
     )
+
+pub returns-clause-taken : goal.returns-clause-taken
+returns-clause-taken g c slot =
+    let again = at_rest_again (view c.take_over-pass.new.pass) (view c.play-painters.result.1) (view c.join.new.pass) c.take_over-pass.ensures.left c.join.ensures.both c.play-painters.ensures.rest in
+    let count : ℕ = length c.args.slots.now.slots in
+    let before : Hand = view c.self.inside.pass in
+    let put : (view c.join.new.pass).put ≡ before.put ++ slot_jobs count ++ end_jobs c.len-workers.result =
+    again.1 ∙ (c.play-painters.ensures.put ∙ ap (λ (v : Hand). v.put ++ slot_jobs count ++ end_jobs c.len-workers.result) c.take_over-pass.ensures.new) in
+    taken_once slot count c.len-workers.result before (view c.join.new.pass) c.self.invariant.rest again.0 put
+    ∙ ap (λ (w : PathWork). times_taken slot w.taken + cond (nat_lt slot count) 1 0) c.self.view_is
+
+pub returns-clause-same : goal.returns-clause-same
+returns-clause-same g c =
+    let painters = c.self.inside.painters in
+    let shown : c.deref_mut.result.now ≡ painters.items = c.deref_mut.ensures.value in
+    let new : List Painter = c.forget.new.painters in
+    let count : length new ≡ vec_len painters = omega (arith, c.forget.auto.painters, ap (λ (ps : List Painter). length ps) shown, painters.ok.0) in
+    let len : vec_len c.replace-painters.result ≡ vec_len painters = ap (λ (v : Vec _ _). vec_len v) c.replace-painters.ensures.value in
+    let items : c.replace-painters.result.items ≡ new = ap (λ (v : Vec _ _). v.items) c.replace-painters.ensures.value ∙ with_items_is painters new count in
+    record {
+      net = ap (λ (w : PathWork). w.net) c.self.view_is;
+      slots = ap (λ (w : PathWork). w.slots) c.self.view_is;
+      paths = omega (arith, c.play-painters.ensures.len, len, ap (λ (w : PathWork). w.paths) c.self.view_is);
+      numbers = c.play-painters.ensures.numbers
+          ∙ (ap numbers_of items ∙ (c.forget.ensures.numbers ∙ (ap numbers_of shown ∙ ap (λ (w : PathWork). w.numbers) c.self.view_is)));
+    }

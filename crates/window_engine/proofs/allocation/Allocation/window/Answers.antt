@@ -59,7 +59,7 @@ returns-clause-stands g c =
     let size = ring_size _ _ earlier _ has in
     has_allocated_more _ _ earlier batches _ _ has recorded is_ready refl refl
     (c.allocate.ensures.list ∙ ap (λ (m : ℕ). rest_from m c.self.inside.batches c.self.inside.list.items batches) size)
-    (subst (λ (m : ℕ). IsListBefore (first_slot m (c.self.inside.batches + length batches)) c.allocate.new.list.items) size c.allocate.ensures.next) c.allocate.ensures.spare c.allocate.ensures.same c.colour_slots.ensures.net c.colour_slots.ensures.slots)
+    (subst (λ (m : ℕ). IsListBefore (first_slot m (c.self.inside.batches + length batches)) c.allocate.new.list.items) size c.allocate.ensures.next) c.allocate.ensures.spare c.allocate.ensures.same c.colour_slots.ensures.same.net c.colour_slots.ensures.same.slots)
 
 pub returns-clause-jobs : goal.returns-clause-jobs
 returns-clause-jobs g c =
