@@ -24,4 +24,6 @@ mod SlotSums
 mod Slots
 mod TakenFew
 mod TakenOnce
+mod TakenForGood
 mod Totals
+mod Unharmed

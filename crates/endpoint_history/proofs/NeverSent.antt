@@ -6,12 +6,12 @@ use Rattle.fcp_framing.specs.declared.packet.Told.{Told}
 use Rattle.endpoint_history.specs.Packets.{Telling, Resets, Requests}
 use Rattle.endpoint_history.specs.Sending.{Slot, slots_of}
 use Rattle.endpoint_history.specs.Lane.{LaneHistory, MakesDown, TakesUp, Records, epoch_of, last_reset, restarts, telling_in, may_send, numbers, untold}
-use Rattle.endpoint_history.specs.Steps.{Step, OfAgent, OfLane, agent_of, lane_of, RoundsRise}
+use Rattle.endpoint_history.specs.Steps.{Step, OfAgent, OfLane, agent_of, lane_of}
 use Rattle.endpoint_history.specs.Tellings.{Among, Issue, issued, AreWithin, ToldWithin}
 use Rattle.endpoint_history.specs.NumberLaws.{LostIsNeverSent}
 use Rattle.endpoint_history.specs.Windows.{Windows}
-use Rattle.endpoint_history.proofs.Issues.{content-came, packet-came, rise-before}
-use Rattle.endpoint_history.proofs.NeverTaken.{ever_taken-made, lost_is_never_taken_in}
+use Rattle.endpoint_history.proofs.Issues.{content-came, packet-came}
+use Rattle.endpoint_history.proofs.NeverTaken.{ever_taken-made, risen, lost_is_never_taken_in}
 use Rattle.endpoint_history.proofs.TakenOnce.{sent_was_taken}
 
 -- ---- what is told is within its batch
@@ -93,11 +93,6 @@ one_batch b k m slot one other =
             | inr same ↦ omega arith
           ]
     ]
-
-risen : (after before : List Step) → RoundsRise (lane_of (after ++ before)) → RoundsRise (lane_of before)
-risen [] before r = r
-risen (OfAgent event ∷ after) before r = risen after before r
-risen (OfLane event ∷ after) before r = risen after before (rise-before event (lane_of (after ++ before)) r)
 
 within-before : (b : ℕ) (after before : List Step) → ToldWithin b (lane_of (after ++ before)) → ToldWithin b (lane_of before)
 within-before b [] before w = w

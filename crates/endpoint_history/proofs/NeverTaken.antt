@@ -54,7 +54,7 @@ Extends-then a b c one two = record {
   version = two.version ∙ one.version;
 }
 
-Extends-taken : (w : Windows) (a b : AgentHistory) (number : ℕ) → Extends a b → is_taken (reorder_of (agent.version_of a)) (agent.arrived a) number ≡ true → is_taken (reorder_of (agent.version_of b)) (agent.arrived b) number ≡ true
+pub Extends-taken : (w : Windows) (a b : AgentHistory) (number : ℕ) → Extends a b → is_taken (reorder_of (agent.version_of a)) (agent.arrived a) number ≡ true → is_taken (reorder_of (agent.version_of b)) (agent.arrived b) number ≡ true
 Extends-taken w a b number e taken = rw (e.arrived, e.version) (w.for_good.taken (reorder_of (agent.version_of a)) e.more (agent.arrived a) number taken)
 
 pub Extends-steps : (epoch : ℕ) (later earlier : List Step) → epoch ≤ agent.epoch_of (agent_of earlier) → Extends (until epoch (agent_of earlier)) (until epoch (agent_of (later ++ earlier))) × (epoch ≤ agent.epoch_of (agent_of (later ++ earlier)))
@@ -159,9 +159,14 @@ issued-steps g (OfLane event ∷ later) earlier round rise begun =
     let known = before.1 in
     (issued-later g event (lane_of (later ++ earlier)) round rise before.1 ∙ before.0, omega arith, before.2)
 
+pub risen : (after before : List Step) → RoundsRise (lane_of (after ++ before)) → RoundsRise (lane_of before)
+risen [] before r = r
+risen (OfAgent event ∷ after) before r = risen after before r
+risen (OfLane event ∷ after) before r = risen after before (rise-before event (lane_of (after ++ before)) r)
+
 -- ---- the law
 
-abbrev issue_of : ℕ → ℕ → Telling → Issue
+abbrev pub issue_of : ℕ → ℕ → Telling → Issue
 issue_of epoch number content = record { epoch = epoch; number = number; content = content }
 
 pub lost_is_never_taken_in : (w : Windows) → LostIsNeverTaken
@@ -203,8 +208,3 @@ lost_is_never_taken_in w endpoints g later earlier arrives rise lost is_lost som
           let clash : true ≡ false = sym taken ∙ never in
           absurd (cc)
     ]
-  where
-    risen : (after before : List Step) → RoundsRise (lane_of (after ++ before)) → RoundsRise (lane_of before)
-    risen [] before r = r
-    risen (OfAgent event ∷ after) before r = risen after before r
-    risen (OfLane event ∷ after) before r = risen after before (rise-before event (lane_of (after ++ before)) r)

@@ -4,37 +4,18 @@ use Rattle.std.specs.Prelude.{◌⊎◌}
 use Rattle.std.proofs.lemmas.Bool.{cases_Bool, cases_lt, lt-ltb, le-ltb}
 use Rattle.std.proofs.Common.{length-append}
 use Rattle.greedy_rules.specs.declared.flows.Entry.{Entry}
+use Rattle.greedy_rules.specs.Balance.{clears}
 use Rattle.greedy_rules.specs.Demands.{need_with}
 use Rattle.endpoint_history.specs.Packets.{Resets, Requests}
 use Rattle.endpoint_history.specs.Lane.{LaneHistory, MakesDown, TakesUp, Records, restarts, last_reset}
 use Rattle.endpoint_history.specs.Entries.{added, is_reset, had, entry_with, entry_of, rounds_recorded, adds, entries_of}
-use Rattle.endpoint_history.specs.Rest.{need_through, need_left, FitNeeds, slots_from, add_of, adds_from}
+use Rattle.endpoint_history.specs.Rest.{need_through, need_left, FitNeeds, slots_from, add_of, adds_from, NoneClears, ClearsAt, OpensFrom}
 use Rattle.endpoint_history.specs.Steps.{TakesInRound}
-use Rattle.endpoint_history.specs.LedgerLaws.{EntriesSumToOwed, OneRest}
+use Rattle.endpoint_history.specs.LedgerLaws.{EntriesSumToOwed, CountsBeginAtTheLastClear, OneRest}
 use Rattle.endpoint_history.specs.Windows.{Windows}
 use Rattle.endpoint_history.proofs.Ledger.{adds_sum_to_owed}
 
 -- ---- lists of entries
-
-abbrev pub clears : Option Entry → Bool
-clears None = false
-clears (Some entry) = entry.clear
-
-abbrev pub NoneClears : List (Option Entry) → Type 0
-NoneClears [] = Unit {0}
-NoneClears (entry ∷ entries) = (clears entry ≡ false) × NoneClears entries
-
--- the last batch that clears is this one
-abbrev pub ClearsAt : ℕ → List (Option Entry) → Type 0
-ClearsAt batch [] = ⊥
-ClearsAt zero (entry ∷ entries) = (clears entry ≡ true) × NoneClears entries
-ClearsAt (suc batch) (entry ∷ entries) = ClearsAt batch entries
-
--- none clears, and the first that has the flow is not before this one
-abbrev pub OpensFrom : ℕ → List (Option Entry) → Type 0
-OpensFrom batch [] = ⊥
-OpensFrom zero (entry ∷ entries) = (clears entry ≡ false) × NoneClears entries
-OpensFrom (suc batch) (entry ∷ entries) = (entry ≡ None) × OpensFrom batch entries
 
 abbrev pub AllNone : List (Option Entry) → Type 0
 AllNone [] = Unit {0}
@@ -293,6 +274,14 @@ entries_sum_to_owed w endpoint g round history dst rounds =
     elim (s.steady refl) [
       | inl first ↦ let none = first.0 in absurd (omega arith)
       | inr on ↦ let same = on.2 in omega arith
+    ]
+
+pub counts_begin_at_the_last_clear : CountsBeginAtTheLastClear
+counts_begin_at_the_last_clear endpoint g round history dst rounds =
+    let s = standing endpoint g (Records round ∷ history) dst rounds in
+    elim (s.steady refl) [
+      | inl first ↦ let none = first.0 in absurd (omega arith)
+      | inr on ↦ on.1
     ]
 
 pub one_rest : (w : Windows) → OneRest

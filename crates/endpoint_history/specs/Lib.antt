@@ -21,4 +21,5 @@ pub mod Sending
 pub mod SlotLaws
 pub mod Steps
 pub mod Tellings
+pub mod Unharmed
 pub mod Windows

@@ -36,6 +36,26 @@ AcknowledgedIsTakenOnce =
     × ((t : TakenDown) → Among t (taken (until (epoch_of (lane_of steps)) (agent_of steps))) → t.packet.seq ≡ number →
     content_of (numbers g (lane_of steps)) number ≡ Some t.packet.content)
 
+-- a number with this epoch that tells these slots: up to one moment and up to a later one
+pub record WasTakenOnce (before now : AgentHistory) (epoch number : ℕ) (telling : Telling) : Type 0 where
+  -- one packet with the number was taken in that boot, and it told these slots
+  pub came : count_by (λ (t : TakenDown). t.packet.seq == number) (taken (until epoch before)) ≡ 1
+  pub content : (t : TakenDown) → Among t (taken (until epoch before)) → t.packet.seq ≡ number → t.packet.content ≡ telling
+  -- and no second one later
+  pub once : count_by (λ (t : TakenDown). t.packet.seq == number) (taken (until epoch now)) ≡ 1
+  -- whatever else was taken of slots of that batch, in whatever boot, came by this number
+  pub alone : (t : TakenDown) → Among t (ever_taken now) → t.packet.content.told ≢ [] → t.packet.content.batch ≡ telling.batch →
+      (t.packet.epoch ≡ epoch) × (t.packet.seq ≡ number) × (t.packet.content ≡ telling)
+
+-- slots in a number that is acknowledged at some moment were taken in once, in the boot with that epoch, and by no other number before
+-- or after, in no boot
+abbrev pub AcknowledgedSlotsAreTakenOnce : Type 0
+AcknowledgedSlotsAreTakenOnce =
+    (endpoints g : ℕ) (later earlier : List Step) → ArrivesFromOther endpoints g (later ++ earlier) → RoundsRise (lane_of (later ++ earlier)) →
+    (number : ℕ) (telling : Telling) → 1 ≤ number → content_of (numbers g (lane_of earlier)) number ≡ Some telling → telling.told ≢ [] →
+    decision_of (reorder_of (version_of (lane_of earlier))) (span_of (version_of (lane_of earlier))) (numbers g (lane_of earlier)) number ≡ Some Acknowledged →
+    WasTakenOnce (agent_of earlier) (agent_of (later ++ earlier)) (epoch_of (lane_of earlier)) number telling
+
 -- slots that are lost at some moment stand in no packet that is ever taken, before or after, in no boot
 abbrev pub LostIsNeverTaken : Type 0
 LostIsNeverTaken =

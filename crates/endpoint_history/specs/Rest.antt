@@ -1,6 +1,7 @@
 -- The need of one flow in the demand list, while batches are applied and their slots allocated. From this project's own profile.
-use Rattle.std.specs.Prelude.{ℕ, zero, suc, ◌+◌, ◌-◌, ◌≤◌, List, [], ◌∷◌, Option, Some, None}
+use Rattle.std.specs.Prelude.{◌≡◌, true, false, ℕ, zero, suc, ◌+◌, ◌-◌, ◌≤◌, List, [], ◌∷◌, Option, Some, None}
 use Rattle.greedy_rules.specs.declared.flows.Entry.{Entry}
+use Rattle.greedy_rules.specs.Balance.{clears}
 use Rattle.greedy_rules.specs.Demands.{need_with}
 
 -- a need once batches with these entries are applied, and none of their slots are allocated
@@ -35,3 +36,20 @@ abbrev pub adds_from : ℕ → List (Option Entry) → ℕ
 adds_from batch [] = 0
 adds_from zero (entry ∷ entries) = add_of entry + adds_from zero entries
 adds_from (suc batch) (entry ∷ entries) = adds_from batch entries
+
+-- none of the entries clears
+abbrev pub NoneClears : List (Option Entry) → Type 0
+NoneClears [] = Unit {0}
+NoneClears (entry ∷ entries) = (clears entry ≡ false) × NoneClears entries
+
+-- the last batch that clears is this one
+abbrev pub ClearsAt : ℕ → List (Option Entry) → Type 0
+ClearsAt batch [] = ⊥
+ClearsAt zero (entry ∷ entries) = (clears entry ≡ true) × NoneClears entries
+ClearsAt (suc batch) (entry ∷ entries) = ClearsAt batch entries
+
+-- none clears, and the first that has the flow is not before this one
+abbrev pub OpensFrom : ℕ → List (Option Entry) → Type 0
+OpensFrom batch [] = ⊥
+OpensFrom zero (entry ∷ entries) = (clears entry ≡ false) × NoneClears entries
+OpensFrom (suc batch) (entry ∷ entries) = (entry ≡ None) × OpensFrom batch entries

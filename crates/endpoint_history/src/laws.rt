@@ -4,12 +4,13 @@ ghost use Rattle.endpoint_history.specs.Bounds.{NumbersAreFew, ToldIsFew, TakenI
 ghost use Rattle.endpoint_history.specs.CountLaws.{MakingTells, ReadingDecides, ResetsCountAnew, CountsAddUp, WhatIsToldWasHandedOver};
 ghost use Rattle.endpoint_history.specs.Examples.{WorkedRounds};
 ghost use Rattle.endpoint_history.specs.ForgedLaws.{EachTellingWasIssued, ComesAfterTwoWindows, OneNumberForABatch, SentOnce};
-ghost use Rattle.endpoint_history.specs.LedgerLaws.{LedgerIsWithin, AddsSumToOwed, EntriesSumToOwed, OneRest};
-ghost use Rattle.endpoint_history.specs.NumberLaws.{EndsAgree, OneContentANumber, AcknowledgedIsTakenOnce, LostIsNeverTaken, LostIsNeverSent};
+ghost use Rattle.endpoint_history.specs.LedgerLaws.{LedgerIsWithin, AddsSumToOwed, EntriesSumToOwed, CountsBeginAtTheLastClear, OneRest};
+ghost use Rattle.endpoint_history.specs.NumberLaws.{EndsAgree, OneContentANumber, AcknowledgedIsTakenOnce, AcknowledgedSlotsAreTakenOnce, LostIsNeverTaken, LostIsNeverSent};
 ghost use Rattle.endpoint_history.specs.Packets.{AreFramedAlike};
 ghost use Rattle.endpoint_history.specs.Reading.{SpelledAlike, RoundsAreReadInOrder};
 ghost use Rattle.endpoint_history.specs.RoundLaws.{RoundsArriveFromOther, RoundsAreInOrder, RoundsGoOn};
 ghost use Rattle.endpoint_history.specs.SlotLaws.{SlotsAgree, TotalsAgree, InTimeIsAsked, SendsAndWaitingAreAsked, NoneIsPassedOver};
+ghost use Rattle.endpoint_history.specs.Unharmed.{NoLossOrBootHarms};
 ghost use Rattle.endpoint_history.specs.Windows.{Windows};
 
 use crate::contents::{Slots, Totals};
@@ -25,6 +26,7 @@ pub fn both_ends_agree()
     ensures numbers { EndsAgree }
     ensures contents { OneContentANumber }
     ensures acknowledged { AcknowledgedIsTakenOnce }
+    ensures taken_once { AcknowledgedSlotsAreTakenOnce }
     ensures never_taken { LostIsNeverTaken }
     ensures never_sent { LostIsNeverSent }
 {
@@ -46,6 +48,16 @@ pub fn slots_in_time_are_sent()
     ensures none_passed { NoneIsPassedOver }
 {
     windows_hold();
+}
+
+/// What no loss, delay, repeat or boot does to an endpoint that no raw packet names: what is lost is never sent, what is acknowledged
+/// was taken in once, and where no more is told than is owed no slot in time is passed over.
+pub fn no_loss_or_boot_harms()
+    ensures { NoLossOrBootHarms }
+{
+    both_ends_agree();
+    slots_in_time_are_sent();
+    rounds_are_calls();
 }
 
 /// What an agent may rely on of the allocations that it takes, also where upward packets are forged.
@@ -99,7 +111,8 @@ pub fn the_ledger_holds()
 
 /// The ledger of a lane and the rest of the demand list agree, whatever arrives and whatever is not yet allocated.
 pub fn ledger_and_demand_list_agree()
-    ensures { OneRest }
+    ensures rest { OneRest }
+    ensures begins { CountsBeginAtTheLastClear }
 {
     windows_hold();
 }

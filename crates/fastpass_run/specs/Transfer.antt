@@ -2,6 +2,10 @@
 use Rattle.std.specs.Prelude.{ℕ, List, length, Option}
 use Rattle.std.specs.Io.KnownBytes.{Consumes}
 
+-- the most bytes that an input may have
+abbrev pub input_limit : ℕ
+input_limit = 67108864
+
 -- bytes were taken, so many that their number passes
 abbrev pub Takes : Option (List ℕ) → Option (List ℕ) → (ℕ → Type 0) → Type 0
 Takes old new passes = (bytes : List ℕ) × Consumes old new bytes × passes (length bytes)

@@ -51,16 +51,20 @@ no_options = record { batch = None; window = None; paths = None }
 abbrev pub command_of : List ℕ → Option Command
 command_of word = if is_word (codes "plan") word then Some Plan else (if is_word (codes "replay") word then Some Replay else None)
 
--- what the words ask for: where the trace comes from, the slots of a batch and the rounds of a window
+-- what the words ask for: where the trace comes from, the slots of a batch, the rounds of a window, and how many workers and path
+-- workers there are
 pub record Asked : Type 0 where
   pub input : Input
   pub b : ℕ
   pub g : ℕ
+  pub workers : ℕ
+  pub paths : ℕ
 
 abbrev pub asked_with : Option Input → Option Options → Option Asked
 asked_with None options = None
 asked_with (Some input) None = None
-asked_with (Some input) (Some options) = Some (record { input = input; b = unwrap_or options.batch 8; g = unwrap_or options.window 8 })
+asked_with (Some input) (Some options) =
+    Some (record { input = input; b = unwrap_or options.batch 8; g = unwrap_or options.window 8; workers = 4; paths = unwrap_or options.paths 2 })
 
 -- a number and then pairs
 abbrev pub asked_to_make : List (List ℕ) → Option Asked
@@ -74,9 +78,9 @@ asked_of (word ∷ words) =
     if is_word (codes "make") word then asked_to_make words
     else asked_with (option_map Read (command_of word)) (options_of words no_options)
 
--- of a task, all but how many path workers there are
+-- the same of a task
 abbrev pub asked_in : Task → Asked
-asked_in task = record { input = task.input; b = task.sizes.b; g = task.sizes.g }
+asked_in task = record { input = task.input; b = task.sizes.b; g = task.sizes.g; workers = task.sizes.workers; paths = task.sizes.paths }
 
 -- the options that are named are within their limits
 pub record AreWithin (options : Options) : Type 0 where

@@ -1,13 +1,18 @@
 //! The whole program: words, a trace that is read or made, plan or replay, and text, over any source, sinks and gate.
+//!
+//! The schedule theorem. For every accepted trace and any number of path workers, what `replay` writes shows a schedule that is
+//! the one-thread greedy allocation of the demand batches that the run of the trace records: every slot a matching that no waiting
+//! demand could join, on paths that share no directed link; endpoints send only in scheduled slots, each at most once; and each
+//! flow's recorded demand is its slots acknowledged, in flight and pending, lost slots pending again. `plan` shows the same of the
+//! asks of each round, where each flow's demand is its slots allocated and pending; `make` writes the sums of the counts of such a
+//! replay. Where a write fails or memory is wanting, a front of such a text is written. It is the contract of `run`
+//! (`Runs`, in specs/Run.antt).
 #![tactic(auto)]
 
-ghost use Rattle.std.specs.Prelude.{◌≡◌, ◌≢◌, ◌↔◌, ◌+◌, ◌≤◌, None};
-ghost use Rattle.fp_edge.specs.Faults.{Rose};
+ghost use Rattle.run_lines.specs.Content.{sink_content};
 ghost use Rattle.fastpass_run.specs.Outside.{outside};
-ghost use Rattle.fastpass_run.specs.Words.{texts, asked_of};
-ghost use Rattle.fastpass_run.specs.Transfer.{Takes};
-ghost use Rattle.fastpass_run.specs.Run.{ComesTo, Performs, status_of, Begins, BeginsAtMost, FaultyAtSome, IsUnread, IsUnwritten, Notes, TellsFaults, TellsExcess, Completes, CompletesMade, ReadsNothing};
-ghost use Rattle.fastpass_run.specs.declared.transfer.TheConstants.{LIMIT};
+ghost use Rattle.fastpass_run.specs.Words.{texts};
+ghost use Rattle.fastpass_run.specs.Run.{Runs, EndsBy, ReadsNothing, status_of};
 
 mod outcome;
 mod transfer;
@@ -34,39 +39,8 @@ pub fn run<R: Threads + Wait + Sync, S: Source, O: Sink, N: Sink, G: Gate + Sync
     notes: &mut N,
     gate: &G,
 ) -> u8
-    // What is written.
-    ensures written { result ≡ 0 →
-        Performs (texts words.now) (outside S.Source O.Sink src.old out.old) (outside S.Source O.Sink src.new out.new) }
-    ensures unwritten { result ≢ 0 → result ≢ 4 → result ≢ 5 →
-        IsUnwritten (outside S.Source O.Sink src.old out.old) (outside S.Source O.Sink src.new out.new) }
-
-    // When each status comes.
-    ensures statuses { result ≤ 6 }
-    ensures words { (result ≡ 1) ↔ (asked_of (texts words.now) ≡ None) }
-    ensures unread { result ≡ 1 → IsUnread (outside S.Source O.Sink src.old out.old) (outside S.Source O.Sink src.new out.new) }
-    ensures row { result ≡ 2 →
-        FaultyAtSome (texts words.now) (outside S.Source O.Sink src.old out.old) (outside S.Source O.Sink src.new out.new) }
-    ensures read { result ≡ 3 → Rose (S.faults src.old) (S.faults src.new) }
-    ensures write { result ≡ 4 → Rose (O.faults out.old) (O.faults out.new) ×
-        Begins (texts words.now) (outside S.Source O.Sink src.old out.old) (outside S.Source O.Sink src.new out.new) }
-    ensures memory { result ≡ 5 →
-        BeginsAtMost (texts words.now) (outside S.Source O.Sink src.old out.old) (outside S.Source O.Sink src.new out.new) }
-    ensures big { result ≡ 6 → Takes (S.left src.old) (S.left src.new) (λ n. n ≡ LIMIT + 1) }
-    ensures not_big { result ≢ 6 → Takes (S.left src.old) (S.left src.new) (λ n. n ≤ LIMIT) }
-    ensures faulty { TellsFaults (texts words.now)
-        (outside S.Source O.Sink src.old out.old) (outside S.Source O.Sink src.new out.new) result }
-    ensures excess { TellsExcess (texts words.now)
-        (outside S.Source O.Sink src.old out.old) (outside S.Source O.Sink src.new out.new) result }
-    ensures made { ReadsNothing (texts words.now)
-        (outside S.Source O.Sink src.old out.old) (outside S.Source O.Sink src.new out.new) result }
-    ensures complete { Completes (texts words.now)
-        (outside S.Source O.Sink src.old out.old) (outside S.Source O.Sink src.new out.new) result }
-    ensures complete_made { CompletesMade (texts words.now)
-        (outside S.Source O.Sink src.old out.old) (outside S.Source O.Sink src.new out.new) result }
-
-    // The note.
-    ensures noted { ¬ Rose (N.faults notes.old) (N.faults notes.new) → Notes (texts words.now) result
-        (outside S.Source O.Sink src.old out.old) (outside S.Source O.Sink src.new out.new) (N.held notes.old) (N.held notes.new) }
+    ensures { Runs (texts words.now) (outside S.Source O.Sink src.old out.old) (outside S.Source O.Sink src.new out.new)
+        (sink_content N.Sink notes.old) (sink_content N.Sink notes.new) result }
 {
     let outcome = perform(rt, gate, alloc, words, src, out);
     let _ = outcome::note(notes, outcome);
@@ -81,9 +55,9 @@ fn perform<R: Threads + Wait + Sync, S: Source, O: Sink, G: Gate + Sync>(
     src: &mut S,
     out: &mut O,
 ) -> Result<(), Failure>
-    ensures comes { ComesTo (texts words.now)
+    ensures ends { EndsBy (texts words.now)
         (outside S.Source O.Sink src.old out.old) (outside S.Source O.Sink src.new out.new) result }
-    ensures made { ReadsNothing (texts words.now)
+    ensures reads_nothing { ReadsNothing (texts words.now)
         (outside S.Source O.Sink src.old out.old) (outside S.Source O.Sink src.new out.new) (status_of result) }
 {
     let Some(task) = words::read_task(words) else {

@@ -1,10 +1,10 @@
 // How a run ends.
-ghost use Rattle.std.specs.Prelude.{◌≡◌, OnOk, OnErr};
+ghost use Rattle.std.specs.Prelude.{◌≡◌, OnOk, OnErr, Err};
 ghost use Rattle.std.specs.Io.KnownBytes.{Appends};
 ghost use Rattle.fp_edge.specs.Faults.{Rose};
-ghost use Rattle.trace_text.specs.FaultNumbers.{fault_number};
 ghost use Rattle.fastpass_run.specs.Failures.{failure_of_read, failure_of_trace, failure_of_stop};
-ghost use Rattle.fastpass_run.specs.Run.{status_of, note_of, row_note};
+ghost use Rattle.fastpass_run.specs.Run.{status_of, note_of};
+ghost use Rattle.fastpass_run.specs.declared.outcome.Failure.TheVariants.{Row};
 
 use crate::transfer::ReadRefused;
 use fp_edge::{Failed, Sink};
@@ -91,7 +91,7 @@ pub(crate) fn note<N: Sink>(notes: &mut N, outcome: Result<(), Failure>) -> Resu
 
 /// Writes the line on a faulty row.
 fn note_row<N: Sink>(notes: &mut N, row: u32, fault: Fault) -> Result<(), Failed>
-    ensures told { OnOk result (Appends (N.held notes.old) (N.held notes.new) (row_note row (fault_number fault))) }
+    ensures told { OnOk result (Appends (N.held notes.old) (N.held notes.new) (note_of (Err (Row row fault)))) }
     ensures failed { OnErr result (Rose (N.faults notes.old) (N.faults notes.new)) }
 {
     let mut digits = Buffer::new();

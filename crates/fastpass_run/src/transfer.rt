@@ -1,8 +1,7 @@
 ghost use Rattle.std.specs.Prelude.{◌≡◌, ◌≤◌, ◌<◌, ◌+◌, [], length, IfOk, OnOk, IsErrOf, IsErr};
 ghost use Rattle.std.specs.Io.KnownBytes.{Consumes, IsAtEnd};
 ghost use Rattle.fp_edge.specs.Faults.{Rose};
-ghost use Rattle.fastpass_run.specs.Transfer.{Takes};
-ghost use Rattle.fastpass_run.specs.declared.transfer.TheConstants.{LIMIT};
+ghost use Rattle.fastpass_run.specs.Transfer.{Takes, input_limit};
 ghost use Rattle.fastpass_run.specs.declared.transfer.ReadRefused.TheVariants.{Memory};
 
 use fp_edge::{Failed, Source};
@@ -34,10 +33,10 @@ impl From<AllocError> for ReadRefused {
 
 /// Reads to the end. It takes at most one byte more than the limit, and then answers Big.
 pub(crate) fn read_all<S: Source>(alloc: Global, source: &mut S) -> Result<Vec<u8>, ReadRefused>
-    ensures read { IfOk result (λ text. (length text.items ≤ LIMIT) × Consumes (S.left source.old) (S.left source.new) text.items × IsAtEnd (S.left source.new)) }
+    ensures read { IfOk result (λ text. (length text.items ≤ input_limit) × Consumes (S.left source.old) (S.left source.new) text.items × IsAtEnd (S.left source.new)) }
     ensures failed { IsErrOf result ReadRefused.Failed → Rose (S.faults source.old) (S.faults source.new) }
-    ensures big { IsErrOf result ReadRefused.Big → Takes (S.left source.old) (S.left source.new) (λ n. n ≡ LIMIT + 1) }
-    ensures not_big { IsErr result → (IsErrOf result ReadRefused.Big → ⊥) → Takes (S.left source.old) (S.left source.new) (λ n. n ≤ LIMIT) }
+    ensures big { IsErrOf result ReadRefused.Big → Takes (S.left source.old) (S.left source.new) (λ n. n ≡ input_limit + 1) }
+    ensures not_big { IsErr result → (IsErrOf result ReadRefused.Big → ⊥) → Takes (S.left source.old) (S.left source.new) (λ n. n ≤ input_limit) }
     ensures later { S.faults source.old ≤ S.faults source.new }
 {
     let mut text = Vec::new(alloc);
@@ -49,11 +48,11 @@ pub(crate) fn read_all<S: Source>(alloc: Global, source: &mut S) -> Result<Vec<u
 /// taken than is held.
 fn read_into<S: Source>(source: &mut S, text: &mut Vec<u8>) -> Result<(), ReadRefused>
     requires { text.old.items ≡ [] }
-    ensures read { OnOk result ((length text.new.items ≤ LIMIT) × Consumes (S.left source.old) (S.left source.new) text.new.items × IsAtEnd (S.left source.new)) }
+    ensures read { OnOk result ((length text.new.items ≤ input_limit) × Consumes (S.left source.old) (S.left source.new) text.new.items × IsAtEnd (S.left source.new)) }
     ensures failed { IsErrOf result ReadRefused.Failed → Rose (S.faults source.old) (S.faults source.new) }
-    ensures held { IsErrOf result ReadRefused.Failed → (length text.new.items ≤ LIMIT) × Consumes (S.left source.old) (S.left source.new) text.new.items }
-    ensures big { IsErrOf result ReadRefused.Big → Takes (S.left source.old) (S.left source.new) (λ n. n ≡ LIMIT + 1) }
-    ensures memory { IsErrOf result ReadRefused.Memory → Takes (S.left source.old) (S.left source.new) (λ n. (length text.new.items < n) × (n ≤ LIMIT)) }
+    ensures held { IsErrOf result ReadRefused.Failed → (length text.new.items ≤ input_limit) × Consumes (S.left source.old) (S.left source.new) text.new.items }
+    ensures big { IsErrOf result ReadRefused.Big → Takes (S.left source.old) (S.left source.new) (λ n. n ≡ input_limit + 1) }
+    ensures memory { IsErrOf result ReadRefused.Memory → Takes (S.left source.old) (S.left source.new) (λ n. (length text.new.items < n) × (n ≤ input_limit)) }
     ensures later { S.faults source.old ≤ S.faults source.new }
 {
     let mut piece = [0; PIECE];

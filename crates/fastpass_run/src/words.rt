@@ -17,6 +17,9 @@ const WINDOW: u8 = 8;
 /// The most rounds of a window.
 const MOST_WINDOW: u32 = 16;
 
+/// How many workers there are.
+const WORKERS: u8 = 4;
+
 /// How many path workers there are where nothing else is asked for.
 const PATHS: u8 = 2;
 
@@ -74,6 +77,7 @@ fn with_options(input: Input, pairs: &[&str]) -> Option<Task>
         sizes: Sizes {
             b: options.batch.unwrap_or(BATCH),
             g: options.window.unwrap_or(WINDOW),
+            workers: WORKERS,
             paths: options.paths.unwrap_or(PATHS),
         },
     })

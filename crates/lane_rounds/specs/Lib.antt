@@ -1,4 +1,3 @@
-pub mod Laws
 pub mod Raw
 pub mod Outside
 pub mod Refused

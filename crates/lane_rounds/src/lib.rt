@@ -2,13 +2,11 @@
 #![tactic(auto)]
 
 mod events;
-mod laws;
 mod refusal;
 mod rounds;
 
 pub use arbiter_lane::UpRefused;
 pub use endpoint_agent::Sent;
 pub use events::{AskList, Events, RawList, RefusedList};
-pub use laws::no_loss_or_boot_harms;
 pub use no_memory::NoMemory;
 pub use rounds::LaneRounds;

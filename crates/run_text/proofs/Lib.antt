@@ -10,4 +10,6 @@ pub mod ReplayLoop
 pub mod PlayLemmas
 pub mod SumLemmas
 pub mod MadeLemmas
+pub mod LineSums
 pub mod SentLemmas
+pub mod LedgerLemmas

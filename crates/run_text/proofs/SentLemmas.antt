@@ -3,8 +3,6 @@ use Rattle.std.proofs.Common.{◌≡◌, ◌≢◌, ◌<◌, ◌≤◌, ◌+◌,
 use Rattle.std.specs.Bool.{⊤}
 use Rattle.std.specs.List.{flat_map, range_with_len}
 use Rattle.std.proofs.lemmas.Bool.{cond-true, cond-false, cases_Bool, and_left, and_right, eqb-true, eqb-false, ne_eqb}
-use Rattle.std.proofs.lemmas.List.{append-nil}
-use Rattle.std.proofs.lemmas.List.Concat.{flat_map-append}
 use Rattle.std.proofs.lemmas.List.Elements.{All-nil, All-cons, All-head, All-tail, All-append, All-map}
 use Rattle.std.proofs.lemmas.List.Sums.{sum_by-cons, sum_by-append}
 use Rattle.list_facts.specs.Order.{insert_by, sort_by}
@@ -26,10 +24,10 @@ use Rattle.window_engine.specs.declared.counts.Counts.{Counts}
 use Rattle.window_engine.specs.Replay.{replay_counts}
 use Rattle.clos_topology.specs.Network.{endpoints_of}
 use Rattle.greedy_rules.specs.Schedule.{first_slot}
-use Rattle.run_lines.specs.Text.{entry_line, slot_line, slots_lines, each_destination, each_source, refused_line, sent_line, count_line, count_lines_of, counts_lines}
+use Rattle.run_lines.specs.Text.{entry_line, refused_line, sent_line, count_line, count_lines_of, counts_lines}
 use Rattle.run_text.specs.ReplayText.{round_lines, rounds_lines, window_lines, step_lines, steps_lines, steps_of, replay_lines}
 use Rattle.run_text.specs.Sends.{IsScheduledSend, is_send_in, SendsAreScheduled}
-use Rattle.run_text.proofs.NumberedTexts.{range-plus}
+use Rattle.run_text.proofs.LineSums.{flat-last, refusals_all, slots_all, sources_all, steps_sum}
 
 -- ---- how many elements pass
 
@@ -93,10 +91,6 @@ Among-later : {X : Type 0} (x : X) (xs ys : List X) → Among x ys → Among x (
 Among-later x [] ys among = among
 Among-later x (y ∷ xs) ys among = inr (Among-later x xs ys among)
 
-flat-last : {X : Type 0} (f : ℕ → List X) (a n : ℕ) → flat_map f (range_with_len a (n + 1)) ≡ flat_map f (range_with_len a n) ++ f (a + n)
-flat-last f a n =
-    ap (flat_map f) (range-plus a n 1) ∙ (flat_map-append f (range_with_len a n) (range_with_len (a + n) 1) ∙ ap (λ xs. flat_map f (range_with_len a n) ++ xs) (append-nil (f (a + n))))
-
 -- ---- lines that are no sends
 
 abbrev IsNoSend : Line → Type 0
@@ -129,29 +123,9 @@ none_counted slot src lines all = count-none (is_send_in slot src) lines (λ i d
 none_unscheduled : (setting : Setting) (rounds : ℕ) (lines : List Line) → All IsNoSend lines → All (IsScheduledSend setting rounds) lines
 none_unscheduled setting rounds lines all i d below = no_send_scheduled setting rounds _ (all i d below)
 
-refusals : (round : ℕ) (answers : List (Option ℕ)) → All IsNoSend (flat_map (refused_line round) answers)
-refusals round [] = All-nil IsNoSend
-refusals round (None ∷ answers) = refusals round answers
-refusals round (Some number ∷ answers) = All-cons IsNoSend (line.Refused round number) (flat_map (refused_line round) answers) tt (refusals round answers)
-
-slots_without : (cores : Cores) (number : ℕ) (slots : List (List Flow)) → All IsNoSend (slots_lines cores number slots)
-slots_without cores number [] = All-nil IsNoSend
-slots_without cores number (slot ∷ slots) =
-    All-append IsNoSend (map (slot_line number (cores number)) slot) (slots_lines cores (number + 1) slots) (All-map IsNoSend (slot_line number (cores number)) slot (λ i d below. tt)) (slots_without cores (number + 1) slots)
-
 count_without : (flow : Flow) (counts : Option Counts) → All IsNoSend (count_lines_of flow counts)
 count_without flow None = All-nil IsNoSend
 count_without flow (Some counts) = All-cons IsNoSend (count_line flow counts) [] tt (All-nil IsNoSend)
-
-destinations_without : (lines : Flow → List Line) (src dst count : ℕ) → ((flow : Flow) → All IsNoSend (lines flow)) → All IsNoSend (each_destination lines src dst count)
-destinations_without lines src dst zero all = All-nil IsNoSend
-destinations_without lines src dst (suc count) all =
-    All-append IsNoSend (lines (record { src = src; dst = dst })) (each_destination lines src (dst + 1) count) (all (record { src = src; dst = dst })) (destinations_without lines src (dst + 1) count all)
-
-sources_without : (lines : Flow → List Line) (endpoints src count : ℕ) → ((flow : Flow) → All IsNoSend (lines flow)) → All IsNoSend (each_source lines endpoints src count)
-sources_without lines endpoints src zero all = All-nil IsNoSend
-sources_without lines endpoints src (suc count) all =
-    All-append IsNoSend (each_destination lines src 0 endpoints) (each_source lines endpoints (src + 1) count) (destinations_without lines src 0 endpoints all) (sources_without lines endpoints (src + 1) count all)
 
 -- what stands before a round's sends
 abbrev before_sends : Setting → TraceContent → ℕ → List Line
@@ -159,7 +133,7 @@ before_sends setting trace round = map (entry_line round) (batch_at setting roun
 
 without_sends : (setting : Setting) (trace : TraceContent) (round : ℕ) → All IsNoSend (before_sends setting trace round)
 without_sends setting trace round =
-    All-append IsNoSend (map (entry_line round) (batch_at setting round).entries) (flat_map (refused_line round) (answers_in setting trace round)) (All-map IsNoSend (entry_line round) (batch_at setting round).entries (λ i d below. tt)) (refusals round (answers_in setting trace round))
+    All-append IsNoSend (map (entry_line round) (batch_at setting round).entries) (flat_map (refused_line round) (answers_in setting trace round)) (All-map IsNoSend (entry_line round) (batch_at setting round).entries (λ i d below. tt)) (refusals_all IsNoSend round (answers_in setting trace round) (λ number. tt))
 
 -- ---- the sends of a round
 
@@ -249,34 +223,6 @@ rounds_send setting trace slot src (suc round) =
     ap (λ (n : ℕ). count_by (is_slot slot) (sent_by setting.endpoints setting.b setting.g ((replayed setting n).rounds src))) (sym one) in
     omega (arith, split, rounds_send setting trace slot src round, round_sends setting trace round slot src, same, count-append (is_slot slot) (sent_up_to setting round src) now)
 
--- each step has the rounds of the next window
-steps_send : (cores : Cores) (setting : Setting) (trace : TraceContent) (slot src steps : ℕ)
-    → count_by (is_send_in slot src) (steps_lines cores setting trace steps) ≡ count_by (is_send_in slot src) (rounds_lines setting trace 0 (collected_after setting.g trace.rounds steps))
-steps_send cores setting trace slot src zero = refl
-steps_send cores setting trace slot src (suc steps) =
-    let p : Line → Bool = is_send_in slot src in
-    let f : ℕ → List Line = step_lines cores setting trace in
-    let rounds : ℕ → ℕ → List Line = rounds_lines setting trace in
-    let here : ℕ = collected_after setting.g trace.rounds steps in
-    let next : ℕ = collected_after setting.g trace.rounds (suc steps) in
-    let one : suc steps ≡ steps + 1 = omega arith in
-    let at : 0 + steps ≡ steps = omega arith in
-    let start : 0 + here ≡ here = omega arith in
-    let before : ℕ = collected_after setting.g trace.rounds (steps - 1) in
-    let window : List Line = window_lines cores setting before here in
-    let split : count_by p (steps_lines cores setting trace (suc steps)) ≡ count_by p (steps_lines cores setting trace steps) + count_by p (f steps) =
-    ap (λ (n : ℕ). count_by p (flat_map f (range_with_len 0 n))) one
-    ∙ (ap (count_by p) (flat-last f 0 steps)
-    ∙ (count-append p (steps_lines cores setting trace steps) (f (0 + steps)) ∙ ap (λ (k : ℕ). count_by p (steps_lines cores setting trace steps) + count_by p (f k)) at)) in
-    let own : count_by p (f steps) ≡ count_by p (rounds here (next - here)) + count_by p window = count-append p (rounds here (next - here)) window in
-    let parts : next ≡ here + (next - here) = omega arith in
-    let all : count_by p (rounds 0 next) ≡ count_by p (rounds 0 here) + count_by p (rounds here (next - here)) =
-    ap (λ (n : ℕ). count_by p (rounds 0 n)) parts
-    ∙ (ap (λ (ks : List ℕ). count_by p (flat_map (round_lines setting trace) ks)) (range-plus 0 here (next - here))
-    ∙ (ap (count_by p) (flat_map-append (round_lines setting trace) (range_with_len 0 here) (range_with_len (0 + here) (next - here)))
-    ∙ (count-append p (rounds 0 here) (rounds (0 + here) (next - here)) ∙ ap (λ (k : ℕ). count_by p (rounds 0 here) + count_by p (rounds k (next - here))) start))) in
-    omega (arith, split, own, all, steps_send cores setting trace slot src steps, none_counted slot src window (slots_without cores (first_slot setting.b before) (slots_between setting before here)))
-
 -- ---- scheduled sends
 
 round_scheduled : (setting : Setting) (trace : TraceContent) (round rounds : ℕ) → EverySendIsScheduled → 0 < setting.g → round < rounds → All (IsScheduledSend setting rounds) (round_lines setting trace round)
@@ -314,7 +260,7 @@ step_scheduled cores setting trace step scheduled some =
     let before : ℕ = collected_after setting.g trace.rounds (step - 1) in
     let within : here + (next - here) ≤ trace.rounds = omega (arith, collected_within setting.g trace.rounds step, collected_within setting.g trace.rounds (suc step)) in
     All-append (IsScheduledSend setting trace.rounds) (rounds_lines setting trace here (next - here)) (window_lines cores setting before here) (rounds_scheduled setting trace here (next - here) trace.rounds scheduled some within)
-    (none_unscheduled setting trace.rounds (window_lines cores setting before here) (slots_without cores (first_slot setting.b before) (slots_between setting before here)))
+    (none_unscheduled setting trace.rounds (window_lines cores setting before here) (slots_all IsNoSend cores (first_slot setting.b before) (slots_between setting before here) (λ number core_of flow. tt)))
 
 -- ---- the whole text
 
@@ -325,7 +271,7 @@ sends_are_scheduled cores setting trace scheduled once some =
     let steps : List Line = steps_lines cores setting trace all in
     let counts : List Line = counts_lines setting trace in
     let last : List Line = line.End trace.rounds ∷ [] in
-    let no_counts : All IsNoSend counts = sources_without (λ flow. count_lines_of flow (replay_counts setting trace.rounds flow)) (endpoints_of trace.net) 0 (endpoints_of trace.net) (λ flow. count_without flow (replay_counts setting trace.rounds flow)) in
+    let no_counts : All IsNoSend counts = sources_all IsNoSend (λ flow. count_lines_of flow (replay_counts setting trace.rounds flow)) (endpoints_of trace.net) (λ src dst low high. count_without (record { src = src; dst = dst }) (replay_counts setting trace.rounds (record { src = src; dst = dst }))) in
     let no_last : All IsNoSend last = All-cons IsNoSend (line.End trace.rounds) [] tt (All-nil IsNoSend) in
     record {
       scheduled = All-append P (steps ++ counts) last
@@ -340,7 +286,7 @@ sends_are_scheduled cores setting trace scheduled once some =
             count-append p steps counts,
             none_counted slot src counts no_counts,
             none_counted slot src last no_last,
-            steps_send cores setting trace slot src all,
+            steps_sum (one_of p) cores setting trace all (λ number core_of flow. refl),
             rounds_send setting trace slot src reached,
             once setting some reached src slot,
           );

@@ -3,6 +3,7 @@ pub mod PlanText
 pub mod ReplayText
 pub mod Made
 pub mod Sends
+pub mod Ledger
 pub mod Sums
 pub mod Scheduled
 pub mod ReplayScheduled

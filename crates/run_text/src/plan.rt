@@ -1,4 +1,4 @@
-ghost use Rattle.std.specs.Prelude.{◌≡◌, ◌≢◌, ◌<◌, ◌≤◌, ◌+◌, OnOk};
+ghost use Rattle.std.specs.Prelude.{◌≡◌, ◌≢◌, ◌<◌, ◌≤◌, ◌+◌, All, IfOk, OnOk};
 ghost use Rattle.trace_text.specs.Valid.{IsTrace};
 ghost use Rattle.window_engine.specs.Batches.{plan_batches};
 ghost use Rattle.window_engine.specs.Counts.{AllIsAllocatedOrPending};
@@ -8,13 +8,16 @@ ghost use Rattle.run_lines.specs.Content.{sink_content};
 ghost use Rattle.run_lines.specs.Output.{Passes, Ends, Writes};
 ghost use Rattle.run_lines.specs.Steps.{IsWindow};
 ghost use Rattle.run_lines.specs.Text.{text_of};
-ghost use Rattle.run_text.specs.PlanText.{plan_text};
+ghost use Rattle.replay_rounds.specs.Setting.{Cores};
+ghost use Rattle.run_text.specs.Ledger.{IsBalanced};
+ghost use Rattle.run_text.specs.PlanText.{plan_lines, plan_text};
 ghost use Rattle.run_text.specs.Progress.{lines_of_step, next_lines, rounds_lines};
 ghost use Rattle.run_text.specs.Scheduled.{WithCores, WithCoresOfNext};
 ghost use Rattle.run_text.specs.Sizes.{AreSizes};
 
 use crate::sizes::Sizes;
 use fp_edge::{Gate, Sink};
+use no_memory::NoMemory;
 use report_text::{Line, LineBuffer};
 use run_lines::{Output, Stop, put_batch, put_flows, texts_follow};
 use std::alloc::Global;
@@ -22,12 +25,20 @@ use std::sync::Wait;
 use std::thread::Threads;
 use trace_text::Trace;
 use window_engine::{
-    Engine, Setting, Step, every_plan_balances, every_plan_has_its_slots, every_plan_is_recorded,
+    Engine, Step, every_plan_balances, every_plan_has_its_slots, every_plan_is_recorded,
     every_record_has_cores,
 };
 
-/// How many workers there are.
-pub(crate) const WORKERS: u16 = 4;
+/// The engine of a plan, before its first round.
+fn open_engine(alloc: Global, trace: &Trace, sizes: Sizes) -> Result<Engine, NoMemory>
+    requires { AreSizes sizes }
+    ensures stands { IfOk result (Stands trace.now) }
+    ensures start { IfOk result (λ engine. engine.collection.rounds ≡ 0) }
+    ensures b { IfOk result (λ engine. engine.allocation.b ≡ sizes.b) }
+    ensures paths { IfOk result (λ engine. engine.allocation.paths.paths ≡ sizes.paths) }
+{
+    Engine::open(alloc, trace, sizes.setting(false))
+}
 
 /// The batches of a step, each with its slots.
 fn put_window<K: Sink>(output: &mut Output<'_, K>, step: &Step, b: u8) -> Result<(), Stop>
@@ -114,14 +125,7 @@ fn put_lines<R: Threads + Wait + Sync, G: Gate + Sync, K: Sink>(
 {
     texts_follow();
     every_plan_has_its_slots();
-    let setting = Setting {
-        replay: false,
-        workers: WORKERS,
-        paths: u16::from(sizes.paths),
-        b: sizes.b,
-        g: sizes.g,
-    };
-    let mut engine = Engine::open(alloc, trace, setting)?;
+    let mut engine = open_engine(alloc, trace, sizes)?;
     put_rounds(rt, gate, trace, &mut engine, sizes.b, output)?;
     put_flows(output, trace, &engine)?;
     output.put_last_line(&Line::End {
@@ -142,7 +146,8 @@ pub fn write_plan<R: Threads + Wait + Sync, G: Gate + Sync, K: Sink>(
     requires sizes { AreSizes sizes }
     ensures writes { WithCores sizes.b trace.now (λ cores.
         Writes (sink_content K.Sink sink.old) (sink_content K.Sink sink.new) (plan_text cores sizes.b trace.now) result) }
-    ensures ledger { OnOk result (AllIsAllocatedOrPending sizes.b (plan_batches trace.now)) }
+    ensures ledger { AllIsAllocatedOrPending sizes.b (plan_batches trace.now) }
+    ensures balanced { (cores : Cores) → All IsBalanced (plan_lines cores sizes.b trace.now) }
 {
     texts_follow();
     every_plan_is_recorded();

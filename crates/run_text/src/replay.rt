@@ -10,10 +10,10 @@ ghost use Rattle.run_lines.specs.Text.{text_of};
 ghost use Rattle.run_text.specs.ReplayProgress.{HasSlots, played_lines, step_text_lines, next_rounds, GivesStep, GivesSteps};
 ghost use Rattle.run_text.specs.ReplayScheduled.{WithReplayCores};
 ghost use Rattle.run_text.specs.ReplayText.{replay_lines, replay_text};
+ghost use Rattle.run_text.specs.Ledger.{LedgerIsKept};
 ghost use Rattle.run_text.specs.Sends.{SendsAreScheduled};
 ghost use Rattle.run_text.specs.Sizes.{AreSizes};
 
-use crate::plan::WORKERS;
 use crate::sizes::Sizes;
 use fp_edge::{Gate, Sink};
 use greedy_rules::schedules_go_on;
@@ -24,11 +24,12 @@ use run_lines::{Output, Stop, put_counts, put_round, put_slots, texts_follow};
 use std::alloc::Global;
 use std::sync::Wait;
 use std::thread::Threads;
-use trace_run::{cores_decide_nothing, every_replay_shows, every_send_is_scheduled, runs_go_on};
-use trace_text::Trace;
-use window_engine::{
-    Replay, ReplayStep, Setting, every_replay_has_cores, every_replay_takes_its_steps,
+use trace_run::{
+    cores_decide_nothing, every_replay_shows, every_run_is_applicable, every_send_is_scheduled,
+    runs_go_on,
 };
+use trace_text::Trace;
+use window_engine::{Replay, ReplayStep, every_replay_has_cores, every_replay_takes_its_steps};
 
 /// The replay of a trace, before its first round.
 pub(crate) fn open_replay(alloc: Global, trace: &Trace, sizes: Sizes) -> Result<Replay, NoMemory>
@@ -38,15 +39,9 @@ pub(crate) fn open_replay(alloc: Global, trace: &Trace, sizes: Sizes) -> Result<
     ensures g { IfOk result (λ replay. replay.lanes.g ≡ sizes.g) }
     ensures collected { IfOk result (λ replay. replay.lanes.collected ≡ 0) }
     ensures published { IfOk result (λ replay. replay.lanes.published ≡ 0) }
+    ensures paths { IfOk result (λ replay. replay.allocation.paths.paths ≡ sizes.paths) }
 {
-    let setting = Setting {
-        replay: true,
-        workers: WORKERS,
-        paths: u16::from(sizes.paths),
-        b: sizes.b,
-        g: sizes.g,
-    };
-    Replay::open(alloc, trace, setting)
+    Replay::open(alloc, trace, sizes.setting(true))
 }
 
 /// Rounds that were played, from this one on.
@@ -182,12 +177,16 @@ pub fn write_replay<R: Threads + Wait + Sync, G: Gate + Sync, K: Sink>(
     ensures shown { (cores : Cores) → IsShown (setting_of trace.now sizes.b sizes.g cores) trace.now.rounds }
     ensures sends { (cores : Cores) → let setting = setting_of trace.now sizes.b sizes.g cores in
         SendsAreScheduled setting trace.now.rounds (replay_lines cores setting trace.now) }
+    ensures ledger { (cores : Cores) → let setting = setting_of trace.now sizes.b sizes.g cores in
+        LedgerIsKept setting trace.now.rounds (replay_lines cores setting trace.now) }
 {
     texts_follow();
     cores_decide_nothing();
     every_replay_has_cores();
     every_replay_shows();
     every_send_is_scheduled();
+    every_run_is_applicable();
+    every_replay_takes_its_steps();
     let gathered = LineBuffer::open(alloc)?;
     let mut output = Output::new(sink, gathered);
     let written = put_lines(rt, gate, alloc, trace, sizes, &mut output);

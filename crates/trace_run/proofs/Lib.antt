@@ -18,4 +18,5 @@ pub mod Shown
 pub mod Through
 pub mod ToldOf
 pub mod ToldRules
+pub mod Unharmed
 pub mod Windows

@@ -15,11 +15,10 @@ use Rattle.endpoint_history.specs.Sending.{Slot, slots_of, ever_sent}
 use Rattle.endpoint_history.specs.Lane.{LaneEvent, LaneHistory, MakesDown, TakesUp, Records, epoch_of, last_reset, telling_in, may_send, numbers}
 use Rattle.endpoint_history.specs.Steps.{Step, OfAgent, OfLane, agent_of, lane_of, WasMadeDown, ArrivesFromLane}
 use Rattle.endpoint_history.specs.Tellings.{Among, Issue, issued, AreWithin, ToldWithin, RisesFrom, ToldRises}
-use Rattle.endpoint_history.specs.Rounds.{Round, Played, arriving, then_each, begun, posted_down, heard, posted_up, read, played, sent_by, NamedByNoRaw}
-use Rattle.endpoint_history.specs.Rounds as rounds
+use Rattle.endpoint_history.specs.Rounds.{Round, Played, arriving, then_each, begun, posted_down, played, sent_by, NamedByNoRaw}
 use Rattle.trace_run.specs.Run.{Setting, batch_of, told_of, told_in, replayed}
 use Rattle.trace_run.specs.Histories.{played_after, agent_after, lane_after}
-use Rattle.trace_run.specs.Sends.{EverySendIsScheduled, NoSlotIsSentTwice, SentIsWhatEachRoundSends, ToldIsOwedInEachRound, NoPacketIsForged, NoSlotInTimeIsPassedOver}
+use Rattle.trace_run.specs.Sends.{EverySendIsScheduled, NoSlotIsSentTwice, SentIsWhatEachRoundSends, NoPacketIsForged}
 use Rattle.trace_run.specs.Premises.{Schedules, Ends}
 use Rattle.trace_run.proofs.Fronts.{told-whole}
 use Rattle.trace_run.proofs.Applicable.{round_after, recording}
@@ -215,18 +214,9 @@ no_slot_is_sent_twice s ends setting some rounds endpoint slot =
 
 -- ---- where no raw row names the endpoint
 
-none-named : (setting : Setting) (number endpoint : ℕ) → ((round : ℕ) → setting.outside.raw round endpoint ≡ []) → NamedByNoRaw ((replayed setting number).rounds endpoint)
+pub none-named : (setting : Setting) (number endpoint : ℕ) → ((round : ℕ) → setting.outside.raw round endpoint ≡ []) → NamedByNoRaw ((replayed setting number).rounds endpoint)
 none-named setting zero endpoint none = tt
 none-named setting (suc number) endpoint none = (none number, none-named setting number endpoint none)
 
 pub no_packet_is_forged : Ends → NoPacketIsForged
 no_packet_is_forged ends setting rounds endpoint none = ends.arrive setting.endpoints setting.g ((replayed setting rounds).rounds endpoint) (none-named setting rounds endpoint none)
-
-pub no_slot_in_time_is_passed_over : Ends → ToldIsOwedInEachRound → NoSlotInTimeIsPassedOver
-no_slot_in_time_is_passed_over ends owed_is setting some number endpoint low none =
-    let before : List Round = (replayed setting number).rounds endpoint in
-    let round : Round = round_after setting number endpoint in
-    let steps : List Step = rounds.recorded setting.endpoints setting.g (length before) round (played setting.endpoints setting.g before) in
-    let order = ends.order setting.endpoints setting.g (round ∷ before) in
-    ends.none_passed setting.endpoints setting.b setting.g steps (length before) (no_packet_is_forged ends setting (suc number) endpoint none)
-    order.sends.1 (owed_is setting some (suc number) endpoint low) order.sends.0

@@ -12,7 +12,9 @@ use Rattle.trace_run.specs.Applicable.{EveryRunIsApplicable, EverySlotIsOfTheRun
 use Rattle.trace_run.specs.Counts.{EveryFlowIsCounted, AddsAreDemandedAndLost}
 use Rattle.trace_run.specs.Sends.{EverySendIsScheduled, NoSlotIsSentTwice}
 use Rattle.trace_run.specs.Shown.{EveryReplayShows}
+use Rattle.trace_run.specs.Unharmed.{NoLossOrBootHarmsARun}
 use Rattle.trace_run.specs.Premises.{Schedules}
+use Rattle.trace_run.proofs.Sends.{sent_is_what_each_round_sends}
 use Rattle.trace_run.proofs.Fronts.{length-schedule, run_length}
 
 -- ---- the limits of a slot are those of all batches
@@ -39,8 +41,8 @@ limits_here b limits batches same number above within =
     limits_are b limits batches same (number - 1) (record { hosts = 0; cores = 0 }) (omega arith)
 
 pub every_replay_shows : Schedules → EverySlotIsAMaximalMatching → EverySlotKeepsTheLimits → EveryRunIsApplicable → EverySlotIsOfTheRun
-    → EverySendIsScheduled → NoSlotIsSentTwice → EveryFlowIsCounted → AddsAreDemandedAndLost → EveryReplayShows
-every_replay_shows s maximal keeps applicable in_run scheduled once counted adds setting some rounds =
+    → EverySendIsScheduled → NoSlotIsSentTwice → EveryFlowIsCounted → AddsAreDemandedAndLost → NoLossOrBootHarmsARun → EveryReplayShows
+every_replay_shows s maximal keeps applicable in_run scheduled once counted adds harmless setting some rounds =
     let batches = (replayed setting rounds).batches in
     let count = run_length setting rounds in
     let size : length batches * setting.b ≡ rounds * setting.b = ap (λ (n : ℕ). n * setting.b) count in
@@ -60,4 +62,6 @@ every_replay_shows s maximal keeps applicable in_run scheduled once counted adds
       once = λ endpoint slot. once setting some rounds endpoint slot;
       counted = λ src dst low high. counted setting some rounds src dst low high;
       added = λ src dst low high. adds setting rounds src dst low high;
+      all_sent = λ endpoint. sent_is_what_each_round_sends setting rounds endpoint;
+      unharmed = λ endpoint count low none within. harmless setting some count endpoint low none;
     }

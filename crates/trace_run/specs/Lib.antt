@@ -13,4 +13,5 @@ pub mod Run
 pub mod Sends
 pub mod Shown
 pub mod Told
+pub mod Unharmed
 pub mod Windows

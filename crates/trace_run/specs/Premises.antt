@@ -8,7 +8,7 @@ use Rattle.endpoint_history.specs.CountLaws.{MakingTells, ReadingDecides, Resets
 use Rattle.endpoint_history.specs.ForgedLaws.{EachTellingWasIssued, SentOnce}
 use Rattle.endpoint_history.specs.LedgerLaws.{AddsSumToOwed, EntriesSumToOwed, OneRest}
 use Rattle.endpoint_history.specs.RoundLaws.{RoundsArriveFromOther, RoundsAreInOrder}
-use Rattle.endpoint_history.specs.SlotLaws.{NoneIsPassedOver}
+use Rattle.endpoint_history.specs.Unharmed.{NoLossOrBootHarms}
 
 -- of schedules
 pub record Schedules : Type 0 where
@@ -37,4 +37,4 @@ pub record Ends : Type 0 where
   pub recorded : RecordedIsNamed
   pub issued : EachTellingWasIssued
   pub once : SentOnce
-  pub none_passed : NoneIsPassedOver
+  pub harmless : NoLossOrBootHarms

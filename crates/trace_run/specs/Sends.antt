@@ -1,14 +1,13 @@
 -- What is sent in the run of a trace. From this project's own profile.
-use Rattle.std.specs.Prelude.{◌≡◌, ℕ, zero, suc, ◌<◌, ◌≤◌, ◌==◌, true, List, [], ◌∷◌, ◌++◌, count_by, length}
+use Rattle.std.specs.Prelude.{◌≡◌, ℕ, zero, suc, ◌<◌, ◌≤◌, ◌==◌, true, List, [], ◌++◌, count_by}
 use Rattle.greedy_rules.specs.Slot.{has_flow}
 use Rattle.greedy_rules.specs.Schedule.{schedule, slot_at}
-use Rattle.endpoint_history.specs.Sending.{Slot, ever_sent, due}
+use Rattle.endpoint_history.specs.Sending.{Slot, ever_sent}
 use Rattle.endpoint_history.specs.SlotLaws.{ToldIsOwed}
-use Rattle.endpoint_history.specs.Steps.{agent_of, ArrivesFromOther}
+use Rattle.endpoint_history.specs.Steps.{ArrivesFromOther}
 use Rattle.endpoint_history.specs.Tellings.{Among}
-use Rattle.endpoint_history.specs.Rounds as rounds
-use Rattle.endpoint_history.specs.Rounds.{Round, played, sent_by}
-use Rattle.trace_run.specs.Run.{Setting, round_of, replayed}
+use Rattle.endpoint_history.specs.Rounds.{sent_by}
+use Rattle.trace_run.specs.Run.{Setting, replayed}
 use Rattle.trace_run.specs.Histories.{played_after, agent_after}
 
 -- the slots that an endpoint sent in, round after round
@@ -46,12 +45,3 @@ NoPacketIsForged =
 abbrev pub ToldIsOwedInEachRound : Type 0
 ToldIsOwedInEachRound =
     (setting : Setting) → 0 < setting.g → (rounds endpoint : ℕ) → endpoint < setting.endpoints → ToldIsOwed setting.g (played_after setting rounds endpoint).steps
-
--- the endpoint sends in every slot that came in time and is due
-abbrev pub NoSlotInTimeIsPassedOver : Type 0
-NoSlotInTimeIsPassedOver =
-    (setting : Setting) → 0 < setting.g → (number endpoint : ℕ) → endpoint < setting.endpoints → ((round : ℕ) → setting.outside.raw round endpoint ≡ []) →
-    let before : List Round = (replayed setting number).rounds endpoint in
-    let now : Round = round_of setting (replayed setting number).batches number endpoint in
-    sent_by setting.endpoints setting.b setting.g (now ∷ before)
-    ≡ due setting.b setting.g (agent_of (rounds.recorded setting.endpoints setting.g (length before) now (played setting.endpoints setting.g before))) (length before)

@@ -10,15 +10,16 @@ ghost use Rattle.trace_run.specs.Fronts.{EveryRoundHasABatch, ARunBeginsWithEach
 ghost use Rattle.trace_run.specs.Premises.{Schedules, Ends};
 ghost use Rattle.trace_run.specs.Recorded.{EveryRunIsRecorded};
 ghost use Rattle.trace_run.specs.Rest.{OwedIsAllocatedOrLeft, PublishedIsPending};
-ghost use Rattle.trace_run.specs.Sends.{EverySendIsScheduled, NoSlotIsSentTwice, SentIsWhatEachRoundSends, NoPacketIsForged, ToldIsOwedInEachRound, NoSlotInTimeIsPassedOver};
+ghost use Rattle.trace_run.specs.Sends.{EverySendIsScheduled, NoSlotIsSentTwice, SentIsWhatEachRoundSends, NoPacketIsForged, ToldIsOwedInEachRound};
 ghost use Rattle.trace_run.specs.Shown.{EveryReplayShows};
 ghost use Rattle.trace_run.specs.Told.{WhatIsToldIsOfABatch};
+ghost use Rattle.trace_run.specs.Unharmed.{NoLossOrBootHarmsARun};
 ghost use Rattle.trace_run.specs.Windows.{EveryBatchIsNext, EveryWindowIsAllocated, StepsGoOn, EveryStepIsInWindows, WhatIsToldIsPublished};
 
 use endpoint_history::{
     agents_count_slots, allocations_are_in_order, counts_are_bounded, lanes_count_slots,
-    ledger_and_demand_list_agree, requests_name_unconfirmed_totals, rounds_are_calls,
-    slots_in_time_are_sent, the_ledger_holds,
+    ledger_and_demand_list_agree, no_loss_or_boot_harms, requests_name_unconfirmed_totals,
+    rounds_are_calls, the_ledger_holds,
 };
 use greedy_rules::{
     every_batch_balances, every_schedule_balances, every_slot_is_a_maximal_matching,
@@ -148,12 +149,14 @@ pub fn lanes_are_told_of_slots()
     ledger_and_rest_agree();
 }
 
-/// An endpoint that no raw row names sends in every slot that it is told in time; the laws of both ends of a connection hold of it.
-pub fn no_slot_in_time_is_passed_over()
+/// What no loss, delay, repeat or boot does to an endpoint that no raw row names: what is lost is never sent, what is acknowledged
+/// was taken in once, and every slot in time is sent in. No packet of it is forged, and no more is told than is owed.
+pub fn no_loss_or_boot_harms_a_run()
     ensures unforged { NoPacketIsForged }
     ensures owed { ToldIsOwedInEachRound }
-    ensures none_passed { NoSlotInTimeIsPassedOver }
+    ensures harmless { NoLossOrBootHarmsARun }
 {
+    schedules_hold();
     ends_hold();
     every_run_is_applicable();
     ledger_and_rest_agree();
@@ -175,8 +178,8 @@ pub fn cores_are_only_told()
 {}
 
 /// What the run of every trace shows: every slot is a matching within the limits of the racks that no waiting demand could join,
-/// endpoints send in scheduled slots alone, and each flow's recorded demand is acknowledged, in flight or pending, lost slots
-/// pending again.
+/// endpoints send in scheduled slots alone, each flow's recorded demand is acknowledged, in flight or pending, lost slots pending
+/// again, and no loss, delay, repeat or boot harms an endpoint that no raw row names.
 pub fn every_replay_shows()
     ensures { EveryReplayShows }
 {
@@ -187,6 +190,7 @@ pub fn every_replay_shows()
     every_send_is_scheduled();
     every_flow_is_counted();
     ledger_and_rest_agree();
+    no_loss_or_boot_harms_a_run();
 }
 
 /// The laws of schedules that the lemmas here rest on.
@@ -208,8 +212,8 @@ fn ends_hold()
     counts_are_bounded();
     lanes_count_slots();
     ledger_and_demand_list_agree();
+    no_loss_or_boot_harms();
     requests_name_unconfirmed_totals();
     rounds_are_calls();
-    slots_in_time_are_sent();
     the_ledger_holds();
 }

@@ -3,6 +3,7 @@ ghost use Rattle.greedy_rules.specs.Batches.{DemandBatch};
 ghost use Rattle.clos_topology.specs.Network.{Network};
 ghost use Rattle.trace_text.specs.Trace.{TraceContent};
 ghost use Rattle.trace_text.specs.Valid.{IsTrace};
+ghost use Rattle.trace_run.specs.Shown.{IsShown};
 ghost use Rattle.replay_rounds.specs.Setting.{Cores, AreCores};
 ghost use Rattle.replay_rounds.specs.Played.{rounds_played};
 ghost use Rattle.replay_rounds.specs.Standing.{Stands, slots_between};
@@ -27,6 +28,7 @@ use std::alloc::Global;
 use std::marker::Model;
 use std::sync::Wait;
 use std::thread::{Threads, join_mut};
+use trace_run::every_replay_shows;
 use trace_text::Trace;
 
 /// From so many entries on, a thread allocates a window's batches while the next rounds are played.
@@ -149,6 +151,7 @@ impl Replay {
         requires sizes { IsSetting setting }
         ensures stands { IfOk result (λ replay. (cores : Cores) → AreCores cores → StandsForReplay trace.now cores replay) }
         ensures b { IfOk result (λ replay. replay.lanes.b ≡ setting.b) }
+        ensures paths { IfOk result (λ replay. replay.allocation.paths.paths ≡ setting.paths) }
         ensures g { IfOk result (λ replay. replay.lanes.g ≡ setting.g) }
         ensures collected { IfOk result (λ replay. replay.lanes.collected ≡ 0) }
         ensures published { IfOk result (λ replay. replay.lanes.published ≡ 0) }
@@ -250,11 +253,14 @@ impl Replay {
         ensures window { IfOk result (λ step. (cores : Cores) → StandsForReplay trace.now cores self.old →
             IsWindowOf trace.now.net self.old.lanes.b (slots_between (run_of trace.now cores self.old) self.old.lanes.published self.old.lanes.collected) step.window) }
         ensures jobs { OnOk result (self.new.allocation.paths.jobs ≡ self.old.allocation.paths.jobs + jobs_for (self.old.lanes.collected - self.old.lanes.published) self.old.lanes.b self.old.allocation.paths.paths) }
+        // What the rounds collected so far show, whatever cores are named, and that no loss, delay, repeat or boot harms.
+        ensures shown { OnOk result ((cores : Cores) → IsShown (run_of trace.now cores self.old) self.new.lanes.collected) }
         // It goes on standing for all cores that are, for these slots, the ones given.
         ensures stands { IfOk result (λ step. (cores : Cores) → StandsForReplay trace.now cores self.old →
             HasCoresOf self.old.lanes.b step cores → StandsForReplay trace.now cores self.new) }
     {
         replays_hold();
+        every_replay_shows();
         let _rounds = trace.rounds();
         let first = self.lanes.collected();
         let (played, window) = self.play_beside(rt, gate, trace)?;

@@ -2,39 +2,42 @@ use super::racks::many_to_one;
 use super::{run_on, sink, source};
 use fastpass_run::run;
 use fp_edge::Gate;
+use std::alloc::Global;
+use std::process::Abort;
+use std::sync::Wait;
 use std::sync::atomic::{AtomicBool, AtomicU64, Ordering};
 use std::test::Fail;
-use std::thread;
+use std::thread::{self, Threads};
 
-/// So many turns the first path worker waits for another one.
+/// So many turns a path worker waits for others.
 const TURNS: u32 = 10_000_000;
 
-/// No path worker has this number.
-const NOBODY: u64 = 65_536;
-
-/// Holds the first path worker that takes up a slot, until another one takes up a slot too.
+/// Holds each path worker that takes up its first slot, until as many have come as are awaited.
 #[derive(Drop)]
 struct Meeting {
-    // The number of the one that is held, or was.
-    first: AtomicU64,
-    // Another one has come.
-    met: AtomicBool,
-    // The first one has waited for all its turns, and nobody came.
+    awaited: u32,
+    // A bit for the number of each that has come.
+    came: AtomicU64,
+    // One has waited for all its turns, and too few came.
     alone: AtomicBool,
 }
 
 impl Meeting {
-    fn new() -> Meeting {
+    fn new(awaited: u32) -> Meeting {
         Meeting {
-            first: AtomicU64::new(NOBODY),
-            met: AtomicBool::new(false),
+            awaited,
+            came: AtomicU64::new(0),
             alone: AtomicBool::new(false),
         }
     }
 
+    fn all_came(&self) -> bool {
+        self.came.load(Ordering::SeqCst).count_ones() >= self.awaited
+    }
+
     fn wait(&self) {
         for _ in 0..TURNS {
-            if self.met.load(Ordering::SeqCst) {
+            if self.all_came() {
                 return;
             }
             thread::yield_now();
@@ -47,37 +50,40 @@ impl Gate for Meeting {
     fn enter(&self, _worker: u16, _stage: u32, _piece: u32) {}
 
     fn paint(&self, worker: u16, _slot: u32) {
-        let me = u64::from(worker);
-        let first = self
-            .first
-            .compare_exchange(NOBODY, me, Ordering::SeqCst, Ordering::SeqCst);
-        match first {
-            Ok(_) => self.wait(),
-            Err(first) if first != me => self.met.store(true, Ordering::SeqCst),
-            Err(_) => {}
+        let me = 1u64 << u32::from(worker % 64);
+        let before = self.came.fetch_or(me, Ordering::SeqCst);
+        if before & me == 0 {
+            self.wait();
         }
     }
 }
 
-// Where one thread plays all path workers, in whatever order, nobody comes while the first one is held.
-#[test]
-fn path_workers_run_at_once(rt: HostRuntime) -> Result<(), Fail> {
-    let alloc = rt.alloc();
+fn meet<R: Abort + Threads + Wait + Sync>(
+    rt: &R,
+    alloc: Global,
+    words: &[&'static str],
+    awaited: u32,
+) -> Result<(), Fail> {
     let trace = many_to_one(alloc)?;
-    let words = ["plan", "--paths", "2"];
     let mut src = source(alloc, &trace)?;
     let mut out = sink(alloc)?;
     let mut notes = sink(alloc)?;
-    let gate = Meeting::new();
-    let status = run(&rt, alloc, &words, &mut src, &mut out, &mut notes, &gate);
+    let gate = Meeting::new(awaited);
+    let status = run(rt, alloc, words, &mut src, &mut out, &mut notes, &gate);
     assert_eq!(rt; status, 0);
-    assert!(rt;
-        gate.met.load(Ordering::SeqCst),
-        "no other path worker took up a slot"
-    );
-    assert!(rt; !gate.alone.load(Ordering::SeqCst), "nobody came in time");
-    let open = run_on(&rt, alloc, &words, &trace)?;
+    assert!(rt; gate.all_came(), "too few path workers took up a slot");
+    assert!(rt; !gate.alone.load(Ordering::SeqCst), "too few came in time");
+    let open = run_on(rt, alloc, words, &trace)?;
     assert!(rt; out.held() == open.out.held());
     assert!(rt; notes.held().is_empty());
     Ok(())
+}
+
+// As many path workers run at once as the words say. Where one thread plays them all, in whatever order, nobody else comes while the
+// first one is held.
+#[test]
+fn path_workers_run_at_once(rt: HostRuntime) -> Result<(), Fail> {
+    meet(&rt, rt.alloc(), &["plan", "--paths", "2"], 2)?;
+    meet(&rt, rt.alloc(), &["plan", "--paths", "3"], 3)?;
+    meet(&rt, rt.alloc(), &["replay", "--paths", "3"], 3)
 }

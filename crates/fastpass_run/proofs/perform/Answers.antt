@@ -1,34 +1,71 @@
-use Rattle.std.proofs.Common.{ℕ, List, Some, inl, inr, refl, sym, ap, ◌∙◌}
+use Rattle.std.proofs.Common.{ℕ, List, None, inl, inr, refl, sym, ap, ◌∙◌}
 use Rattle.trace_text.specs.declared.command.Command.{Command}
 use Rattle.trace_text.specs.declared.command.Command.TheVariants.{Replay}
 use Rattle.trace_text.specs.Trace.{trace_of}
-use Rattle.fastpass_run.specs.Outside.{outside}
-use Rattle.fastpass_run.specs.Words.{Asked, texts}
-use Rattle.fastpass_run.specs.declared.words.Input.{Input}
+use Rattle.fastpass_run.specs.Outside.{Outside, outside}
+use Rattle.fastpass_run.specs.Words.{asked_in, texts}
 use Rattle.fastpass_run.specs.declared.words.Input.TheVariants.{Read}
-use Rattle.fastpass_run.proofs.RunLemmas.{made_comes}
+use Rattle.fastpass_run.proofs.RunLemmas.{stopped, takes_none}
 use Rattle.fastpass_run.proofs.perform.Goals as goal
 
-pub returns-in_err-write_made-in-Made-clause-comes : goal.returns-in_err-write_made-in-Made-clause-comes
-returns-in_err-write_made-in-Made-clause-comes g c =
-    let sizes = c.in-Some.task.sizes in
-    let asked : Input → Asked = λ input. record { input = input; b = sizes.b; g = sizes.g } in
-    made_comes (texts c.args.words.now) c.in-Made.number sizes.b sizes.g (outside g.S.Source g.O.Sink c.args.src.now c.args.out.now) (outside g.S.Source g.O.Sink c.args.src.now c.write_made.new.sink)
-    c.in_err-write_made-in-Made.field-0.0 c.from_residual.result c.from_residual.ensures.1 (sym c.in-Some.ensures.asked ∙ ap (λ (input : Input). Some (asked input)) c.in-Made.is)
-    (record { same_bytes = refl; same_faults = refl }) c.in_err-write_made-in-Made.ensures.writes
+pub returns-in_err-write_made-in-Made-clause-ends : goal.returns-in_err-write_made-in-Made-clause-ends
+returns-in_err-write_made-in-Made-clause-ends g c =
+    let old : Outside = outside g.S.Source g.O.Sink c.args.src.now c.args.out.now in
+    let made = c.in_err-write_made-in-Made.ensures in
+    stopped (texts c.args.words.now) old (outside g.S.Source g.O.Sink c.args.src.now c.write_made.new.sink) c.in_err-write_made-in-Made.field-0.0 c.from_residual.result c.from_residual.ensures.1
+    (inr (inr (record {
+      asked = asked_in c.in-Some.task;
+      number = c.in-Made.number;
+      accepted = sym c.in-Some.ensures.asked;
+      command = c.in-Made.is;
+      unread = record { same_bytes = refl; same_faults = refl };
+      written = λ cores. (made.writes cores).front;
+      balanced = made.balanced;
+      shown = made.shown;
+    })))
+    (asked_in c.in-Some.task, sym c.in-Some.ensures.asked) (takes_none old.left old.left refl) (made.writes (λ number source. None)).cause
 
-pub returns-clause-comes : goal.returns-clause-comes
-returns-clause-comes g c =
-    let sizes = c.in-Some.task.sizes in
-    let asked : Input → Asked = λ input. record { input = input; b = sizes.b; g = sizes.g } in
+pub returns-in_err-write_replay-in-Replay-clause-ends : goal.returns-in_err-write_replay-in-Replay-clause-ends
+returns-in_err-write_replay-in-Replay-clause-ends g c =
     let bytes : List ℕ = c.in_ok-text.text.items in
     let (long, took, ended) = c.in_ok-text.ensures.read in
-    let (cores, makes, writes) = c.in_ok-write_replay-in-Replay.ensures.writes in
-    inr (inl (record {
-      b = sizes.b;
-      g = sizes.g;
+    let replay = c.in_err-write_replay-in-Replay.ensures in
+    let (cores, makes, writes) = replay.writes in
+    stopped (texts c.args.words.now) (outside g.S.Source g.O.Sink c.args.src.now c.args.out.now) (outside g.S.Source g.O.Sink c.read_all.new.source c.write_replay.new.sink) c.in_err-write_replay-in-Replay.field-0.0
+    c.from_residual-in_err-write_replay-in-Replay.result c.from_residual-in_err-write_replay-in-Replay.ensures.1
+    (inr (inl (record {
+      asked = asked_in c.in-Some.task;
+      accepted = sym c.in-Some.ensures.asked;
+      command = c.in-Read.is ∙ ap Read c.in-Replay.is;
       trace = c.in_ok-trace.trace;
-      accepted = sym c.in-Some.ensures.asked ∙ ap (λ (input : Input). Some (asked input)) (c.in-Read.is ∙ ap Read c.in-Replay.is);
+      read = (
+        bytes,
+        took,
+        ended,
+        long,
+        ap (λ (bs : List ℕ). trace_of Replay bs) (sym c.deref.ensures.value)
+            ∙ (ap (λ (command : Command). trace_of command c.deref.result.now) (sym c.in-Replay.is) ∙ c.in_ok-trace.ensures.accepted),
+      );
+      cores = cores;
+      written = writes.front;
+      slots = makes.scheduled;
+      shown = replay.shown cores;
+      sends = replay.sends cores;
+      ledger = replay.ledger cores;
+    })))
+    (asked_in c.in-Some.task, sym c.in-Some.ensures.asked) (bytes, took, long) writes.cause
+
+pub returns-clause-ends : goal.returns-clause-ends
+returns-clause-ends g c =
+    let bytes : List ℕ = c.in_ok-text.text.items in
+    let (long, took, ended) = c.in_ok-text.ensures.read in
+    let replay = c.in_ok-write_replay-in-Replay.ensures in
+    let (cores, makes, writes) = replay.writes in
+    inr (inl (record {
+      asked = asked_in c.in-Some.task;
+      accepted = sym c.in-Some.ensures.asked;
+      command = c.in-Read.is ∙ ap Read c.in-Replay.is;
+      trace = c.in_ok-trace.trace;
       read = (
         bytes,
         took,
@@ -40,6 +77,7 @@ returns-clause-comes g c =
       cores = cores;
       written = writes.all;
       slots = makes.scheduled;
-      shown = c.in_ok-write_replay-in-Replay.ensures.shown cores;
-      sends = c.in_ok-write_replay-in-Replay.ensures.sends cores;
+      shown = replay.shown cores;
+      sends = replay.sends cores;
+      ledger = replay.ledger cores;
     }))

@@ -1,5 +1,6 @@
 use Rattle.std.proofs.Common.{◌∙◌, rules}
 use Rattle.window_engine.specs.Batches.{plan_batches}
+use Rattle.run_text.proofs.LedgerLemmas.{plan_is_balanced}
 use Rattle.run_text.proofs.plan.write_plan.Goals as goal
 
 pub returns-in_err-gathered-clause-writes : goal.returns-in_err-gathered-clause-writes
@@ -11,3 +12,9 @@ pub returns-clause-writes : goal.returns-clause-writes
 returns-clause-writes g c =
     let (cores, scheduled, ends) = c.put_lines-written.ensures in
     (cores, scheduled, c.texts_follow.ensures.whole c.new-output.ensures.told (search rules) (c.new-output.ensures.gathered ∙ c.in_ok-gathered.ensures) ends)
+
+pub returns-in_err-gathered-clause-balanced : goal.returns-in_err-gathered-clause-balanced
+returns-in_err-gathered-clause-balanced g c = λ cores. plan_is_balanced cores c.args.sizes.b c.args.trace.now (c.every_plan_balances.ensures c.args.sizes.b c.args.trace.now c.requires.accepted)
+
+pub returns-clause-balanced : goal.returns-clause-balanced
+returns-clause-balanced g c = λ cores. plan_is_balanced cores c.args.sizes.b c.args.trace.now (c.every_plan_balances.ensures c.args.sizes.b c.args.trace.now c.requires.accepted)

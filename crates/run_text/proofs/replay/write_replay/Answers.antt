@@ -1,6 +1,7 @@
-use Rattle.std.proofs.Common.{◌∙◌, rules}
+use Rattle.std.proofs.Common.{◌∙◌, refl, rules}
 use Rattle.replay_rounds.specs.Setting.{setting_of}
 use Rattle.run_text.proofs.ReplayCores.{has_replay_cores}
+use Rattle.run_text.proofs.LedgerLemmas.{ledger_is_kept}
 use Rattle.run_text.proofs.SentLemmas.{sends_are_scheduled}
 use Rattle.run_text.proofs.replay.write_replay.Goals as goal
 
@@ -31,3 +32,13 @@ pub returns-clause-writes : goal.returns-clause-writes
 returns-clause-writes g c =
     let (cores, makes, ends) = c.put_lines-written.ensures in
     (cores, makes, c.texts_follow.ensures.whole c.new-output.ensures.told (search rules) (c.new-output.ensures.gathered ∙ c.in_ok-gathered.ensures) ends)
+
+pub returns-in_err-gathered-clause-ledger : goal.returns-in_err-gathered-clause-ledger
+returns-in_err-gathered-clause-ledger g c = λ cores.
+    ledger_is_kept cores (setting_of c.args.trace.now c.args.sizes.b c.args.sizes.g cores) c.args.trace.now refl c.every_replay_shows.ensures c.every_run_is_applicable.ensures.batches c.every_replay_takes_its_steps.ensures c.requires.sizes.g.0
+    c.requires.accepted.some_round
+
+pub returns-clause-ledger : goal.returns-clause-ledger
+returns-clause-ledger g c = λ cores.
+    ledger_is_kept cores (setting_of c.args.trace.now c.args.sizes.b c.args.sizes.g cores) c.args.trace.now refl c.every_replay_shows.ensures c.every_run_is_applicable.ensures.batches c.every_replay_takes_its_steps.ensures c.requires.sizes.g.0
+    c.requires.accepted.some_round

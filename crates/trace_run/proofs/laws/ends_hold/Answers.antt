@@ -17,7 +17,7 @@ returns c =
       sums = counts.sums;
       adds = ledger.adds;
       entries = ledger.entries;
-      rest = c.ledger_and_demand_list_agree.ensures;
+      rest = c.ledger_and_demand_list_agree.ensures.rest;
       taken = agents.taken;
       taking = agents.taking;
       named = c.requests_name_unconfirmed_totals.ensures.named;
@@ -25,5 +25,5 @@ returns c =
       recorded = c.counts_are_bounded.ensures.recorded;
       issued = told.issued;
       once = told.sent_once;
-      none_passed = c.slots_in_time_are_sent.ensures.none_passed;
+      harmless = c.no_loss_or_boot_harms.ensures;
     }

@@ -527,3 +527,7 @@ returns-clause-stands c =
     (λ rounds allocations stood.
     let it = all rounds allocations stood in
     stands-next e n b g number ended done c.hear.new.world c.read.new.world true (round_in was events told) rounds allocations done_sizes it.number_is it.all)
+
+pub returns-clause-unharmed : goal.returns-clause-unharmed
+returns-clause-unharmed c = λ rounds allocations stood none owed.
+    c.no_loss_or_boot_harms.ensures _ _ _ _ none (returns-clause-stands c rounds allocations stood).within owed

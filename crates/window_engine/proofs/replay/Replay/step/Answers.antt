@@ -4,7 +4,7 @@ use Rattle.trace_run.specs.Run.{replayed}
 use Rattle.replay_rounds.specs.Setting.{setting_of}
 use Rattle.replay_rounds.specs.Played.{Played, rounds_played}
 use Rattle.replay_rounds.specs.Standing.{RoundsContent}
-use Rattle.window_engine.specs.Replay.{ReplayState}
+use Rattle.window_engine.specs.Replay.{ReplayState, run_of}
 use Rattle.window_engine.specs.Standing.{Allocated, HasAllocated}
 use Rattle.window_engine.specs.Step.{WindowContent, jobs_for}
 use Rattle.window_engine.proofs.ReplaySteps.{are_next, replay_allocated}
@@ -122,6 +122,11 @@ returns-clause-jobs g c =
     ∙ (c.in_ok-played.ensures.given.jobs
     ∙ (ap (λ (n : ℕ). half.paths.jobs + jobs_for n half.b half.paths.paths) next.number
     ∙ ap (λ (n : ℕ). half.paths.jobs + jobs_for (old.lanes.collected - old.lanes.published) n half.paths.paths) stands.size)))
+
+pub returns-clause-shown : goal.returns-clause-shown
+returns-clause-shown g c = λ named.
+    let (cores, stands) = c.requires.stands in
+    c.every_replay_shows.ensures (run_of c.args.trace.now named c.args.self.now) stands.lanes.rounds.0 _
 
 pub returns-clause-stands : goal.returns-clause-stands
 returns-clause-stands g c cores stands named =
