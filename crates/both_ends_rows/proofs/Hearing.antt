@@ -12,9 +12,9 @@ use Rattle.endpoint_history.specs.Agent.{AgentHistory, Boots, Asks, TakesDown, M
 use Rattle.endpoint_history.specs.AgentLaws.{TakingBringsSlots}
 use Rattle.endpoint_history.specs.Packets.{DownPacket, down_packet, slots_to}
 use Rattle.endpoint_history.specs.Tellings.{Among}
-use Rattle.endpoint_agent.specs.Laws.{TimelyMayBeTaken}
 use Rattle.endpoint_agent.specs.Standing.{StandsFor}
-use Rattle.endpoint_agent.specs.State.{AgentState, MayTake}
+use Rattle.endpoint_agent.specs.State.{AgentState}
+use Rattle.endpoint_agent.specs.Timely.{AreApart, MayTake}
 use Rattle.both_ends_rows.specs.Callers.{IsHeard, MayHear}
 
 -- ---- a number that was taken is not taken again
@@ -69,10 +69,7 @@ nil_or : (told : List Told) → (told ≡ []) ⊎ (told ≢ [])
 nil_or [] = inl refl
 nil_or (t ∷ told) = inr (λ e. cc)
 
-module _ (agent : AgentState) (round boots asks heard batch number : ℕ) (down : Down) (is : IsHeard agent round boots asks heard batch number) (may : MayHear round heard batch number down) where
-  few : (dst : ℕ) → slots_to dst down.told.items ≤ 1
-  few dst = let most = count_by-le-length (λ (t : Told). t.dst == dst) down.told.items in let one = may.few in omega (arith, most, one)
-
+module _ (agent : AgentState) (round boots asks batch number : ℕ) (down : Down) (is : IsHeard agent round boots asks batch number) (may : MayHear round batch number down) where
   once : takes is.calls (down_packet down) ≡ true → down.told.items ≢ [] → (t : TakenDown) → Among t (taken is.calls) → t.packet.content.told ≢ [] → t.packet.content.batch ≢ down.batch
   once fresh some t among told same =
       elim (is.told t among told) [
@@ -87,18 +84,19 @@ module _ (agent : AgentState) (round boots asks heard batch number : ℕ) (down 
         ]
       ]
 
-  pub may-take : TimelyMayBeTaken → takes is.calls (down_packet down) ≡ true → MayTake agent round (down_packet down)
-  may-take timely fresh =
-      subst (λ (r : ℕ). MayTake agent r (down_packet down)) is.at
-      (timely agent is.calls (down_packet down) is.stands (λ some. record {
-        late = let late = may.late some in let at = is.at in let g = is.g in omega (arith, late, at, g);
-        once = once fresh some;
-        few = λ dst.
-            let one = few dst in
-            let before = subst (λ (g : ℕ). missed g is.calls dst ≤ heard) (sym is.g) (is.missed dst) in
-            let most = may.most in
-            omega (arith, one, before, most);
-      }))
+  pub may-take : takes is.calls (down_packet down) ≡ true → MayTake agent.g is.calls round (down_packet down)
+  may-take fresh = record {
+    late = λ some. let late = may.late some in let g = is.g in omega (arith, late, g);
+    apart = (once fresh, is.apart);
+  }
+
+  apart-now : AreApart (taken (TakesDown round (down_packet down) ∷ is.calls))
+  apart-now =
+      let now : TakenDown = record { round = round; packet = down_packet down } in
+      elim (cases_Bool (takes is.calls (down_packet down))) [
+        | inl on ↦ subst (λ (b : Bool). AreApart (cond b (now ∷ taken is.calls) (taken is.calls))) (sym on) (once on, is.apart)
+        | inr off ↦ subst (λ (b : Bool). AreApart (cond b (now ∷ taken is.calls) (taken is.calls))) (sym off) is.apart
+      ]
 
   -- what is told of earlier packets, once this one is the last
   module _ (batch' number' : ℕ) (this : down.told.items ≢ [] → (batch' ≡ down.batch) × (number' ≡ down.seq)) (other : down.told.items ≡ [] → (batch' ≡ batch) × (number' ≡ number)) where
@@ -139,22 +137,9 @@ module _ (agent : AgentState) (round boots asks heard batch number : ℕ) (down 
           | inr off ↦ later t.packet.content.batch t.packet.seq (is.told t (subst (λ (b : Bool). Among t (cond b (now ∷ taken is.calls) (taken is.calls))) off among) told)
         ]
 
-    missed-now : TakingBringsSlots → (dst : ℕ) → missed 1 (TakesDown round (down_packet down) ∷ is.calls) dst ≤ heard + 1
-    missed-now brings dst =
-        let before = is.missed dst in
-        let one = few dst in
-        elim (cases_Bool (takes is.calls (down_packet down))) [
-          | inl on ↦
-              let more = brings.late 1 round (down_packet down) is.calls dst on in
-              let at_most : (b : Bool) → cond {A = ℕ} b 0 (slots_to dst down.told.items) ≤ 1 = λ b. elim b as (λ b. cond {A = ℕ} b 0 (slots_to dst down.told.items) ≤ 1) [ true ↦ omega arith | false ↦ one ] in
-              let it = at_most (is_in_time 1 (record { round = round; packet = down_packet down })) in
-              omega (arith, more, before, it)
-          | inr off ↦ let same = (brings.refused 1 round (down_packet down) is.calls dst off).1 in omega (arith, same, before)
-        ]
-
-    pub heard-one : (new : AgentState) → TakingBringsSlots → new.me ≡ agent.me → new.endpoints ≡ agent.endpoints → new.b ≡ agent.b → new.g ≡ agent.g → new.round ≡ agent.round → new.is_made ≡ agent.is_made → new.epoch ≡ agent.epoch →
-        StandsFor new (TakesDown round (down_packet down) ∷ is.calls) → IsHeard new round boots asks (heard + 1) batch' number'
-    heard-one new brings me endpoints b g at made epoch stands = record {
+    pub heard-one : (new : AgentState) → new.me ≡ agent.me → new.endpoints ≡ agent.endpoints → new.b ≡ agent.b → new.g ≡ agent.g → new.round ≡ agent.round → new.is_made ≡ agent.is_made → new.epoch ≡ agent.epoch →
+        StandsFor new (TakesDown round (down_packet down) ∷ is.calls) → IsHeard new round boots asks batch' number'
+    heard-one new me endpoints b g at made epoch stands = record {
       me = me ∙ is.me;
       endpoints = endpoints ∙ is.endpoints;
       b = b ∙ is.b;
@@ -165,6 +150,6 @@ module _ (agent : AgentState) (round boots asks heard batch number : ℕ) (down 
       calls = TakesDown round (down_packet down) ∷ is.calls;
       stands = stands;
       asked = is.asked;
-      missed = missed-now brings;
+      apart = apart-now;
       told = told-now;
     }

@@ -3,12 +3,13 @@
 use Rattle.std.specs.Prelude.{◌≡◌, ◌≢◌, ◌<◌, ◌≤◌, ◌⊎◌, ℕ, ◌+◌, ◌-◌, Bool, true, false, List, [], ◌∷◌, length, if◌then◌else◌}
 use Rattle.fcp_framing.specs.declared.packet.Down.{Down}
 use Rattle.fcp_framing.specs.declared.packet.Told.{Told}
-use Rattle.endpoint_history.specs.Agent.{AgentHistory, TakenDown, epoch_of, asked, taken, missed}
+use Rattle.endpoint_history.specs.Agent.{AgentHistory, TakenDown, epoch_of, asked, taken}
 use Rattle.endpoint_history.specs.Conditions.{LaneCall, history_of, allocations_of, allocated_in, MeetsConditions}
 use Rattle.endpoint_history.specs.Rounds.{Round}
 use Rattle.endpoint_history.specs.Steps.{agent_of, lane_of, rounds_begun}
 use Rattle.endpoint_history.specs.Tellings.{Among}
 use Rattle.endpoint_agent.specs.State.{AgentState}
+use Rattle.endpoint_agent.specs.Timely.{AreApart}
 use Rattle.endpoint_agent.specs.Standing as agents
 use Rattle.arbiter_lane.specs.State.{LaneState}
 use Rattle.arbiter_lane.specs.Standing as lanes
@@ -43,8 +44,8 @@ pub record IsPlayed (state : RoundsState) (dst number asks : ℕ) (before last :
 
 -- ---- an agent alone
 
--- so many packets were heard, and those of this boot that told slots are of earlier batches than the last one, or it
-pub record IsHeard (agent : AgentState) (round boots asks heard batch number : ℕ) : Type 0 where
+-- the packets of this boot that told slots are of earlier batches than the last one, or it, and no two are of one batch
+pub record IsHeard (agent : AgentState) (round boots asks batch number : ℕ) : Type 0 where
   pub me : agent.me ≡ 0
   pub endpoints : agent.endpoints ≡ 2
   pub b : agent.b ≡ 1
@@ -55,18 +56,16 @@ pub record IsHeard (agent : AgentState) (round boots asks heard batch number : �
   pub calls : AgentHistory
   pub stands : agents.StandsFor agent calls
   pub asked : asked calls 1 ≤ asks
-  pub missed : (dst : ℕ) → missed 1 calls dst ≤ heard
+  pub apart : AreApart (taken calls)
   pub told : (t : TakenDown) → Among t (taken calls) → t.packet.content.told ≢ [] →
       (t.packet.content.batch < batch) ⊎ ((t.packet.content.batch ≡ batch) × (t.packet.seq ≡ number))
 
--- an allocation tells at most one slot, two rounds after its batch or later, and of a later batch than the last one, or it is that one
-pub record MayHear (round heard batch number : ℕ) (down : Down) : Type 0 where
+-- an allocation tells slots two rounds after their batch or later, and of a later batch than the last one, or it is that one
+pub record MayHear (round batch number : ℕ) (down : Down) : Type 0 where
   pub destination : down.dst ≡ 0
-  pub few : length down.told.items ≤ 1
   pub late : down.told.items ≢ [] → down.batch + 2 ≤ round
   pub next : down.told.items ≢ [] → (batch < down.batch) ⊎ ((down.batch ≡ batch) × (down.seq ≡ number))
   pub rounds : round < 99999
-  pub most : heard < 100000
 
 -- ---- a lane alone
 

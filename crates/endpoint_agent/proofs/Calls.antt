@@ -1,5 +1,5 @@
 -- What an agent stands for after each of its calls.
-use Rattle.std.proofs.Common.{◌≡◌, ℕ, zero, suc, get_or, leb, ◌%◌, ◌+◌, ◌-◌, ◌<◌, ◌≤◌, max, Bool, true, false, cond, ◌&&◌, ◌==◌, not, List, [], ◌∷◌, map, length, set, unwrap_or, refl, sym, ◌∙◌, ap, subst, inl, inr, arith}
+use Rattle.std.proofs.Common.{◌≡◌, ◌≢◌, ℕ, zero, suc, get_or, leb, ◌%◌, ◌+◌, ◌-◌, ◌<◌, ◌≤◌, max, Bool, true, false, cond, ◌&&◌, ◌==◌, not, List, [], ◌∷◌, map, length, set, unwrap_or, refl, sym, ◌∙◌, ap, subst, inl, inr, arith}
 use Rattle.std.specs.Prelude.{sum_by}
 use Rattle.std.proofs.lemmas.Bool.{cases_Bool, cases_eq, cond-true, cond-false, eq-eqb, ne_eqb}
 use Rattle.std.proofs.lemmas.List.{get_or-set_same, get_or-set_other}
@@ -19,6 +19,7 @@ use Rattle.endpoint_agent.specs.declared.lines.FlowLine.{FlowLine}
 use Rattle.endpoint_agent.specs.Carrying.{bare, bare_numbers, greatest_acknowledged, greatest_shown, carried_from}
 use Rattle.endpoint_agent.specs.Lines.{with_asked, with_missed, with_sent}
 use Rattle.endpoint_agent.specs.Standing.{line_of, StandsFor}
+use Rattle.endpoint_agent.specs.Timely.{AreTold}
 use Rattle.endpoint_agent.specs.State.{AgentState, line_at, first_waiting, waits_of}
 use Rattle.endpoint_agent.proofs.Bare.{bare-newest, bare-may_send, greatest-sends, greatest-reads}
 use Rattle.endpoint_agent.proofs.Due.{Waits}
@@ -70,6 +71,7 @@ StandsFor-asks agent history dst n lines stands asks = record {
       ∙ line-asks agent.endpoints agent.b agent.g history dst n other (agent.sent.outstanding.newest + 1) (line_at agent.lines other) (stands.lines other below) (next-number agent history stands);
   waiting = stands.waiting;
   round = stands.round;
+  told = stands.told;
 }
 
 -- ---- a boot
@@ -106,6 +108,7 @@ StandsFor-boots agent history version heard sent lines stands heard_version sent
   lines = λ dst below. none dst;
   waiting = λ batch from. no-waits agent.b agent.g agent.round batch;
   round = stands.round;
+  told = tt;
 }
 
 pub StandsFor-opens : (me endpoints b g : ℕ) (heard : Receiver) (sent : Sender (Unit {0})) (lines : List FlowLine) → HasHeard heard [] → HasDone sent [] → ((dst : ℕ) → line_at lines dst ≡ no_line)
@@ -121,6 +124,7 @@ StandsFor-opens me endpoints b g heard sent lines hears does none = record {
   lines = λ dst below. none dst;
   waiting = λ batch from. no-waits b g 0 batch;
   round = refl;
+  told = tt;
 }
 
 -- ---- the end of a round
@@ -128,6 +132,10 @@ StandsFor-opens me endpoints b g heard sent lines hears does none = record {
 pub sent_in-is : (b g : ℕ) (history : AgentHistory) (round : ℕ) → sent_in b g history round ≡ sent_of (λ dst. asked history dst - sends b g history dst) (due b g history round)
 unfolding sent_now
 sent_in-is b g history round = refl
+
+AreTold-later : (round : ℕ) (ts : List TakenDown) → AreTold round ts → AreTold (round + 1) ts
+AreTold-later round [] told = tt
+AreTold-later round (t ∷ ts) told = (told.0, λ some. let low = told.1 some in omega arith, AreTold-later round ts told.2)
 
 pub StandsFor-ends : (agent : AgentState) (history : AgentHistory) (round : ℕ) (lines : List FlowLine) (waiting : List (List Told)) → StandsFor agent history → round ≡ agent.round
     → ((dst : ℕ) → dst < agent.endpoints → line_at lines dst ≡ with_sent (to dst (sent_in agent.b agent.g history round)) (line_at agent.lines dst))
@@ -144,6 +152,7 @@ StandsFor-ends agent history round lines waiting stands now counted waits = reco
   lines = λ dst below. counted dst below ∙ ap (with_sent (to dst (sent_in agent.b agent.g history round))) (stands.lines dst below);
   waiting = waits;
   round = refl;
+  told = AreTold-later round (taken history) (subst (λ (n : ℕ). AreTold n (taken history)) (sym now) stands.told);
 }
 
 -- ---- a packet is made
@@ -197,6 +206,7 @@ StandsFor-again agent history stands again =
       lines = stands.lines;
       waiting = stands.waiting;
       round = stands.round;
+      told = stands.told;
     }
 
 pub StandsFor-new : (agent : AgentState) (history : AgentHistory) (sent : Sender (Unit {0})) (named : List Demand) → StandsFor agent history → sends_new history (numbers agent.endpoints agent.g history) ≡ true
@@ -216,6 +226,7 @@ StandsFor-new agent history sent named stands new done names =
       lines = stands.lines;
       waiting = stands.waiting;
       round = stands.round;
+      told = stands.told;
     }
 
 -- ---- parts of a history after a packet
@@ -284,6 +295,7 @@ StandsFor-passed agent history round packet stands other =
       lines = λ dst below. stands.lines dst below ∙ line-left agent.endpoints agent.b agent.g history round packet dst left;
       waiting = subst (λ (ts : List TakenDown). Waits agent.b agent.g agent.round agent.waiting ts) (sym (taken-left history round packet left)) stands.waiting;
       round = stands.round;
+      told = subst (AreTold agent.round) (sym (taken-left history round packet left)) stands.told;
     }
 
 -- of this epoch and version: its acknowledgement is read
@@ -351,6 +363,7 @@ StandsFor-read agent history round packet heard sent acknowledged stands same cu
       lines = λ dst below. stands.lines dst below ∙ line-left agent.endpoints agent.b agent.g history round packet dst left;
       waiting = subst (λ (ts : List TakenDown). Waits agent.b agent.g agent.round agent.waiting ts) (sym (taken-left history round packet left)) stands.waiting;
       round = stands.round;
+      told = subst (AreTold agent.round) (sym (taken-left history round packet left)) stands.told;
     }
 
 -- its number is fresh
@@ -360,8 +373,9 @@ pub StandsFor-takes : (taking : TakingBringsSlots) (agent : AgentState) (history
     → ((dst : ℕ) → line_at lines dst
     ≡ with_missed (agent.sent.outstanding.newest + 1) (cond (is_in_time agent.g (record { round = round; packet = packet })) 0 (slots_to dst packet.content.told)) (line_at agent.lines dst))
     → Waits agent.b agent.g agent.round waiting (record { round = round; packet = packet } ∷ taken history)
+    → length packet.content.told ≤ 64 → (packet.content.told ≢ [] → packet.content.batch ≤ agent.round)
     → StandsFor (record agent { arrived = heard; sent = sent; has_begun = true; acknowledged = acknowledged; lines = lines; waiting = waiting }) (TakesDown round packet ∷ history)
-StandsFor-takes taking agent history round packet heard sent acknowledged lines waiting stands same current verdict (hears, does, shows) counted waits =
+StandsFor-takes taking agent history round packet heard sent acknowledged lines waiting stands same current verdict (hears, does, shows) counted waits few late =
     let is_now = current-from history packet current in
     let takes_it = takes-by history packet true current verdict in
     let read = sym (numbers-read agent.endpoints agent.g history round packet is_now) in
@@ -379,4 +393,5 @@ StandsFor-takes taking agent history round packet heard sent acknowledged lines 
           ∙ line-takes taking agent.endpoints agent.b agent.g history round packet dst (agent.sent.outstanding.newest + 1) (line_at agent.lines dst) takes_it (stands.lines dst below) (next-number agent history stands);
       waiting = subst (λ (ts : List TakenDown). Waits agent.b agent.g agent.round waiting ts) is_taken waits;
       round = stands.round;
+      told = subst (AreTold agent.round) is_taken (few, late, stands.told);
     }

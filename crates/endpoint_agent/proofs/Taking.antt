@@ -18,9 +18,10 @@ use Rattle.endpoint_history.specs.AgentLaws.{TakingBringsSlots}
 use Rattle.endpoint_agent.specs.declared.lines.FlowLine.{FlowLine}
 use Rattle.endpoint_agent.specs.Lines.{with_missed}
 use Rattle.endpoint_agent.specs.Standing.{StandsFor}
-use Rattle.endpoint_agent.specs.State.{AgentState, line_at, MayTake, IsSound}
+use Rattle.endpoint_agent.specs.State.{AgentState, line_at, IsSound}
 use Rattle.endpoint_agent.proofs.Calls.{Current, Read, takes-by, StandsFor-read, StandsFor-takes}
 use Rattle.endpoint_agent.proofs.Due.{nil_or, Waits-takes}
+use Rattle.endpoint_agent.proofs.Timely.{HasRoom}
 use Rattle.endpoint_agent.proofs.Walking.{no_line}
 use Rattle.endpoint_agent.proofs.Sound.{Below, Below-set, Sound-reads, Sound-takes}
 
@@ -65,7 +66,7 @@ pub record AreTaken (agent : AgentState) (round : ℕ) (down : Down) (lines : Li
   pub kept : (down.told.items ≡ []) ⊎ (down.batch + 2 * agent.g + 2 < round) → waiting ≡ agent.waiting
 
 pub takes-slots : (taking : TakingBringsSlots) (agent : AgentState) (history : AgentHistory) (round : ℕ) (down : Down) (heard : Receiver) (sent : Sender (Unit {0})) (acknowledged : ℕ) (lines : List FlowLine) (waiting : List (List Told))
-    → StandsFor agent history → IsSound agent → IsMine agent down → round ≡ agent.round → MayTake agent round (down_packet down)
+    → StandsFor agent history → IsSound agent → IsMine agent down → round ≡ agent.round → HasRoom agent round (down_packet down)
     → Fresh ≡ receive_verdict (reorder_of agent.arrived.version) (arrived history) down.seq → Read agent history (down_packet down) heard sent acknowledged → AreTaken agent round down lines waiting
     → StandsFor (record agent { arrived = heard; sent = sent; has_begun = true; acknowledged = acknowledged; lines = lines; waiting = waiting }) (TakesDown round (down_packet down) ∷ history)
 takes-slots taking agent history round down heard sent acknowledged lines waiting stands sound mine now may is read slots =
@@ -78,6 +79,7 @@ takes-slots taking agent history round down heard sent acknowledged lines waitin
     (λ some in_time. slots.put some (omega (arith, in_time, now)))
     (λ why. slots.kept (elim why [ inl none ↦ inl none | inr late ↦ inr (omega (arith, late, now)) ]))
     stands.waiting)
+    mine.rules.count (λ some. let e = may.late some in omega (arith, e, now))
 
 none-to : (me : ℕ) (told : List Told) → All (λ (t : Told). t.dst ≢ me) told → slots_to me told ≡ 0
 none-to me [] others = refl
@@ -96,7 +98,7 @@ either-none true n none = refl
 either-none false n none = none
 
 pub Sound-slots : (agent : AgentState) (round : ℕ) (down : Down) (heard : Receiver) (sent : Sender (Unit {0})) (acknowledged : ℕ) (lines : List FlowLine) (waiting : List (List Told))
-    → IsSound agent → IsMine agent down → MayTake agent round (down_packet down)
+    → IsSound agent → IsMine agent down → HasRoom agent round (down_packet down)
     → heard.version ≡ agent.arrived.version → sent.version ≡ agent.sent.version → sent.outstanding.newest ≡ agent.sent.outstanding.newest → AreTaken agent round down lines waiting
     → IsSound (record agent { arrived = heard; sent = sent; has_begun = true; acknowledged = acknowledged; lines = lines; waiting = waiting })
 Sound-slots agent round down heard sent acknowledged lines waiting sound mine may heard_same sent_same newest_same slots =

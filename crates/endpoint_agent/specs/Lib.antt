@@ -1,6 +1,6 @@
 pub mod Carrying
-pub mod Laws
 pub mod Lines
 pub mod Refusals
+pub mod Timely
 pub mod Standing
 pub mod State

@@ -7,6 +7,7 @@ use Rattle.endpoint_history.specs.Agent.{AgentHistory, epoch_of, version_of, arr
 use Rattle.endpoint_history.specs.Sending.{slots_of, due, sends, rounds_sent}
 use Rattle.endpoint_agent.specs.declared.lines.FlowLine.{FlowLine}
 use Rattle.endpoint_agent.specs.Carrying.{bare_numbers, greatest_acknowledged, carried_from}
+use Rattle.endpoint_agent.specs.Timely.{AreTold}
 use Rattle.endpoint_agent.specs.State.{AgentState, line_at, first_waiting, waits_of}
 
 abbrev pub line_of : ℕ → ℕ → ℕ → AgentHistory → ℕ → FlowLine
@@ -30,6 +31,7 @@ pub record StandsFor (agent : AgentState) (history : AgentHistory) : Type 0 wher
   pub waiting : (batch : ℕ) → first_waiting agent.g agent.round ≤ batch →
       slots_of agent.b (record { batch = batch; told = waits_of agent.g agent.round agent.waiting batch }) ≡ due agent.b agent.g history (batch + 2 * agent.g + 2)
   pub round : agent.round ≡ rounds_sent history
+  pub told : AreTold agent.round (taken history)
 
 -- there are calls for which it stands
 abbrev pub HasHistory : AgentState → Type 0

@@ -47,17 +47,6 @@ first_waiting g round = round - (2 * g + 2)
 abbrev pub waits_of : ℕ → ℕ → List (List Told) → ℕ → List Told
 waits_of g round waiting batch = if nat_le batch (first_waiting g round + 2) then place_of waiting batch else []
 
--- ---- what a call asks
-
--- slots that are taken are told two windows after their batch was recorded, or later. Where they are in time no slots of their
--- batch wait, for a boot takes the slots of a batch once. Where they are not they are few enough to be counted: a lane tells at
--- most 64 to a destination in each of 100,000 rounds. A packet that tells no slots may always be taken
-pub record MayTake (agent : AgentState) (round : ℕ) (packet : DownPacket) : Type 0 where
-  pub late : packet.content.told ≢ [] → packet.content.batch + 2 * agent.g ≤ round
-  pub apart : packet.content.told ≢ [] → round ≤ packet.content.batch + 2 * agent.g + 2 → place_of agent.waiting packet.content.batch ≡ []
-  pub fits : packet.content.told ≢ [] → packet.content.batch + 2 * agent.g + 2 < round →
-      (dst : ℕ) → dst < agent.endpoints → (line_at agent.lines dst).missed + slots_to dst packet.content.told ≤ 100000000
-
 -- ---- what the numbers of every agent keep to
 
 pub record IsLine (line : FlowLine) : Type 0 where

@@ -16,7 +16,8 @@ ghost use Rattle.endpoint_agent.specs.Lines.{slots_sent, with_missed, with_sent,
 ghost use Rattle.endpoint_agent.specs.declared.lines.FlowLine.{FlowLine as FlowLineItem};
 ghost use Rattle.endpoint_agent.specs.Refusals.{refusal_of, IsOwn};
 ghost use Rattle.endpoint_agent.specs.Standing.{StandsFor};
-ghost use Rattle.endpoint_agent.specs.State.{line_at, place_of, MayTake, AreMarked};
+ghost use Rattle.endpoint_agent.specs.State.{line_at, place_of, AreMarked};
+ghost use Rattle.endpoint_agent.specs.Timely.{MayTake};
 ghost use Rattle.line_marks.specs.Places.{is_marked};
 
 use crate::lines::{FlowLine, Sent, mark_all, miss_all, name_unconfirmed, send_all};
@@ -202,7 +203,7 @@ impl Agent {
         requires round { round ≡ self.old.round }
         requires rounds { round < 100000 }
         requires may_take { (calls : AgentHistory) × StandsFor self.old calls
-            × (IsOwn self.old.me self.old.endpoints self.old.b bytes.now → takes calls (down_packet (down_of bytes.now)) ≡ true → MayTake self.old round (down_packet (down_of bytes.now))) }
+            × (IsOwn self.old.me self.old.endpoints self.old.b bytes.now → takes calls (down_packet (down_of bytes.now)) ≡ true → MayTake self.old.g calls round (down_packet (down_of bytes.now))) }
         ensures answer { (calls : AgentHistory) →
             StandsFor self.old calls →
             result_err result ≡ refusal_of self.old.me self.old.endpoints self.old.b calls bytes.now }

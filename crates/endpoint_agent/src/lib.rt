@@ -2,13 +2,11 @@
 #![tactic(auto)]
 
 mod agent;
-mod laws;
 mod lines;
 mod refusal;
 mod waiting;
 
 pub use agent::Agent;
-pub use laws::timely_allocations_may_be_taken;
 pub use lines::{FlowLine, Sent};
 pub use no_memory::NoMemory;
 pub use refusal::DownRefused;

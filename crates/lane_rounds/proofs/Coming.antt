@@ -19,6 +19,7 @@ use Rattle.endpoint_history.specs.Rounds.{then_each}
 use Rattle.endpoint_history.specs.Sending.{Slot, slots_of, due}
 use Rattle.endpoint_history.specs.Steps.{Step, OfAgent, OfLane, agent_of, lane_of, WasMadeDown, rounds_begun, RoundsRise, ArrivesFromLane}
 use Rattle.endpoint_history.specs.Tellings.{Among, ToldWithin, ToldRises}
+use Rattle.endpoint_agent.specs.Timely.{AreApart}
 use Rattle.lane_rounds.specs.Parts.{MayHear}
 
 -- ---- what was taken was made, and its number was taken
@@ -86,67 +87,45 @@ taken-is once good (TakesDown round packet ∷ history) t among =
           ]
     ]
 
--- ---- nothing is due of a batch whose slots come now
-
-none-due : (b : ℕ) (test : TakenDown → Bool) (ts : List TakenDown) → ((t : TakenDown) → Among t ts → test t ≡ true → t.packet.content.told ≡ []) →
-    flat_map (λ (t : TakenDown). slots_of b t.packet.content) (filter test ts) ≡ []
-none-due b test [] none = refl
-none-due b test (t ∷ ts) none =
-    let rest = none-due b test ts (λ u among. none u (inr among)) in
-    elim (cases_Bool (test t)) [
-      | inl on ↦
-          ap (λ (c : Bool). flat_map (λ (u : TakenDown). slots_of b u.packet.content) (cond c (t ∷ filter test ts) (filter test ts))) on
-          ∙ ap (λ (told : List Told). slots_of b (record { batch = t.packet.content.batch; told = told }) ++ flat_map (λ (u : TakenDown). slots_of b u.packet.content) (filter test ts)) (none t (inl refl) on)
-          ∙ rest
-      | inr off ↦ ap (λ (c : Bool). flat_map (λ (u : TakenDown). slots_of b u.packet.content) (cond c (t ∷ filter test ts) (filter test ts))) off ∙ rest
-    ]
-
-nil_or : (told : List Told) → (told ≡ []) ⊎ (told ≢ [])
-nil_or [] = inl refl
-nil_or (t ∷ told) = inr (λ e. absurd cc)
+-- ---- no two that are taken tell slots of one batch
 
 -- the laws of the crates below that this needs
 pub record Laws : Type 0 where
   pub late : ComesAfterTwoWindows
   pub one : OneNumberForABatch
-  pub few : TakenIsFew
-  pub taking : TakingBringsSlots
   pub once : EachIsTakenOnce
   pub good : TakingIsForGood
 
-apart : (laws : Laws) (b g : ℕ) (steps : List Step) (packet : DownPacket) → ArrivesFromLane g steps → RoundsRise (lane_of steps) → WasMadeDown g (lane_of steps) packet →
-    takes (agent_of steps) packet ≡ true → packet.content.told ≢ [] → due b g (agent_of steps) (packet.content.batch + 2 * g + 2) ≡ []
-apart laws b g steps packet arrives rise made it some =
+-- a packet that is taken tells none of a batch of which an earlier one told
+apart-before : (laws : Laws) (g : ℕ) (steps : List Step) (packet : DownPacket) → ArrivesFromLane g steps → RoundsRise (lane_of steps) → WasMadeDown g (lane_of steps) packet →
+    takes (agent_of steps) packet ≡ true → packet.content.told ≢ [] → (t : TakenDown) → Among t (taken (agent_of steps)) → t.packet.content.told ≢ [] → t.packet.content.batch ≢ packet.content.batch
+apart-before laws g steps packet arrives rise made it some t among told same =
     let history = agent_of steps in
-    let round = packet.content.batch + 2 * g + 2 in
-    let test : TakenDown → Bool = λ t. is_in_time g t && round == t.packet.content.batch + 2 * g + 2 in
     let verdict = takes-parts history packet it in
     let first = laws.once.first (reorder_of (version_of history)) (arrived history) packet.seq verdict.1 in
-    let none : (t : TakenDown) → Among t (taken history) → test t ≡ true → t.packet.content.told ≡ [] = λ t among on. elim (nil_or t.packet.content.told) [
-      | inl empty ↦ empty
-      | inr told ↦
-          let same_round = eqb-true round (t.packet.content.batch + 2 * g + 2) (and_parts (is_in_time g t) (round == t.packet.content.batch + 2 * g + 2) on).1 in
-          let same : t.packet.content.batch ≡ packet.content.batch = omega (arith, same_round) in
-          let number = laws.one g (lane_of steps) t.packet packet rise (taken-made g steps arrives t among) made told some same in
-          let came = taken-is laws.once laws.good history t among in
-          let both : true ≡ false = sym came ∙ ap (λ (n : ℕ). is_taken (reorder_of (version_of history)) (arrived history) n) number.1 ∙ first in
-          absurd (cc)
-    ] in
-    ap (sort_by (λ (s : Slot). s.slot)) (none-due b test (taken history) none)
+    let number = laws.one g (lane_of steps) t.packet packet rise (taken-made g steps arrives t among) made told some same in
+    let came = taken-is laws.once laws.good history t among in
+    let both : true ≡ false = sym came ∙ ap (λ (n : ℕ). is_taken (reorder_of (version_of history)) (arrived history) n) number.1 ∙ first in
+    absurd (cc)
 
-fits : (laws : Laws) (b g round : ℕ) (steps : List Step) (packet : DownPacket) → ArrivesFromLane g (OfAgent (TakesDown round packet) ∷ steps) → RoundsRise (lane_of steps) →
-    rounds_begun (lane_of steps) ≡ round + 1 → round < 100000 → b ≤ 64 → ToldWithin b (lane_of steps) → ToldRises (lane_of steps) → takes (agent_of steps) packet ≡ true →
-    packet.content.batch + 2 * g + 2 < round → (dst : ℕ) → missed g (agent_of steps) dst + slots_to dst packet.content.told ≤ 100000000
-fits laws b g round steps packet arrives rise begun rounds slots within rises it late dst =
-    let history = agent_of steps in
-    let few = laws.few b g (OfAgent (TakesDown round packet) ∷ steps) arrives rise within rises dst in
-    let all = laws.taking.both g (TakesDown round packet ∷ history) dst in
-    let more = laws.taking.late g round packet history dst it in
-    let off : is_in_time g (record { round = round; packet = packet }) ≡ false = lt-leb round (packet.content.batch + 2 * g + 2) late in
-    let now : missed g (TakesDown round packet ∷ history) dst ≡ missed g history dst + slots_to dst packet.content.told = more ∙ ap (λ (c : Bool). missed g history dst + cond c 0 (slots_to dst packet.content.told)) off in
-    let wide : rounds_begun (lane_of steps) * b ≤ 100000 * b = mul-le-mul_right b (omega (arith, begun, rounds)) in
-    let most : 100000 * b ≤ 100000 * 64 = mul-le-mul_left 100000 slots in
-    omega (arith, few, all, now, wide, most)
+all-apart : (laws : Laws) (g : ℕ) (steps : List Step) → ArrivesFromLane g steps → RoundsRise (lane_of steps) → AreApart (taken (agent_of steps))
+all-apart laws g [] arrives rise = tt
+all-apart laws g (OfLane (MakesDown round told) ∷ steps) arrives rise = all-apart laws g steps arrives rise.1
+all-apart laws g (OfLane (TakesUp round up) ∷ steps) arrives rise = all-apart laws g steps arrives rise
+all-apart laws g (OfLane (Records round) ∷ steps) arrives rise = all-apart laws g steps arrives rise
+all-apart laws g (OfAgent (Boots version) ∷ steps) arrives rise = tt
+all-apart laws g (OfAgent (Asks to slots) ∷ steps) arrives rise = all-apart laws g steps arrives rise
+all-apart laws g (OfAgent MakesUp ∷ steps) arrives rise = all-apart laws g steps arrives rise
+all-apart laws g (OfAgent (SendsDue round) ∷ steps) arrives rise = all-apart laws g steps arrives rise
+all-apart laws g (OfAgent (TakesDown round packet) ∷ steps) arrives rise =
+    let one : TakenDown = record { round = round; packet = packet } in
+    let earlier = all-apart laws g steps arrives.2 rise in
+    elim (cases_Bool (takes (agent_of steps) packet)) [
+      | inl on ↦
+          subst (λ (b : Bool). AreApart (cond b (one ∷ taken (agent_of steps)) (taken (agent_of steps)))) (sym on)
+          (λ some. apart-before laws g steps packet arrives.2 rise arrives.0 on some, earlier)
+      | inr off ↦ subst (λ (b : Bool). AreApart (cond b (one ∷ taken (agent_of steps)) (taken (agent_of steps)))) (sym off) earlier
+    ]
 
 -- ---- packet by packet
 
@@ -158,16 +137,14 @@ pub from-lane-read : (g round : ℕ) (packets : List UpPacket) (steps : List Ste
 from-lane-read g round [] steps arrives = arrives
 from-lane-read g round (p ∷ packets) steps arrives = from-lane-read g round packets (OfLane (TakesUp round p) ∷ steps) arrives
 
-pub may-hear : (laws : Laws) (endpoints b g round : ℕ) (packets : List DownPacket) (steps : List Step) → ArrivesFromLane g (then_each (λ packet. OfAgent (TakesDown round packet)) packets steps) →
-    RoundsRise (lane_of steps) → rounds_begun (lane_of steps) ≡ round + 1 → round < 100000 → b ≤ 64 → ToldWithin b (lane_of steps) → ToldRises (lane_of steps) →
-    MayHear endpoints b g round (agent_of steps) packets
-may-hear laws endpoints b g round [] steps arrives rise begun rounds slots within rises = tt
-may-hear laws endpoints b g round (p ∷ packets) steps arrives rise begun rounds slots within rises =
+pub may-hear : (laws : Laws) (g round : ℕ) (packets : List DownPacket) (steps : List Step) → ArrivesFromLane g (then_each (λ packet. OfAgent (TakesDown round packet)) packets steps) →
+    RoundsRise (lane_of steps) → MayHear g round (agent_of steps) packets
+may-hear laws g round [] steps arrives rise = tt
+may-hear laws g round (p ∷ packets) steps arrives rise =
     let here = from-lane-heard g round packets (OfAgent (TakesDown round p) ∷ steps) arrives in (
       λ it. record {
         late = λ some. laws.late g steps round p rise here.0 here.1 some;
-        apart = λ some. apart laws b g steps p here.2 rise here.0 it some;
-        fits = λ some late dst. fits laws b g round steps p here rise begun rounds slots within rises it late dst;
+        apart = (λ some. apart-before laws g steps p here.2 rise here.0 it some, all-apart laws g steps here.2 rise);
       },
-      may-hear laws endpoints b g round packets (OfAgent (TakesDown round p) ∷ steps) arrives rise begun rounds slots within rises,
+      may-hear laws g round packets (OfAgent (TakesDown round p) ∷ steps) arrives rise,
     )

@@ -14,14 +14,14 @@ use Rattle.endpoint_history.specs.Sending.{slots_of}
 use Rattle.endpoint_history.specs.Lane.{LaneHistory, TakesUp}
 use Rattle.endpoint_history.specs.Counts.{Allocation}
 use Rattle.endpoint_agent.specs.declared.lines.FlowLine.{FlowLine}
-use Rattle.endpoint_agent.specs.State.{AgentState, MayTake, place_of, first_waiting, waits_of}
+use Rattle.endpoint_agent.specs.State.{AgentState}
 use Rattle.endpoint_agent.specs.Standing as agents
 use Rattle.endpoint_agent.specs.Refusals as agent_refusals
 use Rattle.arbiter_lane.specs.State.{LaneState}
 use Rattle.arbiter_lane.specs.Standing as lanes
 use Rattle.arbiter_lane.specs.Refusals as lane_refusals
 use Rattle.lane_rounds.specs.Standing.{HasCarried, spell_down, spell_up}
-use Rattle.lane_rounds.specs.Parts.{IsSameAgent, IsSameLane, IsReadDown, IsReadUp, MayCome}
+use Rattle.lane_rounds.specs.Parts.{IsSameAgent, IsSameLane, IsReadDown, IsReadUp}
 
 -- ---- the world
 
@@ -56,29 +56,6 @@ carried-at_hand passes world round bytes sent none it =
     (carried-begins (with_packet round bytes world) round sent it)
 
 -- ---- the agent
-
-none-of : (b batch : ℕ) (told : List Told) → slots_of b (record { batch = batch; told = told }) ≡ [] → told ≡ []
-none-of b batch [] none = refl
-none-of b batch (t ∷ told) none = absurd (cc)
-
--- what an agent asks of its calls gives what it asks of its value
-pub may_take : (endpoints b g : ℕ) (agent : AgentState) (calls : AgentHistory) (round : ℕ) (packet : DownPacket) → agent.b ≡ b → agent.g ≡ g →
-    agents.StandsFor agent calls → agent.round ≡ round → MayCome endpoints b g round calls packet → MayTake agent round packet
-may_take endpoints b g agent calls round packet same_b same_g stands now came =
-    let may : MayCome endpoints agent.b agent.g round calls packet = subst (λ n. MayCome endpoints n agent.g round calls packet) (sym same_b) (subst (λ n. MayCome endpoints b n round calls packet) (sym same_g) came) in
-    let batch = packet.content.batch in
-    let first = first_waiting agent.g agent.round in
-    record {
-      late = may.late;
-      apart = λ some in_time.
-          let after = may.late some in
-          let low : first ≤ batch = omega (arith, in_time, now) in
-          let high : batch ≤ first + 2 = omega (arith, after, now) in
-          let is : waits_of agent.g agent.round agent.waiting batch ≡ place_of agent.waiting batch = ap (λ (c : Bool). cond c (place_of agent.waiting batch) []) (le-leb batch (first + 2) high) in
-          sym is ∙ none-of agent.b batch (waits_of agent.g agent.round agent.waiting batch) (stands.waiting batch low ∙ may.apart some);
-      fits = λ some late dst below.
-          subst (λ (line : FlowLine). line.missed + slots_to dst packet.content.told ≤ 100000000) (sym (stands.lines dst below)) (may.fits some late dst);
-    }
 
 -- a packet that arrives is one more call
 pub own-down : (was agent : AgentState) (bytes : List ℕ) (p : DownPacket) → IsSameAgent was agent → bytes ≡ spell_down was.me p → IsReadDown was.me was.endpoints was.b p →

@@ -212,10 +212,9 @@ rise-read number (p ∷ packets) calls it = rise-read number packets (TakesUp nu
 
 -- ---- what the agent hears in a round it may hear
 
-pub round-heard : (laws : Laws) (order : RoundsAreInOrder) (endpoints b g : ℕ) (round : Round) (rounds : List Round) → length rounds < 100000 → b ≤ 64 →
-    ToldWithin b (made_calls endpoints g (length rounds) round (played endpoints g rounds)) → ToldRises (made_calls endpoints g (length rounds) round (played endpoints g rounds)) →
-    MayHear endpoints b g (length rounds) (asked_calls endpoints g (length rounds) round (played endpoints g rounds)) (down_now endpoints g (length rounds) round (played endpoints g rounds))
-round-heard laws order endpoints b g round rounds few slots within rises =
+pub round-heard : (laws : Laws) (order : RoundsAreInOrder) (endpoints g : ℕ) (round : Round) (rounds : List Round) →
+    MayHear g (length rounds) (asked_calls endpoints g (length rounds) round (played endpoints g rounds)) (down_now endpoints g (length rounds) round (played endpoints g rounds))
+round-heard laws order endpoints g round rounds =
     let number = length rounds in
     let before = played endpoints g rounds in
     let o = order endpoints g (round ∷ rounds) in
@@ -227,9 +226,8 @@ round-heard laws order endpoints b g round rounds few slots within rises =
     let rise : RoundsRise (made_calls endpoints g number round before) =
     rise-read number (up_now endpoints g number round before) (made_calls endpoints g number round before) (rise-read number round.raw (read_calls endpoints g number round before) rise_all) in
     let lane : lane_of (OfLane (MakesDown number round.told) ∷ start) ≡ made_calls endpoints g number round before = ap (λ (calls : LaneHistory). MakesDown number round.told ∷ calls) (lane-begun endpoints g number round before) in
-    subst (λ (calls : AgentHistory). MayHear endpoints b g number calls packets) (agent-begun endpoints g number round before)
-    (may-hear laws endpoints b g number packets (OfLane (MakesDown number round.told) ∷ start) arrives
-    (subst RoundsRise (sym lane) rise) refl few slots (subst (ToldWithin b) (sym lane) within) (subst ToldRises (sym lane) rises))
+    subst (λ (calls : AgentHistory). MayHear g number calls packets) (agent-begun endpoints g number round before)
+    (may-hear laws g number packets (OfLane (MakesDown number round.told) ∷ start) arrives (subst RoundsRise (sym lane) rise))
 
 -- ---- slots that are published
 

@@ -285,23 +285,22 @@ refused-are e n g number events told rounds was now len it =
 -- ---- what the agent may hear
 
 pub may-hear-now : (laws : WorldLaws) (heard_laws : Laws) (order : RoundsAreInOrder) (was : RoundsState) (number : ℕ) (events : Events) (told : List Told) (asked : AgentState) (below : Held) (rounds : List Round) (allocations : List Allocation) →
-    number ≡ length rounds → number < 100000 → was.lane.b ≤ 64 → AreSlots was.lane.endpoints was.lane.b was.lane.endpoint told → StandsFor was rounds allocations →
+    number ≡ length rounds → StandsFor was rounds allocations →
     IsDownward laws was.lane.endpoint was.lane.endpoints was.lane.b was.lane.g number (round_in was events told) (played_by was rounds) below →
     ((calls : AgentHistory) → agents.StandsFor was.agent calls → agents.StandsFor asked (with_each (λ (a : ℕ × ℕ). Asks a.0 a.1) events.asks (with_each Boots (replicate events.boots events.version) calls))) →
     HasSizes asked was.lane.endpoint was.lane.endpoints was.lane.b was.lane.g →
     (calls : AgentHistory) × (packets : List DownPacket) × agents.StandsFor asked calls × (due_in below.flights number ≡ map (spell_down asked.me) packets)
-    × Each (IsReadDown asked.me asked.endpoints asked.b) packets × MayHear asked.endpoints asked.b asked.g number calls packets
-may-hear-now laws heard_laws order was number events told asked below rounds allocations len few size slots stood down asks sizes =
+    × Each (IsReadDown asked.me asked.endpoints asked.b) packets × MayHear asked.g number calls packets
+may-hear-now laws heard_laws order was number events told asked below rounds allocations len stood down asks sizes =
     let e = was.lane.endpoint in
     let n = was.lane.endpoints in
     let b = was.lane.b in
     let g = was.lane.g in
     let before = played_by was rounds in
     let round = round_in was events told in
-    let made = told-now laws e n b g (length rounds) round before slots stood.within stood.rises in
-    let may : MayHear n b g number (asked_calls n g number round before) (down_now n g number round before) =
-    subst (λ m. MayHear n b g m (asked_calls n g m round before) (down_now n g m round before)) (sym len)
-    (round-heard heard_laws order n b g round rounds (omega (arith, len, few)) size made.0 made.1) in
+    let may : MayHear g number (asked_calls n g number round before) (down_now n g number round before) =
+    subst (λ m. MayHear g m (asked_calls n g m round before) (down_now n g m round before)) (sym len)
+    (round-heard heard_laws order n g round rounds) in
     to_sizes asked e n b g sizes
-    (λ x y z w. (calls : AgentHistory) × (packets : List DownPacket) × agents.StandsFor asked calls × (due_in below.flights number ≡ map (spell_down x) packets) × Each (IsReadDown x y z) packets × MayHear y z w number calls packets)
+    (λ x y z w. (calls : AgentHistory) × (packets : List DownPacket) × agents.StandsFor asked calls × (due_in below.flights number ≡ map (spell_down x) packets) × Each (IsReadDown x y z) packets × MayHear w number calls packets)
     (asked_calls n g number round before, down_now n g number round before, asks (agent_of before.steps) stood.agent, down.due, down.each, may)

@@ -9,6 +9,7 @@ use Rattle.endpoint_history.specs.Agent.{AgentHistory, TakesDown, takes, missed}
 use Rattle.endpoint_history.specs.Sending.{due}
 use Rattle.endpoint_history.specs.Lane.{LaneHistory, TakesUp}
 use Rattle.endpoint_agent.specs.State.{AgentState}
+use Rattle.endpoint_agent.specs.Timely.{MayTake}
 use Rattle.endpoint_agent.specs.Refusals as agents
 use Rattle.arbiter_lane.specs.State.{LaneState}
 use Rattle.arbiter_lane.specs.Refusals as lanes
@@ -51,17 +52,11 @@ abbrev pub Each : {X : Type 0} → (X → Type 0) → List X → Type 0
 Each P [] = Unit {0}
 Each P (x ∷ xs) = P x × Each P xs
 
--- what an agent asks of an allocation that it takes, over its calls
-pub record MayCome (endpoints b g round : ℕ) (calls : AgentHistory) (packet : DownPacket) : Type 0 where
-  pub late : packet.content.told ≢ [] → packet.content.batch + 2 * g ≤ round
-  pub apart : packet.content.told ≢ [] → due b g calls (packet.content.batch + 2 * g + 2) ≡ []
-  pub fits : packet.content.told ≢ [] → packet.content.batch + 2 * g + 2 < round → (dst : ℕ) → missed g calls dst + slots_to dst packet.content.told ≤ 100000000
-
 -- these may be heard one after the other
-abbrev pub MayHear : ℕ → ℕ → ℕ → ℕ → AgentHistory → List DownPacket → Type 0
-MayHear endpoints b g round calls [] = Unit {0}
-MayHear endpoints b g round calls (p ∷ packets) =
-    (takes calls p ≡ true → MayCome endpoints b g round calls p) × MayHear endpoints b g round (TakesDown round p ∷ calls) packets
+abbrev pub MayHear : ℕ → ℕ → AgentHistory → List DownPacket → Type 0
+MayHear g round calls [] = Unit {0}
+MayHear g round calls (p ∷ packets) =
+    (takes calls p ≡ true → MayTake g calls round p) × MayHear g round (TakesDown round p ∷ calls) packets
 
 -- what is handed to a direction for a packet, if there is one
 abbrev pub handed : {T : Type 0} → (T → List ℕ) → ℕ → Option Fate → Option T → List Departure

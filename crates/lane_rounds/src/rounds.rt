@@ -36,8 +36,8 @@ use arbiter_lane::Lane;
 use arrayvec::ArrayVec;
 use endpoint_agent::{Agent, Sent};
 use endpoint_history::{
-    agents_count_slots, allocations_are_in_order, counts_are_bounded, no_loss_or_boot_harms,
-    packets_are_framed_alike, rounds_are_calls, rounds_are_read_in_order,
+    allocations_are_in_order, no_loss_or_boot_harms, packets_are_framed_alike, rounds_are_calls,
+    rounds_are_read_in_order,
 };
 use fcp_framing::{Told, what_is_encoded_is_read_back};
 use flow_ledger::FlowCount;
@@ -164,8 +164,6 @@ impl LaneRounds {
         packets_are_framed_alike();
         what_is_encoded_is_read_back();
         allocations_are_in_order();
-        agents_count_slots();
-        counts_are_bounded();
         each_number_is_taken_once();
         arrivals_are_given_in_order();
         self.is_whole = false;
@@ -340,7 +338,7 @@ fn hear(
     requires may_hear { (calls : AgentHistory) × (packets : List DownPacket) × agents.StandsFor agent.old calls
         × (due_in (with_at_hand round at_hand buf.old world.old).flights round ≡ map (spell_down agent.old.me) packets)
         × Each (IsReadDown agent.old.me agent.old.endpoints agent.old.b) packets
-        × MayHear agent.old.endpoints agent.old.b agent.old.g round calls packets }
+        × MayHear agent.old.g round calls packets }
     ensures same { IsSameAgent agent.old agent.new }
     ensures stands { (calls : AgentHistory) (packets : List DownPacket) →
         agents.StandsFor agent.old calls →
@@ -368,7 +366,7 @@ fn hear_all(agent: &mut Agent, world: &mut World, round: u32, buf: &mut [u8; 204
     requires may_hear { (calls : AgentHistory) × (packets : List DownPacket) × agents.StandsFor agent.old calls
         × (due_in world.old.flights round ≡ map (spell_down agent.old.me) packets)
         × Each (IsReadDown agent.old.me agent.old.endpoints agent.old.b) packets
-        × MayHear agent.old.endpoints agent.old.b agent.old.g round calls packets }
+        × MayHear agent.old.g round calls packets }
     ensures same { IsSameAgent agent.old agent.new }
     ensures stands { (calls : AgentHistory) (packets : List DownPacket) →
         agents.StandsFor agent.old calls →

@@ -16,5 +16,6 @@ pub mod SortLemmas
 pub mod DepartureLemmas
 pub mod PartLemmas
 pub mod RowLemmas
+pub mod Naming
 pub mod AnswerLemmas
 pub mod WindowLemmas

@@ -46,7 +46,7 @@ pub parts_from : (setting : Setting) (trace : TraceContent) (bound first count :
 parts_from setting trace bound first count at d below =
     let within : at < count = omega (arith, below, length-map-range_with_len (part_of setting trace bound) first count) in
     let is = get_or-map-range_with_len (part_of setting trace bound) first count at (first + at) d within refl in
-    (ap (λ (p : RoundPart). p.round) is, ap (λ (p : RoundPart). p.sources) is)
+    (ap (λ (p : RoundPart). p.round) is, ap (λ (p : RoundPart). p.named) is)
 
 -- one endpoint more
 pub parts_more : (setting : Setting) (trace : TraceContent) (bound : ℕ) (numbers : List ℕ)

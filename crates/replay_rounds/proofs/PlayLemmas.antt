@@ -18,6 +18,7 @@ use Rattle.lane_rounds.specs.State.{RoundsState}
 use Rattle.lane_rounds.specs.Standing.{StandsFor}
 use Rattle.trace_text.specs.Trace.{TraceContent}
 use Rattle.trace_run.specs.Run.{Setting, round_of, replayed}
+use Rattle.replay_rounds.specs.declared.named.Named.{Named}
 use Rattle.replay_rounds.specs.declared.played.Departure.{Departure}
 use Rattle.replay_rounds.specs.Setting.{Cores}
 use Rattle.replay_rounds.specs.Standing.{LaneStands}
@@ -156,14 +157,14 @@ same_batch x y entries limits =
     ap (λ (es : List Entry). record { entries = es; limits = x.limits }) entries
     ∙ ap (λ (l : Limits). record { entries = y.entries; limits = l }) limits
 
-abbrev part : ℕ → List (Option ℕ) → DemandBatch → List (Option ℕ) → List Departure → RoundPart
-part number sources batch answers departures = record { round = number; batch = batch; sources = sources; answers = answers; departures = departures }
+abbrev part : ℕ → List Named → DemandBatch → List (Option ℕ) → List Departure → RoundPart
+part number named batch answers departures = record { round = number; batch = batch; named = named; answers = answers; departures = departures }
 
-pub same_part : (x y : RoundPart) → x.round ≡ y.round → x.sources ≡ y.sources → x.batch.entries ≡ y.batch.entries → x.batch.limits ≡ y.batch.limits
+pub same_part : (x y : RoundPart) → x.round ≡ y.round → x.named ≡ y.named → x.batch.entries ≡ y.batch.entries → x.batch.limits ≡ y.batch.limits
     → x.answers ≡ y.answers → x.departures ≡ y.departures → x ≡ y
-same_part x y round sources entries limits answers departures =
-    ap (λ (n : ℕ). part n x.sources x.batch x.answers x.departures) round
-    ∙ (ap (λ (ss : List (Option ℕ)). part y.round ss x.batch x.answers x.departures) sources
-    ∙ (ap (λ (b : DemandBatch). part y.round y.sources b x.answers x.departures) (same_batch x.batch y.batch entries limits)
-    ∙ (ap (λ (zs : List (Option ℕ)). part y.round y.sources y.batch zs x.departures) answers
-    ∙ ap (λ (ds : List Departure). part y.round y.sources y.batch y.answers ds) departures)))
+same_part x y round named entries limits answers departures =
+    ap (λ (n : ℕ). part n x.named x.batch x.answers x.departures) round
+    ∙ (ap (λ (ns : List Named). part y.round ns x.batch x.answers x.departures) named
+    ∙ (ap (λ (b : DemandBatch). part y.round y.named b x.answers x.departures) (same_batch x.batch y.batch entries limits)
+    ∙ (ap (λ (zs : List (Option ℕ)). part y.round y.named y.batch zs x.departures) answers
+    ∙ ap (λ (ds : List Departure). part y.round y.named y.batch y.answers ds) departures)))

@@ -15,8 +15,10 @@ use Rattle.lane_rounds.specs.State.{RoundsState}
 use Rattle.trace_text.specs.Trace.{TraceContent, raw_at}
 use Rattle.trace_text.specs.Valid.{IsTrace}
 use Rattle.trace_run.specs.Run.{Setting, next_rounds, replayed}
+use Rattle.list_facts.specs.Order.{sort_by}
+use Rattle.replay_rounds.specs.declared.named.Named.{Named}
 use Rattle.replay_rounds.specs.declared.played.Departure.{Departure}
-use Rattle.replay_rounds.specs.Setting.{Cores, AreCores, limits_of, setting_of}
+use Rattle.replay_rounds.specs.Setting.{Cores, AreCores, limits_of, raw_rows, setting_of}
 use Rattle.replay_rounds.specs.Standing.{LaneStands, routed_from, slots_between}
 use Rattle.replay_rounds.specs.Publishing.{IsPublished}
 use Rattle.replay_rounds.specs.Played.{Played, departures_of, lane_before_raw}
@@ -29,8 +31,14 @@ use Rattle.replay_rounds.specs.Departures.{by_slot}
 abbrev pub source_of : ℕ → List ℕ → Option ℕ
 source_of endpoints bytes = if is_none (first_refusal (refuses_up endpoints bytes)) then Some (up_of bytes).src else None
 
-abbrev pub sources_in : TraceContent → ℕ → List (Option ℕ)
-sources_in trace round = map (source_of (endpoints_of trace.net)) (raw_at trace round)
+-- a raw packet at a place that names this endpoint, if it names one
+abbrev pub named_at : ℕ → Option ℕ → List Named
+named_at place None = []
+named_at place (Some source) = record { source = source; place = place } ∷ []
+
+-- those of a round that name an endpoint, by the endpoint, and those of one in the order of rows
+abbrev pub named_in : TraceContent → ℕ → List Named
+named_in trace round = sort_by (λ one. one.source) (flat_map (λ row. named_at row.place (source_of (endpoints_of trace.net) row.bytes)) (raw_rows trace round))
 
 -- the number of the refusal of bytes that spell none
 abbrev pub framed_answer : ℕ → List ℕ → Option ℕ
@@ -57,12 +65,12 @@ answers_below setting trace round (suc endpoint) =
 
 -- ---- a round in parts
 
--- what contracts see of a round that is being played: the batch so far, the endpoint that each raw packet names, what the raw packets
--- are answered so far, and what is sent so far, in the order of slots
+-- what contracts see of a round that is being played: the batch so far, the raw packets that name an endpoint, what the raw packets are
+-- answered so far, and what is sent so far, in the order of slots
 pub record RoundPart : Type 0 where
   pub round : ℕ
   pub batch : DemandBatch
-  pub sources : List (Option ℕ)
+  pub named : List Named
   pub answers : List (Option ℕ)
   pub departures : List Departure
 
@@ -71,7 +79,7 @@ abbrev pub blank_round : TraceContent → ℕ → RoundPart
 blank_round trace number = record {
   round = number;
   batch = record { entries = []; limits = limits_of trace.net };
-  sources = sources_in trace number;
+  named = named_in trace number;
   answers = framed_in trace number;
   departures = [];
 }
@@ -85,7 +93,7 @@ abbrev pub with_endpoint : Setting → TraceContent → ℕ → RoundPart → Ro
 with_endpoint setting trace endpoint part = record {
   round = part.round;
   batch = record { entries = part.batch.entries ++ entries_in setting part.round endpoint; limits = part.batch.limits };
-  sources = part.sources;
+  named = part.named;
   answers = with_numbers (refused_of setting trace part.round endpoint) part.answers;
   departures = by_slot (part.departures ++ departures_of setting part.round endpoint);
 }
@@ -95,16 +103,16 @@ abbrev pub part_of : Setting → TraceContent → ℕ → ℕ → RoundPart
 part_of setting trace bound number = record {
   round = number;
   batch = record { entries = flat_map (entries_in setting number) (range_with_len 0 bound); limits = setting.limits };
-  sources = sources_in trace number;
+  named = named_in trace number;
   answers = answers_below setting trace number bound;
   departures = by_slot (flat_map (departures_of setting number) (range_with_len 0 bound));
 }
 
--- a list has the rounds from this one on, with the endpoints that their raw packets name
+-- a list has the rounds from this one on, with the raw packets that name an endpoint
 abbrev pub AreRoundsFrom : TraceContent → ℕ → List RoundPart → Type 0
 AreRoundsFrom trace first parts =
     (at : ℕ) (d : RoundPart) → at < length parts →
-    ((slice_index_or parts at d).round ≡ first + at) × ((slice_index_or parts at d).sources ≡ sources_in trace (first + at))
+    ((slice_index_or parts at d).round ≡ first + at) × ((slice_index_or parts at d).named ≡ named_in trace (first + at))
 
 -- ---- when they may be played
 

@@ -1,13 +1,15 @@
 //! What an endpoint is handed in a round of a trace.
-ghost use Rattle.std.specs.Prelude.{◌≡◌, ◌<◌, ◌≤◌, ◌+◌, ◌*◌, ◌-◌, ℕ, List, [], ◌∷◌, ◌++◌, length, filter, slice_get, Some, OnOk};
+ghost use Rattle.std.specs.Prelude.{◌≡◌, ◌<◌, ◌≤◌, ◌+◌, ◌*◌, ◌-◌, ℕ, List, [], ◌==◌, length, filter, OnOk};
+ghost use Rattle.std.specs.List.Sorted.{IsNonDecreasingBy};
 ghost use Rattle.clos_topology.specs.Network.{endpoints_of};
 ghost use Rattle.lane_rounds.specs.Outside.{names};
-ghost use Rattle.trace_text.specs.Trace.{asked_at, raw_at};
+ghost use Rattle.trace_text.specs.Trace.{asked_at};
 ghost use Rattle.replay_rounds.specs.Setting.{raw_rows};
 ghost use Rattle.replay_rounds.specs.Parts.{events_for, told_by};
-ghost use Rattle.replay_rounds.specs.Collecting.{source_of, sources_in};
+ghost use Rattle.replay_rounds.specs.Collecting.{named_in};
 
 use crate::NoMemory;
+use crate::named::{Named, naming};
 use arrayvec::ArrayVec;
 use fcp_framing::Told;
 use lane_rounds::{AskList, Events, RawList};
@@ -20,20 +22,23 @@ pub(crate) struct Near {
     asks: usize,
     fates: usize,
     boots: usize,
+    raw: usize,
 }
 
-/// Writes what the trace says of the round and endpoint. The sources are those of the round's raw packets.
+/// Writes what the trace says of the round and endpoint. Those of the round's raw packets that spell a packet are told by the endpoint
+/// that they name.
 pub(crate) fn fill_events(
     events: &mut Events,
     trace: &Trace,
     round: u32,
     endpoint: u16,
-    sources: &[Option<u16>],
+    named: &[Named],
     near: &mut Near,
 ) -> Result<(), NoMemory>
     requires round { round < trace.now.rounds }
     requires endpoint { endpoint < endpoints_of trace.now.net }
-    requires sources { sources.now ≡ sources_in trace.now round }
+    requires named { named.now ≡ named_in trace.now round }
+    requires sorted { IsNonDecreasingBy (λ one. one.source) named.now }
     ensures { OnOk result (events.new ≡ events_for trace.now round endpoint) }
 {
     let (boots, version, next) = trace.boots_near(round, endpoint, near.boots);
@@ -42,7 +47,9 @@ pub(crate) fn fill_events(
     near.boots = next;
     (events.down, events.up, near.fates) = trace.fates_near(round, endpoint, near.fates);
     near.asks = fill_asks(&mut events.asks, trace, round, endpoint, near.asks)?;
-    fill_raw(&mut events.raw, trace, round, endpoint, sources)
+    let (own, next) = naming(named, endpoint, near.raw);
+    near.raw = next;
+    fill_raw(&mut events.raw, trace, round, endpoint, own)
 }
 
 /// Writes what the endpoint asks for in the round, which is looked for at this place first, and answers the place after it.
@@ -65,49 +72,23 @@ fn fill_asks(
     Ok(next)
 }
 
-/// Writes the round's raw packets that have the endpoint as their source, each with its place.
+/// Writes the round's raw packets that name the endpoint, each with its place.
 fn fill_raw(
     raw: &mut RawList,
     trace: &Trace,
     round: u32,
     endpoint: u16,
-    sources: &[Option<u16>],
+    own: &[Named],
 ) -> Result<(), NoMemory>
     requires round { round < trace.now.rounds }
-    requires sources { sources.now ≡ sources_in trace.now round }
+    requires own { own.now ≡ filter (λ one. one.source == endpoint) (named_in trace.now round) }
     ensures { OnOk result (raw.new ≡ filter (λ row. names endpoint (endpoints_of trace.now.net) row.bytes) (raw_rows trace.now round)) }
 {
     raw.clear();
-    for (place, source) in sources.iter().enumerate() {
-        push_named(raw, trace, round, endpoint, place, *source)?;
+    for one in own {
+        raw.push(one.place, trace.raw(round, one.place as usize))?;
     }
     Ok(())
-}
-
-/// Appends the round's raw packet at this place, with its place, if the endpoint is its source. A place that 32 bits do not hold
-/// is want of memory.
-fn push_named(
-    raw: &mut RawList,
-    trace: &Trace,
-    round: u32,
-    endpoint: u16,
-    place: usize,
-    source: Option<u16>,
-) -> Result<(), NoMemory>
-    requires round { round < trace.now.rounds }
-    requires place { place < length (raw_at trace.now round) }
-    ensures { OnOk result ((bytes : List ℕ) →
-        slice_get (raw_at trace.now round) place ≡ Some bytes →
-        source ≡ source_of (endpoints_of trace.now.net) bytes →
-        raw.new ≡ raw.old ++ filter (λ row. names endpoint (endpoints_of trace.now.net) row.bytes) (record { place = place; bytes = bytes } ∷ [])) }
-{
-    if source != Some(endpoint) {
-        return Ok(());
-    }
-    match u32::try_from(place) {
-        Ok(number) => raw.push(number, trace.raw(round, place)),
-        Err(_) => Err(NoMemory),
-    }
 }
 
 /// Writes what the endpoint is told in the round of the slots that are published.

@@ -5,6 +5,7 @@ mod collect;
 mod departures;
 mod handed;
 mod laws;
+mod named;
 mod part;
 mod played;
 mod publish;

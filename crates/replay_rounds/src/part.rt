@@ -1,15 +1,17 @@
 //! A round as it is played, endpoint after endpoint.
-ghost use Rattle.std.specs.Prelude.{◌≡◌, ◌<◌, ◌≤◌, ℕ, ◌+◌, [], slice_set, Some, IfOk, OnOk};
+ghost use Rattle.std.specs.Prelude.{◌≡◌, ◌<◌, ◌≤◌, ℕ, ◌+◌, ◌++◌, [], slice_set, Some, IfOk, OnOk};
+ghost use Rattle.std.specs.List.Sorted.{IsNonDecreasingBy};
 ghost use Rattle.greedy_rules.specs.Batches.{IsAboveLast};
 ghost use Rattle.clos_topology.specs.Network.{endpoints_of};
 ghost use Rattle.replay_rounds.specs.Setting.{Cores};
 ghost use Rattle.replay_rounds.specs.Standing.{LaneStands};
-ghost use Rattle.replay_rounds.specs.Collecting.{blank_round, framed_answer, framed_in, published_by, setting_by, source_of, sources_in, with_endpoint, with_numbers, with_round, MayBeTold};
+ghost use Rattle.replay_rounds.specs.Collecting.{blank_round, framed_answer, framed_in, named_at, named_in, published_by, setting_by, source_of, with_endpoint, with_numbers, with_round, MayBeTold};
 
 use crate::NoMemory;
 use crate::departures::DeparturesBySlot;
 use crate::handed::{Near, fill_events, fill_told};
 use crate::laws::rounds_may_be_played;
+use crate::named::Named;
 use crate::played::Played;
 use arrayvec::ArrayVec;
 use fcp_framing::{Told, Up, decode_up};
@@ -52,8 +54,8 @@ impl Buffers {
 pub(crate) struct RoundInPlay {
     round: u32,
     batch: Batch,
-    // The endpoint that each raw packet names, if it is a packet.
-    sources: Vec<Option<u16>>,
+    // The raw packets that spell a packet, by the endpoint that they name.
+    named: Vec<Named>,
     // The number of the refusal of each raw packet, if one refuses it so far.
     answers: Vec<Option<u8>>,
     departures: DeparturesBySlot,
@@ -61,6 +63,7 @@ pub(crate) struct RoundInPlay {
 }
 
 impl Model for RoundInPlay {
+    ghost use Rattle.std.specs.List.Sorted.{IsNonDecreasingBy};
     ghost use Rattle.replay_rounds.specs.Collecting.{RoundPart};
 
     ghost Value = { RoundPart };
@@ -68,10 +71,12 @@ impl Model for RoundInPlay {
     ghost view = { λ r. record {
       round = r.round;
       batch = r.batch;
-      sources = r.sources.items;
+      named = r.named.items;
       answers = r.answers.items;
       departures = r.departures;
     } };
+
+    ghost invariant = { λ r. IsNonDecreasingBy (λ one. one.source) r.named.items };
 }
 
 impl RoundInPlay {
@@ -85,15 +90,15 @@ impl RoundInPlay {
             hosts: net.hosts(),
             cores: net.cores(),
         };
-        let mut sources = Vec::new(alloc);
+        let mut named = Vec::new(alloc);
         let mut answers = Vec::new(alloc);
         if trace.raw_count(round) > 0 {
-            read_raw(trace, round, &mut sources, &mut answers)?;
+            read_raw(trace, round, &mut named, &mut answers)?;
         }
         Ok(RoundInPlay {
             round,
             batch: Batch::with_limits(alloc, limits),
-            sources,
+            named,
             answers,
             departures: DeparturesBySlot::open(alloc, net.endpoints())?,
             near: Near::default(),
@@ -113,7 +118,7 @@ impl RoundInPlay {
         requires may { (cores : Cores) × MayBeTold trace.now g cores publisher.now self.old.round
             × LaneStands (setting_by trace.now g cores publisher.now) self.old.round (published_by publisher.now) endpoint lane.old }
         requires endpoint { endpoint < endpoints_of trace.now.net }
-        requires sources { self.old.sources ≡ sources_in trace.now self.old.round }
+        requires named { self.old.named ≡ named_in trace.now self.old.round }
         requires above { IsAboveLast self.old.batch.entries (record { src = endpoint; dst = 0 }) }
         ensures lane { OnOk result ((cores : Cores) →
             MayBeTold trace.now g cores publisher.now self.old.round →
@@ -130,7 +135,7 @@ impl RoundInPlay {
             trace,
             self.round,
             endpoint,
-            &self.sources,
+            &self.named,
             &mut self.near,
         )?;
         fill_told(&mut buffers.told, publisher, g, self.round, endpoint);
@@ -170,21 +175,35 @@ impl RoundInPlay {
 fn read_raw(
     trace: &Trace,
     round: u32,
-    sources: &mut Vec<Option<u16>>,
+    named: &mut Vec<Named>,
     answers: &mut Vec<Option<u8>>,
 ) -> Result<(), NoMemory>
     requires round { round < trace.now.rounds }
-    requires no_sources { sources.old.items ≡ [] }
+    requires no_names { named.old.items ≡ [] }
     requires no_answers { answers.old.items ≡ [] }
-    ensures sources { OnOk result (sources.new.items ≡ sources_in trace.now round) }
+    ensures named { OnOk result (named.new.items ≡ named_in trace.now round) }
+    ensures sorted { OnOk result (IsNonDecreasingBy (λ one. one.source) named.new.items) }
     ensures answers { OnOk result (answers.new.items ≡ framed_in trace.now round) }
 {
     let endpoints = trace.endpoints();
+    let count = trace.raw_count(round);
     let mut up = Up::default();
-    for at in 0..trace.raw_count(round) {
+    answers.reserve(count)?;
+    for at in 0..count {
         let (source, answer) = read_one(trace.raw(round, at), endpoints, &mut up);
-        sources.push(source)?;
+        push_named(named, source, at as u32)?;
         answers.push(answer)?;
+    }
+    named.sort_by_key(|one| one.source)?;
+    Ok(())
+}
+
+/// Appends a raw packet that names an endpoint.
+fn push_named(named: &mut Vec<Named>, source: Option<u16>, place: u32) -> Result<(), NoMemory>
+    ensures { OnOk result (named.new.items ≡ named.old.items ++ named_at place source) }
+{
+    if let Some(source) = source {
+        named.push(Named { source, place })?;
     }
     Ok(())
 }

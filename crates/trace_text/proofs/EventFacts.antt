@@ -11,7 +11,7 @@ use Rattle.loss_world.specs.declared.fate.Fate.TheVariants.{Lose}
 use Rattle.trace_text.specs.Earlier.{is_same_way}
 use Rattle.trace_text.specs.Faults.{is_fate}
 use Rattle.trace_text.specs.Ranks.{has_rank_in}
-use Rattle.trace_text.specs.Events.{AreAmong, IsBootAmong, IsFateAmong, IsWithin, boot_rank, events_kept, fate_rank, is_boot_of, is_fate_of, is_raw_of, packet_of, raw_rank, way_number}
+use Rattle.trace_text.specs.Events.{AreAmong, IsBootAmong, IsFateAmong, IsWithin, boot_rank, events_kept, fate_rank, is_boot_of, is_fate_of, is_raw_of, packet_of, raw_rank, way_number, raw_start}
 use Rattle.trace_text.specs.declared.events.GivenFate.{GivenFate}
 use Rattle.trace_text.specs.declared.events.Boot.{Boot}
 use Rattle.trace_text.specs.declared.events.RawPacket.{RawPacket}
@@ -125,7 +125,7 @@ events-ordered fates fates2 boots boots2 raws raws2 bytes stable stable2 stable3
     boot-part round endpoint = stable-part boot_rank (is_boot_of round endpoint) (record { round = round; endpoint = endpoint; version = 0 }) boots boots2 stable2 (λ x e. grind (arith, nat_tests))
 
     raw-part : (round : ℕ) → filter (is_raw_of round) raws2 ≡ filter (is_raw_of round) raws
-    raw-part round = stable-part raw_rank (is_raw_of round) (record { round = round; size = 0; start = 0 }) raws raws2 stable3 (λ x e. grind (arith, nat_tests))
+    raw-part round = stable-part raw_rank (is_raw_of round) (record { round = round; low = 0; high = 0; size = 0 }) raws raws2 stable3 (λ x e. grind (arith, nat_tests))
 
 -- what holds of each holds of what is told of some
 first-told : {X Y : Type 0} (P : Y → Type 0) (f : X → Y) (p : X → Bool) (xs : List X) → All (λ x. P (f x)) xs → IfSome (slice_get (map f (filter p xs)) 0) P
@@ -153,12 +153,12 @@ versions-told n boots round endpoint among = all-told (λ version. (1 ≤ versio
 pub short-told : (bytes : List ℕ) (raws : List RawPacket) (round : ℕ) → All (IsWithin (length bytes)) raws → All (λ packet. length packet ≤ 2048) (map (packet_of bytes) (filter (is_raw_of round) raws))
 short-told bytes raws round among =
     all-told (λ (packet : List ℕ). length packet ≤ 2048) (packet_of bytes) (is_raw_of round) raws
-    (λ k d lt. let raw = get_or raws k d in let here = (among k d lt).1 in omega (arith, length-take raw.size (drop raw.start bytes)))
+    (λ k d lt. let raw = get_or raws k d in let here = (among k d lt).1 in omega (arith, length-take raw.size (drop (raw_start raw) bytes)))
 
 pub bytes-told : (bytes : List ℕ) (raws : List RawPacket) (round : ℕ) → All (λ byte. byte < 256) bytes → All (All (λ byte. byte < 256)) (map (packet_of bytes) (filter (is_raw_of round) raws))
 bytes-told bytes raws round are =
     all-told (All (λ byte. byte < 256)) (packet_of bytes) (is_raw_of round) raws
-    (λ k d lt. let raw = get_or raws k d in All-take (λ byte. byte < 256) raw.size (drop raw.start bytes) (All-drop (λ byte. byte < 256) raw.start bytes are))
+    (λ k d lt. let raw = get_or raws k d in All-take (λ byte. byte < 256) raw.size (drop (raw_start raw) bytes) (All-drop (λ byte. byte < 256) (raw_start raw) bytes are))
 
 pub among-permuted : (n : ℕ) (fates fates2 : List GivenFate) (boots boots2 : List Boot) (raws raws2 : List RawPacket) (bytes : List ℕ)
     → IsPermutation fates fates2 → IsPermutation boots boots2 → IsPermutation raws raws2 → AreAmong n fates boots raws bytes → AreAmong n fates2 boots2 raws2 bytes

@@ -11,7 +11,7 @@ use Rattle.trace_text.specs.Rows.{Row, Net, Ask, Meets, Raw, End}
 use Rattle.trace_text.specs.Rows as row
 use Rattle.trace_text.specs.Earlier.{is_same_way, fate_in, boot_in, packet_in, fated_by, latest_fate, greatest_round, named_round}
 use Rattle.trace_text.specs.Trace.{events_of}
-use Rattle.trace_text.specs.Events.{AreEventsOf, IsWithin, events_kept, is_fate_of, is_boot_of, is_raw_of, packet_of, way_number}
+use Rattle.trace_text.specs.Events.{AreEventsOf, IsWithin, events_kept, is_fate_of, is_boot_of, is_raw_of, packet_of, way_number, raw_start, raw_from}
 use Rattle.trace_text.specs.declared.events.GivenFate.{GivenFate}
 use Rattle.trace_text.specs.declared.events.Boot.{Boot}
 use Rattle.trace_text.specs.declared.events.RawPacket.{RawPacket}
@@ -61,10 +61,10 @@ boot-event before boot fates boots raws bytes are =
     }
 
 -- the bytes of a packet stay where more come after them
-packet-stays : (bytes more : List ℕ) (raw : RawPacket) → raw.start + raw.size ≤ length bytes → packet_of (bytes ++ more) raw ≡ packet_of bytes raw
+packet-stays : (bytes more : List ℕ) (raw : RawPacket) → raw_start raw + raw.size ≤ length bytes → packet_of (bytes ++ more) raw ≡ packet_of bytes raw
 packet-stays bytes more raw within =
-    let short = length-drop raw.start bytes in
-    ap (take raw.size) (drop-append-le raw.start bytes more (omega arith)) ∙ take-append-le raw.size (drop raw.start bytes) more (omega arith)
+    let short = length-drop (raw_start raw) bytes in
+    ap (take raw.size) (drop-append-le (raw_start raw) bytes more (omega arith)) ∙ take-append-le raw.size (drop (raw_start raw) bytes) more (omega arith)
 
 packets-stay : (bytes more : List ℕ) (raws : List RawPacket) (p : RawPacket → Bool) → All (IsWithin (length bytes)) raws → map (packet_of (bytes ++ more)) (filter p raws) ≡ map (packet_of bytes) (filter p raws)
 packets-stay bytes more [] p within = refl
@@ -78,12 +78,17 @@ packets-stay bytes more (raw ∷ raws) p within = by (p raw) (packets-stay bytes
     by true rest = ap (λ l. packet_of (bytes ++ more) raw ∷ l) rest ∙ ap (λ packet. packet ∷ map (packet_of bytes) (filter p raws)) here
     by false rest = rest
 
+-- a place is what its two parts tell
+pub start-from : (round start size : ℕ) → raw_start (raw_from round start size) ≡ start
+start-from round start size = omega arith
+
 pub raw-event : (before : List Row) (round : ℕ) (packet : List ℕ) (fates : List GivenFate) (boots : List Boot) (raws : List RawPacket) (bytes : List ℕ) → All (IsWithin (length bytes)) raws
-    → AreEventsOf before fates boots raws bytes → AreEventsOf (before ++ Raw round packet ∷ []) fates boots (raws ++ record { round = round; size = length packet; start = length bytes } ∷ []) (bytes ++ packet)
+    → AreEventsOf before fates boots raws bytes → AreEventsOf (before ++ Raw round packet ∷ []) fates boots (raws ++ raw_from round (length bytes) (length packet) ∷ []) (bytes ++ packet)
 raw-event before round packet fates boots raws bytes within are =
     let line = Raw round packet in
-    let raw : RawPacket = record { round = round; size = length packet; start = length bytes } in
-    let own : packet_of (bytes ++ packet) raw ≡ packet = ap (take (length packet)) (drop-append_seam bytes packet) ∙ take_all (length packet) packet (omega arith) in
+    let raw : RawPacket = raw_from round (length bytes) (length packet) in
+    let own : packet_of (bytes ++ packet) raw ≡ packet = ap (λ (start : ℕ). take (length packet) (drop start (bytes ++ packet))) (start-from round (length bytes) (length packet))
+    ∙ (ap (take (length packet)) (drop-append_seam bytes packet) ∙ take_all (length packet) packet (omega arith)) in
     record {
       each_fate = λ r endpoint up. told-same (fate_in r endpoint up) _ before line (are.each_fate r endpoint up) refl;
       each_boot = λ r endpoint. told-same (boot_in r endpoint) _ before line (are.each_boot r endpoint) refl;

@@ -1,6 +1,7 @@
 mod Digits
 mod CsvFacts
 mod ReaderFacts
+mod FirstFields
 mod LineFacts
 mod FieldFacts
 mod ReadFacts

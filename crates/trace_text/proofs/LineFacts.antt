@@ -1,12 +1,12 @@
 -- Lines of plain fields, as the machine that reads comma separated values takes them: a field at a time.
-use Rattle.std.proofs.Common.{◌≡◌, ◌≢◌, ℕ, ◌+◌, ◌≤◌, List, [], ◌∷◌, ◌++◌, length, Bool, true, false, cond, Option, Some, refl, sym, ap, ◌∙◌, arith, append-nil, length-append}
+use Rattle.std.proofs.Common.{◌≡◌, ◌≢◌, ℕ, ◌+◌, ◌≤◌, List, [], ◌∷◌, ◌++◌, length, Bool, true, false, cond, Option, Some, None, refl, sym, ap, ◌∙◌, arith, append-nil, length-append}
 use Rattle.std.specs.Prelude.{◌==◌, ◌&&◌, ◌||◌, not}
 use Rattle.std.specs.List.{list_all}
 use Rattle.std.specs.Char.{is_ascii_digit}
-use Rattle.std.proofs.lemmas.Bool.{false≢true}
+use Rattle.std.proofs.lemmas.Bool.{cond-true, false≢true}
 use Rattle.std.proofs.lemmas.List.{append_assoc}
 use Rattle.std.proofs.lemmas.Bool.Decides.{nat_tests}
-use Rattle.csv.specs.Machine.{Read, next_record, step, in_field, start_field, is_end, fields_after, field_after}
+use Rattle.csv.specs.Machine.{Read, next_record, step, in_field, start_field, is_end, ends_at_end, fields_after, field_after}
 use Rattle.csv.specs.Reading.{default_config, records_from, strip_bom, is_bom}
 use Rattle.csv.specs.declared.parser.State.{State}
 use Rattle.csv.specs.declared.parser.State.TheVariants as st
@@ -170,3 +170,15 @@ pub none-in-empty : (text : List ℕ) → (length text == 0) ≡ true → record
 unfolding records_from next_record
 none-in-empty [] empty = refl
 none-in-empty (c ∷ text) empty = absurd (grind (arith, nat_tests))
+
+-- the last field of a text that ends with no line feed
+at-end : (s : State) (fields : Record) (here : List ℕ) → ends_at_end s ≡ true → next_record default_config s fields here [] ≡ Some (fields ++ here ∷ [], st.StartRecord, [])
+unfolding next_record
+at-end s fields here ends = cond-true (ends_at_end s) (Some (fields ++ (here ∷ []), st.StartRecord, [])) None ends
+
+pub field-end : (fields : Record) (field : List ℕ) → list_all is_plain field ≡ true → next_record default_config st.StartField fields [] field ≡ Some (fields ++ field ∷ [], st.StartRecord, [])
+field-end fields [] plain = at-end st.StartField fields [] refl
+field-end fields (c ∷ field) plain =
+    let p = both (is_plain c) (list_all is_plain field) plain in
+    one-byte st.StartField fields [] c field ∙ (ap (after fields [] c field) (start-field c p.0)
+    ∙ (ap (next_record default_config st.InField fields (c ∷ [])) (sym (append-nil field)) ∙ (more-bytes fields (c ∷ []) field [] p.1 ∙ at-end st.InField fields (c ∷ field) refl)))

@@ -1,5 +1,5 @@
 -- What is kept of a trace beside its asks, and the order in which it is kept. This project's own profile.
-use Rattle.std.specs.Prelude.{◌≡◌, ℕ, ◌+◌, ◌*◌, ◌<◌, ◌≤◌, ◌==◌, ◌&&◌, Bool, true, false, List, length, map, filter, take, drop, slice_get, All}
+use Rattle.std.specs.Prelude.{◌≡◌, ℕ, ◌+◌, ◌*◌, ◌/◌, ◌%◌, ◌<◌, ◌≤◌, ◌==◌, ◌&&◌, Bool, true, false, List, length, map, filter, take, drop, slice_get, All}
 use Rattle.std.specs.List.{filter_map}
 use Rattle.std.specs.List.Sorted.{IsNonDecreasingBy}
 use Rattle.trace_text.specs.Rows.{Row}
@@ -36,9 +36,16 @@ is_boot_of round endpoint boot = (boot.round == round) && (boot.endpoint == endp
 abbrev pub is_raw_of : ℕ → RawPacket → Bool
 is_raw_of round raw = raw.round == round
 
+-- a raw packet of a round, of so many bytes from a place on, which is kept in two parts; and that place
+abbrev pub raw_from : ℕ → ℕ → ℕ → RawPacket
+raw_from round start size = record { round = round; low = start % 4294967296; high = start / 4294967296; size = size }
+
+abbrev pub raw_start : RawPacket → ℕ
+raw_start raw = raw.high * 4294967296 + raw.low
+
 -- the bytes of a raw packet, of those of all
 abbrev pub packet_of : List ℕ → RawPacket → List ℕ
-packet_of bytes raw = take raw.size (drop raw.start bytes)
+packet_of bytes raw = take raw.size (drop (raw_start raw) bytes)
 
 -- what is kept, by round and endpoint
 abbrev pub events_kept : List GivenFate → List Boot → List RawPacket → List ℕ → Events
@@ -56,7 +63,7 @@ abbrev pub IsBootAmong : ℕ → Boot → Type 0
 IsBootAmong endpoints boot = (boot.endpoint < endpoints) × (1 ≤ boot.version) × (boot.version ≤ 2)
 
 abbrev pub IsWithin : ℕ → RawPacket → Type 0
-IsWithin bytes raw = (raw.start + raw.size ≤ bytes) × (raw.size ≤ 2048)
+IsWithin bytes raw = (raw_start raw + raw.size ≤ bytes) × (raw.size ≤ 2048)
 
 -- all that is kept is
 pub record AreAmong (endpoints : ℕ) (fates : List GivenFate) (boots : List Boot) (raws : List RawPacket) (bytes : List ℕ) : Type 0 where
@@ -64,16 +71,18 @@ pub record AreAmong (endpoints : ℕ) (fates : List GivenFate) (boots : List Boo
   pub each_boot : All (IsBootAmong endpoints) boots
   pub each_raw : All (IsWithin (length bytes)) raws
 
--- what a trace keeps, in the order of ranks, and where the fates and the boots of each round begin; it has no more boots than its
--- text has bytes
-pub record AreKept (endpoints rounds : ℕ) (fates : List GivenFate) (fate_starts : List ℕ) (boots : List Boot) (boot_starts : List ℕ) (raws : List RawPacket) (bytes : List ℕ) : Type 0 where
+-- what a trace keeps, in the order of ranks, and where the fates, the boots and the raw packets of each round begin; it has no more
+-- boots and no more raw packets than its text has bytes
+pub record AreKept (endpoints rounds : ℕ) (fates : List GivenFate) (fate_starts : List ℕ) (boots : List Boot) (boot_starts : List ℕ) (raws : List RawPacket) (raw_starts : List ℕ) (bytes : List ℕ) : Type 0 where
   pub among : AreAmong endpoints fates boots raws bytes
   pub fates_rise : IsNonDecreasingBy fate_rank fates
   pub fates_begin : AreStarts fate_rank 512 rounds fates fate_starts
   pub boots_rise : IsNonDecreasingBy boot_rank boots
   pub boots_begin : AreStarts boot_rank 256 rounds boots boot_starts
   pub raws_rise : IsNonDecreasingBy raw_rank raws
+  pub raws_begin : AreStarts raw_rank 1 rounds raws raw_starts
   pub few : length boots ≤ 67108864
+  pub few_raws : length raws ≤ 67108864
 
 -- what is kept of these rows
 pub record AreEventsOf (before : List Row) (fates : List GivenFate) (boots : List Boot) (raws : List RawPacket) (bytes : List ℕ) : Type 0 where

@@ -1,5 +1,5 @@
 -- The fields of a row of a trace: numbers, ways and hexadecimal bytes, by this project's own profile.
-use Rattle.std.specs.Prelude.{ℕ, ◌%◌, List, [], length, Result, Ok, Err, Bool, not, ◌&&◌, ◌||◌, ◌==◌, nat_lt, nat_le, slice_index, slice_index_or, codes}
+use Rattle.std.specs.Prelude.{ℕ, ◌%◌, List, [], length, take, Result, Ok, Err, Bool, not, ◌&&◌, ◌||◌, ◌==◌, nat_lt, nat_le, slice_index, slice_index_or, codes}
 use Rattle.std.specs.List.{list_all}
 use Rattle.std.specs.Char.{is_ascii_digit}
 use Rattle.std.specs.Str.{bytes_eq}
@@ -12,6 +12,10 @@ Field = List ℕ
 
 abbrev pub Record : Type 0
 Record = List Field
+
+-- the first six fields: they tell what a row is as all do, since no row has six
+abbrev pub cut : Record → Record
+cut fields = take 6 fields
 
 -- the field at a place, with no bytes where the row is shorter
 abbrev pub field : Record → ℕ → Field

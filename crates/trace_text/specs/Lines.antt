@@ -4,7 +4,7 @@ use Rattle.std.specs.Prelude.{◌≡◌, ℕ, ◌==◌, ◌||◌, not, List, [],
 use Rattle.std.specs.List.{list_all}
 use Rattle.std.specs.Str.{bytes_eq}
 use Rattle.csv.specs.Reading.{default_config, records}
-use Rattle.trace_text.specs.Fields.{Record, field, is_number, number_of}
+use Rattle.trace_text.specs.Fields.{Record, cut, field, is_number, number_of}
 use Rattle.trace_text.specs.Rows.{Ask, kind_of, may_have, is_readable, row_of}
 use Rattle.trace_text.specs.declared.kind.Kind.TheVariants as kind
 use Rattle.trace_text.specs.declared.plain_ask.PlainAsk.{PlainAsk}
@@ -43,10 +43,14 @@ pub record IsAskRow (ask : PlainAsk) (fields : Record) : Type 0 where
 abbrev pub BeginsWithAsk : List Record → PlainAsk → List Record → Type 0
 BeginsWithAsk before ask after = (fields : Record) × IsAskRow ask fields × (before ≡ fields ∷ after)
 
--- what is found in the records that are left, and what is left then; the fields are those of a record that is no plain ask
+-- the first record begins as these fields do, and the others are these
+abbrev pub BeginsWith : List Record → Record → List Record → Type 0
+BeginsWith before fields after = (whole : Record) × (cut fields ≡ cut whole) × (before ≡ whole ∷ after)
+
+-- what is found in the records that are left, and what is left then; the fields are the first of a record that is no plain ask
 abbrev pub Finds : Found → List Record → Record → List Record → Type 0
 Finds (found.Ask ask) before fields after = BeginsWithAsk before ask after
-Finds found.Fields before fields after = before ≡ fields ∷ after
+Finds found.Fields before fields after = BeginsWith before fields after
 Finds found.End before fields after = before ≡ []
 
 -- no byte stands at the front, or one that ends a line

@@ -101,6 +101,8 @@ pub record StandsFor (before : List Row) (rows : Rows) : Type 0 where
   pub fated : (endpoint : ℕ) (up : Bool) → endpoint < endpoints_kept rows.net → slice_index rows.fated.items (endpoint * 2 + way_number up) ≡ latest_fate endpoint up before
   pub events : AreEventsOf before rows.events.fates.items rows.events.boots.items rows.events.raws.items rows.events.bytes.items
   pub few : length rows.events.boots.items ≤ length before
+  pub few_raws : length rows.events.raws.items ≤ length before
+  pub few_bytes : length rows.events.bytes.items ≤ 2048 * length before
   pub bounds : AreAmong (endpoints_kept rows.net) rows.events.fates.items rows.events.boots.items rows.events.raws.items rows.events.bytes.items
 
 -- what is kept stands for some rows

@@ -1,11 +1,27 @@
 // The fields of a row.
-ghost use Rattle.std.specs.Prelude.{◌≡◌, true, false, MatchOption};
-ghost use Rattle.csv.specs.Records.{fields_of};
+ghost use Rattle.std.specs.Prelude.{◌≡◌, [], ◌∷◌, ◌++◌, true, false, MatchOption, OnOk};
+ghost use Rattle.csv.specs.Records.{fields_of, partial_of};
 ghost use Rattle.hex.specs.Hex.{is_hex_digit};
-ghost use Rattle.trace_text.specs.Fields.{field, has_number, number_at, is_way, is_up, is_hex};
+ghost use Rattle.trace_text.specs.Fields.{Record, cut, field, has_number, number_at, is_way, is_up, is_hex};
 
 use crate::number::read_number;
 use csv::ByteRecord;
+use no_memory::NoMemory;
+
+/// No row has so many fields: of a record with more only the first are kept.
+const MOST_FIELDS: usize = 6;
+
+/// Appends a field, if it is one of the first.
+pub fn keep(fields: &mut ByteRecord, field: &[u8]) -> Result<(), NoMemory>
+    requires { partial_of fields.old ≡ [] }
+    ensures fields { OnOk result ((whole : Record) → fields_of fields.old ≡ cut whole → fields_of fields.new ≡ cut (whole ++ field.now ∷ [])) }
+    ensures partial { OnOk result (partial_of fields.new ≡ []) }
+{
+    if fields.len() < MOST_FIELDS {
+        fields.push_field(field)?;
+    }
+    Ok(())
+}
 
 /// The field at a place, empty where the row is shorter.
 pub fn field(fields: &ByteRecord, at: usize) -> &[u8]

@@ -24,5 +24,6 @@ pub use ask::Ask;
 pub use command::Command;
 pub use fault::{Fault, TraceRefused};
 pub use make::make_trace;
+pub use order::{Ranked, between_near};
 pub use read::read_trace;
 pub use trace::Trace;

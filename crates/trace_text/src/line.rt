@@ -1,16 +1,17 @@
 // Lines whose fields are plain, taken apart at their commas.
-ghost use Rattle.std.specs.Prelude.{◌≡◌, ◌<◌, ◌∷◌, ◌⊎◌, true, length, take, slice_index, IfOk, IfSome};
+ghost use Rattle.std.specs.Prelude.{◌≡◌, ◌<◌, ◌⊎◌, true, length, take, slice_index, IfOk, IfSome};
 ghost use Rattle.std.specs.List.{list_all};
 ghost use Rattle.csv.specs.Records.{fields_of};
-ghost use Rattle.trace_text.specs.Lines.{records_in, is_plain, begins_blank, IsFieldBefore};
+ghost use Rattle.trace_text.specs.Lines.{records_in, BeginsWith, is_plain, begins_blank, IsFieldBefore};
 
+use crate::fields::keep;
 use csv::ByteRecord;
 use no_memory::NoMemory;
 
 /// Takes the first line of a text as a record, and answers what stands behind it; None for a blank line, and for one that
-/// has a quote or a carriage return, or that no line feed ends.
+/// has a quote or a carriage return. The last line may lack its line feed. Of a line with many fields the first are kept.
 pub fn read_line<'a>(text: &'a [u8], fields: &mut ByteRecord) -> Result<Option<&'a [u8]>, NoMemory>
-    ensures { IfOk result (λ line. IfSome line (λ rest. records_in text.now ≡ fields_of fields.new ∷ records_in rest.now)) }
+    ensures { IfOk result (λ line. IfSome line (λ rest. BeginsWith (records_in text.now) (fields_of fields.new) (records_in rest.now))) }
 {
     fields.clear();
     if is_blank(text) {
@@ -18,13 +19,29 @@ pub fn read_line<'a>(text: &'a [u8], fields: &mut ByteRecord) -> Result<Option<&
     }
     let mut rest = text;
     while let Some((field, is_last, more)) = first_field(rest) {
-        fields.push_field(field)?;
+        keep(fields, field)?;
         if is_last {
             return Ok(Some(more));
         }
         rest = more;
     }
+    if is_plain_field(rest) {
+        keep(fields, rest)?;
+        return Ok(Some(b"".as_slice()));
+    }
     Ok(None)
+}
+
+// Whether a text is one plain field, which its end ends.
+fn is_plain_field(text: &[u8]) -> bool
+    ensures { result ≡ true → list_all is_plain text.now ≡ true }
+{
+    for at in 0..text.len() {
+        if matches!(text[at], b',' | b'\n' | b'"' | b'\r') {
+            return false;
+        }
+    }
+    true
 }
 
 // The plain field that a text begins with, whether it is the last of its line, and what stands behind the byte that ends it.

@@ -64,8 +64,8 @@ impl<'a> Records<'a> {
         }
     }
 
-    /// Takes the next record, where there is one; the fields of one that is no plain ask go into the buffer. Memory for a
-    /// record is all that can be wanting.
+    /// Takes the next record, where there is one; the first fields of one that is no plain ask go into the buffer, and those
+    /// behind them maybe too. Memory for a record is all that can be wanting.
     pub fn read(&mut self, fields: &mut ByteRecord) -> Result<Found, NoMemory>
         ensures { IfOk result (λ found. Finds found self.old (fields_of fields.new) self.new) }
     {

@@ -21,12 +21,14 @@ use no_memory::NoMemory;
 use std::alloc::{AllocError, Global};
 use std::marker::Model;
 
-// How many ranks a round has of asks, of fates and of boots.
+// How many ranks a round has of asks, of fates, of boots and of raw packets.
 const ASK_RANKS: u64 = 65_536;
 
 const FATE_RANKS: u64 = 512;
 
 const BOOT_RANKS: u64 = 256;
+
+const RAW_RANKS: u64 = 1;
 
 /// A trace without faulty row.
 #[derive(Drop)]
@@ -47,6 +49,8 @@ pub struct Trace {
     boot_starts: Vec<usize>,
     // By round; those of one in the order of rows.
     raws: Vec<RawPacket>,
+    // And of raw packets.
+    raw_starts: Vec<usize>,
     // The bytes of all raw packets.
     bytes: Vec<u8>,
 }
@@ -65,7 +69,7 @@ impl Model for Trace {
 
     ghost invariant = { λ t.
         IsKept (endpoints_of t.net) t.rounds t.asks.items t.ask_starts.items
-        × AreKept (endpoints_of t.net) t.rounds t.fates.items t.fate_starts.items t.boots.items t.boot_starts.items t.raws.items t.bytes.items
+        × AreKept (endpoints_of t.net) t.rounds t.fates.items t.fate_starts.items t.boots.items t.boot_starts.items t.raws.items t.raw_starts.items t.bytes.items
         × IsTrace (content_by t.net t.rounds (λ round src dst. sum_by (slots_asked round src dst) t.asks.items) (events_kept t.fates.items t.boots.items t.raws.items t.bytes.items)) };
 }
 
@@ -85,6 +89,7 @@ impl Trace {
         requires bounded { (src dst : ℕ) → sum_by (slots_for src dst) asks.items ≤ 100000000 }
         requires events { AreAmong (endpoints_of net) events.fates.items events.boots.items events.raws.items events.bytes.items }
         requires boots { length events.boots.items ≤ 67108864 }
+        requires raws { length events.raws.items ≤ 67108864 }
         ensures content { IfOk result (λ trace. trace ≡ content_by net rounds (λ round src dst. sum_by (slots_asked round src dst) asks.items) (events_kept events.fates.items events.boots.items events.raws.items events.bytes.items)) }
         ensures sound { IfOk result IsTrace }
     {
@@ -101,6 +106,7 @@ impl Trace {
         sort(&mut boots)?;
         let boot_starts = starts_of(alloc, rounds, BOOT_RANKS, &boots)?;
         sort(&mut raws)?;
+        let raw_starts = starts_of(alloc, rounds, RAW_RANKS, &raws)?;
         bytes_are_below_256(&bytes);
         Ok(Trace {
             net,
@@ -112,6 +118,7 @@ impl Trace {
             boots,
             boot_starts,
             raws,
+            raw_starts,
             bytes,
         })
     }
@@ -293,12 +300,13 @@ impl Trace {
         between(boots, rank, rank + 1)
     }
 
-    /// How many raw packets the round has.
+    /// How many raw packets the round has: no more than a text has bytes.
     pub fn raw_count(&self, round: u32) -> usize
         requires { round < self.now.rounds }
-        ensures { result ≡ length (raw_at self.now round) }
+        ensures number { result ≡ length (raw_at self.now round) }
+        ensures few { result ≤ 67108864 }
     {
-        raws_of(&self.raws, round).len()
+        raws_of(&self.raws, &self.raw_starts, round).len()
     }
 
     /// One of these packets, counted from 0 in the order of rows.
@@ -307,6 +315,9 @@ impl Trace {
         requires at { at < length (raw_at self.now round) }
         ensures { slice_get (raw_at self.now round) at ≡ Some result.now }
     {
-        packet_of(&self.bytes, &raws_of(&self.raws, round)[at])
+        packet_of(
+            &self.bytes,
+            &raws_of(&self.raws, &self.raw_starts, round)[at],
+        )
     }
 }

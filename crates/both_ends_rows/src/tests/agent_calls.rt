@@ -6,36 +6,33 @@ ghost use Rattle.both_ends_rows.specs.Callers.{IsHeard, MayHear};
 
 use super::{Outside, Packets, ROWS, Row, Shown, allocation, is_as_listed, what_comes};
 use arrayvec::ArrayVec;
-use endpoint_agent::{Agent, DownRefused, NoMemory, Sent, timely_allocations_may_be_taken};
-use endpoint_history::agents_count_slots;
+use endpoint_agent::{Agent, DownRefused, NoMemory, Sent};
 use fcp_framing::{Down, decode_down};
 use std::alloc::Global;
 use std::process::Abort;
 use std::test::Fail;
 
-/// An agent with what its caller keeps: the round, its epoch, what was asked for since the last boot, how many packets it heard, and
-/// the batch and the number of the packet that told a slot last.
+/// An agent with what its caller keeps: the round, its epoch, what was asked for since the last boot, and the batch and the number of
+/// the packet that told a slot last.
 #[derive(Drop)]
 struct Caller {
     agent: Agent,
     round: u32,
     epoch: u32,
     asked: u32,
-    heard: u32,
     batch: u32,
     number: u32,
 }
 
 impl Caller {
     fn open(alloc: Global) -> Result<Caller, NoMemory>
-        ensures { IfOk result (λ caller. IsHeard caller.agent caller.round caller.epoch caller.asked caller.heard caller.batch caller.number) }
+        ensures { IfOk result (λ caller. IsHeard caller.agent caller.round caller.epoch caller.asked caller.batch caller.number) }
     {
         Ok(Caller {
             agent: Agent::open(alloc, 0, 2, 1, 1)?,
             round: 0,
             epoch: 1,
             asked: 0,
-            heard: 0,
             batch: 0,
             number: 0,
         })
@@ -43,8 +40,8 @@ impl Caller {
 
     /// Boots where a version is given, and asks.
     fn begin(&mut self, rt: &impl Abort, outside: Outside)
-        requires { IsHeard self.old.agent self.old.round self.old.epoch self.old.asked self.old.heard self.old.batch self.old.number }
-        ensures { IsHeard self.new.agent self.new.round self.new.epoch self.new.asked self.new.heard self.new.batch self.new.number }
+        requires { IsHeard self.old.agent self.old.round self.old.epoch self.old.asked self.old.batch self.old.number }
+        ensures { IsHeard self.new.agent self.new.round self.new.epoch self.new.asked self.new.batch self.new.number }
     {
         if outside.version > 0 {
             self.boot(rt, outside.version);
@@ -53,8 +50,8 @@ impl Caller {
     }
 
     fn boot(&mut self, rt: &impl Abort, version: u8)
-        requires { IsHeard self.old.agent self.old.round self.old.epoch self.old.asked self.old.heard self.old.batch self.old.number }
-        ensures { IsHeard self.new.agent self.new.round self.new.epoch self.new.asked self.new.heard self.new.batch self.new.number }
+        requires { IsHeard self.old.agent self.old.round self.old.epoch self.old.asked self.old.batch self.old.number }
+        ensures { IsHeard self.new.agent self.new.round self.new.epoch self.new.asked self.new.batch self.new.number }
     {
         assert!(rt; (version == 1 || version == 2) && self.epoch < 99_999);
         self.agent.boot(version);
@@ -63,35 +60,31 @@ impl Caller {
     }
 
     fn ask(&mut self, rt: &impl Abort, slots: u32)
-        requires { IsHeard self.old.agent self.old.round self.old.epoch self.old.asked self.old.heard self.old.batch self.old.number }
-        ensures { IsHeard self.new.agent self.new.round self.new.epoch self.new.asked self.new.heard self.new.batch self.new.number }
+        requires { IsHeard self.old.agent self.old.round self.old.epoch self.old.asked self.old.batch self.old.number }
+        ensures { IsHeard self.new.agent self.new.round self.new.epoch self.new.asked self.new.batch self.new.number }
     {
         assert!(rt; slots <= 100_000_000 && self.asked <= 100_000_000 - slots);
         self.agent.ask(1, slots);
         self.asked += slots;
     }
 
-    /// Whether the agent may hear an allocation: it is for endpoint 0, and tells at most one slot, two rounds after its batch or
-    /// later, of a later batch than those before or under the number of the last one.
+    /// Whether the agent may hear an allocation: it is for endpoint 0, and tells slots two rounds after their batch or later, of a
+    /// later batch than those before or under the number of the last one.
     fn may_hear(&self, down: &Down) -> bool
-        ensures { result ≡ true → MayHear self.now.round self.now.heard self.now.batch self.now.number down.now }
+        ensures { result ≡ true → MayHear self.now.round self.now.batch self.now.number down.now }
     {
         let is_next = down.batch > self.batch
             || down.batch == self.batch && down.seq == self.number;
         let is_late = self.round >= 2 && down.batch <= self.round - 2;
         let is_timely = down.told.is_empty() || is_next && is_late;
-        down.dst == 0
-            && down.told.len() <= 1
-            && is_timely
-            && self.round < 99_999
-            && self.heard < 100_000
+        down.dst == 0 && is_timely && self.round < 99_999
     }
 
     /// Reads an allocation that the agent may hear.
     fn read(&self, rt: &impl Abort, bytes: &[u8]) -> Down
         ensures spelled { first_refusal (refuses_down 2 1 bytes.now) ≡ None }
         ensures read { result ≡ down_of bytes.now }
-        ensures may { MayHear self.now.round self.now.heard self.now.batch self.now.number result }
+        ensures may { MayHear self.now.round self.now.batch self.now.number result }
     {
         let mut down = Down::default();
         assert!(rt; decode_down(bytes, 2, 1, &mut down).is_ok());
@@ -113,14 +106,11 @@ impl Caller {
 
     /// Hears an allocation.
     fn hear(&mut self, rt: &impl Abort, bytes: &[u8]) -> Result<(), DownRefused>
-        requires { IsHeard self.old.agent self.old.round self.old.epoch self.old.asked self.old.heard self.old.batch self.old.number }
-        ensures { IsHeard self.new.agent self.new.round self.new.epoch self.new.asked self.new.heard self.new.batch self.new.number }
+        requires { IsHeard self.old.agent self.old.round self.old.epoch self.old.asked self.old.batch self.old.number }
+        ensures { IsHeard self.new.agent self.new.round self.new.epoch self.new.asked self.new.batch self.new.number }
     {
-        timely_allocations_may_be_taken();
-        agents_count_slots();
         let down = self.read(rt, bytes);
         let (batch, number) = self.last_told(&down);
-        self.heard += 1;
         self.batch = batch;
         self.number = number;
         self.agent.take_down(self.round, bytes)
@@ -134,8 +124,8 @@ impl Caller {
         row: &Row,
         packets: &Packets,
     ) -> Result<(), NoMemory>
-        requires { IsHeard self.old.agent self.old.round self.old.epoch self.old.asked self.old.heard self.old.batch self.old.number }
-        ensures { IsHeard self.new.agent self.new.round self.new.epoch self.new.asked self.new.heard self.new.batch self.new.number }
+        requires { IsHeard self.old.agent self.old.round self.old.epoch self.old.asked self.old.batch self.old.number }
+        ensures { IsHeard self.new.agent self.new.round self.new.epoch self.new.asked self.new.batch self.new.number }
     {
         if packets.come_in(self.round) {
             let bytes = allocation(alloc, row, packets, self.round)?;
@@ -147,8 +137,8 @@ impl Caller {
 
     /// Hears all that comes in this round.
     fn hear_all(&mut self, rt: &impl Abort, alloc: Global, row: &Row) -> Result<(), NoMemory>
-        requires { IsHeard self.old.agent self.old.round self.old.epoch self.old.asked self.old.heard self.old.batch self.old.number }
-        ensures { OnOk result (IsHeard self.new.agent self.new.round self.new.epoch self.new.asked self.new.heard self.new.batch self.new.number) }
+        requires { IsHeard self.old.agent self.old.round self.old.epoch self.old.asked self.old.batch self.old.number }
+        ensures { OnOk result (IsHeard self.new.agent self.new.round self.new.epoch self.new.asked self.new.batch self.new.number) }
     {
         for packets in row.allocations {
             self.hear_one(rt, alloc, row, packets)?;
@@ -158,8 +148,8 @@ impl Caller {
 
     /// Ends the round: makes its packet, which is as listed, and sends.
     fn end(&mut self, rt: &impl Abort, row: &Row) -> ArrayVec<Sent, 64>
-        requires { IsHeard self.old.agent self.old.round self.old.epoch self.old.asked self.old.heard self.old.batch self.old.number }
-        ensures { IsHeard self.new.agent self.new.round self.new.epoch self.new.asked self.new.heard self.new.batch self.new.number }
+        requires { IsHeard self.old.agent self.old.round self.old.epoch self.old.asked self.old.batch self.old.number }
+        ensures { IsHeard self.new.agent self.new.round self.new.epoch self.new.asked self.new.batch self.new.number }
     {
         assert!(rt; self.round < 99_999);
         let mut up = [0; 2048];

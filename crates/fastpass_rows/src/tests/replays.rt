@@ -83,6 +83,30 @@ fn a_long_silence_is_told_apart_from_loss(rt: HostRuntime) -> Result<(), Fail> {
     Ok(())
 }
 
+// 300 raw packets of one round name one endpoint: its lane refuses each in turn, the last for another cause.
+#[test]
+fn many_raw_packets_name_one_endpoint(rt: HostRuntime) -> Result<(), Fail> {
+    let mut trace = Vec::new(rt.alloc());
+    trace.extend_from_slice(b"net,2,1,1\nask,0,0,1,1\n")?;
+    for _ in 0..299 {
+        trace.extend_from_slice(
+            b"raw,2,0101000100000002000000010000000000000000000000000000\n",
+        )?;
+    }
+    trace.extend_from_slice(b"raw,2,0202000100000001\nend,7\n")?;
+    let came = run_on(&rt, rt.alloc(), ONE_BY_ONE, &trace)?;
+    assert_eq!(rt; came.status, 0);
+    let mut lines = came.out.held().split(|byte| *byte == b'\n');
+    assert!(rt; lines.next() == Some(b"batch,1,0,1,0,1".as_slice()));
+    for _ in 0..299 {
+        assert!(rt; lines.next() == Some(b"refused,2,unsynced".as_slice()));
+    }
+    assert!(rt; lines.next() == Some(b"refused,2,otherversion".as_slice()));
+    assert!(rt; lines.next() == Some(b"slot,2,0,1,0".as_slice()));
+    assert!(rt; came.out.held().ends_with(b"\nsent,2,0,1\ncount,0,1,1,1,0,0,0,1,0\nend,7\n"));
+    Ok(())
+}
+
 // What a plan has no rows for, a replay takes, but no packet has two fates.
 #[test]
 fn a_replay_takes_rows_that_a_plan_refuses(rt: HostRuntime) -> Result<(), Fail> {

@@ -4,12 +4,13 @@ use Rattle.loss_world.specs.InTransit.{Held, with_packet, due_in}
 use Rattle.fcp_framing.specs.Fields.{down_of}
 use Rattle.endpoint_history.specs.Packets.{DownPacket, down_packet}
 use Rattle.endpoint_history.specs.Agent.{AgentHistory, TakesDown, takes}
-use Rattle.endpoint_agent.specs.State.{AgentState, MayTake}
+use Rattle.endpoint_agent.specs.State.{AgentState}
+use Rattle.endpoint_agent.specs.Timely.{MayTake}
 use Rattle.endpoint_agent.specs.Standing as agents
 use Rattle.lane_rounds.specs.Standing.{HasCarried, spell_down}
 use Rattle.lane_rounds.specs.Parts.{IsSameAgent, IsReadDown, Each, MayHear, hearing, with_at_hand}
 use Rattle.lane_rounds.proofs.Arriving.{with_each-more, first-of, at_hand-comes}
-use Rattle.lane_rounds.proofs.Hearing.{carried-at_hand, may_take, heard-one}
+use Rattle.lane_rounds.proofs.Hearing.{carried-at_hand, heard-one}
 use Rattle.lane_rounds.proofs.rounds.hear.Goals as goal
 
 pub take_down-requires-clause-may_take : goal.take_down-requires-clause-may_take
@@ -24,12 +25,11 @@ take_down-requires-clause-may_take c =
     let due' = subst (λ (at_hand : Option ℕ). due_in (with_at_hand round at_hand c.args.buf.now world).flights round ≡ map (spell_down agent.me) packets) c.in-Some.is due in
     let f = first-of (spell_down agent.me) bytes (due_in (with_packet round bytes world).flights round) packets due' (sym (ap (λ (d : List (List ℕ)). slice_get d 0) one)) in
     let read = subst (Each (IsReadDown agent.me agent.endpoints agent.b)) f.parts each in
-    let may' = subst (MayHear agent.endpoints agent.b agent.g round calls) f.parts may in
+    let may' = subst (MayHear agent.g round calls) f.parts may in
     let is : down_packet (down_of bytes) ≡ f.first = ap (λ bs. down_packet (down_of bs)) f.bytes_of ∙ read.0.back in (
       calls,
       stands,
-      λ own it. subst (λ (p : DownPacket). MayTake agent round p) (sym is)
-          (may_take agent.endpoints agent.b agent.g agent calls round f.first refl refl stands (sym c.requires.round) (may'.0 (subst (λ (p : DownPacket). takes calls p ≡ true) is it))),
+      λ own it. subst (MayTake agent.g calls round) (sym is) (may'.0 (subst (λ (p : DownPacket). takes calls p ≡ true) is it)),
     )
 
 pub returns-in-Some-clause-stands : goal.returns-in-Some-clause-stands

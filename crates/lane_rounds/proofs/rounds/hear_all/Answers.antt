@@ -1,14 +1,15 @@
-use Rattle.std.proofs.Common.{◌≡◌, ◌∷◌, true, map, take, drop, sym, ◌∙◌, ap, subst, refl}
+use Rattle.std.proofs.Common.{◌≡◌, ℕ, ◌∷◌, true, map, take, drop, sym, ◌∙◌, ap, subst, refl}
 use Rattle.loss_world.specs.InTransit.{due_in}
 use Rattle.fcp_framing.specs.Fields.{down_of}
 use Rattle.endpoint_history.specs.Packets.{DownPacket, down_packet}
 use Rattle.endpoint_history.specs.Agent.{AgentHistory, TakesDown, takes}
-use Rattle.endpoint_agent.specs.State.{AgentState, MayTake}
+use Rattle.endpoint_agent.specs.State.{AgentState}
+use Rattle.endpoint_agent.specs.Timely.{MayTake}
 use Rattle.endpoint_agent.specs.Standing as agents
 use Rattle.lane_rounds.specs.Standing.{spell_down}
 use Rattle.lane_rounds.specs.Parts.{IsReadDown, Each, MayHear, hearing}
 use Rattle.lane_rounds.proofs.Arriving.{with_each-more, none-yet, first-of, one-more, all-come}
-use Rattle.lane_rounds.proofs.Hearing.{carried-begins, carried-asked, may_take, heard-one}
+use Rattle.lane_rounds.proofs.Hearing.{carried-begins, carried-asked, heard-one}
 use Rattle.lane_rounds.proofs.rounds.hear_all.Goals as goal
 
 pub loop-length-init : goal.loop-length-init
@@ -32,13 +33,12 @@ take_down-requires-clause-may_take c =
     let (calls, packets, stands, due, each, may) = inv.may_hear in
     let f = first-of (spell_down was.me) bytes (due_in c.loop-length.world.flights c.args.round) packets due c.in-Some.ensures.first in
     let read = subst (Each (IsReadDown was.me was.endpoints was.b)) f.parts each in
-    let may' = subst (MayHear was.endpoints was.b was.g c.args.round calls) f.parts may in
-    let is : down_packet (down_of bytes) ≡ f.first = ap (λ bs. down_packet (down_of bs)) f.bytes_of ∙ read.0.back in
-    let now : agent.round ≡ c.args.round = inv.same.round ∙ sym c.requires.round in (
+    let may' = subst (MayHear was.g c.args.round calls) f.parts may in
+    let is : down_packet (down_of bytes) ≡ f.first = ap (λ bs. down_packet (down_of bs)) f.bytes_of ∙ read.0.back in (
       calls,
       stands,
-      λ own it. subst (λ (p : DownPacket). MayTake agent c.args.round p) (sym is)
-          (may_take was.endpoints was.b was.g agent calls c.args.round f.first inv.same.b inv.same.g stands now (may'.0 (subst (λ (p : DownPacket). takes calls p ≡ true) is it))),
+      λ own it. subst (λ (g : ℕ). MayTake g calls c.args.round (down_packet (down_of bytes))) (sym inv.same.g)
+          (subst (MayTake was.g calls c.args.round) (sym is) (may'.0 (subst (λ (p : DownPacket). takes calls p ≡ true) is it))),
     )
 
 pub loop-length-preserved : goal.loop-length-preserved
@@ -55,7 +55,7 @@ loop-length-preserved c =
     let (calls, packets, stands, due, each, may) = inv.may_hear in
     let f = first-of (spell_down was.me) bytes before packets due c.in-Some.ensures.first in
     let read = subst (Each (IsReadDown was.me was.endpoints was.b)) f.parts each in
-    let may' = subst (MayHear was.endpoints was.b was.g c.args.round calls) f.parts may in
+    let may' = subst (MayHear was.g c.args.round calls) f.parts may in
     record {
       same = record {
         me = ap (λ (s : AgentState). s.me) frame ∙ same.me;

@@ -15,7 +15,7 @@ invariant-loop-length l = record {
   may_hear : (calls : AgentHistory) × (packets : List DownPacket) × agents.StandsFor l.agent calls
       × (due_in l.world.flights l.round ≡ map (spell_down l.initial.agent.me) packets)
       × Each (IsReadDown l.initial.agent.me l.initial.agent.endpoints l.initial.agent.b) packets
-      × MayHear l.initial.agent.endpoints l.initial.agent.b l.initial.agent.g l.round calls packets;
+      × MayHear l.initial.agent.g l.round calls packets;
   stands : (calls : AgentHistory) (packets : List DownPacket) → agents.StandsFor l.initial.agent calls → due_in l.initial.world.flights l.round ≡ map (spell_down l.initial.agent.me) packets →
       Each (IsReadDown l.initial.agent.me l.initial.agent.endpoints l.initial.agent.b) packets →
       HaveCome (spell_down l.initial.agent.me) (IsReadDown l.initial.agent.me l.initial.agent.endpoints l.initial.agent.b) (λ heard. agents.StandsFor l.agent (hearing l.round heard calls)) (due_in l.world.flights l.round) packets;

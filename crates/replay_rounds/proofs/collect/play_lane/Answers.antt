@@ -3,7 +3,7 @@ use Rattle.std.specs.List.{slice_index_or}
 use Rattle.std.proofs.lemmas.List.{take_all}
 use Rattle.greedy_rules.specs.Batches.{IsAboveLast}
 use Rattle.replay_rounds.specs.Standing.{LaneStands}
-use Rattle.replay_rounds.specs.Collecting.{published_by, setting_by, sources_in, with_endpoint, MayBeTold, RoundPart}
+use Rattle.replay_rounds.specs.Collecting.{named_in, published_by, setting_by, with_endpoint, MayBeTold, RoundPart}
 use Rattle.replay_rounds.proofs.LoopLemmas.{left_at, done_more, left_more}
 use Rattle.replay_rounds.proofs.collect.play_lane.Goals as goal
 
@@ -22,15 +22,15 @@ play-requires-clause-may c =
           (c.loop-round.invariant.stands first cores may are (c.count_lane.ensures.stands (setting_by c.args.trace.now c.args.g cores c.args.publisher.now) first may.published stood)),
     )
 
-pub play-requires-clause-sources : goal.play-requires-clause-sources
-play-requires-clause-sources c =
+pub play-requires-clause-named : goal.play-requires-clause-named
+play-requires-clause-named c =
     let i = c.loop-round.round-index in
     let d : RoundPart = c.round-item.result in
     let within : i < length c.args.rounds.now = c.loop-round-test.true in
     let same : slice_index_or c.loop-round.rounds i d ≡ slice_index_or c.args.rounds.now i d = left_at c.loop-round.rounds c.args.rounds.now i d c.loop-round.invariant.left in
     let (first, cores, may, are, stood) = c.requires.may in
     let number : (slice_index_or c.loop-round.rounds i d).round ≡ first + i = ap (λ (p : RoundPart). p.round) same ∙ (are i d within).0 in
-    ap (λ (p : RoundPart). p.sources) same ∙ ((are i d within).1 ∙ ap (sources_in c.args.trace.now) (sym number))
+    ap (λ (p : RoundPart). p.named) same ∙ ((are i d within).1 ∙ ap (named_in c.args.trace.now) (sym number))
 
 pub play-requires-clause-above : goal.play-requires-clause-above
 play-requires-clause-above c =

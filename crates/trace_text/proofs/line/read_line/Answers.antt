@@ -1,37 +1,46 @@
-use Rattle.std.proofs.Common.{[], ◌∷◌, ◌++◌, ap, sym, ◌∙◌}
-use Rattle.csv.specs.Machine.{next_record}
-use Rattle.csv.specs.Reading.{default_config}
+use Rattle.std.proofs.Common.{◌≡◌, ℕ, List, [], ◌∷◌, ◌++◌, true, sym, ◌∙◌, subst}
+use Rattle.std.specs.List.{list_all}
+use Rattle.trace_text.proofs.LineFacts.{begins-field, field-end, field-last, field-more, record-more}
 use Rattle.csv.specs.Records.{fields_of}
-use Rattle.csv.specs.declared.parser.State.TheVariants as st
-use Rattle.trace_text.specs.Lines.{records_in}
-use Rattle.trace_text.proofs.LineFacts.{begins-field, field-last, field-more, record-more}
+use Rattle.trace_text.specs.Lines.{BeginsWith, is_plain, records_in}
+use Rattle.trace_text.proofs.FirstFields.{cut-twice}
 use Rattle.trace_text.proofs.line.read_line.Goals as goal
 
 pub loop-field-init : goal.loop-field-init
-loop-field-init c =
-    let text = c.args.text.now in
-    record {
-      fields = begins-field text (sym c.is_blank.ensures ∙ c.if-is_blank.false) ∙ ap (λ fs. next_record default_config st.StartField fs [] text) (sym c.clear.ensures.fields);
-      ended = c.clear.ensures.partial;
-    }
+loop-field-init c = record {
+  same = ([], begins-field c.args.text.now (sym c.is_blank.ensures ∙ c.if-is_blank.false), c.clear.ensures.fields);
+  partial = c.clear.ensures.partial;
+}
 
 pub returns-then-is_last : goal.returns-then-is_last
 returns-then-is_last c =
-    let before = fields_of c.loop-field.fields in
+    let (whole, same, kept) = c.loop-field.invariant.same in
     let field = c.in-Some.field.now in
     let more = c.in-Some.more.now in
-    let taken = rw c.if-is_last.true at c.in-Some.ensures in
-    let pushed = c.in_ok-push_field.ensures.fields ∙ ap (λ p. before ++ (p ++ field) ∷ []) c.loop-field.invariant.ended in
-    record-more c.args.text.now more (before ++ field ∷ []) (c.loop-field.invariant.fields ∙ field-last before c.loop-field.rest.now field more taken) ∙ ap (λ fs. fs ∷ records_in more) (sym pushed)
+    let taken = rw c.if-is_last.true at c.in-Some.ensures in (
+      whole ++ field ∷ [],
+      cut-twice (fields_of c.keep.new.fields) (whole ++ field ∷ []) (c.in_ok-keep.ensures.fields whole kept),
+      record-more c.args.text.now more (whole ++ field ∷ []) (same ∙ field-last whole c.loop-field.rest.now field more taken),
+    )
 
 pub loop-field-preserved : goal.loop-field-preserved
 loop-field-preserved c =
-    let before = fields_of c.loop-field.fields in
+    let (whole, same, kept) = c.loop-field.invariant.same in
     let field = c.in-Some.field.now in
     let more = c.in-Some.more.now in
     let taken = rw c.if-is_last.false at c.in-Some.ensures in
-    let pushed = c.in_ok-push_field.ensures.fields ∙ ap (λ p. before ++ (p ++ field) ∷ []) c.loop-field.invariant.ended in
     record {
-      fields = c.loop-field.invariant.fields ∙ field-more before c.loop-field.rest.now field more taken ∙ ap (λ fs. next_record default_config st.StartField fs [] more) (sym pushed);
-      ended = c.in_ok-push_field.ensures.partial;
+      same = (whole ++ field ∷ [], same ∙ field-more whole c.loop-field.rest.now field more taken, c.in_ok-keep.ensures.fields whole kept);
+      partial = c.in_ok-keep.ensures.partial;
     }
+
+pub returns-then-is_plain_field : goal.returns-then-is_plain_field
+returns-then-is_plain_field c =
+    let (whole, same, kept) = c.loop-field.invariant.same in
+    let rest = c.loop-field.rest.now in
+    let plain : list_all is_plain rest ≡ true = c.is_plain_field.ensures c.if-is_plain_field.true in
+    subst (λ (after : List ℕ). BeginsWith (records_in c.args.text.now) (fields_of c.keep-then-is_plain_field.new.fields) (records_in after)) (sym c.as_slice.ensures) (
+      whole ++ rest ∷ [],
+      cut-twice (fields_of c.keep-then-is_plain_field.new.fields) (whole ++ rest ∷ []) (c.in_ok-keep-2.ensures.fields whole kept),
+      record-more c.args.text.now [] (whole ++ rest ∷ []) (same ∙ field-end whole rest plain),
+    )

@@ -3,12 +3,13 @@ use Rattle.csv.specs.Machine.{next_record}
 use Rattle.csv.specs.Reading.{default_config}
 use Rattle.csv.specs.Records.{fields_of, partial_of}
 use Rattle.csv.specs.declared.parser.State.TheVariants as st
+use Rattle.trace_text.specs.Fields.{Record, cut}
 use Rattle.trace_text.proofs.line.read_line.Given as goal
 
 abbrev pub invariant-loop-field : goal.invariant-loop-field
 invariant-loop-field l = record {
-  fields : next_record default_config st.StartRecord [] [] l.text ≡ next_record default_config st.StartField (fields_of l.fields) [] l.rest;
-  ended : partial_of l.fields ≡ [];
+  same : (whole : Record) × (next_record default_config st.StartRecord [] [] l.text ≡ next_record default_config st.StartField whole [] l.rest) × (fields_of l.fields ≡ cut whole);
+  partial : partial_of l.fields ≡ [];
 }
 
 abbrev pub decreases-loop-field : goal.decreases-loop-field

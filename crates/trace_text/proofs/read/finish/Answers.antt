@@ -18,6 +18,9 @@ of-requires-clause-bounded c = λ src dst.
 pub of-requires-clause-boots : goal.of-requires-clause-boots
 of-requires-clause-boots c = let stands = c.requires.stands.1 in omega (arith, stands.few, stands.count, c.requires.room)
 
+pub of-requires-clause-raws : goal.of-requires-clause-raws
+of-requires-clause-raws c = let stands = c.requires.stands.1 in omega (arith, stands.few_raws, stands.count, c.requires.room)
+
 pub returns : goal.returns
 returns c = λ before stands.
     let is = rw c.in-Some.is at stands.net in

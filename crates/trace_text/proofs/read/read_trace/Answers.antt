@@ -1,8 +1,10 @@
-use Rattle.std.proofs.Common.{◌∷◌, [], ◌++◌, length, ap, ◌∙◌, arith}
+use Rattle.std.proofs.Common.{◌≡◌, ◌∷◌, [], ◌++◌, length, Ok, Err, sym, ap, ◌∙◌, arith}
 use Rattle.std.proofs.lemmas.Result.{err_from_is_err_and}
 use Rattle.csv.specs.Records.{fields_of}
 use Rattle.trace_text.specs.Trace.{rows_after}
+use Rattle.trace_text.specs.Faults.{read_row}
 use Rattle.trace_text.proofs.RowFacts.{length-more}
+use Rattle.trace_text.proofs.FirstFields.{alike-row, alike-takes}
 use Rattle.trace_text.proofs.TraceFacts.{told, finished, rows_after-ok, rows_after-none}
 use Rattle.trace_text.proofs.read.read_trace.Goals as goal
 
@@ -23,13 +25,14 @@ loop-rows-preserved c =
     let before = c.loop-rows.invariant.stands.0 in
     let stands = c.loop-rows.invariant.stands.1 in
     let same = c.loop-rows.invariant.stands.2 in
-    let next = rw c.in-Fields.is at c.in_ok-found.ensures in
+    let (whole, kept, next) = rw c.in-Fields.is at c.in_ok-found.ensures in
     let taken = c.in_ok-take-in-Fields.ensures before stands in
+    let read : read_row c.args.command before whole ≡ Ok taken.0 = sym (alike-row c.args.command before (fields_of c.read.new.fields) whole kept) ∙ taken.1 in
     record {
       stands = (
         before ++ taken.0 ∷ [],
         taken.2,
-        same ∙ ap (λ l. rows_after c.args.command l before) next ∙ rows_after-ok c.args.command (fields_of c.read.new.fields) c.read.new.self before taken.0 taken.1,
+        same ∙ ap (λ l. rows_after c.args.command l before) next ∙ rows_after-ok c.args.command whole c.read.new.self before taken.0 read,
       );
       room = omega (arith, c.loop-rows.invariant.room, taken.2.count, stands.count, length-more before taken.0, ap length next);
     }
@@ -51,11 +54,12 @@ pub returns-in_err-take-in-Fields-clause-refused :
 returns-in_err-take-in-Fields-clause-refused c =
     let before = c.loop-rows.invariant.stands.0 in
     let stands = c.loop-rows.invariant.stands.1 in
-    let next = rw c.in-Fields.is at c.in_ok-found.ensures in
+    let (whole, kept, next) = rw c.in-Fields.is at c.in_ok-found.ensures in
     let same = c.loop-rows.invariant.stands.2 ∙ ap (λ l. rows_after c.args.command l before) next in
     let p = err_from_is_err_and c.from_residual-in_err-take-in-Fields.result c.from_residual-in_err-take-in-Fields.ensures.1 in
     rw (p.1, p.2)
-    (told c.args.command c.args.bytes.now (fields_of c.read.new.fields) c.read.new.self before c.take.new.self c.in_err-take-in-Fields.field-0.0 same (c.in_err-take-in-Fields.ensures before stands))
+    (told c.args.command c.args.bytes.now whole c.read.new.self before c.take.new.self c.in_err-take-in-Fields.field-0.0 same
+    (alike-takes c.args.command before (fields_of c.read.new.fields) whole c.take.new.self (Err c.in_err-take-in-Fields.field-0.0) kept (c.in_err-take-in-Fields.ensures before stands)))
 
 pub returns-in-End-clause-accepted : goal.returns-in-End-clause-accepted
 returns-in-End-clause-accepted c =

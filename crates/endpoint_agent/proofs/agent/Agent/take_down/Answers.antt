@@ -18,9 +18,11 @@ use Rattle.endpoint_agent.specs.Carrying.{bare_numbers}
 use Rattle.endpoint_agent.specs.Lines.{with_missed}
 use Rattle.endpoint_agent.specs.Refusals.{IsOwn}
 use Rattle.endpoint_agent.specs.Standing.{StandsFor}
-use Rattle.endpoint_agent.specs.State.{AgentState, line_at, MayTake, IsSound}
+use Rattle.endpoint_agent.specs.State.{AgentState, line_at, IsSound}
+use Rattle.endpoint_agent.specs.Timely.{MayTake}
 use Rattle.endpoint_agent.proofs.Calls.{StandsFor-passed, Read, acknowledges-more}
 use Rattle.endpoint_agent.proofs.Taking.{IsMine, takes-it, reads, AreTaken, takes-slots, Sound-slots}
+use Rattle.endpoint_agent.proofs.Timely.{HasRoom, has-room}
 use Rattle.endpoint_agent.proofs.Sound.{All-lines, Sound-reads, Kept-makes, Kept-takes}
 use Rattle.endpoint_agent.proofs.agent.Agent.take_down.Goals as goal
 
@@ -54,15 +56,19 @@ returns-then-self-3-clause-stands c = λ own history stood.
 -- ---- a fresh number
 
 may_take : (agent now : AgentState) (round : ℕ) (bytes : List ℕ) (down : Down) → agent ≡ now → down ≡ down_of bytes → IsSound agent → IsMine agent down
-    → IsOwn now.me now.endpoints now.b bytes
+    → IsOwn now.me now.endpoints now.b bytes → round ≡ now.round → round < 100000
     → ((history : AgentHistory) → StandsFor agent history → Fresh ≡ receive_verdict (reorder_of agent.arrived.version) (arrived history) down.seq)
-    → (history : AgentHistory) × StandsFor now history × (IsOwn now.me now.endpoints now.b bytes → takes history (down_packet (down_of bytes)) ≡ true → MayTake now round (down_packet (down_of bytes)))
-    → MayTake agent round (down_packet down)
-may_take agent now round bytes down view is sound mine own fresh (history, stands, may) =
+    → (history : AgentHistory) × StandsFor now history × (IsOwn now.me now.endpoints now.b bytes → takes history (down_packet (down_of bytes)) ≡ true → MayTake now.g history round (down_packet (down_of bytes)))
+    → HasRoom agent round (down_packet down)
+may_take agent now round bytes down view is sound mine own at rounds fresh (history, stands, may) =
     let stands_here = subst (λ (a : AgentState). StandsFor a history) (sym view) stands in
+    let here : round ≡ agent.round = at ∙ sym (ap (λ (a : AgentState). a.round) view) in
     let it = takes-it agent history down stands_here sound mine (fresh history stands_here) in
-    subst (λ (a : AgentState). MayTake a round (down_packet down)) (sym view)
-    (subst (λ (d : Down). MayTake now round (down_packet d)) (sym is) (may own (subst (λ (d : Down). takes history (down_packet d) ≡ true) is it)))
+    let may_here : MayTake agent.g history agent.round (down_packet down) =
+    subst (λ (r : ℕ). MayTake agent.g history r (down_packet down)) here
+    (subst (λ (a : AgentState). MayTake a.g history round (down_packet down)) (sym view)
+    (subst (λ (d : Down). MayTake now.g history round (down_packet d)) (sym is) (may own (subst (λ (d : Down). takes history (down_packet d) ≡ true) is it)))) in
+    subst (λ (r : ℕ). HasRoom agent r (down_packet down)) (sym here) (has-room agent history (down_packet down) stands_here (omega (arith, here, rounds)) mine.rules.count may_here)
 
 slots-by : (agent : AgentState) (round : ℕ) (down : Down) (vec : Vec FlowLine) (old new : List FlowLine) (waiting waiting' : List (List Told)) (seq : ℕ)
     → old ≡ vec.items → length old ≡ vec.len → seq ≡ agent.sent.outstanding.newest → vec.items ≡ agent.lines → waiting ≡ agent.waiting
@@ -97,7 +103,7 @@ take_slots-requires-clause-late c = λ some.
     (record { spelled = sym c.in_default.ensures.refused; destination = ap (λ (d : Down). d.dst) (sym is) ∙ mine.destination }) in
     let fresh : (history : AgentHistory) → StandsFor agent history → Fresh ≡ receive_verdict (reorder_of agent.arrived.version) (arrived history) down.seq = λ history stands.
     sym c.in-Fresh.is ∙ c.take.ensures.verdict (arrived history) stands.arrived in
-    let may = may_take agent c.args.self.now c.args.round c.args.bytes.now down c.self.view_is is sound mine own fresh c.requires.may_take in
+    let may = may_take agent c.args.self.now c.args.round c.args.bytes.now down c.self.view_is is sound mine own c.requires.round c.requires.rounds fresh c.requires.may_take in
     let late = may.late some in
     omega (arith, late)
 
@@ -126,7 +132,7 @@ invariant_of-self-in-Fresh c =
     (record { spelled = sym c.in_default.ensures.refused; destination = ap (λ (d : Down). d.dst) (sym is) ∙ mine.destination }) in
     let fresh : (history : AgentHistory) → StandsFor agent history → Fresh ≡ receive_verdict (reorder_of agent.arrived.version) (arrived history) down.seq = λ history stands.
     sym c.in-Fresh.is ∙ c.take.ensures.verdict (arrived history) stands.arrived in
-    let may = may_take agent c.args.self.now c.args.round c.args.bytes.now down c.self.view_is is sound mine own fresh c.requires.may_take in
+    let may = may_take agent c.args.self.now c.args.round c.args.bytes.now down c.self.view_is is sound mine own c.requires.round c.requires.rounds fresh c.requires.may_take in
     let slots = slots-by agent c.args.round down c.self.inside.lines c.deref_mut.result.now c.take_slots.new.lines c.self.inside.waiting c.take_slots.new.waiting c.self.inside.request.seq
     c.deref_mut.ensures.value c.deref_mut.ensures.len same.number (λ i. agent.lines) (λ i. agent.waiting) c.take_slots.ensures.length c.take_slots.ensures.lines c.take_slots.ensures.waiting c.take_slots.ensures.others in
     let read : (history : AgentHistory) → StandsFor agent history → Read agent history (down_packet down) c.take.new.self c.read_ack-self-inside.new.sent c.read_ack-self-inside.result = λ history stands. (
@@ -162,7 +168,7 @@ returns-in-Fresh-clause-stands c = λ is_own history stands.
     (record { spelled = sym c.in_default.ensures.refused; destination = ap (λ (d : Down). d.dst) (sym is) ∙ mine.destination }) in
     let fresh : (history : AgentHistory) → StandsFor agent history → Fresh ≡ receive_verdict (reorder_of agent.arrived.version) (arrived history) down.seq = λ history stands.
     sym c.in-Fresh.is ∙ c.take.ensures.verdict (arrived history) stands.arrived in
-    let may = may_take agent c.args.self.now c.args.round c.args.bytes.now down c.self.view_is is sound mine own fresh c.requires.may_take in
+    let may = may_take agent c.args.self.now c.args.round c.args.bytes.now down c.self.view_is is sound mine own c.requires.round c.requires.rounds fresh c.requires.may_take in
     let slots = slots-by agent c.args.round down c.self.inside.lines c.deref_mut.result.now c.take_slots.new.lines c.self.inside.waiting c.take_slots.new.waiting c.self.inside.request.seq
     c.deref_mut.ensures.value c.deref_mut.ensures.len same.number (λ i. agent.lines) (λ i. agent.waiting) c.take_slots.ensures.length c.take_slots.ensures.lines c.take_slots.ensures.waiting c.take_slots.ensures.others in
     let read : (history : AgentHistory) → StandsFor agent history → Read agent history (down_packet down) c.take.new.self c.read_ack-self-inside.new.sent c.read_ack-self-inside.result = λ history stands. (

@@ -77,18 +77,15 @@ hear-requires-clause-may_hear c =
     (c.ask_all.ensures.stands (with_each Boots (replicate events.boots events.version) calls) (c.boot_all.ensures.stands calls stood)) in
     let laws : WorldLaws = record { alike = c.rounds_are_read_in_order.ensures.alike; framed = c.packets_are_framed_alike.ensures; back = c.what_is_encoded_is_read_back.ensures; one = c.arrivals_are_given_in_order.ensures.one_by_one } in
     let order = c.rounds_are_calls.ensures.order in
-    let slots : AreSlots n b e told = subst (λ (s : RoundsState). AreSlots s.lane.endpoints s.lane.b s.lane.endpoint told) (sym is) c.requires.slots in
     let heard_laws : Laws = record {
       late = c.allocations_are_in_order.ensures.late;
       one = c.allocations_are_in_order.ensures.one;
-      few = c.counts_are_bounded.ensures.taken;
-      taking = c.agents_count_slots.ensures.taking;
       once = c.each_number_is_taken_once.ensures.once;
       good = c.each_number_is_taken_once.ensures.for_good;
     } in
     let len = number-is order was number has.rounds has.allocations number_is has.stands in
     let down = went-down laws was number (round_in was events told) below has.rounds has.allocations len c.post_down.ensures.spelled c.in_ok-down.ensures.carried has.stands in
-    may-hear-now laws heard_laws order was number events told asked below has.rounds has.allocations len c.requires.rounds one.slots slots has.stands down asks asked_sizes
+    may-hear-now laws heard_laws order was number events told asked below has.rounds has.allocations len has.stands down asks asked_sizes
 
 -- ---- what the round leaves
 

@@ -8,7 +8,7 @@ use Rattle.replay_rounds.proofs.part.RoundInPlay.add_to.Goals as goal
 
 pub returns : goal.returns
 returns c =
-    let part : RoundPart = record { round = c.self.inside.round; batch = c.self.inside.batch; sources = c.self.inside.sources.items; answers = c.self.inside.answers.items; departures = c.self.inside.departures } in
+    let part : RoundPart = record { round = c.self.inside.round; batch = c.self.inside.batch; named = c.self.inside.named.items; answers = c.self.inside.answers.items; departures = c.self.inside.departures } in
     let old : Played = record { batches = c.played.inside.batches.items; answers = map (λ v. v.items) c.played.inside.answers.items; departures = map (λ v. v.items) c.played.inside.departures.items } in
     let new : Played = record { batches = c.push.new.self.items; answers = map (λ v. v.items) c.push-2.new.self.items; departures = map (λ v. v.items) c.push-3.new.self.items } in
     same_played new (with_round part old)

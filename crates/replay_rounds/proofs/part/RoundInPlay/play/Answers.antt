@@ -71,8 +71,8 @@ returns-clause-part c = λ cores may_be stood.
     let stood_now = subst (λ (k : ℕ). LaneStands setting k published endpoint lane) (sym is) stood in
     let may = may_play c.rounds_may_be_played.ensures.rounds c.rounds_may_be_played.ensures.told trace c.args.g cores c.args.publisher.now number endpoint may_be_now c.requires.endpoint lane stood_now events told c.in_ok-fill_events.ensures c.fill_told.ensures in
     let said = c.in_ok-round.ensures in
-    let before : RoundPart = record { round = number; batch = c.self.inside.batch; sources = c.self.inside.sources.items; answers = c.self.inside.answers.items; departures = c.self.inside.departures } in
-    let after : RoundPart = record { round = number; batch = c.round.new.batch; sources = c.self.inside.sources.items; answers = (with_items c.self.inside.answers c.note_refused.new.answers).items; departures = c.note_sent.new.self } in
+    let before : RoundPart = record { round = number; batch = c.self.inside.batch; named = c.self.inside.named.items; answers = c.self.inside.answers.items; departures = c.self.inside.departures } in
+    let after : RoundPart = record { round = number; batch = c.round.new.batch; named = c.self.inside.named.items; answers = (with_items c.self.inside.answers c.note_refused.new.answers).items; departures = c.note_sent.new.self } in
     let refused = refused_are setting number published endpoint lane events told stood_now may trace c.in_ok-fill_events.ensures c.clear-2.new.self c.round.new.refused c.clear-2.ensures said.refused in
     let sends = sends_are setting number published endpoint lane events told stood_now may (slots_sent c.round.new.sent.items) said.sends in
     let kept : length c.note_refused.new.answers ≡ c.self.inside.answers.len = c.note_refused.auto.answers ∙ (ap length c.deref_mut.ensures.value ∙ sym c.self.inside.answers.ok.0) in

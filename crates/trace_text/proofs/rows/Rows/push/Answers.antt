@@ -26,5 +26,7 @@ returns-in-End c = λ before s.
       fated = λ endpoint up low. omega (arith, s.fated endpoint up low, latest_fate-more endpoint up before row);
       events = no_event before row _ _ _ _ (λ round endpoint up. refl) (λ round endpoint. refl) (λ round. refl) s.events;
       few = omega (arith, length-more before row, s.few);
+      few_raws = omega (arith, length-more before row, s.few_raws);
+      few_bytes = omega (arith, length-more before row, s.few_bytes);
       bounds = s.bounds;
     })

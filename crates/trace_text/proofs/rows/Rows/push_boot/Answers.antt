@@ -35,6 +35,8 @@ returns c = λ before s.
       fated = λ endpoint up low. omega (arith, s.fated endpoint up low, latest_fate-more endpoint up before row);
       events = rw items (boot-event before _ _ _ _ _ s.events);
       few = rw items (omega (arith, length-more before row, length-append c.args.self.now.events.boots.items (record { round = c.args.round; endpoint = c.args.endpoint; version = c.args.version } ∷ []), s.few));
+      few_raws = omega (arith, length-more before row, s.few_raws);
+      few_bytes = omega (arith, length-more before row, s.few_bytes);
       bounds = record {
         each_fate = s.bounds.each_fate;
         each_boot = rw items (All-push (IsBootAmong n) c.args.self.now.events.boots.items _ s.bounds.each_boot (c.requires.allowed.1, low, high));

@@ -1,14 +1,17 @@
-use Rattle.std.proofs.Common.{◌++◌, length, sym, ◌∙◌, arith, length-append}
+use Rattle.std.proofs.Common.{[], ◌∷◌, ◌++◌, length, sym, ◌∙◌, arith, length-append}
 use Rattle.std.proofs.lemmas.List.Sums.{sum_by_push}
 use Rattle.std.proofs.lemmas.List.Elements.{All-push}
 use Rattle.trace_text.specs.Rows.{Raw}
 use Rattle.trace_text.specs.Earlier.{slots_of, slots_in_round, end_of}
-use Rattle.trace_text.specs.Events.{IsWithin}
+use Rattle.trace_text.specs.Events.{IsWithin, raw_from}
 use Rattle.trace_text.specs.Fields.{bytes_of}
 use Rattle.trace_text.proofs.HexFacts.{hex-bytes}
 use Rattle.trace_text.proofs.RowFacts.{length-more, net-more, greatest_round-more, end_of-more, option_or-none}
-use Rattle.trace_text.proofs.EventRowFacts.{raw-event, latest_fate-more}
+use Rattle.trace_text.proofs.EventRowFacts.{raw-event, start-from, latest_fate-more}
 use Rattle.trace_text.proofs.rows.Rows.push_raw.Goals as goal
+
+pub push_raw-requires-clause-room : goal.push_raw-requires-clause-room
+push_raw-requires-clause-room c = let s = c.requires.stands.1 in omega (arith, s.few_bytes, s.count, c.requires.room)
 
 pub returns : goal.returns
 returns c = λ before s.
@@ -34,11 +37,13 @@ returns c = λ before s.
       events = rw (told.fates, told.boots, told.raws, told.bytes)
           (raw-event before c.args.round packet events.fates.items events.boots.items events.raws.items events.bytes.items s.bounds.each_raw s.events);
       few = rw told.boots (omega (arith, length-more before row, s.few));
+      few_raws = rw told.raws (omega (arith, length-more before row, length-append events.raws.items (raw_from c.args.round (length events.bytes.items) (length packet) ∷ []), s.few_raws));
+      few_bytes = rw told.bytes (omega (arith, length-more before row, length-append events.bytes.items packet, hex, c.requires.allowed.2.1, s.few_bytes));
       bounds = rw (told.fates, told.boots, told.raws, told.bytes) (record {
         each_fate = s.bounds.each_fate;
         each_boot = s.bounds.each_boot;
         each_raw = All-push (IsWithin (length (events.bytes.items ++ packet))) events.raws.items _
             (λ k d lt. let here = s.bounds.each_raw k d lt in (omega (arith, here.0, length-append events.bytes.items packet), here.1))
-            (omega (arith, length-append events.bytes.items packet), omega (arith, hex, c.requires.allowed.2.1));
+            (omega (arith, start-from c.args.round (length events.bytes.items) (length packet), length-append events.bytes.items packet), omega (arith, hex, c.requires.allowed.2.1));
       });
     }

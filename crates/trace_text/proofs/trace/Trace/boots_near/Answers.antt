@@ -1,10 +1,10 @@
-use Rattle.std.proofs.Common.{◌≡◌, ◌+◌, ◌*◌, ◌<◌, ℕ, List, [], length, filter, refl, sym, ap, ◌∙◌}
+use Rattle.std.proofs.Common.{◌≡◌, ◌+◌, ◌*◌, ◌<◌, [], length, filter, refl, sym, ap, ◌∙◌}
 use Rattle.std.specs.Prelude.{sum_by}
 use Rattle.clos_topology.specs.Network.{endpoints_of}
 use Rattle.trace_text.specs.Asks.{slots_asked}
 use Rattle.trace_text.specs.Events.{boot_rank, events_kept}
 use Rattle.trace_text.specs.Ranks.{has_rank_in}
-use Rattle.trace_text.specs.Trace.{boots_at, last_of}
+use Rattle.trace_text.specs.Trace.{last_of}
 use Rattle.trace_text.proofs.ContentFacts.{boots_at-content_by}
 use Rattle.trace_text.proofs.EventFacts.{boots-none}
 use Rattle.trace_text.proofs.trace.Trace.boots_near.Goals as goal

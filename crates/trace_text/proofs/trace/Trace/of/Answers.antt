@@ -33,13 +33,14 @@ returns-clause-sound c =
     let events = c.args.events in
     subst IsTrace (sym (returns-clause-content c))
     (content_by-sound c.args.net c.args.rounds c.args.asks.items events.fates.items events.boots.items events.raws.items events.bytes.items c.requires.net c.requires.some c.requires.few c.requires.among
-    c.requires.bounded c.requires.events c.requires.boots (rw (← c.deref-5.ensures.value) c.bytes_are_below_256.ensures))
+    c.requires.bounded c.requires.events c.requires.boots (rw (← c.deref-6.ensures.value) c.bytes_are_below_256.ensures))
 
 pub invariant_of-result : goal.invariant_of-result
 invariant_of-result c =
     let few = c.requires.net.most_endpoints in
     let events = c.args.events in
-    let boots : length c.sort-2.new.items.items ≡ length events.boots.items = length_permutation events.boots.items c.sort-2.new.items.items c.sort-2.ensures.same in (
+    let boots : length c.sort-2.new.items.items ≡ length events.boots.items = length_permutation events.boots.items c.sort-2.new.items.items c.sort-2.ensures.same in
+    let raws : length c.sort-3.new.items.items ≡ length events.raws.items = length_permutation events.raws.items c.sort-3.new.items.items c.sort-3.ensures.same in (
       record {
         few = few;
         rising = c.in_ok-asks.ensures.rising;
@@ -54,7 +55,9 @@ invariant_of-result c =
         boots_rise = c.in_ok-sort-2.ensures.sorted;
         boots_begin = rw c.deref-4.ensures.value at c.in_ok-boot_starts.ensures;
         raws_rise = c.in_ok-sort-3.ensures.sorted;
+        raws_begin = rw c.deref-5.ensures.value at c.in_ok-raw_starts.ensures;
         few = omega (arith, boots, c.requires.boots);
+        few_raws = omega (arith, raws, c.requires.raws);
       },
       subst IsTrace
           (sym
@@ -63,5 +66,5 @@ invariant_of-result c =
           (events-ordered events.fates.items c.sort.new.items.items events.boots.items c.sort-2.new.items.items events.raws.items c.sort-3.new.items.items events.bytes.items
           c.in_ok-sort.ensures.stable c.in_ok-sort-2.ensures.stable c.in_ok-sort-3.ensures.stable)))
           (content_by-sound c.args.net c.args.rounds c.args.asks.items events.fates.items events.boots.items events.raws.items events.bytes.items c.requires.net c.requires.some c.requires.few
-          c.requires.among c.requires.bounded c.requires.events c.requires.boots (rw (← c.deref-5.ensures.value) c.bytes_are_below_256.ensures)),
+          c.requires.among c.requires.bounded c.requires.events c.requires.boots (rw (← c.deref-6.ensures.value) c.bytes_are_below_256.ensures)),
     )

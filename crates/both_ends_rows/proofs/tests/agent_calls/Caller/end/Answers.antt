@@ -20,6 +20,6 @@ returns g c =
       calls = SendsDue it.round ∷ MakesUp ∷ is.calls;
       stands = c.send_due.ensures.stands (MakesUp ∷ is.calls) (c.make_up-length.ensures.stands is.calls is.stands);
       asked = is.asked;
-      missed = is.missed;
+      apart = is.apart;
       told = is.told;
     }

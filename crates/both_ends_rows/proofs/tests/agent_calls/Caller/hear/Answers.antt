@@ -5,7 +5,8 @@ use Rattle.endpoint_history.specs.Agent.{TakesDown, takes}
 use Rattle.endpoint_history.specs.Packets.{down_packet}
 use Rattle.endpoint_agent.specs.Refusals.{IsOwn}
 use Rattle.endpoint_agent.specs.Standing.{StandsFor}
-use Rattle.endpoint_agent.specs.State.{AgentState, MayTake}
+use Rattle.endpoint_agent.specs.State.{AgentState}
+use Rattle.endpoint_agent.specs.Timely.{MayTake}
 use Rattle.both_ends_rows.proofs.Hearing.{may-take, heard-one}
 use Rattle.both_ends_rows.proofs.tests.agent_calls.Caller.hear.Goals as goal
 
@@ -15,8 +16,8 @@ take_down-requires-clause-may_take g c =
       c.requires.calls,
       c.requires.stands,
       λ own fresh.
-          subst (λ (down : Down). MayTake it.agent it.round (down_packet down)) c.read-down.ensures.read
-          (may-take it.agent it.round it.epoch it.asked it.heard it.batch it.number c.read-down.result c.requires c.read-down.ensures.may c.timely_allocations_may_be_taken.ensures
+          subst (λ (down : Down). MayTake it.agent.g c.requires.calls it.round (down_packet down)) c.read-down.ensures.read
+          (may-take it.agent it.round it.epoch it.asked it.batch it.number c.read-down.result c.requires c.read-down.ensures.may
           (subst (λ (down : Down). takes c.requires.calls (down_packet down) ≡ true) (sym c.read-down.ensures.read) fresh)),
     )
 
@@ -33,8 +34,8 @@ returns g c =
       destination = sym (ap (λ (d : Down). d.dst) read) ∙ c.read-down.ensures.may.destination ∙ sym is.me;
     } in
     let frame = c.take_down.ensures.frame in
-    heard-one it.agent it.round it.epoch it.asked it.heard it.batch it.number c.read-down.result is c.read-down.ensures.may _ _ c.last_told-batch.ensures.this c.last_told-batch.ensures.other
-    c.take_down.new.self c.agents_count_slots.ensures.taking
+    heard-one it.agent it.round it.epoch it.asked it.batch it.number c.read-down.result is c.read-down.ensures.may _ _ c.last_told-batch.ensures.this c.last_told-batch.ensures.other
+    c.take_down.new.self
     (ap (λ (s : AgentState). s.me) frame) (ap (λ (s : AgentState). s.endpoints) frame) (ap (λ (s : AgentState). s.b) frame) (ap (λ (s : AgentState). s.g) frame)
     (ap (λ (s : AgentState). s.round) frame) (ap (λ (s : AgentState). s.is_made) frame) (ap (λ (s : AgentState). s.epoch) frame)
     (subst (λ (down : Down). StandsFor c.take_down.new.self (TakesDown it.round (down_packet down) ∷ is.calls)) (sym read) (c.take_down.ensures.stands own is.calls is.stands))
