@@ -22,8 +22,11 @@ mod trace;
 
 pub use ask::Ask;
 pub use command::Command;
+pub use csv_records::CsvRecords;
 pub use fault::{Fault, TraceRefused};
+pub use fields::{field, number_at};
 pub use make::make_trace;
 pub use order::{Ranked, between_near};
 pub use read::read_trace;
+pub use records::without_mark;
 pub use trace::Trace;

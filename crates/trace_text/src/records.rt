@@ -90,8 +90,8 @@ impl<'a> Records<'a> {
     }
 }
 
-// The text behind the byte order mark that it may begin with.
-fn without_mark(text: &[u8]) -> &[u8]
+/// The text behind the byte order mark that it may begin with.
+pub fn without_mark(text: &[u8]) -> &[u8]
     ensures { result.now ≡ strip_bom text.now }
 {
     match text.strip_prefix(b"\xef\xbb\xbf".as_slice()) {

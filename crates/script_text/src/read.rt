@@ -1,0 +1,49 @@
+ghost use Rattle.std.specs.Prelude.{◌≡◌, Ok, IfOk, IfErr};
+ghost use Rattle.script_text.specs.Script.{script_of, IsFaultOf};
+ghost use Rattle.script_text.specs.Standing.{Stands, Finishes};
+
+use crate::Script;
+use crate::rows::Rows;
+use csv::ByteRecord;
+use std::alloc::Global;
+use trace_text::{CsvRecords, Fault, TraceRefused, without_mark};
+
+/// The script that a text is, or its first faulty row and that row's fault. The rows and the faults in their order are this project's
+/// own profile.
+pub fn read_script(alloc: Global, bytes: &[u8]) -> Result<Script, TraceRefused>
+    ensures accepted { IfOk result (λ script. script_of bytes.now ≡ Ok script) }
+    ensures refused { IfErr result (IsFaultOf (script_of bytes.now)) }
+{
+    let mut records = CsvRecords::open(alloc, without_mark(bytes))?;
+    let mut fields = ByteRecord::new(alloc);
+    let mut rows = Rows::open(alloc)?;
+    while records.read(&mut fields)? {
+        rows.take(&fields)?;
+    }
+    finish(rows)
+}
+
+/// What stands after the last row.
+fn finish(rows: Rows) -> Result<Script, TraceRefused>
+    requires { Stands rows }
+    ensures { Finishes rows result }
+{
+    if rows.count == 0 {
+        return Err(TraceRefused::Row {
+            row: 1,
+            fault: Fault::NoNet,
+        });
+    }
+    if !rows.ended {
+        return Err(TraceRefused::Row {
+            row: rows.count + 1,
+            fault: Fault::NoEnd,
+        });
+    }
+    Ok(Script {
+        endpoints: rows.endpoints,
+        b: rows.b,
+        lease: rows.span,
+        events: rows.events,
+    })
+}

@@ -1,0 +1,9 @@
+pub mod Cells
+pub mod Messages
+pub mod Entries
+pub mod Node
+pub mod Sending
+pub mod Published
+pub mod Standing
+pub mod Outcomes
+pub mod Promised

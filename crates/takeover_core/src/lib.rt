@@ -1,0 +1,16 @@
+//! Two arbiters that publish batches under leases, and the endpoints that hear them, run event by event.
+#![tactic(auto)]
+
+mod endpoints;
+mod entries;
+mod flow_table;
+mod keeper;
+mod node;
+mod outcome;
+mod pair;
+mod published;
+
+pub use no_memory::NoMemory;
+pub use outcome::Outcome;
+pub use pair::Pair;
+pub use takeover_history::{Event, Refusal};

@@ -1,0 +1,13 @@
+pub mod Examples
+pub mod Rows
+pub mod Follow
+pub mod Counts
+pub mod Lists
+pub mod Totals
+pub mod Leases
+pub mod Slots
+pub mod Sends
+pub mod Generations
+pub mod Anew
+pub mod Pairs
+pub mod Fits
