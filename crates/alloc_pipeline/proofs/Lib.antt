@@ -4,3 +4,4 @@ pub mod IdleLemmas
 pub mod RunLemmas
 pub mod RingLemmas
 pub mod Down
+pub mod Crossing

@@ -12,13 +12,13 @@ use Rattle.greedy_rules.specs.Recorded.{MayBeApplied}
 use Rattle.greedy_rules.specs.Room.{FlowsFitPairs}
 use Rattle.slot_batches.specs.NextList.{IsListBefore, EveryBatchLeavesAList, EveryBatchKeepsItsFlows}
 
--- a list to which a batch may be applied has at most an item for each pair of endpoints
-pub few_items : (endpoints b k : ℕ) (list : List Item) (batches : List DemandBatch) → FlowsFitPairs → endpoints ≤ 256 → 0 < length batches → MayBeApplied endpoints b k list batches → length list ≤ 65536
-few_items endpoints b k list [] pairs few some may = absurd (omega arith)
-few_items endpoints b k list (batch ∷ batches) pairs few some may =
+-- a list to which a batch may be applied has at most an item for each flow between the endpoints
+pub few_items : (endpoints b k : ℕ) (list : List Item) (batches : List DemandBatch) → FlowsFitPairs → 0 < length batches → MayBeApplied endpoints b k list batches → length list ≤ endpoints * (endpoints - 1)
+few_items endpoints b k list [] pairs some may = absurd (omega arith)
+few_items endpoints b k list (batch ∷ batches) pairs some may =
     let applies = may.0 in
     let fit = pairs endpoints batch.entries list applies.rises applies.opens applies.once applies.below applies.apart in
-    omega (arith, fit, mul-le endpoints (endpoints - 1) 256 256 few (omega (arith, few)))
+    omega (arith, fit)
 
 slots_on : (k b : ℕ) → k * b + 1 + b ≡ (k + 1) * b + 1
 slots_on k b = grind arith

@@ -2,7 +2,7 @@ ghost use Rattle.std.specs.Prelude.{◌≡◌, ◌<◌, ◌≤◌, ◌+◌, ◌-
 ghost use Rattle.greedy_rules.specs.Schedule.{first_slot, schedule_from, rest_from};
 ghost use Rattle.greedy_rules.specs.Recorded.{MayBeApplied};
 ghost use Rattle.slot_batches.specs.NextList.{IsListBefore};
-ghost use Rattle.ring_core.specs.Cores.{IsRing, IsSameRing};
+ghost use Rattle.ring_core.specs.Cores.{IsAtRest, IsSameRing};
 ghost use Rattle.alloc_pipeline.specs.Picked.{HasRoomFor};
 ghost use Rattle.alloc_pipeline.specs.Ring.{IsRing as MayBeOpened};
 
@@ -29,7 +29,7 @@ pub struct Ring {
 
 impl Model for Ring {
     ghost use Rattle.std.specs.Prelude.{◌≡◌, ◌<◌, ◌≤◌};
-    ghost use Rattle.ring_core.specs.Cores.{IsRing};
+    ghost use Rattle.ring_core.specs.Cores.{IsAtRest};
     ghost use Rattle.alloc_pipeline.specs.Picked.{HasRoomFor};
     ghost use Rattle.alloc_pipeline.specs.Ring.{RingWork};
 
@@ -37,7 +37,7 @@ impl Model for Ring {
 
     ghost view = { λ r. record { endpoints = r.core.endpoints; batches = r.core.batches; b = r.core.b } };
 
-    ghost invariant = { λ r. IsRing r.core × HasRoomFor r.core.endpoints r.picked × (r.core.endpoints ≤ 256) × ((0 < r.core.b) × (r.core.b ≤ 64)) × (r.core.batches ≤ 16) × (r.core.room ≡ 2048) };
+    ghost invariant = { λ r. IsAtRest r.core × HasRoomFor r.core.endpoints r.picked × (r.core.endpoints ≤ 256) × ((0 < r.core.b) × (r.core.b ≤ 64)) × (r.core.batches ≤ 16) × (r.core.room ≡ 2048) };
 }
 
 impl Ring {
@@ -106,7 +106,7 @@ fn allocate_window(
     batches: &[Batch],
     out: &mut SlotTable,
 )
-    requires ring { IsRing core.old }
+    requires ring { IsAtRest core.old }
     requires endpoints { core.old.endpoints ≤ 256 }
     requires some_slots { 0 < core.old.b }
     requires wide { 2048 ≤ core.old.room }
@@ -118,7 +118,7 @@ fn allocate_window(
     requires room { length (rest_from core.old.b first_batch list.old.items batches.now) ≤ length list.old.items + list.old.spare }
     requires serves { out.old.endpoints ≡ core.old.endpoints }
     requires places { length batches.now * core.old.b ≤ length out.old.slots }
-    ensures ring { IsRing core.new }
+    ensures ring { IsAtRest core.new }
     ensures same { IsSameRing core.old core.new }
     ensures memory { HasRoomFor core.old.endpoints picked.new }
     ensures list { list.new.items ≡ rest_from core.old.b first_batch list.old.items batches.now }
@@ -150,7 +150,7 @@ fn allocate_runs(
     batches: &[Batch],
     out: &mut SlotTable,
 )
-    requires ring { IsRing core.old }
+    requires ring { IsAtRest core.old }
     requires endpoints { core.old.endpoints ≤ 256 }
     requires some_slots { 0 < core.old.b }
     requires wide { 2048 ≤ core.old.room }
@@ -161,7 +161,7 @@ fn allocate_runs(
     requires room { length (rest_from core.old.b first_batch list.old.items batches.now) ≤ length list.old.items + list.old.spare }
     requires serves { out.old.endpoints ≡ core.old.endpoints }
     requires places { length batches.now * core.old.b ≤ length out.old.slots }
-    ensures ring { IsRing core.new }
+    ensures ring { IsAtRest core.new }
     ensures same { IsSameRing core.old core.new }
     ensures list { list.new.items ≡ rest_from core.old.b first_batch list.old.items batches.now }
     ensures spare { length list.new.items + list.new.spare ≡ length list.old.items + list.old.spare }
@@ -194,7 +194,7 @@ fn allocate_run(
     batches: &[Batch],
     out: &mut SlotTable,
 ) -> usize
-    requires ring { IsRing core.old }
+    requires ring { IsAtRest core.old }
     requires endpoints { core.old.endpoints ≤ 256 }
     requires wide { 2048 ≤ core.old.room }
     requires some { 0 < length batches.now }
@@ -206,7 +206,7 @@ fn allocate_run(
     requires serves { out.old.endpoints ≡ core.old.endpoints }
     requires places { (passed + length batches.now) * core.old.b ≤ length out.old.slots }
     requires empty { drop (passed * core.old.b) out.old.slots ≡ replicate (length out.old.slots - passed * core.old.b) [] }
-    ensures ring { IsRing core.new }
+    ensures ring { IsAtRest core.new }
     ensures same { IsSameRing core.old core.new }
     ensures some { 0 < result }
     ensures count { result ≤ length batches.now }
@@ -236,7 +236,7 @@ fn play_behind(
     batches: &[Batch],
     out: &mut SlotTable,
 )
-    requires ring { IsRing core.old }
+    requires ring { IsAtRest core.old }
     requires endpoints { core.old.endpoints ≤ 256 }
     requires wide { 2048 ≤ core.old.room }
     requires some { 0 < length batches.now }
@@ -248,7 +248,7 @@ fn play_behind(
     requires serves { out.old.endpoints ≡ core.old.endpoints }
     requires places { (passed + length batches.now) * core.old.b ≤ length out.old.slots }
     requires empty { drop (passed * core.old.b) out.old.slots ≡ replicate (length out.old.slots - passed * core.old.b) [] }
-    ensures ring { IsRing core.new }
+    ensures ring { IsAtRest core.new }
     ensures same { IsSameRing core.old core.new }
     ensures list { list.new.items ≡ rest_from core.old.b first_batch list.old.items batches.now }
     ensures spare { length list.new.items + list.new.spare ≡ length list.old.items + list.old.spare }

@@ -9,11 +9,13 @@ use Rattle.greedy_rules.specs.declared.flows.Item.{Item}
 use Rattle.greedy_rules.specs.Batches.{DemandBatch}
 use Rattle.greedy_rules.specs.Schedule.{first_slot}
 use Rattle.slot_batches.specs.Settled.{slots_filled}
-use Rattle.slot_batches.specs.Stands.{StageState, slots_of, IsSameWork, Stands, endpoints_of, batch_size_of}
+use Rattle.slot_batches.specs.Stands.{slots_of, IsSameWork, Stands, endpoints_of, batch_size_of, StageState}
 use Rattle.ring_core.specs.States.{WorkerState}
 use Rattle.ring_core.specs.Windows.{Window, batch_at, batch_of, first_slot_in, list_before_stage, pieces_before, is_fed, items_fed, slots_in, worker_after}
 use Rattle.ring_core.specs.Streams.{pieces_into}
 use Rattle.ring_core.specs.Workers.{own_stage, StageIsAt, HasBegun, HaveBegun, IsWorker, IsWindowOf, HasPlayed, first_ends}
+use Rattle.slot_batches.proofs.NodeCounts.{settled-all}
+use Rattle.ring_core.proofs.WindowLemmas.{one_list_on}
 use Rattle.ring_core.proofs.StreamLemmas.{row_on, into_none}
 use Rattle.ring_core.proofs.PlayLemmas.{get_set_same, get_set_other}
 
@@ -80,8 +82,9 @@ module _ (w : WorkerState) (window : Window) (first : ℕ) (batches : List Deman
 
   pub begun_played : (sent stage : ℕ) (stages : List StageState) → length batches ≤ w.batches → sent ≡ (first_ends window w.number).sent → stage ≡ w.number
       → IsWorker (record w { stages = stages; place = 0; stage = stage; taken = 0; sent = sent; held = None }) → HaveBegun w.endpoints w.b first batches w.workers w.number stages
+      → ((place : ℕ) (state : StageState) → length batches ≤ own_stage w.workers w.number place → slice_get stages place ≡ Some state → state.nodes ≡ 0)
       → HasPlayed batches (first_ends window w.number) (record w { stages = stages; place = 0; stage = stage; taken = 0; sent = sent; held = None }) 0 0
-  begun_played sent stage stages few sent_is stage_is is_worker begun =
+  begun_played sent stage stages few sent_is stage_is is_worker begun idle =
       let workers_are = is_window.workers_are in
       let below : w.number < window.workers = omega (arith, workers_are, is_worker.number) in
       let own : stage ≡ own_stage w.workers w.number 0 = omega (arith, stage_is) in
@@ -104,6 +107,7 @@ module _ (w : WorkerState) (window : Window) (first : ℕ) (batches : List Deman
         ended = λ place state none is. absurd (omega (arith, none));
         present = λ state within is. subst (λ (s : ℕ). StageIsAt w.endpoints window s 0 0 state) (sym own) (begun_at (own_stage w.workers w.number 0) state (begun 0 state (omega (arith, within, own)) is));
         later = λ place state after within is. begun_at (own_stage w.workers w.number place) state (begun place state within is);
+        idle = idle;
       }
 
 -- the slots of a stage that has ended
@@ -112,12 +116,21 @@ ended_slots endpoints window stage given state at =
     let list : List Item = list_before_stage window stage in
     let all : is_fed window stage (pieces_before window stage) ≡ true = whole (pieces_before window stage) in
     let items : items_fed window stage (pieces_before window stage) ≡ list = take_all (64 * pieces_before window stage) list (omega arith) in
-    at.stands.slots
+    at.stands.arrays.slots
     ∙ ((λ i. slots_filled (batch_of window stage) (at.work.same_first i) (at.work.same_size i) (items i) (is_fed window stage (pieces_before window stage)))
     ∙ ap (slots_filled (batch_of window stage) (first_slot_in window stage) window.b list) all)
   where
     whole : (n : ℕ) → nat_le n n ≡ true
     whole n = grind (arith, nat_tests)
+
+-- and its nodes are gone
+pub ended_nodes : (endpoints : ℕ) (window : Window) (stage given : ℕ) (state : StageState) → stage < length window.batches → StageIsAt endpoints window stage (pieces_before window stage) given state
+    → given ≡ pieces_before window (stage + 1) → state.nodes ≡ 0
+ended_nodes endpoints window stage given state below at given_is =
+    let list : List Item = list_before_stage window stage in
+    let items : items_fed window stage (pieces_before window stage) ≡ list = take_all (64 * pieces_before window stage) list (omega arith) in
+    let long = ap length (one_list_on window stage below) ∙ settled-all (batch_of window stage) (first_slot_in window stage) window.b list in
+    omega (arith, at.stands.nodes, ap length items, long, given_is)
 
 -- a stage before the present one is one of those for which there are batches
 pub ended_within : (workers worker place present n : ℕ) → place < present → own_stage workers worker present < n + workers → own_stage workers worker place < n

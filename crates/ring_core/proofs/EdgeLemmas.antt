@@ -1,6 +1,6 @@
 -- A step of one edge among the edges of a ring.
-use Rattle.std.proofs.Common.{◌≡◌, ◌≢◌, ◌<◌, ◌≤◌, ◌+◌, ℕ, zero, suc, List, [], ◌∷◌, ◌++◌, length, drop, true, false, get_or, set, Option, Some, None, slice_get, refl, sym, ap, ◌∙◌, subst, arith, inl, inr, length-set}
-use Rattle.std.specs.Prelude.{is_some, MatchOption, MatchResult, Result, Ok, Err}
+use Rattle.std.proofs.Common.{◌≡◌, ◌≢◌, ◌<◌, ◌≤◌, ◌+◌, ℕ, zero, suc, List, [], ◌∷◌, ◌++◌, length, get_or, set, Option, Some, None, slice_get, refl, sym, ap, ◌∙◌, subst, arith, inl, inr, length-set}
+use Rattle.std.specs.Prelude.{MatchOption, MatchResult, Result, Ok, Err}
 use Rattle.std.proofs.lemmas.Bool.{cases_lt}
 use Rattle.std.proofs.lemmas.Option.{slice_get_read, same_Some}
 use Rattle.slot_batches.specs.declared.piece.Piece.{Piece}
@@ -9,8 +9,7 @@ use Rattle.ring_core.specs.States.{EdgeState}
 use Rattle.ring_core.specs.Windows.{Window}
 use Rattle.ring_core.specs.Streams.{EdgeInto, IsPieceAt, edge_stream}
 use Rattle.ring_core.specs.Ends.{one_taken, one_sent}
-use Rattle.ring_core.specs.Edges.{between, Holds, IsOneTaken, IsOneSent, HasSent, AllHold, taken_of, sent_of, room_of, taken_at, sent_at, room_at, ends_between, OthersStay, IsFoundEmpty, IsFoundFull}
-use Rattle.ring_core.proofs.RoundLemmas.{by_first}
+use Rattle.ring_core.specs.Edges.{between, Holds, AllHold, taken_of, sent_of, room_of, taken_at, sent_at, room_at, ends_between, OthersStay, IsFoundEmpty, IsFoundFull}
 use Rattle.ring_core.proofs.PlayLemmas.{get_set_same, get_set_other}
 
 module _ {A : Type 0} where
@@ -80,11 +79,6 @@ kept into old new holds items taken sent = record {
   pieces = items ∙ (holds.pieces ∙ (λ i. between (sym taken i) (sym sent i) (edge_stream into)));
 }
 
--- the first of some
-first_of : (xs : List Part) → 0 < length xs → (x : Part) × (xs ≡ x ∷ drop 1 xs)
-first_of [] some = absurd (omega arith)
-first_of (x ∷ xs) some = (x, refl)
-
 -- what a step of the edge tells
 abbrev pub TookOr : EdgeState → EdgeState → Option Piece → Type 0
 TookOr old new result = MatchOption result
@@ -151,14 +145,6 @@ module _ (window : Window) (edges : List EdgeState) (at : ℕ) (old new : EdgeSt
   gave_all (Ok u) piece told taken next = all_again (gave into old new (part_of piece) holds next told.0 taken told.1)
   gave_all (Err refused) piece told taken next = all_again (kept into old new holds told.1 taken told.2)
 
-  pub one_taken_all : IsOneTaken old new → AllHold window (set edges at new)
-  one_taken_all told =
-      let first = first_of old.pieces told.some in
-      all_again (took into old new first.0 holds (first.1 ∙ ap (λ (l : List Part). first.0 ∷ l) (sym told.pieces)) told.taken told.sent).0
-
-  pub one_sent_all : (part : Part) → IsOneSent part old new → slice_get (edge_stream into) old.sent ≡ Some part → AllHold window (set edges at new)
-  one_sent_all part told next = all_again (gave into old new part holds next told.pieces told.taken told.sent)
-
   pub took_others : (after : ℕ) → new.sent ≡ old.sent → new.room ≡ old.room → OthersStay at after edges (set edges at new)
   took_others after sent room = record {
     count = length-set edges at new;
@@ -188,22 +174,6 @@ module _ (window : Window) (edges : List EdgeState) (at : ℕ) (old new : EdgeSt
       let taken : taken_at (set edges at new) at ≡ taken_at edges at + 1 = new_at taken_of ∙ (told.1 ∙ ap (λ (n : ℕ). n + 1) (sym (old_at taken_of))) in
       let next = (took into old new (part_of piece) holds told.0 told.1 sent).1 in
       (subst (λ (n : ℕ). IsPieceAt into n piece) (sym (old_at taken_of)) next, (λ i. record { before = into; after = record { window = window; worker = after }; taken = taken i; sent = same_at sent_of after sent i }))
-
-  pub one_taken_ends : (after : ℕ) → IsOneTaken old new → ends_between window (set edges at new) at after ≡ one_taken (ends_between window edges at after)
-  one_taken_ends after told =
-      let taken : taken_at (set edges at new) at ≡ taken_at edges at + 1 = new_at taken_of ∙ (told.taken ∙ ap (λ (n : ℕ). n + 1) (sym (old_at taken_of))) in
-      λ i. record { before = into; after = record { window = window; worker = after }; taken = taken i; sent = same_at sent_of after told.sent i }
-
-  pub one_sent_ends : (before : ℕ) (part : Part) → IsOneSent part old new → ends_between window (set edges at new) before at ≡ one_sent (ends_between window edges before at)
-  one_sent_ends before part told =
-      let sent : sent_at (set edges at new) at ≡ sent_at edges at + 1 = new_at sent_of ∙ (told.sent ∙ ap (λ (n : ℕ). n + 1) (sym (old_at sent_of))) in
-      λ i. record { before = record { window = window; worker = before }; after = into; taken = same_at taken_of before told.taken i; sent = sent i }
-
-  -- an edge that holds nothing
-  pub none_left : old.pieces ≡ [] → taken_at edges at ≡ sent_at edges at
-  none_left none =
-      let same : old.sent ≡ old.taken = omega (arith, between_length old.taken old.sent (edge_stream into) holds.order holds.within, ap length (sym holds.pieces ∙ none)) in
-      old_at taken_of ∙ (sym same ∙ sym (old_at sent_of))
 
   pub gave_ends : (before : ℕ) (result : Result (Unit {0}) Piece) (piece : Piece) → GaveOr old new piece result → new.taken ≡ old.taken → new.room ≡ old.room
       → MatchResult result
@@ -241,22 +211,3 @@ room_kept (e ∷ es) zero new zero same below = same
 room_kept (e ∷ es) zero new (suc k) same below = refl
 room_kept (e ∷ es) (suc at) new zero same below = refl
 room_kept (e ∷ es) (suc at) new (suc k) same below = room_kept es at new k same (omega arith)
-
--- the piece was sent, or there was none
-pub sent_some : (old new : EdgeState) (p : Option Part) → HasSent old new p → true ≡ is_some p → (part : Part) × (p ≡ Some part) × IsOneSent part old new
-sent_some old new None told some = absurd (cc)
-sent_some old new (Some part) told some = (part, refl, told)
-
-pub sent_none : (old new : EdgeState) (p : Option Part) → HasSent old new p → false ≡ is_some p → (p ≡ None) × (new ≡ old)
-sent_none old new None told none = (refl, told)
-sent_none old new (Some part) told none = absurd (cc)
-
--- written back as it was
-pub set_back : {X : Type 0} (xs : List X) (i : ℕ) (old new : X) → i < length xs → old ≡ get_or xs i old → new ≡ old → set xs i new ≡ xs
-set_back [] i old new below is same = absurd (omega arith)
-set_back (x ∷ xs) zero old new below is same = ap (λ (y : _). y ∷ xs) (same ∙ is)
-set_back (x ∷ xs) (suc i) old new below is same = ap (λ (l : List _). x ∷ l) (set_back xs i old new (omega arith) is same)
-
--- the first piece of an edge is the next of its stream
-pub first_is_next : (into : EdgeInto) (edge : EdgeState) (part : Part) → Holds into edge → slice_get edge.pieces 0 ≡ Some part → slice_get (edge_stream into) edge.taken ≡ Some part
-first_is_next into edge part holds is = (between_first edge.taken edge.sent (edge_stream into) (drop 1 edge.pieces) part (sym holds.pieces ∙ by_first edge.pieces part is)).1

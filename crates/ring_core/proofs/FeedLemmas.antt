@@ -11,9 +11,9 @@ use Rattle.greedy_rules.specs.Demands.{AreBelow, OpensNewFlows, opened, need_wit
 use Rattle.greedy_rules.specs.Room.{FlowsFitPairs}
 use Rattle.slot_batches.specs.declared.piece.Piece.{Piece}
 use Rattle.slot_batches.specs.NextList.{IsListBefore, EveryBatchLeavesAList, EveryBatchKeepsItsFlows}
-use Rattle.slot_batches.specs.Pieces.{Part, part_of, piece_count, piece_at, has_piece, next_piece, waiting_items}
+use Rattle.slot_batches.specs.Pieces.{Part, piece_count, piece_at, has_piece, next_piece, waiting_items, part_of}
 use Rattle.slot_batches.specs.Settled.{settled}
-use Rattle.slot_batches.specs.Stands.{StageState, IsSameWork, Stands, MayBeFed, ListsMayBeFed}
+use Rattle.slot_batches.specs.Stands.{IsSameWork, Stands, MayBeFed, ListsMayBeFed, StageState}
 use Rattle.ring_core.specs.States.{WorkerState}
 use Rattle.ring_core.specs.Windows.{Window, MayBePlayed, list_before_stage, batch_of, first_slot_in, pieces_before, worker_of, is_fed, items_fed, piece_given_next}
 use Rattle.ring_core.specs.Streams.{IsPieceAt, pieces_into, edge_stream}

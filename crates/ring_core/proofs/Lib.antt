@@ -5,11 +5,11 @@ pub mod PushLemmas
 pub mod FeedLemmas
 pub mod BeginLemmas
 pub mod TurnLemmas
-pub mod RoundLemmas
 pub mod EdgeLemmas
-pub mod PlaceLemmas
 pub mod RingLemmas
 pub mod ListLemmas
+pub mod OpeningLemmas
+pub mod GoneLemmas
 pub mod StartLemmas
 pub mod EndLemmas
 pub mod CountLemmas
@@ -19,3 +19,4 @@ pub mod RunLemmas
 pub mod ServeLemmas
 pub mod WholeLemmas
 pub mod LyingLemmas
+pub mod Crossing

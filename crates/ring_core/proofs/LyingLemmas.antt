@@ -1,5 +1,5 @@
 -- Where a list lies whole, and a ring as its stages begin to be served at once, and as they have been.
-use Rattle.std.proofs.Common.{◌≡◌, ◌≢◌, ◌<◌, ◌≤◌, ◌+◌, ◌-◌, ◌*◌, ◌^◌, ℕ, suc, Bool, List, [], ◌++◌, length, cond, nat_eq, Option, Some, None, slice_get, refl, sym, ap, ◌∙◌, subst, arith, inl, inr, length-append}
+use Rattle.std.proofs.Common.{◌≡◌, ◌≢◌, ◌<◌, ◌≤◌, ◌+◌, ◌-◌, ◌*◌, ◌^◌, ℕ, suc, Bool, List, [], ◌++◌, length, set, cond, nat_eq, Option, Some, None, slice_get, refl, sym, ap, ◌∙◌, subst, arith, inl, inr, length-append}
 use Rattle.std.proofs.lemmas.Bool.{cases_lt, cases_eq, ne_eqb}
 use Rattle.std.proofs.lemmas.Nat.{mod_below}
 use Rattle.std.proofs.lemmas.Option.{slice_get_within, same_Some}
@@ -19,9 +19,19 @@ use Rattle.ring_core.proofs.WindowLemmas.{first_list, few_before}
 use Rattle.ring_core.proofs.StreamLemmas.{own_here, next_own, at_own, at_other, into_own, into_other}
 use Rattle.ring_core.proofs.CountLemmas.{into_up, into_past}
 use Rattle.ring_core.proofs.StartLemmas.{own_zero, front_of, between_front, first_pieces, first_count, found_sent, AreEmptied}
+use Rattle.ring_core.proofs.PlayLemmas.{get_set_same, get_set_other}
 use Rattle.ring_core.proofs.EndLemmas.{get_some, into_back, between_back}
 use Rattle.ring_core.proofs.TakeLemmas.{items_are}
 use Rattle.ring_core.proofs.WholeLemmas.{count_is, sent_into, parts_here, parts_other, parts_length, parts_room}
+
+-- where no edge holds anything, no list lies whole
+pub none_whole : (workers : ℕ) (whole : Option ℕ) (list : List Item) (edges : List EdgeState) → 0 < workers → length edges ≡ workers → AreEmptied (with_list whole workers list edges) → whole ≡ None
+none_whole workers None list edges some count empty = refl
+none_whole workers (Some stage) list edges some count empty =
+    let number : ℕ = worker_of workers stage in
+    let there = get_some edges number (omega (arith, mod_below stage workers some, count)) in
+    let none = ap length (empty number _ (parts_here number (pieces stage list) edges there.0 there.1)).0 in
+    absurd (omega (arith, none, count_is stage list))
 
 -- the edges but one hold nothing: then what lies there are the items of that one's pieces
 module _ (workers : ℕ) (list : List Item) (edges : List EdgeState) (k : ℕ) (raw edge : EdgeState) (some : 0 < workers) (count : length edges ≡ workers) (raw_is : slice_get edges k ≡ Some raw) where
@@ -58,6 +68,23 @@ module _ (workers : ℕ) (list : List Item) (edges : List EdgeState) (k : ℕ) (
       let taken = ap (λ (e : EdgeState). e.taken) (parts_at stage others is) in
       omega (arith, ap length none, taken, fits)
 
+  -- once that one's pieces are handed over, none holds anything
+  pub handed : (whole : Option ℕ) → Others whole → MayBeSent whole workers list edges → (new : EdgeState) → (whole ≡ None → new.pieces ≡ []) → ((stage : ℕ) → whole ≡ Some stage → new ≡ raw)
+      → (number : ℕ) (e : EdgeState) → slice_get (set edges k new) number ≡ Some e → e.pieces ≡ []
+  handed None others may new empty stays number e is = elim (cases_eq number k) [
+    | inl here ↦
+        ap (λ (x : EdgeState). x.pieces) (get_set_same edges k new e (ap (slice_get (set edges k new)) (sym here) ∙ is)) ∙ empty refl
+    | inr apart ↦ others number e apart (sym (get_set_other edges k number new apart) ∙ is)
+  ]
+  handed (Some stage) others may new empty stays number e is =
+      let at = lies_at stage others in
+      elim (cases_eq number k) [
+        | inl here ↦
+            ap (λ (x : EdgeState). x.pieces) (get_set_same edges k new e (ap (slice_get (set edges k new)) (sym here) ∙ is) ∙ stays stage refl) ∙ (may.1 raw (ap (slice_get edges) at ∙ raw_is)).0
+        | inr apart ↦
+            others number e apart (parts_other (worker_of workers stage) number (pieces stage list) edges (λ q. apart (q ∙ at)) ∙ (sym (get_set_other edges k number new apart) ∙ is))
+      ]
+
 -- as a window begins
 module _ (batches : List DemandBatch) (core : RingState) (playing : IsPlaying batches core) (begun : HasJustBegun core) where
   abbrev window : Window
@@ -82,6 +109,49 @@ module _ (batches : List DemandBatch) (core : RingState) (playing : IsPlaying ba
       let taken : edge.taken ≡ 0 = sym (ap taken_of is) ∙ begun.none_taken number in
       let sent : edge.sent ≡ 0 = sym (ap sent_of is) ∙ (begun.list_sent number ∙ ap (λ (b : Bool). cond b (piece_count core.list) 0) (ne_eqb number 0 other)) in
       holds.pieces ∙ (λ i. between (taken i) (sent i) (edge_stream (record { window = window; worker = number })))
+
+  others_start : (number : ℕ) (edge : EdgeState) → number ≢ 0 → slice_get core.edges number ≡ Some edge → (edge.pieces ≡ []) × (edge.taken ≡ 0) × (edge.sent ≡ 0)
+  others_start number edge other is = (
+    others_hold_none number edge other is,
+    sym (ap taken_of is) ∙ begun.none_taken number,
+    sym (ap sent_of is) ∙ (begun.list_sent number ∙ ap (λ (b : Bool). cond b (piece_count core.list) 0) (ne_eqb number 0 other)),
+  )
+
+  -- the edges as the code has them, once the list lies whole
+  pub lifted : (list : List Item) (raw : List EdgeState) (whole : Option ℕ) (old new : EdgeState) → core.edges ≡ with_list whole core.workers list raw → MayBeSent whole core.workers list raw → slice_get raw 0 ≡ Some old
+      → lying_in whole list old ≡ core.list → (whole ≡ None → (new.pieces ≡ []) × (new.taken ≡ 0) × (new.sent ≡ 0)) → ((stage : ℕ) → whole ≡ Some stage → new ≡ old) → AreEmptied (set raw 0 new)
+  lifted list raw None old new laid may old_is lies empty stays number edge is = elim (cases_lt 0 number) [
+    | inl later ↦
+        let apart : number ≢ 0 = λ q. omega (arith, q, later) in
+        let there : slice_get core.edges number ≡ Some edge = ap (λ (es : List EdgeState). slice_get es number) laid ∙ (sym (get_set_other raw 0 number new apart) ∙ is) in
+        others_start number edge apart there
+    | inr here ↦
+        let at : number ≡ 0 = omega (arith, here) in
+        let same : edge ≡ new = get_set_same raw 0 new edge (ap (slice_get (set raw 0 new)) (sym at) ∙ is) in
+        subst (λ (e : EdgeState). (e.pieces ≡ []) × (e.taken ≡ 0) × (e.sent ≡ 0)) (sym same) (empty refl)
+  ]
+  lifted list raw (Some stage) old new laid may old_is lies empty stays number edge is =
+      let some = playing.ring.some_workers in
+      let count : length raw ≡ core.workers = sym (parts_length (worker_of core.workers stage) (pieces stage list) raw) ∙ (ap length (sym laid) ∙ playing.ring.edge_count) in
+      let lies_here = lies_at core.workers list raw 0 old old some count old_is stage (λ k e other there. others_hold_none k e other (ap (λ (es : List EdgeState). slice_get es k) laid ∙ there)) in
+      let first : slice_get core.edges 0 ≡ Some (sent_into old (pieces stage list)) =
+      ap (λ (es : List EdgeState). slice_get es 0) laid ∙ (ap (λ (n : ℕ). slice_get (with_parts n (pieces stage list) raw) 0) lies_here ∙ parts_here 0 (pieces stage list) raw old old_is) in
+      elim (cases_lt 0 number) [
+        | inl later ↦
+            let apart : number ≢ 0 = λ q. omega (arith, q, later) in
+            let there : slice_get core.edges number ≡ Some edge =
+            ap (λ (es : List EdgeState). slice_get es number) laid
+            ∙ (parts_other (worker_of core.workers stage) number (pieces stage list) raw (λ q. apart (q ∙ lies_here)) ∙ (sym (get_set_other raw 0 number new apart) ∙ is)) in
+            others_start number edge apart there
+        | inr here ↦
+            let at : number ≡ 0 = omega (arith, here) in
+            let same : edge ≡ old = get_set_same raw 0 new edge (ap (slice_get (set raw 0 new)) (sym at) ∙ is) ∙ stays stage refl in
+            let held = (may.1 old (ap (slice_get raw) lies_here ∙ old_is)).0 in
+            let taken : old.taken ≡ 0 = sym (ap taken_of first) ∙ begun.none_taken 0 in
+            let all : old.sent + length (pieces stage list) ≡ piece_count core.list = sym (ap sent_of first) ∙ begun.list_sent 0 in
+            let sent : old.sent ≡ 0 = omega (arith, all, count_is stage list, ap piece_count lies) in
+            subst (λ (e : EdgeState). (e.pieces ≡ []) × (e.taken ≡ 0) × (e.sent ≡ 0)) (sym same) (held, taken, sent)
+      ]
 
   pub list_fits : FlowsFitPairs → 0 < length batches → length core.list ≤ core.endpoints * core.endpoints
   list_fits pairs some = omega (arith, ap length (first_list window), few_before core.endpoints window playing.may pairs 0 (omega (arith, some)))
@@ -133,7 +203,7 @@ module _ (batches : List DemandBatch) (core : RingState) (playing : IsPlaying ba
 
 -- once all stages have served their lists
 module _ (batches : List DemandBatch) (core : RingState) (playing : IsPlaying batches core) (crew : List WorkerState) (edges : List EdgeState) (list : List Item)
-    (stands : StandsBefore core.endpoints core.batches batches (window_in batches core) (length batches) crew edges list) (rooms : (number : ℕ) → room_at edges number ≡ room_at core.edges number) where
+    (stands : StandsBefore core.endpoints core.batches batches (window_in batches core) (length batches) crew edges list) (rooms : (number : ℕ) → room_at edges number ≡ room_at core.edges number) (spare : ℕ) (nodes : spare ≡ core.spare) where
   abbrev w_window : Window
   w_window = window_in batches core
 
@@ -184,7 +254,7 @@ module _ (batches : List DemandBatch) (core : RingState) (playing : IsPlaying ba
         };
   }
 
-  laid_plays : (number : ℕ) (w : WorkerState) → slice_get crew number ≡ Some w → Plays batches (ends_in batches (record core { edges = laid; crew = crew }) number) w
+  laid_plays : (number : ℕ) (w : WorkerState) → slice_get crew number ≡ Some w → Plays batches (ends_in batches (record core { edges = laid; crew = crew; spare = spare }) number) w
   laid_plays number w is =
       let it = stands.workers number w is in
       let crewed = it.crewed in
@@ -205,7 +275,7 @@ module _ (batches : List DemandBatch) (core : RingState) (playing : IsPlaying ba
       let sent_is : length (pieces_into w_window (worker_after w.workers w.number) (w.stage + 1)) ≡ length (pieces_into w_window next (stages + 1)) = ap (λ (n : ℕ). length (pieces_into w_window n (w.stage + 1))) after ∙ ap length back_next in
       let taken : w.taken ≡ taken_at laid number = omega (arith, starts.taken_is, taken_is, (laid_at number edge.0 edge.1).0, ap taken_of edge.1) in
       let sent : w.sent ≡ sent_at laid next = omega (arith, starts.sent_is, sent_is, (laid_at next other.0 other.1).1, ap sent_of other.1) in
-      let ends : own_ends w_window w ≡ ends_in batches (record core { edges = laid; crew = crew }) number = λ i. record {
+      let ends : own_ends w_window w ≡ ends_in batches (record core { edges = laid; crew = crew; spare = spare }) number = λ i. record {
         before = record { window = w_window; worker = crewed.number_is i };
         after = record { window = w_window; worker = after i };
         taken = taken i;
@@ -213,7 +283,7 @@ module _ (batches : List DemandBatch) (core : RingState) (playing : IsPlaying ba
       } in
       (0, 0, subst (λ (e : Ends). HasPlayed batches e w 0 0) ends starts)
 
-  laid_ring : IsRing (record core { edges = laid; crew = crew })
+  laid_ring : IsRing (record core { edges = laid; crew = crew; spare = spare })
   laid_ring = record {
     some_workers = playing.ring.some_workers;
     few_workers = playing.ring.few_workers;
@@ -224,15 +294,16 @@ module _ (batches : List DemandBatch) (core : RingState) (playing : IsPlaying ba
     each = λ number w is. (stands.workers number w is).crewed;
   }
 
-  pub laid_playing : IsPlaying batches (record core { edges = laid; crew = crew })
+  pub laid_playing : IsPlaying batches (record core { edges = laid; crew = crew; spare = spare })
   laid_playing = record {
     ring = laid_ring;
     stages = playing.stages;
     may = playing.may;
     short = playing.short;
     holds = laid_holds;
+    nodes = ap (λ (n : ℕ). n + length (list_before_stage w_window stages)) nodes ∙ playing.nodes;
     plays = laid_plays;
   }
 
-  pub laid_finished : IsFinished (record core { edges = laid; crew = crew })
+  pub laid_finished : IsFinished (record core { edges = laid; crew = crew; spare = spare })
   laid_finished number w is = omega (arith, playing.stages, (stands.workers number w is).from)

@@ -8,9 +8,9 @@ use Rattle.std.proofs.lemmas.List.{length-set}
 use Rattle.std.proofs.lemmas.List.Elements.{All-set}
 use Rattle.greedy_rules.specs.Batches.{DemandBatch}
 use Rattle.slot_batches.specs.declared.piece.Piece.{Piece}
-use Rattle.slot_batches.specs.Pieces.{Part, part_of, next_piece}
+use Rattle.slot_batches.specs.Pieces.{Part, next_piece, part_of}
 use Rattle.slot_batches.specs.Settled.{settled}
-use Rattle.slot_batches.specs.Stands.{StageState, endpoints_of, batch_size_of, first_slot_of, number_of}
+use Rattle.slot_batches.specs.Stands.{endpoints_of, batch_size_of, first_slot_of, number_of, StageState}
 use Rattle.ring_core.specs.States.{WorkerState}
 use Rattle.ring_core.specs.Windows.{Window, batch_of, pieces_before, is_fed, items_fed, piece_given_next}
 use Rattle.ring_core.specs.Streams.{pieces_into}
@@ -97,6 +97,7 @@ module _ (batches : List DemandBatch) (ends : Ends) (w : WorkerState) (fed given
         ended = λ place state earlier is. played.ended place state earlier (sym (get_set_other w.stages w.place place x (λ same. omega (arith, same, earlier))) ∙ is);
         present = λ state below' is. subst (λ (s : StageState). StageIsAt w.endpoints window w.stage fed' (cond (is_some h) (given + 1) given) s) (sym (get_set_same w.stages w.place x state is)) at;
         later = λ place state after below' is. played.later place state after below' (sym (get_set_other w.stages w.place place x (λ same. omega (arith, same, after))) ∙ is);
+        idle = λ place state over is. played.idle place state over (sym (get_set_other w.stages w.place place x (λ same. omega (arith, over, below, played.stage, ap (own_stage w.workers w.number) same))) ∙ is);
       }
 
 -- the next piece of a stage, by its own numbers

@@ -20,7 +20,7 @@ use Rattle.ring_core.specs.Ends.{Ends, one_sent}
 use Rattle.ring_core.specs.Workers.{own_stage, StageIsAt, StageHasEnded, HasPlayed}
 use Rattle.ring_core.proofs.WindowLemmas.{one_list_on, list_before, few_pieces}
 use Rattle.ring_core.proofs.StreamLemmas.{own_here, next_own, stream_has, into_step, into_short, row_on}
-use Rattle.ring_core.proofs.BeginLemmas.{ended_slots}
+use Rattle.ring_core.proofs.BeginLemmas.{ended_nodes, ended_slots}
 use Rattle.ring_core.proofs.PlayLemmas.{held_is}
 
 has_of : (has : Bool) (x p : Part) → cond has (Some x) None ≡ Some p → has ≡ true
@@ -190,6 +190,7 @@ module _ (batches : List DemandBatch) (ends : Ends) (w : WorkerState) (fed given
         ended = played.ended;
         present = λ state below at. subst (λ (g : ℕ). StageIsAt w.endpoints w_window w.stage fed g state) (ap (λ (o : Option Part). cond (is_some o) (given + 1) given) held) (played.present state below at);
         later = played.later;
+        idle = played.idle;
       })
 
   fed_whole : EveryBatchLeavesAList → SettledItemsStay → EarlyPiecesAreOfTheList → piece.end ≡ true → fed ≡ pieces_before w_window w.stage
@@ -247,8 +248,13 @@ module _ (batches : List DemandBatch) (ends : Ends) (w : WorkerState) (fed given
               let was = played.present state is.0 (ap (slice_get w.stages) (sym same) ∙ at) in
               let is_whole = subst (λ (f : ℕ). StageIsAt w.endpoints w_window w.stage f (cond (is_some w.held) (given + 1) given) state) all was in
               subst (λ (s : ℕ). StageHasEnded w.endpoints w_window s state) (sym stage_is)
-              (record { work = was.work; slots = ended_slots w.endpoints w_window w.stage (cond (is_some w.held) (given + 1) given) state is_whole })
+              (record {
+                work = was.work;
+                slots = ended_slots w.endpoints w_window w.stage (cond (is_some w.held) (given + 1) given) state is_whole;
+                none = ended_nodes w.endpoints w_window w.stage (cond (is_some w.held) (given + 1) given) state inside is_whole (ap (λ (o : Option Part). cond (is_some o) (given + 1) given) held ∙ whole);
+              })
         ];
         present = λ state within at. subst (λ (s : ℕ). StageIsAt w.endpoints w_window s 0 0 state) on (played.later (w.place + 1) state (omega arith) (omega (arith, on, within)) at);
         later = λ place state after within at. played.later place state (omega (arith, after)) within at;
+        idle = played.idle;
       })

@@ -65,6 +65,7 @@ module _ (batches : List DemandBatch) (core : RingState) (number : ℕ) (old new
     may = playing.may;
     short = playing.short;
     holds = holds;
+    nodes = playing.nodes;
     plays = one_of (λ k w. Plays batches (ends_in batches next k) w)
         plays
         (λ k w other there.
@@ -76,3 +77,7 @@ module _ (batches : List DemandBatch) (core : RingState) (number : ℕ) (old new
         λ i. record { before = record { window = window_in batches core; worker = k }; after = record { window = window_in batches core; worker = worker_after core.workers k }; taken = sym taken i; sent = sym sent i } in
         subst (λ (e : Ends). Plays batches e w) ends (playing.plays k w there));
   }
+
+-- as many nodes are spare
+pub spare_on : (batches : List DemandBatch) (core : RingState) (spare : ℕ) → core.spare ≡ spare → IsPlaying batches core → IsPlaying batches (record core { spare = spare })
+spare_on batches core spare is playing = subst (λ (n : ℕ). IsPlaying batches (record core { spare = n })) is playing

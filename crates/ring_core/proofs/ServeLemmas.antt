@@ -13,6 +13,8 @@ use Rattle.slot_batches.specs.NextList.{IsListBefore, EveryBatchLeavesAList, Eve
 use Rattle.slot_batches.specs.Pieces.{Part, next_piece}
 use Rattle.slot_batches.specs.Settled.{slots_filled, settled}
 use Rattle.slot_batches.specs.Stands.{StageState, IsSameWork, Stands, MayBeFed, ListsMayBeFed, endpoints_of, batch_size_of, first_slot_of, number_of, slots_of}
+use Rattle.slot_batches.proofs.NodeCounts.{settled-all}
+use Rattle.slot_batches.proofs.SettledLemmas.{none_settled}
 use Rattle.ring_core.specs.States.{WorkerState}
 use Rattle.ring_core.specs.Windows.{Window, list_before_stage, batch_of, first_slot_in, pieces_before, piece_given_next, worker_of, worker_after}
 use Rattle.ring_core.specs.Streams.{pieces_into}
@@ -27,6 +29,7 @@ use Rattle.ring_core.proofs.BeginLemmas.{none_fed}
 pub none_first : (window : Window) (stage : ℕ) → piece_given_next window stage zero zero ≡ None
 none_first window stage =
     ap (λ (b : Bool). next_piece (stage + 1) b 0 (settled (batch_of window stage) (first_slot_in window stage) window.b [] b)) (none_fed (length (list_before_stage window stage) - 1))
+    ∙ ap (next_piece (stage + 1) false 0) (none_settled (batch_of window stage) (first_slot_in window stage) window.b)
 
 none_held : (below : Type 0) (window : Window) (stage : ℕ) (held : Option Part) → IfSome held (λ part. below × (piece_given_next window stage zero zero ≡ Some part)) → held ≡ None
 none_held below window stage None told = refl
@@ -70,6 +73,11 @@ module _ (batches : List DemandBatch) (window : Window) (w : WorkerState) (start
   pub left_fits : (state : StageState) → state ≡ get_or w.stages w.place state → EveryBatchKeepsItsFlows → FlowsFitPairs → length (settled batch (first_slot_of state) (batch_size_of state) list true) ≤ w.endpoints * w.endpoints
   left_fits state is keeps pairs = omega (arith, ap length (left_is state is), few_after w.endpoints window starts.window.may keeps pairs w.stage inside)
 
+  -- it has a node for each item by which that list is longer
+  pub nodes_are : (state : StageState) → state ≡ get_or w.stages w.place state → state.nodes + length list ≡ length (list_before_stage window (w.stage + 1))
+  nodes_are state is =
+      omega (arith, (begun state is).nodes, settled-all batch (first_slot_of state) (batch_size_of state) list, ap length (left_is state is))
+
   pub taken_fits : EveryBatchKeepsItsFlows → FlowsFitPairs → w.taken + pieces_before window w.stage < 2 ^ 32
   taken_fits keeps pairs =
       let few = few_pieces w.endpoints window starts.window.may keeps pairs in
@@ -87,9 +95,9 @@ module _ (batches : List DemandBatch) (window : Window) (w : WorkerState) (start
   served new stage taken sent = record w { stages = set w.stages w.place new; place = w.place + 1; stage = stage; taken = taken; sent = sent }
 
   pub starts_next : (state new : StageState) (stage taken sent : ℕ) → state ≡ get_or w.stages w.place state → IsSameWork (endpoints_of state) (batch_size_of state) (number_of state) (first_slot_of state) new
-      → slots_of new ≡ slots_filled batch (first_slot_of state) (batch_size_of state) list true → stage ≡ w.stage + w.workers → taken ≡ w.taken + pieces_before window w.stage → sent ≡ w.sent + pieces_before window (w.stage + 1)
+      → slots_of new ≡ slots_filled batch (first_slot_of state) (batch_size_of state) list true → new.nodes ≡ 0 → stage ≡ w.stage + w.workers → taken ≡ w.taken + pieces_before window w.stage → sent ≡ w.sent + pieces_before window (w.stage + 1)
       → StartsStage batches window (served new stage taken sent)
-  starts_next state new stage taken sent is work slots stage_is taken_is sent_is =
+  starts_next state new stage taken sent is work slots none stage_is taken_is sent_is =
       let at = state_at state is in
       let next : ℕ = worker_after w.workers w.number in
       let workers_are = starts.window.workers_are in
@@ -111,6 +119,7 @@ module _ (batches : List DemandBatch) (window : Window) (w : WorkerState) (start
           same_first = work.same_first ∙ at.work.same_first;
         };
         slots = slots ∙ (λ i. slots_filled batch (at.work.same_first i) (at.work.same_size i) list true);
+        none = none;
       } in
       let other : (place : ℕ) (s : StageState) → (place ≡ w.place → ⊥) → slice_get (set w.stages w.place new) place ≡ Some s → slice_get w.stages place ≡ Some s = λ place s apart there. sym (get_set_other w.stages w.place place new apart) ∙ there in
       record {
@@ -147,4 +156,5 @@ module _ (batches : List DemandBatch) (window : Window) (w : WorkerState) (start
             let later : StageIsAt w.endpoints window (own_stage w.workers w.number (w.place + 1)) 0 0 s = starts.later (w.place + 1) s (omega arith) (omega (arith, on, within)) (other (w.place + 1) s (λ q. omega (arith, q)) there) in
             subst (λ (h : Option Part). StageIsAt w.endpoints window stage zero (cond (is_some h) (0 + 1) 0) s) (sym held_none) (subst (λ (n : ℕ). StageIsAt w.endpoints window n 0 0 s) on later);
         later = λ place s after within there. starts.later place s (omega (arith, after)) within (other place s (λ q. omega (arith, q, after)) there);
+        idle = λ place s over there. starts.idle place s over (other place s (λ q. omega (arith, over, below, starts.stage, ap (own_stage w.workers w.number) q)) there);
       }

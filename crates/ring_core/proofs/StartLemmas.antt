@@ -1,6 +1,6 @@
 -- A ring as a window begins.
-use Rattle.std.proofs.Common.{◌≡◌, ◌<◌, ◌≤◌, ◌+◌, ◌*◌, ◌^◌, ℕ, zero, suc, Bool, true, false, cond, nat_eq, nat_le, List, [], ◌∷◌, ◌++◌, length, set, get_or, Option, Some, None, slice_get, All, refl, sym, ap, ◌∙◌, subst, arith, inl, inr, length-append, length-set, append_assoc}
-use Rattle.std.proofs.lemmas.Nat.{mod-mul-add}
+use Rattle.std.proofs.Common.{◌≡◌, ◌<◌, ◌≤◌, ◌+◌, ◌-◌, ◌*◌, ◌^◌, ℕ, zero, suc, Bool, true, false, cond, nat_eq, nat_le, List, [], ◌∷◌, ◌++◌, length, set, get_or, Option, Some, None, slice_get, All, refl, sym, ap, ◌∙◌, subst, arith, inl, inr, length-append, length-set, append_assoc}
+use Rattle.std.proofs.lemmas.Nat.{mod-mul-add, mul-le}
 use Rattle.std.proofs.lemmas.List.FromFn.{length-map-range_with_len}
 use Rattle.std.proofs.lemmas.Bool.{cases_lt, ne_eqb}
 use Rattle.std.proofs.lemmas.Bool.Decides.{nat_tests}
@@ -17,13 +17,15 @@ use Rattle.slot_batches.specs.NextList.{IsListBefore, EveryBatchKeepsItsFlows}
 use Rattle.slot_batches.specs.Pieces.{Part, piece_count, pieces}
 use Rattle.ring_core.specs.States.{EdgeState, RingState, WorkerState}
 use Rattle.ring_core.specs.Workers.{IsWorker, MayBegin, IsWindowOf, HasBegunWith, Plays, first_ends}
-use Rattle.ring_core.specs.Cores.{IsRing, IsPlaying, window_in}
+use Rattle.ring_core.specs.Cores.{IsRing, IsAtRest, MayStart, IsPlaying, pairs_of, window_in}
 use Rattle.ring_core.proofs.EdgeLemmas.{room_kept}
 use Rattle.ring_core.specs.Windows.{Window, MayBePlayed, list_after, list_before_stage, batch_at, batch_of, pieces_before, worker_of, worker_after, window_of}
 use Rattle.ring_core.specs.Streams.{EdgeInto, pieces_at, pieces_into, edge_stream}
 use Rattle.ring_core.specs.Ends.{Ends}
 use Rattle.ring_core.specs.Edges.{between, Holds, AllHold, StreamsAreShort, taken_of, sent_of, taken_at, sent_at, room_at, ends_between}
+use Rattle.ring_core.specs.Openings.{crew_openings}
 use Rattle.ring_core.proofs.WindowLemmas.{few_pieces}
+use Rattle.ring_core.proofs.OpeningLemmas.{crew_and_list, lists_fit}
 use Rattle.ring_core.proofs.StreamLemmas.{at_own, into_none, into_step, into_short, after_small, after_last}
 use Rattle.ring_core.proofs.PlayLemmas.{get_set_same, get_set_other}
 
@@ -161,6 +163,20 @@ pub record Starts (core : RingState) (first : ℕ) (batches : List DemandBatch) 
   pub numbers : first_slot core.b (first + length batches) ≤ 2 ^ 32
   pub few : length list ≤ 65536
 
+pub few_pairs : (endpoints : ℕ) → endpoints ≤ 256 → endpoints * (endpoints - 1) ≤ 65536
+few_pairs endpoints few = omega (arith, mul-le endpoints (endpoints - 1) 256 256 few (omega (arith, few)))
+
+pub starts_at : (core : RingState) (first : ℕ) (batches : List DemandBatch) (list : List Item) → IsAtRest core → MayStart core first batches list → Starts core first batches list
+starts_at core first batches list rest may = record {
+  ring = rest.ring;
+  endpoints = may.few_endpoints;
+  count = may.count;
+  may = may.may;
+  before = may.before;
+  numbers = may.numbers;
+  few = omega (arith, may.fits, few_pairs core.endpoints may.few_endpoints);
+}
+
 module _ (core : RingState) (first : ℕ) (batches : List DemandBatch) (list : List Item) (starts : Starts core first batches list) where
   abbrev window : Window
   window = window_of list batches first core.b core.workers
@@ -227,13 +243,22 @@ module _ (core : RingState) (first : ℕ) (batches : List DemandBatch) (list : L
       } in
       subst (λ (e : Ends). Plays batches e new) (ap (first_ends window) it.number_is ∙ there) plays
 
+  -- the nodes that the stages take, beside those of the list's items
+  pub nodes_found : EveryBatchKeepsItsFlows → FlowsFitPairs → length list ≤ pairs_of core.endpoints
+      → (crew_openings batches core.crew + length list ≡ length (list_before_stage window (length batches))) × (length (list_before_stage window (length batches)) ≤ pairs_of core.endpoints)
+  nodes_found keeps pairs fits = (
+    crew_and_list window core.crew starts.ring.some_workers starts.ring.worker_count
+        (λ number w is. let it = starts.ring.each number w is in (it.workers_is, omega (arith, it.number_is), omega (arith, it.is_worker.enough, it.batches_is, starts.count))) keeps,
+    lists_fit core.endpoints window may_be_played keeps pairs fits (length batches) (omega arith),
+  )
+
   -- and so the ring plays the window
   pub ring_playing : (next : RingState) (empty : List EdgeState) (edge : EdgeState) (crew : List WorkerState) (pieces_sent : ℕ) → window_in batches next ≡ window → next.workers ≡ core.workers → next.endpoints ≡ core.endpoints → next.batches ≡ core.batches → next.b ≡ core.b → next.room ≡ core.room → next.stages ≡ length batches
       → next.edges ≡ set empty 0 edge → next.crew ≡ crew → length empty ≡ length core.edges → AreEmptied empty → ((number : ℕ) → room_at empty number ≡ room_at core.edges number)
       → edge.pieces ≡ pieces 0 list → edge.taken ≡ 0 → edge.sent ≡ piece_count list → edge.room ≡ room_at empty 0 → pieces_sent ≡ piece_count list → length crew ≡ length core.crew
       → ((number : ℕ) (old new : WorkerState) → slice_get core.crew number ≡ Some old → slice_get crew number ≡ Some new → HasBegunWith first batches (cond (nat_le old.workers (old.number + 1)) pieces_sent 0) old new)
-      → EveryBatchKeepsItsFlows → FlowsFitPairs → IsPlaying batches next
-  ring_playing next empty edge crew pieces_sent window_is workers_is endpoints_is batches_is b_is room_is stages_is edges_are crew_is count emptied rooms held taken sent room sent_is crew_count begun keeps pairs =
+      → next.spare + length (list_before_stage window (length batches)) ≡ pairs_of core.endpoints → EveryBatchKeepsItsFlows → FlowsFitPairs → IsPlaying batches next
+  ring_playing next empty edge crew pieces_sent window_is workers_is endpoints_is batches_is b_is room_is stages_is edges_are crew_is count emptied rooms held taken sent room sent_is crew_count begun nodes keeps pairs =
       let some : 0 < length empty = omega (arith, count, starts.ring.edge_count, starts.ring.some_workers) in
       let here : pieces_sent ≡ pieces_before window 0 = sent_is ∙ first_count window in
       let sent_here : edge.sent ≡ pieces_before window 0 = sent ∙ first_count window in
@@ -266,6 +291,7 @@ module _ (core : RingState) (first : ℕ) (batches : List DemandBatch) (list : L
         may = subst (λ (n : ℕ). MayBePlayed n (window_in batches next)) (sym endpoints_is) (subst (MayBePlayed core.endpoints) (sym window_is) may_be_played);
         short = subst StreamsAreShort (sym window_is) (streams_short core.endpoints window may_be_played keeps pairs);
         holds = subst (λ (w : Window). AllHold w next.edges) (sym window_is) (subst (AllHold window) (sym edges_are) (all_hold window empty edge starts.ring.some_workers emptied held taken sent));
+        nodes = subst (λ (n : ℕ). next.spare + length (list_before_stage (window_in batches next) (length batches)) ≡ pairs_of n) (sym endpoints_is) (subst (λ (w : Window). next.spare + length (list_before_stage w (length batches)) ≡ pairs_of core.endpoints) (sym window_is) nodes);
         plays = λ number new is.
             let there = ap (λ (ws : List WorkerState). slice_get ws number) (sym crew_is) ∙ is in
             let old = old_of number new there in

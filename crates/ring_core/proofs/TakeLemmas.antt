@@ -12,13 +12,15 @@ use Rattle.ring_core.specs.States.{EdgeState, RingState, WorkerState}
 use Rattle.ring_core.specs.Windows.{Window, batch_at, list_after, list_before_stage, slots_in, worker_of}
 use Rattle.ring_core.specs.Streams.{EdgeInto, edge_stream, items_of}
 use Rattle.ring_core.specs.Workers.{own_stage, IsEndedStage}
-use Rattle.ring_core.specs.Cores.{IsRing, IsPlaying, IsFinished, window_in}
+use Rattle.ring_core.specs.Cores.{IsRing, IsAtRest, IsPlaying, IsFinished, pairs_of, ends_in, window_in}
 use Rattle.ring_core.specs.Edges.{room_at}
 use Rattle.ring_core.proofs.StreamLemmas.{at_own, row_on}
 use Rattle.ring_core.proofs.BeginLemmas.{own_before}
 use Rattle.ring_core.proofs.EdgeLemmas.{between_length}
 use Rattle.ring_core.proofs.EndLemmas.{last_list}
 use Rattle.ring_core.proofs.FeedLemmas.{joined}
+use Rattle.ring_core.proofs.GoneLemmas.{all_gone}
+use Rattle.ring_core.proofs.StartLemmas.{AreEmptied, few_pairs}
 
 schedule_more : (b k : ℕ) (list : List Item) (batches : List DemandBatch) (t : ℕ) → t < length batches
     → schedule_from b k list (take (suc t) batches) ≡ schedule_from b k list (take t batches) ++ slots_then b (k + t) (batch_at batches t) (list_after b k list batches t)
@@ -146,6 +148,10 @@ counts_fit batches core playing number edge is =
     let holds = playing.holds.each number edge is in
     omega (arith, ap length holds.pieces, between_length edge.taken edge.sent (edge_stream into) holds.order holds.within, holds.within, playing.short number)
 
+-- the list that is left has no more items than there are flows
+pub few_left : (batches : List DemandBatch) (core : RingState) → IsPlaying batches core → length (rest_from core.b core.first_batch core.list batches) ≤ 65536
+few_left batches core playing = omega (arith, ap length (last_is (window_in batches core)), playing.nodes, few_pairs core.endpoints playing.may.few_endpoints)
+
 -- with other edges of the same room it is a ring again
 pub ring_with : (core : RingState) (edges : List EdgeState) → IsRing core → length edges ≡ length core.edges → ((number : ℕ) → room_at edges number ≡ room_at core.edges number) → IsRing (record core { edges = edges })
 ring_with core edges ring count rooms = record {
@@ -157,3 +163,23 @@ ring_with core edges ring count rooms = record {
   rooms = λ number within. rooms number ∙ ring.rooms number within;
   each = ring.each;
 }
+
+-- where all stages have ended it is at rest once its edges are empty, and all its nodes are spare
+pub rest_with : (batches : List DemandBatch) (core : RingState) (edges : List EdgeState) (spare : ℕ) → IsPlaying batches core → IsFinished core → length edges ≡ length core.edges → ((number : ℕ) → room_at edges number ≡ room_at core.edges number)
+    → AreEmptied edges → spare ≡ pairs_of core.endpoints → IsAtRest (record core { edges = edges; spare = spare })
+rest_with batches core edges spare playing finished count rooms empty nodes =
+    let ring = ring_with core edges playing.ring count rooms in
+    record {
+      ring = record {
+        some_workers = ring.some_workers;
+        few_workers = ring.few_workers;
+        few_batches = ring.few_batches;
+        edge_count = ring.edge_count;
+        worker_count = ring.worker_count;
+        rooms = ring.rooms;
+        each = ring.each;
+      };
+      nodes = nodes;
+      none_held = λ number w is. all_gone batches (ends_in batches core number) w (playing.plays number w is) (omega (arith, finished number w is, playing.stages));
+      none_lies = empty;
+    }

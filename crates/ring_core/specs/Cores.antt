@@ -1,11 +1,14 @@
 -- A ring of workers over its edges, and a window that it plays (this project's own profile).
-use Rattle.std.specs.Prelude.{◌≡◌, ◌≢◌, ◌<◌, ◌≤◌, ℕ, ◌+◌, ◌*◌, ◌^◌, List, length, Some, None, IsSome, slice_get, ◌==◌, if◌then◌else◌}
+use Rattle.std.specs.Prelude.{◌≡◌, ◌≢◌, ◌<◌, ◌≤◌, ℕ, ◌+◌, ◌-◌, ◌*◌, ◌^◌, List, [], length, Some, None, IsSome, slice_get, All, ◌==◌, if◌then◌else◌}
+use Rattle.greedy_rules.specs.declared.flows.Item.{Item}
 use Rattle.greedy_rules.specs.Batches.{DemandBatch}
-use Rattle.greedy_rules.specs.Schedule.{rest_from}
+use Rattle.greedy_rules.specs.Recorded.{MayBeApplied}
+use Rattle.greedy_rules.specs.Schedule.{first_slot, rest_from}
+use Rattle.slot_batches.specs.NextList.{IsListBefore}
 use Rattle.slot_batches.specs.Pieces.{piece_count}
 use Rattle.ring_core.specs.States.{EdgeState, RingState, WorkerState}
 use Rattle.ring_core.specs.declared.turn.Turn.{Turn}
-use Rattle.ring_core.specs.Windows.{Window, MayBePlayed, window_of, pieces_before, worker_after}
+use Rattle.ring_core.specs.Windows.{Window, MayBePlayed, window_of, list_before_stage, pieces_before, worker_after}
 use Rattle.ring_core.specs.Streams.{pieces_at}
 use Rattle.ring_core.specs.Ends.{Ends}
 use Rattle.ring_core.specs.Workers.{IsWorker, Plays}
@@ -37,6 +40,28 @@ pub record IsRing (core : RingState) : Type 0 where
   pub rooms : (number : ℕ) → number < core.workers → room_at core.edges number ≡ core.room
   pub each : AreCrewed core.workers core.endpoints core.batches core.b core.crew
 
+-- how many flows there are between so many endpoints: from each to each other
+abbrev pub pairs_of : ℕ → ℕ
+pairs_of endpoints = endpoints * (endpoints - 1)
+
+-- it holds no piece, and all of its nodes, one for each flow between its endpoints, are spare
+pub record IsAtRest (core : RingState) : Type 0 where
+  pub ring : IsRing core
+  pub nodes : core.spare ≡ pairs_of core.endpoints
+  pub none_held : (number : ℕ) (worker : WorkerState) → slice_get core.crew number ≡ Some worker → All (λ stage. stage.nodes ≡ 0) worker.stages
+  pub none_lies : (number : ℕ) (edge : EdgeState) → slice_get core.edges number ≡ Some edge → (edge.pieces ≡ []) × (edge.taken ≡ 0) × (edge.sent ≡ 0)
+
+-- it may begin a window of these batches, the first of this number, with this list
+pub record MayStart (core : RingState) (first_batch : ℕ) (batches : List DemandBatch) (list : List Item) : Type 0 where
+  pub few_endpoints : core.endpoints ≤ 256
+  pub count : length batches ≤ core.batches
+  pub may : MayBeApplied core.endpoints core.b first_batch list batches
+  pub before : IsListBefore (first_slot core.b first_batch) list
+  pub numbers : first_slot core.b (first_batch + length batches) ≤ 2 ^ 32
+  -- a flow has an item at most
+  pub fits : length list ≤ pairs_of core.endpoints
+  pub room : piece_count list ≤ core.room
+
 -- the window that it plays, and the two ends of a worker there
 abbrev pub window_in : List DemandBatch → RingState → Window
 window_in batches core = window_of core.list batches core.first_batch core.b core.workers
@@ -45,13 +70,14 @@ abbrev pub ends_in : List DemandBatch → RingState → ℕ → Ends
 ends_in batches core number = ends_between (window_in batches core) core.edges number (worker_after core.workers number)
 
 -- it plays a window of these batches: each edge holds exactly its stream from taken to sent, and each worker has played up to
--- its positions
+-- its positions; a node is spare for each flow that has no item in the list that the window leaves
 pub record IsPlaying (batches : List DemandBatch) (core : RingState) : Type 0 where
   pub ring : IsRing core
   pub stages : core.stages ≡ length batches
   pub may : MayBePlayed core.endpoints (window_in batches core)
   pub short : StreamsAreShort (window_in batches core)
   pub holds : AllHold (window_in batches core) core.edges
+  pub nodes : core.spare + length (list_before_stage (window_in batches core) (length batches)) ≡ pairs_of core.endpoints
   pub plays : (number : ℕ) (worker : WorkerState) → slice_get core.crew number ≡ Some worker → Plays batches (ends_in batches core number) worker
 
 -- the answer of a worker's turn in the ring

@@ -1,5 +1,5 @@
 -- Edges as lists: what each holds, and the positions on it (this project's own profile).
-use Rattle.std.specs.Prelude.{◌≡◌, ◌≢◌, ◌<◌, ◌≤◌, ℕ, zero, suc, ◌+◌, ◌^◌, List, [], ◌∷◌, ◌++◌, length, drop, Bool, true, false, Option, Some, None, slice_get}
+use Rattle.std.specs.Prelude.{◌≡◌, ◌≢◌, ◌<◌, ◌≤◌, ℕ, zero, suc, ◌+◌, ◌^◌, List, [], ◌∷◌, ◌++◌, length, Option, Some, None, slice_get}
 use Rattle.slot_batches.specs.Pieces.{Part}
 use Rattle.ring_core.specs.States.{EdgeState}
 use Rattle.ring_core.specs.Windows.{Window}
@@ -21,30 +21,12 @@ pub record Holds (into : EdgeInto) (edge : EdgeState) : Type 0 where
   pub within : edge.sent ≤ length (edge_stream into)
   pub pieces : edge.pieces ≡ between edge.taken edge.sent (edge_stream into)
 
--- the first piece was taken
-pub record IsOneTaken (old new : EdgeState) : Type 0 where
-  pub pieces : new.pieces ≡ drop 1 old.pieces
-  pub some : 0 < length old.pieces
-  pub taken : new.taken ≡ old.taken + 1
-  pub sent : new.sent ≡ old.sent
-  pub room : new.room ≡ old.room
-
 -- a piece was sent behind the others
 pub record IsOneSent (part : Part) (old new : EdgeState) : Type 0 where
   pub pieces : new.pieces ≡ old.pieces ++ part ∷ []
   pub taken : new.taken ≡ old.taken
   pub sent : new.sent ≡ old.sent + 1
   pub room : new.room ≡ old.room
-
--- the first piece was taken, or there was none
-abbrev pub HasTaken : Bool → EdgeState → EdgeState → Type 0
-HasTaken true old new = IsOneTaken old new
-HasTaken false old new = (new ≡ old) × (old.pieces ≡ [])
-
--- the piece was sent, where there is one
-abbrev pub HasSent : EdgeState → EdgeState → Option Part → Type 0
-HasSent old new None = new ≡ old
-HasSent old new (Some part) = IsOneSent part old new
 
 -- so does each of a window's edges; edge k is the one into worker k
 pub record AllHold (window : Window) (edges : List EdgeState) : Type 0 where

@@ -1,9 +1,9 @@
 pub mod Windows
-pub mod Places
 pub mod States
 pub mod Streams
 pub mod Examples
 pub mod Ends
+pub mod Openings
 pub mod Workers
 pub mod Turns
 pub mod Edges

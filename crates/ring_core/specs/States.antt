@@ -27,7 +27,7 @@ pub record WorkerState : Type 0 where
   pub held : Option Part
 
 -- so many workers over edges with room for so many pieces; the list that the window found, the number of its first batch, and
--- how many stages it has; edge k is the one into worker k
+-- how many stages it has; edge k is the one into worker k; and how many nodes are in no stage and no piece
 pub record RingState : Type 0 where
   pub workers : ℕ
   pub endpoints : ℕ
@@ -39,3 +39,4 @@ pub record RingState : Type 0 where
   pub stages : ℕ
   pub edges : List EdgeState
   pub crew : List WorkerState
+  pub spare : ℕ

@@ -37,6 +37,11 @@ abbrev pub lying_in : Option ℕ → List Item → EdgeState → List Item
 lying_in None list edge = items_of edge.pieces
 lying_in (Some stage) list edge = list
 
+-- how many nodes the pieces of a list that lies whole take, where one does
+abbrev pub whole_nodes : Option ℕ → List Item → ℕ
+whole_nodes None list = 0
+whole_nodes (Some stage) list = length list
+
 -- how many items a list has room for
 abbrev pub room_for : Demands → ℕ
 room_for list = length list.items + list.spare

@@ -3,7 +3,7 @@ use Rattle.std.specs.Prelude.{◌≡◌, ◌<◌, ◌≤◌, ℕ, ◌+◌, ◌*�
 use Rattle.greedy_rules.specs.Batches.{DemandBatch}
 use Rattle.greedy_rules.specs.Demands.{AreBelow, opened}
 use Rattle.greedy_rules.specs.Schedule.{first_slot}
-use Rattle.slot_batches.specs.Stands.{StageState, IsSameWork, Stands, endpoints_of, batch_size_of, slots_of}
+use Rattle.slot_batches.specs.Stands.{IsSameWork, Stands, endpoints_of, batch_size_of, slots_of, StageState}
 use Rattle.ring_core.specs.States.{WorkerState}
 use Rattle.ring_core.specs.Windows.{Window, MayBePlayed, batch_at, batch_of, first_slot_in, pieces_before, slots_in, worker_after, is_fed, items_fed, piece_given_next}
 use Rattle.ring_core.specs.Streams.{pieces_into}
@@ -22,6 +22,7 @@ pub record StageIsAt (endpoints : ℕ) (window : Window) (stage fed given : ℕ)
 pub record StageHasEnded (endpoints : ℕ) (window : Window) (stage : ℕ) (state : StageState) : Type 0 where
   pub work : IsSameWork endpoints window.b (stage + 1) (first_slot_in window stage) state
   pub slots : slots_of state ≡ slots_in window stage
+  pub none : state.nodes ≡ 0
 
 -- the worker has its stages: each of its number of slots a batch, and one for each of its own batches
 pub record IsWorker (worker : WorkerState) : Type 0 where
@@ -95,6 +96,7 @@ pub record HasPlayed (batches : List DemandBatch) (ends : Ends) (worker : Worker
       → StageIsAt worker.endpoints ends.before.window worker.stage fed (given_by worker given) state
   pub later : (place : ℕ) (state : StageState) → worker.place < place → own_stage worker.workers worker.number place < length batches → slice_get worker.stages place ≡ Some state
       → StageIsAt worker.endpoints ends.before.window (own_stage worker.workers worker.number place) 0 0 state
+  pub idle : (place : ℕ) (state : StageState) → length batches ≤ own_stage worker.workers worker.number place → slice_get worker.stages place ≡ Some state → state.nodes ≡ 0
 
 abbrev pub Plays : List DemandBatch → Ends → WorkerState → Type 0
 Plays batches ends worker = (fed : ℕ) × (given : ℕ) × HasPlayed batches ends worker fed given

@@ -12,22 +12,32 @@ ghost use Rattle.ring_core.specs.Streams.{items_of};
 ghost use Rattle.ring_core.specs.Turns.{Answers};
 ghost use Rattle.ring_core.specs.Edges.{room_at, AllHold, StreamsAreShort, OthersStay, IsFoundEmpty, IsFoundFull, ends_between};
 ghost use Rattle.ring_core.specs.Wholes.{room_for, StandsBefore};
-ghost use Rattle.ring_core.specs.Cores.{IsRing, IsSameRing, IsFinished, IsGoing, HoldsTheLastList, HasJustBegun, HasRoomForTwo, AreCrewed, IsPlaying, AnswersIn, CanMove, OthersWait, window_in};
+ghost use Rattle.ring_core.specs.Openings.{crew_openings};
+ghost use Rattle.ring_core.specs.Cores.{IsAtRest, MayStart, IsRing, IsSameRing, IsFinished, IsGoing, HoldsTheLastList, HasJustBegun, HasRoomForTwo, AreCrewed, IsPlaying, AnswersIn, CanMove, OthersWait, window_in};
 
 use crate::edge::{Edge, ListLink};
 use crate::turn::Turn;
 use crate::whole::Whole;
 use crate::worker::{Worker, count_pieces};
-use greedy_rules::{Batch, DemandList, SlotTable, flows_fit_pairs};
+use greedy_rules::{Batch, DemandList, Flow, Item, SlotTable, flows_fit_pairs};
+use item_chain::Chain;
 use no_memory::NoMemory;
-use slot_batches::{early_pieces_are_of_the_list, every_batch_leaves_a_list};
+use slot_batches::every_batch_leaves_a_list;
 use std::alloc::Global;
 use std::marker::Model;
 use std::snapshot::Snapshot;
 
+// What the nodes hold at first.
+const BLANK: Item = Item {
+    flow: Flow { src: 0, dst: 0 },
+    need: 0,
+    last: 0,
+};
+
 /// A ring of workers over edges of fixed room, of which any may take the next turn.
 #[derive(Drop)]
 pub struct RingCore {
+    alloc: Global,
     workers: u16,
     endpoints: u16,
     batches: u16,
@@ -41,18 +51,20 @@ pub struct RingCore {
     whole: Whole,
     edges: Vec<Edge>,
     crew: Vec<Worker>,
+    // Nodes that no stage and no piece has.
+    spare: Chain<Item>,
 }
 
 impl Model for RingCore {
-    ghost use Rattle.std.specs.Prelude.{◌≤◌, ◌*◌};
+    ghost use Rattle.std.specs.Prelude.{◌≤◌, ◌<◌, ◌-◌, ◌*◌, ◌^◌, length};
     ghost use Rattle.ring_core.specs.States.{RingState};
-    ghost use Rattle.ring_core.specs.Wholes.{with_list, room_for, MayBeSent};
+    ghost use Rattle.ring_core.specs.Wholes.{with_list, room_for, whole_nodes, MayBeSent};
 
     ghost Value = { RingState };
 
-    ghost view = { λ r. record { workers = r.workers; endpoints = r.endpoints; batches = r.batches; b = r.b; room = r.room; list = r.list.value.items; first_batch = r.first_batch; stages = r.stages; edges = with_list r.whole.stage r.workers r.whole.list.items r.edges.items; crew = r.crew.items } };
+    ghost view = { λ r. record { workers = r.workers; endpoints = r.endpoints; batches = r.batches; b = r.b; room = r.room; list = r.list.value.items; first_batch = r.first_batch; stages = r.stages; edges = with_list r.whole.stage r.workers r.whole.list.items r.edges.items; crew = r.crew.items; spare = length r.spare - whole_nodes r.whole.stage r.whole.list.items } };
 
-    ghost invariant = { λ r. (r.endpoints * r.endpoints ≤ room_for r.whole.list) × (r.endpoints * r.endpoints ≤ room_for r.whole.left) × MayBeSent r.whole.stage r.workers r.whole.list.items r.edges.items };
+    ghost invariant = { λ r. (r.endpoints * r.endpoints ≤ room_for r.whole.list) × (r.endpoints * r.endpoints ≤ room_for r.whole.left) × MayBeSent r.whole.stage r.workers r.whole.list.items r.edges.items × (whole_nodes r.whole.stage r.whole.list.items ≤ length r.spare) × (length r.spare < 2 ^ 32) };
 }
 
 impl RingCore {
@@ -69,18 +81,22 @@ impl RingCore {
         requires workers { 0 < workers }
         requires endpoints { endpoints ≤ 256 }
         requires b { (0 < b) × (b ≤ 64) }
-        ensures ring { IfOk result IsRing }
+        ensures rest { IfOk result IsAtRest }
         ensures workers { IfOk result (λ core. core.workers ≡ workers) }
         ensures endpoints { IfOk result (λ core. core.endpoints ≡ endpoints) }
         ensures batches { IfOk result (λ core. core.batches ≡ batches) }
         ensures b { IfOk result (λ core. core.b ≡ b) }
         ensures room { IfOk result (λ core. core.room ≡ room) }
     {
+        let pairs = endpoints as usize * (endpoints as usize).saturating_sub(1);
+        let mut spare = Chain::new(alloc);
+        spare.fill(pairs, BLANK)?;
         let none = DemandList::open(alloc, 0)?;
         let whole = Whole::open(alloc, endpoints)?;
         let edges = open_edges(alloc, workers, room)?;
         let crew = open_crew(alloc, workers, endpoints, batches, b)?;
         Ok(RingCore {
+            alloc,
             workers,
             endpoints,
             batches,
@@ -92,19 +108,15 @@ impl RingCore {
             whole,
             edges,
             crew,
+            spare,
         })
     }
 
-    /// Begins a window of these batches, the first of number `first_batch`, and takes its list, of at most 65,536 items, over.
+    /// Begins a window of these batches, the first of number `first_batch`, and takes its list over, which has at most an item for
+    /// each flow.
     pub fn begin(&mut self, list: &mut DemandList, first_batch: u32, batches: &[Batch])
-        requires ring { IsRing self.old }
-        requires endpoints { self.old.endpoints ≤ 256 }
-        requires count { length batches.now ≤ self.old.batches }
-        requires may { MayBeApplied self.old.endpoints self.old.b first_batch list.old.items batches.now }
-        requires before { IsListBefore (first_slot self.old.b first_batch) list.old.items }
-        requires numbers { first_slot self.old.b (first_batch + length batches.now) ≤ 2 ^ 32 }
-        requires few { length list.old.items ≤ 65536 }
-        requires room { piece_count list.old.items ≤ self.old.room }
+        requires rest { IsAtRest self.old }
+        requires may { MayStart self.old first_batch batches.now list.old.items }
         ensures playing { IsPlaying batches.now self.new }
         ensures window { window_in batches.now self.new ≡ window_of list.old.items batches.now first_batch self.old.b self.old.workers }
         ensures begun { HasJustBegun self.new }
@@ -117,9 +129,16 @@ impl RingCore {
         self.list = Snapshot::of(list);
         self.first_batch = first_batch;
         self.stages = batches.len();
-        empty_edges(&mut self.edges);
-        let pieces = self.whole.take_over(list, &mut self.edges);
-        begin_crew(&mut self.crew, first_batch, batches, pieces);
+        let pieces = self
+            .whole
+            .take_over(self.alloc, list, &mut self.edges, &mut self.spare);
+        begin_crew(
+            &mut self.crew,
+            first_batch,
+            batches,
+            pieces,
+            &mut self.spare,
+        );
         list.clear();
     }
 
@@ -149,7 +168,8 @@ impl RingCore {
     {
         let before = worker as usize;
         let after = self.worker_after(worker) as usize;
-        self.whole.send(self.workers, &mut self.edges);
+        self.whole
+            .send(self.alloc, self.workers, &mut self.edges, &mut self.spare);
         turn_at(
             &mut self.crew[before],
             &self.list,
@@ -197,9 +217,14 @@ impl RingCore {
         if self.stages == 0 {
             return 0;
         }
-        self.whole.lift(&mut self.edges[0]);
-        empty_edges(&mut self.edges);
-        let turns = play_stages(&mut self.crew, &mut self.edges, &mut self.whole, batches);
+        self.whole.lift(&mut self.edges[0], &mut self.spare);
+        let turns = play_stages(
+            &mut self.crew,
+            &mut self.edges,
+            &mut self.whole,
+            batches,
+            &mut self.spare,
+        );
         self.whole.stage = Some(self.stages as u32);
         turns
     }
@@ -227,9 +252,8 @@ impl RingCore {
             IsPlaying batches self.old →
             out.new.slots ≡ schedule_from self.old.b self.old.first_batch self.old.list batches ++ replicate (length out.old.slots - self.old.stages * self.old.b) [] }
         ensures endpoints { out.new.endpoints ≡ out.old.endpoints }
-        ensures ring { IsRing self.new }
+        ensures rest { IsAtRest self.new }
         ensures same { IsSameRing self.old self.new }
-        ensures empty { (number : ℕ) (edge : EdgeState) → slice_get self.new.edges number ≡ Some edge → edge.pieces ≡ [] }
     {
         out.clear();
         self.take_behind(0, list, out);
@@ -249,14 +273,14 @@ impl RingCore {
             IsPlaying batches self.old →
             out.new.slots ≡ (take (passed * self.old.b) out.old.slots ++ schedule_from self.old.b self.old.first_batch self.old.list batches) ++ replicate (length out.old.slots - (passed + self.old.stages) * self.old.b) [] }
         ensures endpoints { out.new.endpoints ≡ out.old.endpoints }
-        ensures ring { IsRing self.new }
+        ensures rest { IsAtRest self.new }
         ensures same { IsSameRing self.old self.new }
-        ensures empty { (number : ℕ) (edge : EdgeState) → slice_get self.new.edges number ≡ Some edge → edge.pieces ≡ [] }
     {
         self.copy_slots(passed, out);
         let last = self.stages % self.edges.len();
-        self.whole.hand_over(&mut self.edges[last], list);
-        empty_edges(&mut self.edges);
+        self.whole
+            .hand_over(&mut self.edges[last], list, &mut self.spare);
+        restart_edges(&mut self.edges);
     }
 
     /// Copies the slots of every stage behind those of so many batches, into places that are empty.
@@ -284,6 +308,7 @@ impl RingCore {
 fn open_edges(alloc: Global, workers: u16, room: u32) -> Result<Vec<Edge>, NoMemory>
     ensures count { IfOk result (λ edges. length edges.items ≡ workers) }
     ensures rooms { IfOk result (λ edges. All (λ edge. edge.room ≡ room) edges.items) }
+    ensures empty { IfOk result (λ edges. All (λ edge. (edge.pieces ≡ []) × (edge.taken ≡ 0) × (edge.sent ≡ 0)) edges.items) }
 {
     let mut edges = Vec::with_capacity(alloc, workers as usize)?;
     for _ in 0..workers {
@@ -304,6 +329,7 @@ fn open_crew(
     requires b { (0 < b) × (b ≤ 64) }
     ensures count { IfOk result (λ crew. length crew.items ≡ workers) }
     ensures each { IfOk result (λ crew. AreCrewed workers endpoints batches b crew.items) }
+    ensures none { IfOk result (λ crew. All (λ worker. All (λ stage. stage.nodes ≡ 0) worker.stages) crew.items) }
 {
     let mut crew = Vec::with_capacity(alloc, workers as usize)?;
     for number in 0..workers {
@@ -312,24 +338,34 @@ fn open_crew(
     Ok(crew)
 }
 
-/// Empties every edge.
-fn empty_edges(edges: &mut [Edge])
+/// The positions of every edge begin at 0 again.
+fn restart_edges(edges: &mut [Edge])
+    requires empty { (number : ℕ) (edge : EdgeState) → slice_get edges.old number ≡ Some edge → edge.pieces ≡ [] }
     ensures count { length edges.new ≡ length edges.old }
     ensures empty { (number : ℕ) (edge : EdgeState) → slice_get edges.new number ≡ Some edge → (edge.pieces ≡ []) × (edge.taken ≡ 0) × (edge.sent ≡ 0) }
     ensures rooms { (number : ℕ) → room_at edges.new number ≡ room_at edges.old number }
 {
     for edge in edges {
-        edge.empty();
+        edge.restart();
     }
 }
 
-/// Plays every stage, each at once, and answers how many pieces they took up and gave. The list that is left lies whole.
-fn play_stages(crew: &mut [Worker], edges: &mut [Edge], whole: &mut Whole, batches: &[Batch]) -> u64
+/// Plays every stage, each at once, and answers how many pieces they took up and gave. The list that is left lies whole, and the
+/// nodes of the stages are spare again.
+fn play_stages(
+    crew: &mut [Worker],
+    edges: &mut [Edge],
+    whole: &mut Whole,
+    batches: &[Batch],
+    spare: &mut Chain<Item>,
+) -> u64
     requires stands { (endpoints most : ℕ) × (window : Window) × StandsBefore endpoints most batches.now window 0 crew.old edges.old whole.old.list.items × (endpoints * endpoints ≤ room_for whole.old.list) × (endpoints * endpoints ≤ room_for whole.old.left) × StreamsAreShort window }
+    requires fits { length spare.old < 2 ^ 32 }
     ensures stands { (endpoints most : ℕ) (window : Window) →
         StandsBefore endpoints most batches.now window 0 crew.old edges.old whole.old.list.items →
         StandsBefore endpoints most batches.now window (length batches.now) crew.new edges.new whole.new.list.items × (result ≡ turns_of window) }
     ensures rooms { (number : ℕ) → room_at edges.new number ≡ room_at edges.old number }
+    ensures nodes { length spare.new + length whole.old.list.items ≡ length spare.old + length whole.new.list.items }
     ensures list { (pairs : ℕ) → pairs ≤ room_for whole.old.list → pairs ≤ room_for whole.old.left → (pairs ≤ room_for whole.new.list) × (pairs ≤ room_for whole.new.left) }
 {
     every_batch_leaves_a_list();
@@ -339,7 +375,7 @@ fn play_stages(crew: &mut [Worker], edges: &mut [Edge], whole: &mut Whole, batch
         let number = stage % crew.len();
         let taken = count_pieces(whole.list.items());
         edges[number].pass(taken);
-        whole.serve(&mut crew[number], batches);
+        whole.serve(&mut crew[number], batches, spare);
         let sent = count_pieces(whole.list.items());
         turns += u64::from(taken) + u64::from(sent);
     }
@@ -347,72 +383,31 @@ fn play_stages(crew: &mut [Worker], edges: &mut [Edge], whole: &mut Whole, batch
 }
 
 /// Begins the window with every worker; `pieces` were sent into the edge into worker 0, which is the last one's.
-fn begin_crew(crew: &mut [Worker], first_batch: u32, batches: &[Batch], pieces: u32)
+fn begin_crew(
+    crew: &mut [Worker],
+    first_batch: u32,
+    batches: &[Batch],
+    pieces: u32,
+    spare: &mut Chain<Item>,
+)
+    requires none { (number : ℕ) (worker : WorkerState) → slice_get crew.old number ≡ Some worker → All (λ stage. stage.nodes ≡ 0) worker.stages }
+    requires nodes { crew_openings batches.now crew.old ≤ length spare.old }
     requires workers { (number : ℕ) (worker : WorkerState) → slice_get crew.old number ≡ Some worker → IsWorker worker × MayBegin worker first_batch batches.now }
     ensures count { length crew.new ≡ length crew.old }
     ensures begun { (number : ℕ) (old new : WorkerState) →
         slice_get crew.old number ≡ Some old →
         slice_get crew.new number ≡ Some new →
         HasBegunWith first_batch batches.now (if nat_le old.workers (old.number + 1) then pieces else 0) old new }
+    ensures nodes { length spare.new + crew_openings batches.now crew.old ≡ length spare.old }
 {
     for worker in crew {
         let sent = worker.sent_before(pieces);
-        worker.begin(first_batch, batches, sent);
+        worker.begin(first_batch, batches, sent, spare);
     }
 }
 
-/// A turn of a worker of the ring, over the edges before and after it: pieces are written and read where they lie in them.
+/// A turn of a worker of the ring, over the edges before and after it: a piece that is refused stays with the worker.
 fn turn_at(
-    worker: &mut Worker,
-    list: &Snapshot<DemandList>,
-    first_batch: u32,
-    b: u8,
-    workers: u16,
-    batches: &[Batch],
-    edges: &mut [Edge],
-    before: usize,
-    after: usize,
-) -> Turn
-    requires before { before < length edges.old }
-    requires after { after < length edges.old }
-    requires short { StreamsAreShort (window_of list.now.value.items batches.now first_batch b workers) }
-    requires holds { AllHold (window_of list.now.value.items batches.now first_batch b workers) edges.old }
-    requires plays { Plays batches.now (ends_between (window_of list.now.value.items batches.now first_batch b workers) edges.old before after) worker.old }
-    ensures holds { AllHold (window_of list.now.value.items batches.now first_batch b workers) edges.new }
-    ensures plays { Plays batches.now (ends_between (window_of list.now.value.items batches.now first_batch b workers) edges.new before after) worker.new }
-    ensures answer { Answers batches.now worker.old (ends_between (window_of list.now.value.items batches.now first_batch b workers) edges.old before after) (ends_between (window_of list.now.value.items batches.now first_batch b workers) edges.new before after) (IsFoundEmpty edges.new before) (IsFoundFull edges.new after) result }
-    ensures others { OthersStay before after edges.old edges.new }
-    ensures worker { IsSameWorker worker.old worker.new }
-{
-    early_pieces_are_of_the_list();
-    every_batch_leaves_a_list();
-    if worker.has_ended(batches.len()) {
-        return Turn::Done;
-    }
-    if !edges[after].has_place() {
-        return turn_by_value(
-            worker,
-            list,
-            first_batch,
-            b,
-            workers,
-            batches,
-            edges,
-            before,
-            after,
-        );
-    }
-    if edges[after].take_from(worker) {
-        return Turn::Moved;
-    }
-    if edges[before].feed_to(worker, batches) {
-        return Turn::Moved;
-    }
-    Turn::NoPiece { at: worker.taken() }
-}
-
-/// As `turn_at`, where the edge after the worker may be full: a piece that is refused stays with the worker.
-fn turn_by_value(
     worker: &mut Worker,
     list: &Snapshot<DemandList>,
     first_batch: u32,

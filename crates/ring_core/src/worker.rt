@@ -1,18 +1,20 @@
-ghost use Rattle.std.specs.Prelude.{◌≡◌, ◌<◌, ◌≤◌, ◌+◌, ◌*◌, ◌^◌, ℕ, List, ◌++◌, [], length, false, None, Some, IfOk, option_map, All, nat_le, nat_lt, if◌then◌else◌};
+ghost use Rattle.std.specs.Prelude.{◌≡◌, ◌<◌, ◌≤◌, ◌+◌, ◌*◌, ◌^◌, ℕ, List, ◌++◌, [], length, true, false, None, Some, IfOk, option_map, slice_get, All, nat_le, nat_lt, if◌then◌else◌};
 ghost use Rattle.greedy_rules.specs.Batches.{DemandBatch, entry_of};
 ghost use Rattle.greedy_rules.specs.Demands.{need_with, AreBelow, opened};
 ghost use Rattle.slot_batches.specs.Pieces.{Part, part_of, piece_count};
-ghost use Rattle.slot_batches.specs.Stands.{endpoints_of, batch_size_of, first_slot_of, number_of, IsSameWork, MayBeFed, Stands};
+ghost use Rattle.slot_batches.specs.Stands.{StageState, endpoints_of, batch_size_of, first_slot_of, number_of, IsSameWork, MayBeFed, Stands};
 ghost use Rattle.ring_core.specs.Windows.{Window, list_before_stage, slots_in};
 ghost use Rattle.ring_core.specs.Streams.{IsPieceAt};
 ghost use Rattle.ring_core.specs.Ends.{Ends, one_taken, one_sent};
-ghost use Rattle.ring_core.specs.Workers.{IsWorker, MayBegin, IsWindowOf, first_ends, HaveBegun, Plays, IsAt, IsSameWorker, IsEndedStage};
+ghost use Rattle.ring_core.specs.Workers.{own_stage, IsWorker, MayBegin, IsWindowOf, first_ends, HaveBegun, Plays, IsAt, IsSameWorker, IsEndedStage};
+ghost use Rattle.ring_core.specs.Openings.{own_openings};
 ghost use Rattle.ring_core.specs.Wholes.{room_for, StartsStage};
 ghost use Rattle.ring_core.specs.Turns.{piece_to_push, Answers};
 
 use crate::link::Link;
 use crate::turn::Turn;
 use greedy_rules::{Batch, DemandList, Item, SlotTable, flows_fit_pairs};
+use item_chain::Chain;
 use no_memory::NoMemory;
 use slot_batches::{
     Piece, Stage, early_pieces_are_of_the_list, every_batch_leaves_a_list, lists_may_be_fed,
@@ -66,6 +68,7 @@ impl Worker {
         ensures endpoints { IfOk result (λ worker. worker.endpoints ≡ endpoints) }
         ensures batches { IfOk result (λ worker. worker.batches ≡ batches) }
         ensures b { IfOk result (λ worker. worker.b ≡ b) }
+        ensures none { IfOk result (λ worker. All (λ stage. stage.nodes ≡ 0) worker.stages) }
     {
         let mut stages = Vec::new(alloc);
         let mut stage = u32::from(number);
@@ -89,16 +92,19 @@ impl Worker {
     }
 
     /// Begins a window of these batches, the first of number `first_batch`; `sent` pieces were sent into the edge after the
-    /// worker before.
-    pub fn begin(&mut self, first_batch: u32, batches: &[Batch], sent: u32)
+    /// worker before. Takes a node for each flow that opens in its own stages.
+    pub fn begin(&mut self, first_batch: u32, batches: &[Batch], sent: u32, spare: &mut Chain<Item>)
         requires worker { IsWorker self.old }
         requires may { MayBegin self.old first_batch batches.now }
+        requires none { All (λ stage. stage.nodes ≡ 0) self.old.stages }
+        requires nodes { own_openings (length self.old.stages) batches.now self.old.workers self.old.number ≤ length spare.old }
         ensures plays { (window : Window) →
             IsWindowOf self.old first_batch batches.now window →
             sent ≡ (first_ends window self.old.number).sent →
             Plays batches.now (first_ends window self.old.number) self.new }
         ensures same { IsSameWorker self.old self.new }
         ensures worker { IsWorker self.new }
+        ensures spare { length spare.new + own_openings (length self.old.stages) batches.now self.old.workers self.old.number ≡ length spare.old }
     {
         self.place = 0;
         self.stage = u32::from(self.number);
@@ -112,6 +118,7 @@ impl Worker {
             self.b,
             first_batch,
             batches,
+            spare,
         );
     }
 
@@ -126,18 +133,16 @@ impl Worker {
         }
     }
 
-    /// Whether all its stages of so many batches have ended.
-    pub(crate) fn has_ended(&self, batches: usize) -> bool
-        ensures { result ≡ nat_le batches self.now.stage }
+    /// Whether all its stages of so many batches have ended; it has no nodes then.
+    pub fn has_ended(&self, batches: usize) -> bool
+        ensures value { result ≡ nat_le batches self.now.stage }
+        ensures none { (played : List DemandBatch) → (ends : Ends) →
+            Plays played ends self.now →
+            batches ≡ length played →
+            result ≡ true →
+            All (λ stage. stage.nodes ≡ 0) self.now.stages }
     {
         self.stage as usize >= batches
-    }
-
-    /// How many pieces it has taken.
-    pub(crate) fn taken(&self) -> u32
-        ensures { result ≡ self.now.taken }
-    {
-        self.taken
     }
 
     /// Whether it is at an earlier stage than the other.
@@ -188,39 +193,6 @@ impl Worker {
         self.stages[self.place].emit()
     }
 
-    /// As `next_piece`, but writes the piece over this one, and answers whether there is one.
-    pub(crate) fn next_into(&mut self, place: &mut Piece) -> bool
-        requires { (batches : List DemandBatch) × (ends : Ends) × Plays batches ends self.old × (self.old.stage < length batches) }
-        ensures piece { (batches : List DemandBatch) → (ends : Ends) →
-            Plays batches ends self.old →
-            self.old.stage < length batches →
-            (if result then Some (part_of place.new) else None) ≡ piece_to_push ends self.old }
-        ensures plays { (batches : List DemandBatch) → (ends : Ends) →
-            Plays batches ends self.old →
-            self.old.stage < length batches →
-            Plays batches ends (record self.new { held = if result then Some (part_of place.new) else None }) }
-        ensures held { self.new.held ≡ None }
-        ensures same { IsAt self.old self.new }
-        ensures worker { IsSameWorker self.old self.new }
-    {
-        if self.held.is_some() {
-            return self.put_held(place);
-        }
-        self.stages[self.place].emit_into(place)
-    }
-
-    /// Puts the piece that was refused into this place.
-    fn put_held(&mut self, place: &mut Piece) -> bool
-        ensures piece { (if result then Some (part_of place.new) else None) ≡ self.old.held }
-        ensures rest { self.new ≡ record self.old { held = None } }
-    {
-        let Some(refused) = self.held.take() else {
-            return false;
-        };
-        *place = refused;
-        true
-    }
-
     /// Pushes the piece; a refused one stays with the worker.
     fn hand_on<L: Link>(&mut self, piece: Piece, link: &mut L) -> Turn
         requires plays { (batches : List DemandBatch) × Plays batches (L.ends link.old) (record self.old { held = Some (part_of piece) }) × (self.old.stage < length batches) }
@@ -251,7 +223,7 @@ impl Worker {
     }
 
     /// Counts a piece that was sent. With the end of its list the present stage has ended, and the next one follows.
-    pub(crate) fn count_sent(&mut self, end: bool)
+    fn count_sent(&mut self, end: bool)
         requires plays { (batches : List DemandBatch) × (ends : Ends) × (part : Part) × Plays batches ends (record self.old { held = Some part }) × (part.end ≡ end) }
         requires held { self.old.held ≡ None }
         ensures plays { (batches : List DemandBatch) → (ends : Ends) → (part : Part) →
@@ -282,8 +254,7 @@ impl Worker {
         ensures answer { Answers batches.now self.old (L.ends link.old) (L.ends link.new) (L.found_empty link.new) (L.found_full link.new) result }
         ensures worker { IsSameWorker self.old self.new }
     {
-        let popped = link.pop();
-        let Some(piece) = &popped else {
+        let Some(piece) = link.pop() else {
             return Turn::NoPiece { at: self.taken };
         };
         self.feed(batches, piece);
@@ -291,14 +262,14 @@ impl Worker {
     }
 
     /// Feeds the present stage, which gives no piece as it is, the next piece of its list.
-    pub(crate) fn feed(&mut self, batches: &[Batch], piece: &Piece)
-        requires plays { (ends : Ends) × Plays batches.now ends self.old × (piece_to_push ends self.old ≡ None) × IsPieceAt ends.before ends.taken piece.now }
+    fn feed(&mut self, batches: &[Batch], piece: Piece)
+        requires plays { (ends : Ends) × Plays batches.now ends self.old × (piece_to_push ends self.old ≡ None) × IsPieceAt ends.before ends.taken piece }
         requires going { self.old.stage < length batches.now }
         requires held { self.old.held ≡ None }
         ensures plays { (ends : Ends) →
             Plays batches.now ends self.old →
             piece_to_push ends self.old ≡ None →
-            IsPieceAt ends.before ends.taken piece.now →
+            IsPieceAt ends.before ends.taken piece →
             Plays batches.now (one_taken ends) self.new }
         ensures worker { IsSameWorker self.old self.new }
     {
@@ -311,25 +282,33 @@ impl Worker {
     }
 
     /// Serves the whole list of the present stage at once, of which it has taken nothing, and hands over the list that its batch
-    /// leaves. The next stage follows.
-    pub(crate) fn serve_list(&mut self, batches: &[Batch], items: &[Item], left: &mut DemandList)
+    /// leaves. The nodes of the stage go back, and the next stage follows.
+    pub(crate) fn serve_list(
+        &mut self,
+        batches: &[Batch],
+        items: &[Item],
+        left: &mut DemandList,
+        spare: &mut Chain<Item>,
+    )
         requires starts { (window : Window) × StartsStage batches.now window self.old × (items.now ≡ list_before_stage window self.old.stage) }
         requires going { self.old.stage < length batches.now }
         requires none { left.old.items ≡ [] }
         requires room { self.old.endpoints * self.old.endpoints ≤ left.old.spare }
+        requires fits { length spare.old < 2 ^ 63 }
         ensures starts { (window : Window) →
             StartsStage batches.now window self.old →
             items.now ≡ list_before_stage window self.old.stage →
             StartsStage batches.now window self.new × (left.new.items ≡ list_before_stage window (self.old.stage + 1)) }
         ensures stage { self.new.stage ≡ self.old.stage + self.old.workers }
-        ensures spare { room_for left.new ≡ left.old.spare }
+        ensures left_room { room_for left.new ≡ left.old.spare }
+        ensures spare { length spare.new + length items.now ≡ length spare.old + length left.new.items }
         ensures worker { IsSameWorker self.old self.new }
     {
         lists_may_be_fed();
         every_batch_leaves_a_list();
         flows_fit_pairs();
         let batch = &batches[self.stage as usize];
-        self.stages[self.place].serve_list(batch, items, left);
+        self.stages[self.place].serve_list(batch, items, left, spare);
         self.taken += count_pieces(items);
         self.sent += count_pieces(left.items());
         self.stage += u32::from(self.workers);
@@ -355,6 +334,7 @@ fn begin_stages(
     b: u8,
     first_batch: u32,
     batches: &[Batch],
+    spare: &mut Chain<Item>,
 )
     requires workers { number < workers }
     requires some_slots { 0 < b }
@@ -362,10 +342,14 @@ fn begin_stages(
     requires in_range { All (λ stage. All (λ batch. AreBelow (endpoints_of stage) (opened batch.entries)) batches.now) stages.old }
     requires sizes { All (λ stage. batch_size_of stage ≡ b) stages.old }
     requires numbers { (first_batch + length batches.now) * b + 1 ≤ 2 ^ 32 }
+    requires none { All (λ stage. stage.nodes ≡ 0) stages.old }
+    requires nodes { own_openings (length stages.old) batches.now workers number ≤ length spare.old }
     ensures begun { (endpoints : ℕ) → All (λ stage. endpoints_of stage ≡ endpoints) stages.old → HaveBegun endpoints b first_batch batches.now workers number stages.new }
     ensures endpoints { (endpoints : ℕ) → All (λ stage. endpoints_of stage ≡ endpoints) stages.old → All (λ stage. endpoints_of stage ≡ endpoints) stages.new }
     ensures sizes { All (λ stage. batch_size_of stage ≡ b) stages.new }
     ensures count { length stages.new ≡ length stages.old }
+    ensures spare { length spare.new + own_openings (length stages.old) batches.now workers number ≡ length spare.old }
+    ensures idle { (place : ℕ) (state : StageState) → length batches.now ≤ own_stage workers number place → slice_get stages.new place ≡ Some state → state.nodes ≡ 0 }
 {
     let mut stage = u32::from(number);
     for own in stages {
@@ -373,22 +357,24 @@ fn begin_stages(
             break;
         }
         let first_slot = (first_batch + stage) * u32::from(b) + 1;
-        own.begin(&batches[stage as usize], stage + 1, first_slot);
+        own.begin(&batches[stage as usize], stage + 1, first_slot, spare);
         stage += u32::from(workers);
     }
 }
 
 /// Feeds a stage the items of a piece; with the end of the list it is finished.
-fn feed_stage(stage: &mut Stage, batch: &Batch, piece: &Piece)
-    requires may { (fed : List Item) × (given : ℕ) × Stands batch.now fed false given stage.old × MayBeFed batch.now.entries (endpoints_of stage.old) (first_slot_of stage.old) (fed ++ piece.now.items.items) }
-    requires needs { All (λ item. need_with (entry_of batch.now.entries item.flow) item.need < 2 ^ 32) piece.now.items.items }
+fn feed_stage(stage: &mut Stage, batch: &Batch, piece: Piece)
+    requires few { length piece.items ≤ 64 }
+    requires may { (fed : List Item) × (given : ℕ) × Stands batch.now fed false given stage.old × MayBeFed batch.now.entries (endpoints_of stage.old) (first_slot_of stage.old) (fed ++ piece.items) }
+    requires needs { All (λ item. need_with (entry_of batch.now.entries item.flow) item.need < 2 ^ 32) piece.items }
     ensures work { IsSameWork (endpoints_of stage.old) (batch_size_of stage.old) (number_of stage.old) (first_slot_of stage.old) stage.new }
     ensures stands { (fed : List Item) → (given : ℕ) →
         Stands batch.now fed false given stage.old →
-        MayBeFed batch.now.entries (endpoints_of stage.old) (first_slot_of stage.old) (fed ++ piece.now.items.items) →
-        Stands batch.now (fed ++ piece.now.items.items) piece.now.end given stage.new }
+        MayBeFed batch.now.entries (endpoints_of stage.old) (first_slot_of stage.old) (fed ++ piece.items) →
+        Stands batch.now (fed ++ piece.items) piece.end given stage.new }
 {
-    stage.feed_items(batch, &piece.items);
+    let mut items = piece.items;
+    stage.feed_all(batch, &mut items);
     if piece.end {
         stage.finish(batch);
     }

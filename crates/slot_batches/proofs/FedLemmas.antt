@@ -12,7 +12,7 @@ use Rattle.greedy_rules.specs.declared.flows.Item.{Item}
 use Rattle.greedy_rules.specs.declared.flows.Entry.{Entry}
 use Rattle.greedy_rules.specs.Demands.{OpensNewFlows, is_listed}
 use Rattle.slot_batches.specs.Feeding.{IsInOrder}
-use Rattle.slot_batches.specs.Stands.{OpensOthers, MayBeFed, ListsMayBeFed}
+use Rattle.slot_batches.specs.ArrayStands.{OpensOthers, MayBeFed, ListsMayBeFed}
 use Rattle.slot_batches.proofs.ListOrder.{in_order_from}
 use Rattle.slot_batches.proofs.StageLemmas.{Other, All-front, AllPairs-front}
 
@@ -27,7 +27,7 @@ rises-front : (xs ys : List Item) → Rises last_of (xs ++ ys) → Rises last_of
 rises-front [] ys rises = tt
 rises-front (x ∷ xs) ys rises = (floor-front x.last xs ys rises.0, rises-front xs ys rises.1)
 
-in_order-front : (xs ys : List Item) → IsInOrder (xs ++ ys) → IsInOrder xs
+pub in_order-front : (xs ys : List Item) → IsInOrder (xs ++ ys) → IsInOrder xs
 in_order-front xs ys up = in_order_from last_of xs (rises-front xs ys (rises_from last_of (xs ++ ys) up))
 
 -- a flow that a list has not is no item's

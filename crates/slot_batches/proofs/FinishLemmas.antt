@@ -13,7 +13,7 @@ use Rattle.greedy_rules.specs.Allocation.{batch_slots, list_after_slots}
 use Rattle.greedy_rules.proofs.Facts.{few}
 use Rattle.slot_batches.specs.Feeding.{IsInOrder, was_served, taken_up}
 use Rattle.slot_batches.specs.Filled.{Fill, HasTakenUp, MayBeTakenUp}
-use Rattle.slot_batches.specs.Stands.{MayBeFed, HasBeenFed}
+use Rattle.slot_batches.specs.ArrayStands.{MayBeFed, HasBeenFed}
 use Rattle.slot_batches.proofs.FilledLemmas.{lengths_after}
 use Rattle.slot_batches.proofs.OpenedFlows.{taken_up_all}
 use Rattle.slot_batches.proofs.ProgressLemmas.{stands_at_end}

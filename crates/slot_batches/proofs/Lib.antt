@@ -19,6 +19,7 @@ pub mod FinishLemmas
 pub mod PieceLemmas
 pub mod FedLemmas
 pub mod ReadLemmas
+pub mod SettledLemmas
 pub mod StandsLemmas
 pub mod MarkLemmas
 pub mod IdleLemmas
@@ -27,3 +28,5 @@ pub mod SetAside
 pub mod RestLemmas
 pub mod DoubtLemmas
 pub mod BusyLemmas
+pub mod NodeCounts
+pub mod Crossing

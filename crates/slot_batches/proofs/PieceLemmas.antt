@@ -11,10 +11,10 @@ use Rattle.slot_batches.specs.Pieces.{Part, piece_count, piece_at, waiting_items
 use Rattle.slot_batches.specs.Settled.{slots_filled, settled}
 use Rattle.slot_batches.specs.Marks.{AreMarked}
 use Rattle.slot_batches.specs.Filled.{Fill}
-use Rattle.slot_batches.specs.Stands.{StageState, HasBeenFed, Stands, first_slot_of, batch_size_of, number_of}
+use Rattle.slot_batches.specs.ArrayStands.{ArrayState, HasBeenFed, ArrayStands, array_first, array_size, array_number}
 
 -- the place from which a piece goes
-module _ (batch : DemandBatch) (fed : List Item) (finished : Bool) (given : ℕ) (stage : StageState) (stands : Stands batch fed finished given stage) where
+module _ (batch : DemandBatch) (fed : List Item) (finished : Bool) (given : ℕ) (stage : ArrayState) (stands : ArrayStands batch fed finished given stage) where
   abbrev list : List Item
   list = stage.fill.waiting
 
@@ -38,11 +38,11 @@ module _ (batch : DemandBatch) (fed : List Item) (finished : Bool) (given : ℕ)
   next_is : next_piece stage.number finished given list ≡ cond (not (nat_le (length (drop stage.given list)) 64) || stage.ends) (Some (piece_at stage.number list given)) None
   next_is = ap (λ (b : Bool). cond b (Some (piece_at stage.number list given)) None) has_is
 
-  of_settled : next_piece stage.number finished given list ≡ next_piece stage.number finished given (settled batch (first_slot_of stage) (batch_size_of stage) fed finished)
+  of_settled : next_piece stage.number finished given list ≡ next_piece stage.number finished given (settled batch (array_first stage) (array_size stage) fed finished)
   of_settled = ap (next_piece stage.number finished given) stands.list
 
   pub no_piece : length (drop stage.given list) ≤ 64 → stage.ends ≡ false
-      → None ≡ next_piece (number_of stage) finished given (settled batch (first_slot_of stage) (batch_size_of stage) fed finished)
+      → None ≡ next_piece (array_number stage) finished given (settled batch (array_first stage) (array_size stage) fed finished)
   no_piece few_are ends = none_is (nat_le (length (drop stage.given list)) 64) stage.ends (few_of (length (drop stage.given list)) few_are) ends ∙ (sym next_is ∙ of_settled)
     where
       few_of : (n : ℕ) → n ≤ 64 → nat_le n 64 ≡ true
@@ -76,7 +76,7 @@ module _ (batch : DemandBatch) (fed : List Item) (finished : Bool) (given : ℕ)
 
     pub some_piece : (items : List Item) (end : Bool) → items ≡ take 64 (drop stage.given list) → end ≡ nat_le (length (drop stage.given list)) 64
         → Some (record { stage = stage.number; from = stage.given; items = items; end = end })
-        ≡ next_piece (number_of stage) finished given (settled batch (first_slot_of stage) (batch_size_of stage) fed finished)
+        ≡ next_piece (array_number stage) finished given (settled batch (array_first stage) (array_size stage) fed finished)
     some_piece items end items_are end_is =
         let part : ℕ → List Item → Bool → Part = λ from items end. record { stage = stage.number; from = from; items = items; end = end } in
         let ends_as : end ≡ nat_le (length list) (64 * (given + 1)) =
@@ -109,8 +109,8 @@ module _ (batch : DemandBatch) (fed : List Item) (finished : Bool) (given : ℕ)
         left_many n is = grind (arith, nat_tests)
 
     -- and then one piece more is given
-    pub one_given : (new : StageState) → new.fill ≡ stage.fill → new.marks ≡ stage.marks → new.unopened ≡ stage.unopened → new.given ≡ stage.given + length (take 64 (drop stage.given list))
-        → new.ends ≡ (stage.ends && not (nat_le (length (drop stage.given list)) 64)) → Stands batch fed finished (given + 1) new
+    pub one_given : (new : ArrayState) → new.fill ≡ stage.fill → new.marks ≡ stage.marks → new.unopened ≡ stage.unopened → new.given ≡ stage.given + length (take 64 (drop stage.given list))
+        → new.ends ≡ (stage.ends && not (nat_le (length (drop stage.given list)) 64)) → ArrayStands batch fed finished (given + 1) new
     one_given new same marks_are unopened_is given_is ends_is =
         let long : length new.fill.waiting ≡ length list = ap (λ (f : Fill). length f.waiting) same in
         record {

@@ -9,7 +9,7 @@ use Rattle.greedy_rules.specs.declared.flows.Item.{Item}
 use Rattle.greedy_rules.specs.declared.flows.Entry.{Entry}
 use Rattle.greedy_rules.specs.Demands.{AreBelow, OpensNewFlows, opened}
 use Rattle.slot_batches.specs.NextList.{IsListBefore}
-use Rattle.slot_batches.specs.Stands.{MayBeFed}
+use Rattle.slot_batches.specs.ArrayStands.{MayBeFed}
 use Rattle.slot_batches.proofs.FedLemmas.{lists_may_be_fed}
 
 module _ {X : Type 0} where

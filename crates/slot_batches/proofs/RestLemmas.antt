@@ -17,7 +17,7 @@ use Rattle.slot_batches.specs.FreePlaces.{is_chosen}
 use Rattle.slot_batches.specs.Feeding.{was_served, has_served, taken_up}
 use Rattle.slot_batches.specs.Filled.{Fill, HasTakenUp, MayBeTakenUp}
 use Rattle.slot_batches.specs.Rests.{TakesNone, Rests}
-use Rattle.slot_batches.specs.Stands.{HasBeenFed, MayBeFed}
+use Rattle.slot_batches.specs.ArrayStands.{HasBeenFed, MayBeFed}
 use Rattle.slot_batches.specs.declared.filling.Filling.{Filling}
 use Rattle.slot_batches.specs.Parts.{fill_of, HasRoom}
 use Rattle.slot_batches.proofs.FilledLemmas.{lengths_after}

@@ -15,7 +15,7 @@ use Rattle.slot_batches.specs.Feeding.{was_served, has_served, taken_up}
 use Rattle.slot_batches.specs.declared.filling.Filling.{Filling}
 use Rattle.slot_batches.specs.Filled.{MayBeTakenUp}
 use Rattle.slot_batches.specs.Parts.{IsSameBatch}
-use Rattle.slot_batches.specs.Stands.{OpensOthers, MayBeFed}
+use Rattle.slot_batches.specs.ArrayStands.{OpensOthers, MayBeFed}
 use Rattle.slot_batches.proofs.NextList.{lasts-after_batch}
 use Rattle.slot_batches.proofs.OpenedFlows.{taken_up_all, taken_up_more, taken_up_end, taken_up_plainly, has_served_more}
 
@@ -71,7 +71,7 @@ may_there limits endpoints b number filling list same may =
     subst (λ (n : ℕ). MayBeTakenUp n filling.first_slot list) (sym same.same_endpoints) (subst (λ (n : ℕ). MayBeTakenUp endpoints n list) (sym same.same_first) may)
 
 -- no item that may be fed has a flow that opens
-opens_others : (batch : List Entry) (item : Item) → OpensOthers batch item → All (Other item) (opened batch)
+pub opens_others : (batch : List Entry) (item : Item) → OpensOthers batch item → All (Other item) (opened batch)
 opens_others batch item others =
     All-opened (λ flow. item.flow ≢ flow) batch
     (All-weaker (λ entry. IsTrue entry.opens → entry.flow ≢ item.flow) (λ entry. IsTrue entry.opens → item.flow ≢ entry.flow) (λ entry other opens same. other opens (sym same)) batch others)

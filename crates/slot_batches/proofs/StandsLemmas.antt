@@ -19,28 +19,30 @@ use Rattle.slot_batches.specs.Filled.{Fill, HasTakenUp}
 use Rattle.slot_batches.specs.Marks.{AreMarked}
 use Rattle.slot_batches.specs.Pieces.{Part, piece_count, piece_at, has_piece}
 use Rattle.slot_batches.specs.Settled.{slots_filled, settled, SettledItemsStay, EarlyPiecesAreOfTheList}
-use Rattle.slot_batches.specs.Stands.{StageState, HasBeenFed, Stands, first_slot_of, batch_size_of}
+use Rattle.slot_batches.specs.ArrayStands.{ArrayState, HasBeenFed, ArrayStands, array_first, array_size}
 use Rattle.slot_batches.proofs.FilledLemmas.{lengths_after}
 use Rattle.slot_batches.proofs.FinishLemmas.{complete}
 use Rattle.slot_batches.proofs.OpenedFlows.{taken_up_all, taken_up_more}
 use Rattle.slot_batches.proofs.ProgressLemmas.{stands_midway}
+use Rattle.slot_batches.proofs.SettledLemmas.{flow_by_flow, are_settled}
 use Rattle.slot_batches.proofs.SlotExchange.{slot_by_slot}
 use Rattle.slot_batches.proofs.TurnSteps.{items_after-append}
 
 -- what is settled is the front of the list that the batch leaves
 front_settled : (batch : DemandBatch) (number b : ℕ) (fed rest : List Item) → IsInOrder (fed ++ rest) → HasEachFlowOnce (after_batch batch.entries (fed ++ rest))
+    → settled batch number b fed false ≡ unserved number (items_after (is_barred batch.limits) number (taken_up batch.entries fed false) (replicate b []))
     → (more : List Item) × (settled batch number b (fed ++ rest) true ≡ settled batch number b fed false ++ more)
-front_settled batch number b fed rest up once =
+front_settled batch number b fed rest up once turns =
     let bar : Bar = is_barred batch.limits in
     let taken : List Item = taken_up batch.entries fed false in
     let items : List Item = items_after bar number taken (replicate b []) in
     let midway = stands_midway bar number b batch.entries fed rest (slots_after bar number taken (replicate b [])) (unserved number items) (newly_served number items) up
     (record { slots_are = refl; waiting_are = refl; served_are = refl }) in
-    (midway.0, sym (ap by_last (slot_by_slot bar number b (after_batch batch.entries (fed ++ rest)) once).items) ∙ midway.1)
+    (midway.0, sym (ap by_last (slot_by_slot bar number b (after_batch batch.entries (fed ++ rest)) once).items) ∙ (midway.1 ∙ ap (λ (xs : List Item). xs ++ midway.0) (sym turns)))
 
 pub settled_stay : SettledItemsStay
 settled_stay batch number b fed rest positive rising opens before =
-    front_settled batch number b fed rest before.in_order (once-after_batch batch.entries (fed ++ rest) rising opens before.once)
+    front_settled batch number b fed rest before.in_order (once-after_batch batch.entries (fed ++ rest) rising opens before.once) (are_settled batch number b fed rest rising opens before).flow_by_flow
 
 ends_not : (n m from : ℕ) → from < n → n ≤ m → nat_le n from ≡ nat_le m from
 ends_not n m from before more = grind (arith, nat_tests)
@@ -104,10 +106,13 @@ module _ (batch : DemandBatch) (fed : List Item) (fill : Fill) (unopened : ℕ) 
       so_far.taken.stands.slots_are
       ∙ ap (λ (l : Limits). slots_after (is_barred l) fill.first_slot taken (replicate fill.b [])) so_far.limits
 
+  pub turns_fed : (number b : ℕ) → settled batch number b fed false ≡ unserved number (items_after (is_barred batch.limits) number taken (replicate b []))
+  turns_fed number b = flow_by_flow batch number b fed so_far.rising so_far.may.in_order so_far.may.once so_far.may.others_open
+
   pub fed_list : fill.waiting ≡ settled batch fill.first_slot fill.b fed false
   fed_list =
       so_far.taken.stands.waiting_are
-      ∙ ap (λ (l : Limits). unserved fill.first_slot (items_after (is_barred l) fill.first_slot taken (replicate fill.b []))) so_far.limits
+      ∙ (ap (λ (l : Limits). unserved fill.first_slot (items_after (is_barred l) fill.first_slot taken (replicate fill.b []))) so_far.limits ∙ sym (turns_fed fill.first_slot fill.b))
 
   pub few_waiting : length fill.waiting ≤ 65536
   few_waiting =
@@ -128,8 +133,8 @@ given_so_far given n so_far = elim so_far [
 ]
 
 -- a stage whose list has not ended
-pub feeding_stands : (batch : DemandBatch) (fed : List Item) (given : ℕ) (stage : StageState) → HasBeenFed batch fed stage.fill stage.unopened → AreMarked batch.entries stage.marks → stage.given ≡ 64 * given → stage.ends ≡ false
-    → (given ≡ 0) ⊎ (64 * given < length stage.fill.waiting) → Stands batch fed false given stage
+pub feeding_stands : (batch : DemandBatch) (fed : List Item) (given : ℕ) (stage : ArrayState) → HasBeenFed batch fed stage.fill stage.unopened → AreMarked batch.entries stage.marks → stage.given ≡ 64 * given → stage.ends ≡ false
+    → (given ≡ 0) ⊎ (64 * given < length stage.fill.waiting) → ArrayStands batch fed false given stage
 feeding_stands batch fed given stage so_far marked given_is ends_is more = record {
   feeding = λ _. so_far;
   marked = marked;
@@ -148,7 +153,10 @@ longer given n m more so_far = elim so_far [
 ]
 
 -- items fed later settle more
-settled_more : (batch : DemandBatch) (number b : ℕ) (fed : List Item) (item : Item) → length (settled batch number b fed false) ≤ length (settled batch number b (fed ++ item ∷ []) false)
+abbrev turns_of : DemandBatch → ℕ → ℕ → List Item → List Item
+turns_of batch number b fed = unserved number (items_after (is_barred batch.limits) number (taken_up batch.entries fed false) (replicate b []))
+
+settled_more : (batch : DemandBatch) (number b : ℕ) (fed : List Item) (item : Item) → length (turns_of batch number b fed) ≤ length (turns_of batch number b (fed ++ item ∷ []))
 settled_more batch number b fed item =
     let bar : Bar = is_barred batch.limits in
     let empty : List (List Flow) = replicate b [] in
@@ -158,28 +166,33 @@ settled_more batch number b fed item =
     let extra : List Item = opens ++ last in
     let before : List Item = items_after bar number taken empty in
     let after : List Item = items_after bar number extra (slots_after bar number taken empty) in
-    let split : settled batch number b (fed ++ item ∷ []) false ≡ unserved number before ++ unserved number after =
+    let split : turns_of batch number b (fed ++ item ∷ []) ≡ unserved number before ++ unserved number after =
     ap (λ (xs : List Item). unserved number (items_after bar number xs empty)) (taken_up_more batch.entries fed item ∙ append_assoc taken opens last)
     ∙ (ap (unserved number) (items_after-append bar number taken extra empty) ∙ filter-append (λ (x : Item). nat_lt x.last number) before after) in
     omega (arith, ap length split, length-append (unserved number before) (unserved number after))
 
 -- one item more was fed
-pub stands_for_more : (batch : DemandBatch) (fed : List Item) (given : ℕ) (item : Item) (old new : StageState) → Stands batch fed false given old → HasBeenFed batch (fed ++ item ∷ []) new.fill new.unopened
-    → first_slot_of new ≡ first_slot_of old → batch_size_of new ≡ batch_size_of old → new.marks ≡ old.marks → new.given ≡ old.given → new.ends ≡ old.ends → Stands batch (fed ++ item ∷ []) false given new
+pub stands_for_more : (batch : DemandBatch) (fed : List Item) (given : ℕ) (item : Item) (old new : ArrayState) → ArrayStands batch fed false given old → HasBeenFed batch (fed ++ item ∷ []) new.fill new.unopened
+    → array_first new ≡ array_first old → array_size new ≡ array_size old → new.marks ≡ old.marks → new.given ≡ old.given → new.ends ≡ old.ends → ArrayStands batch (fed ++ item ∷ []) false given new
 stands_for_more batch fed given item old new stands now first_is size_is marks_are given_is ends_is =
-    let settled_then : List Item = settled batch (first_slot_of old) (batch_size_of old) (fed ++ item ∷ []) false in
+    let settled_then : List Item = settled batch (array_first old) (array_size old) (fed ++ item ∷ []) false in
     let then : new.fill.waiting ≡ settled_then =
     fed_list batch (fed ++ item ∷ []) new.fill new.unopened now
-    ∙ (ap (λ (n : ℕ). settled batch n (batch_size_of new) (fed ++ item ∷ []) false) first_is ∙ ap (λ (n : ℕ). settled batch (first_slot_of old) n (fed ++ item ∷ []) false) size_is) in
+    ∙ (ap (λ (n : ℕ). settled batch n (array_size new) (fed ++ item ∷ []) false) first_is ∙ ap (λ (n : ℕ). settled batch (array_first old) n (fed ++ item ∷ []) false) size_is) in
     let more : length old.fill.waiting ≤ length new.fill.waiting =
-    omega (arith, ap length stands.list, ap length then, settled_more batch (first_slot_of old) (batch_size_of old) fed item) in
+    omega (
+      arith,
+      ap length (stands.list ∙ turns_fed batch fed old.fill old.unopened (stands.feeding refl) (array_first old) (array_size old)),
+      ap length (then ∙ turns_fed batch (fed ++ item ∷ []) new.fill new.unopened now (array_first old) (array_size old)),
+      settled_more batch (array_first old) (array_size old) fed item,
+    ) in
     feeding_stands batch (fed ++ item ∷ []) given new now (subst (AreMarked batch.entries) (sym marks_are) stands.marked)
     (given_is ∙ (stands.given_is ∙ sym (given_so_far given (length old.fill.waiting) (stands.more_wait refl)))) (ends_is ∙ stands.ends_is)
     (longer given (length old.fill.waiting) (length new.fill.waiting) more (stands.more_wait refl))
 
 -- a run of items that wait as they are was fed
-pub stands_for_run : (batch : DemandBatch) (fed run : List Item) (given : ℕ) (old new : StageState) → Stands batch fed false given old → HasBeenFed batch (fed ++ run) new.fill new.unopened
-    → new.fill.waiting ≡ old.fill.waiting ++ run → new.marks ≡ old.marks → new.given ≡ old.given → new.ends ≡ old.ends → Stands batch (fed ++ run) false given new
+pub stands_for_run : (batch : DemandBatch) (fed run : List Item) (given : ℕ) (old new : ArrayState) → ArrayStands batch fed false given old → HasBeenFed batch (fed ++ run) new.fill new.unopened
+    → new.fill.waiting ≡ old.fill.waiting ++ run → new.marks ≡ old.marks → new.given ≡ old.given → new.ends ≡ old.ends → ArrayStands batch (fed ++ run) false given new
 stands_for_run batch fed run given old new stands now waiting_is marks_are given_is ends_is =
     let more : length old.fill.waiting ≤ length new.fill.waiting = omega (arith, ap length waiting_is, length-append old.fill.waiting run) in
     feeding_stands batch (fed ++ run) given new now (subst (AreMarked batch.entries) (sym marks_are) stands.marked)
@@ -194,24 +207,24 @@ some_piece given n so_far = elim so_far [
 ]
 
 -- the list has ended
-pub stands_finished : (batch : DemandBatch) (fed : List Item) (given : ℕ) (old new : StageState) (mid : Fill) → Stands batch fed false given old → HasTakenUp (taken_up batch.entries fed true) mid
-    → mid.maps.limits ≡ old.fill.maps.limits → mid.endpoints ≡ old.fill.endpoints → mid.first_slot ≡ first_slot_of old → mid.b ≡ batch_size_of old → new.fill.slots ≡ mid.slots
-    → new.fill.waiting ≡ mid.waiting ++ by_last mid.served → first_slot_of new ≡ first_slot_of old → batch_size_of new ≡ batch_size_of old → new.marks ≡ old.marks → new.given ≡ old.given
-    → new.ends ≡ true → Stands batch fed true given new
+pub stands_finished : (batch : DemandBatch) (fed : List Item) (given : ℕ) (old new : ArrayState) (mid : Fill) → ArrayStands batch fed false given old → HasTakenUp (taken_up batch.entries fed true) mid
+    → mid.maps.limits ≡ old.fill.maps.limits → mid.endpoints ≡ old.fill.endpoints → mid.first_slot ≡ array_first old → mid.b ≡ array_size old → new.fill.slots ≡ mid.slots
+    → new.fill.waiting ≡ mid.waiting ++ by_last mid.served → array_first new ≡ array_first old → array_size new ≡ array_size old → new.marks ≡ old.marks → new.given ≡ old.given
+    → new.ends ≡ true → ArrayStands batch fed true given new
 stands_finished batch fed given old new mid stands taken limits_are endpoints_are first_is size_is slots_are list_is new_first new_size marks_are given_is ends_is =
     let so_far = stands.feeding refl in
     let up : IsInOrder fed = so_far.may.in_order in
-    let ends = complete batch.limits (first_slot_of new) (batch_size_of new) batch.entries fed mid (limits_are ∙ so_far.limits) (first_is ∙ sym new_first) (size_is ∙ sym new_size)
+    let ends = complete batch.limits (array_first new) (array_size new) batch.entries fed mid (limits_are ∙ so_far.limits) (first_is ∙ sym new_first) (size_is ∙ sym new_size)
     (omega (arith, so_far.small, endpoints_are)) up taken in
     let once : HasEachFlowOnce (after_batch batch.entries fed) = subst HasEachFlowOnce (taken_up_all batch.entries fed up) taken.may.once in
     let nothing : List Item = [] in
     let whole : fed ++ nothing ≡ fed = append-nil fed in
-    let front = front_settled batch (first_slot_of old) (batch_size_of old) fed nothing (subst IsInOrder (sym whole) up)
-    (subst (λ (xs : List Item). HasEachFlowOnce (after_batch batch.entries xs)) (sym whole) once) in
-    let left : new.fill.waiting ≡ settled batch (first_slot_of new) (batch_size_of new) fed true = list_is ∙ ends.left in
+    let front = front_settled batch (array_first old) (array_size old) fed nothing (subst IsInOrder (sym whole) up)
+    (subst (λ (xs : List Item). HasEachFlowOnce (after_batch batch.entries xs)) (sym whole) once) (turns_fed batch fed old.fill old.unopened so_far (array_first old) (array_size old)) in
+    let left : new.fill.waiting ≡ settled batch (array_first new) (array_size new) fed true = list_is ∙ ends.left in
     let grown : new.fill.waiting ≡ old.fill.waiting ++ front.0 =
-    left ∙ (ap (λ (n : ℕ). settled batch n (batch_size_of new) fed true) new_first ∙ (ap (λ (n : ℕ). settled batch (first_slot_of old) n fed true) new_size
-    ∙ (ap (λ (xs : List Item). settled batch (first_slot_of old) (batch_size_of old) xs true) (sym whole) ∙ (front.1 ∙ ap (λ (xs : List Item). xs ++ front.0) (sym stands.list))))) in
+    left ∙ (ap (λ (n : ℕ). settled batch n (array_size new) fed true) new_first ∙ (ap (λ (n : ℕ). settled batch (array_first old) n fed true) new_size
+    ∙ (ap (λ (xs : List Item). settled batch (array_first old) (array_size old) xs true) (sym whole) ∙ (front.1 ∙ ap (λ (xs : List Item). xs ++ front.0) (sym stands.list))))) in
     let more : length old.fill.waiting ≤ length new.fill.waiting = omega (arith, ap length grown, length-append old.fill.waiting front.0) in
     let so_many = longer given (length old.fill.waiting) (length new.fill.waiting) more (stands.more_wait refl) in
     record {

@@ -14,4 +14,5 @@ pub mod Filled
 pub mod Parts
 pub mod Pieces
 pub mod Settled
+pub mod ArrayStands
 pub mod Stands

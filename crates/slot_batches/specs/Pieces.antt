@@ -13,7 +13,7 @@ pub record Part : Type 0 where
   pub end : Bool
 
 abbrev pub part_of : Piece → Part
-part_of piece = record { stage = piece.stage; from = piece.from; items = piece.items.items; end = piece.end }
+part_of piece = record { stage = piece.stage; from = piece.from; items = piece.items; end = piece.end }
 
 abbrev pub piece_count : List Item → ℕ
 piece_count list = (length list - 1) / 64 + 1

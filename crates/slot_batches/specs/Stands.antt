@@ -1,90 +1,48 @@
--- How far a stage is with its batch, once some items of the demand list were fed (this project's own profile).
-use Rattle.std.specs.Prelude.{◌≡◌, ◌≢◌, ◌<◌, ◌≤◌, ◌⊎◌, ℕ, ◌+◌, ◌-◌, ◌*◌, List, ◌++◌, length, min, IsTrue, All, Bool, false, ◌&&◌, nat_lt, if◌then◌else◌}
+-- How far a stage is with its batch, and how many nodes it has for the items that it has still to give (this project's own
+-- profile).
+use Rattle.std.specs.Prelude.{◌≡◌, ℕ, ◌+◌, ◌-◌, ◌*◌, List, length, Bool}
 use Rattle.greedy_rules.specs.declared.flows.Flow.{Flow}
 use Rattle.greedy_rules.specs.declared.flows.Item.{Item}
-use Rattle.greedy_rules.specs.declared.flows.Entry.{Entry}
-use Rattle.greedy_rules.specs.Batches.{DemandBatch, IsBatch}
-use Rattle.greedy_rules.specs.Demands.{HasEachFlowOnce, AreBelow, OpensNewFlows, opened}
-use Rattle.slot_batches.specs.Feeding.{IsInOrder, has_served, taken_up}
-use Rattle.slot_batches.specs.NextList.{IsListBefore}
-use Rattle.slot_batches.specs.Filled.{Fill, HasTakenUp}
-use Rattle.slot_batches.specs.Marks.{AreMarked}
-use Rattle.slot_batches.specs.Settled.{slots_filled, settled}
-use Rattle.slot_batches.specs.Pieces.{piece_count}
+use Rattle.greedy_rules.specs.Batches.{DemandBatch}
+use Rattle.greedy_rules.specs.Demands.{opened}
+pub use Rattle.slot_batches.specs.ArrayStands.{MayBeFed, OpensOthers, HasBeenFed, ListsMayBeFed}
+use Rattle.slot_batches.specs.ArrayStands.{ArrayState, IsSameArrayWork, ArrayStands, array_endpoints, array_size, array_first, array_number, array_slots, array_left}
 
--- what contracts see of a stage: the number of its pieces, the parts of its batch, the marks of its entries, how many entries
--- may still open their flows, how many items it has given, and whether it has still to give the piece with the end
+-- what contracts see of a stage: its batch with the items that it was fed and that wait, and how many nodes it has
 pub record StageState : Type 0 where
-  pub number : ℕ
-  pub fill : Fill
-  pub marks : List ℕ
-  pub unopened : ℕ
-  pub given : ℕ
-  pub ends : Bool
+  pub arrays : ArrayState
+  pub nodes : ℕ
 
 -- what a stage works on: its endpoints, how many slots a batch has, the number of the first, and the slots as they stand
 abbrev pub endpoints_of : StageState → ℕ
-endpoints_of stage = stage.fill.endpoints
+endpoints_of stage = array_endpoints stage.arrays
 
 abbrev pub batch_size_of : StageState → ℕ
-batch_size_of stage = stage.fill.b
+batch_size_of stage = array_size stage.arrays
 
 abbrev pub first_slot_of : StageState → ℕ
-first_slot_of stage = stage.fill.first_slot
+first_slot_of stage = array_first stage.arrays
 
 -- the number that its pieces bear
 abbrev pub number_of : StageState → ℕ
-number_of stage = stage.number
+number_of stage = array_number stage.arrays
 
 abbrev pub slots_of : StageState → List (List Flow)
-slots_of stage = stage.fill.slots
+slots_of stage = array_slots stage.arrays
 
 -- how much it has still to give: falls with each piece
 abbrev pub left_to_give : StageState → ℕ
-left_to_give stage = (length stage.fill.waiting - stage.given) + (if stage.ends then 1 else 0)
+left_to_give stage = array_left stage.arrays
 
-pub record IsSameWork (endpoints b number first_slot : ℕ) (stage : StageState) : Type 0 where
-  pub same_endpoints : endpoints_of stage ≡ endpoints
-  pub same_size : batch_size_of stage ≡ b
-  pub same_number : number_of stage ≡ number
-  pub same_first : first_slot_of stage ≡ first_slot
+abbrev pub IsSameWork : ℕ → ℕ → ℕ → ℕ → StageState → Type 0
+IsSameWork endpoints b number first_slot stage = IsSameArrayWork endpoints b number first_slot stage.arrays
 
--- no entry opens the item's flow
-abbrev pub OpensOthers : List Entry → Item → Type 0
-OpensOthers batch item = All (λ entry. IsTrue entry.opens → entry.flow ≢ item.flow) batch
-
--- a list that a batch may be fed whose first slot has this number
-pub record MayBeFed (batch : List Entry) (endpoints number : ℕ) (list : List Item) : Type 0 where
-  pub in_order : IsInOrder list
-  pub once : HasEachFlowOnce list
-  pub in_range : AreBelow endpoints list
-  pub below : All (λ item. item.last < number) list
-  pub others_open : All (OpensOthers batch) list
-
--- the parts of a batch once these items were fed, in this order
-pub record HasBeenFed (batch : DemandBatch) (fed : List Item) (fill : Fill) (unopened : ℕ) : Type 0 where
-  pub positive : 1 ≤ fill.first_slot
-  pub small : fill.endpoints ≤ 256
-  pub rising : IsBatch batch.entries
-  pub limits : fill.maps.limits ≡ batch.limits
-  pub opening : AreBelow fill.endpoints (opened batch.entries)
-  pub may : MayBeFed batch.entries fill.endpoints fill.first_slot fed
-  pub taken : HasTakenUp (taken_up batch.entries fed false) fill
-  pub unopened_is : unopened ≡ (if has_served fed then 0 else length batch.entries)
+-- the nodes that a stage has once it was fed these items and gave so many pieces: one for each item fed and each flow that
+-- opens, but for those of the pieces given
+abbrev pub nodes_left : DemandBatch → List Item → ℕ → ℕ
+nodes_left batch fed given = (length fed + length (opened batch.entries)) - 64 * given
 
 -- the stage stands so once it began the batch, was fed these items, in this order, was finished or not, and gave so many pieces
 pub record Stands (batch : DemandBatch) (fed : List Item) (finished : Bool) (given : ℕ) (stage : StageState) : Type 0 where
-  pub feeding : finished ≡ false → HasBeenFed batch fed stage.fill stage.unopened
-  pub marked : AreMarked batch.entries stage.marks
-  pub slots : slots_of stage ≡ slots_filled batch (first_slot_of stage) (batch_size_of stage) fed finished
-  pub list : stage.fill.waiting ≡ settled batch (first_slot_of stage) (batch_size_of stage) fed finished
-  pub few : length stage.fill.waiting ≤ 65536
-  pub given_is : stage.given ≡ min (64 * given) (length stage.fill.waiting)
-  pub ends_is : stage.ends ≡ (finished && nat_lt given (piece_count stage.fill.waiting))
-  pub more_wait : finished ≡ false → (given ≡ 0) ⊎ (64 * given < length stage.fill.waiting)
-
--- the list before the first slot of a batch may be fed, item by item
-abbrev pub ListsMayBeFed : Type 0
-ListsMayBeFed =
-    (batch : List Entry) (endpoints number : ℕ) (fed rest : List Item) → IsListBefore number (fed ++ rest) → AreBelow endpoints (fed ++ rest) → OpensNewFlows batch (fed ++ rest)
-    → MayBeFed batch endpoints number fed
+  pub arrays : ArrayStands batch fed finished given stage.arrays
+  pub nodes : stage.nodes ≡ nodes_left batch fed given

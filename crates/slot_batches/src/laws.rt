@@ -6,9 +6,9 @@ ghost use Rattle.slot_batches.specs.FeedingExamples.{AnOpenedFlowWaitsForAServed
 ghost use Rattle.slot_batches.specs.Feeding.{FeedingAppliesTheBatch, ServedItemsFollow, AnItemIsServedOrAsItWas};
 ghost use Rattle.slot_batches.specs.NextList.{EveryBatchLeavesAList, EveryBatchKeepsItsFlows, AnIdleListStays};
 ghost use Rattle.slot_batches.specs.Woven.{ItemsMayBeSetAside, ListedFlowsAreOpen};
-ghost use Rattle.slot_batches.specs.Stands.{ListsMayBeFed};
+ghost use Rattle.slot_batches.specs.ArrayStands.{ListsMayBeFed};
 ghost use Rattle.slot_batches.specs.Pieces.{EndedListsGiveTheirPieces};
-ghost use Rattle.slot_batches.specs.Settled.{SettledItemsStay, EarlyPiecesAreOfTheList};
+ghost use Rattle.slot_batches.specs.Settled.{SettledItemsCountAsFed, SettledItemsStay, EarlyPiecesAreOfTheList};
 
 /// A law over every list in which each flow stands once: a batch flow by flow gives the slots of the greedy allocation
 /// slot by slot, and leaves the same items.
@@ -75,6 +75,12 @@ pub fn early_pieces_are_of_the_list()
     ensures settled { SettledItemsStay }
     ensures pieces { EarlyPiecesAreOfTheList }
     ensures ended { EndedListsGiveTheirPieces }
+{}
+
+/// A law over every list before a batch: what is settled of it are the items of the list that the batch leaves that count as fed
+/// and have no slot, whatever is fed later; flow by flow, those taken up so far that have none.
+pub fn settled_items_count_as_fed()
+    ensures { SettledItemsCountAsFed }
 {}
 
 /// Small lists, which the definitions compute.

@@ -1,6 +1,8 @@
 //! One batch of slots, flow by flow.
 #![tactic(auto)]
 
+mod array_stage;
+mod chains;
 mod filling;
 mod flow_marks;
 mod laws;
@@ -11,13 +13,14 @@ mod resting;
 mod served;
 mod stage;
 
+pub use array_stage::give_items;
 pub use flow_marks::FlowMarks;
 pub use laws::{
     each_item_takes_its_lowest_free_places, early_pieces_are_of_the_list,
     every_batch_leaves_a_list, feeding_applies_the_batch, feeding_examples,
     flow_by_flow_is_slot_by_slot, idle_lists_stay, items_may_be_set_aside, lists_may_be_fed,
-    served_fit_places, served_items_follow, small_batches,
+    served_fit_places, served_items_follow, settled_items_count_as_fed, small_batches,
 };
 pub use no_memory::NoMemory;
 pub use piece::Piece;
-pub use stage::{Stage, give_items};
+pub use stage::Stage;

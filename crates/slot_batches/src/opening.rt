@@ -5,7 +5,7 @@ ghost use Rattle.slot_batches.specs.Marks.{AreMarked};
 ghost use Rattle.slot_batches.specs.Feeding.{taken_up};
 ghost use Rattle.slot_batches.specs.Filled.{HasTakenUp, MayBeTakenUp};
 ghost use Rattle.slot_batches.specs.Parts.{fill_of, HasRoom, IsSameBatch};
-ghost use Rattle.slot_batches.specs.Stands.{HasBeenFed};
+ghost use Rattle.slot_batches.specs.ArrayStands.{HasBeenFed};
 
 use crate::filling::Filling;
 use crate::marks::is_marked;

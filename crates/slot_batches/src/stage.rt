@@ -1,56 +1,37 @@
-ghost use Rattle.std.specs.Prelude.{◌≡◌, ◌<◌, ◌≤◌, ◌+◌, ◌^◌, ℕ, List, [], ◌∷◌, ◌++◌, length, take, Bool, true, false, Some, None, IfOk, IsSome, All, option_map, vec_capacity, if◌then◌else◌};
+ghost use Rattle.std.specs.Prelude.{◌≡◌, ◌<◌, ◌≤◌, ◌+◌, ◌^◌, ℕ, List, [], ◌∷◌, ◌++◌, length, take, drop, Bool, true, false, None, IfOk, IsSome, All, option_map};
 ghost use Rattle.greedy_rules.specs.Batches.{DemandBatch, entry_of};
 ghost use Rattle.greedy_rules.specs.Demands.{need_with, AreBelow, opened};
 ghost use Rattle.slot_batches.specs.Stands.{endpoints_of, batch_size_of, first_slot_of, number_of, slots_of, left_to_give, IsSameWork, MayBeFed, Stands};
 ghost use Rattle.slot_batches.specs.Settled.{settled, slots_filled};
 ghost use Rattle.slot_batches.specs.Pieces.{part_of, next_piece};
 
-use crate::filling::Filling;
-use crate::marks::mark_entries;
-use crate::opening::{open_due, with_entry};
+use crate::array_stage::ArrayStage;
+use crate::chains::{front, open_nodes, read_all};
 use crate::piece::Piece;
-use crate::resting::resting;
+use arrayvec::ArrayVec;
 use greedy_rules::{Batch, DemandList, Item, SlotTable};
+use item_chain::Chain;
 use no_memory::NoMemory;
 use std::alloc::Global;
 use std::marker::Model;
 
 /// A batch of slots, flow by flow: fed a demand list item by item, it fills the slots of the greedy allocation, and gives the
 /// list that the batch leaves, in pieces. From `begin` to the last piece it is given the same batch.
-#[derive(Debug, Drop)]
+#[derive(Drop)]
 pub struct Stage {
-    filling: Filling,
-    marks: Vec<u64>,
-    number: u32,
-    unopened: usize,
-    given: u32,
-    ends: bool,
+    alloc: Global,
+    arrays: ArrayStage,
+    // A node for each item that it was fed and each flow that opens, but for those that it gave; what they hold means nothing.
+    loose: Chain<Item>,
 }
 
 impl Model for Stage {
-    ghost use Rattle.slot_batches.specs.Parts.{fill_of, IsWhole};
+    ghost use Rattle.std.specs.Prelude.{length};
     ghost use Rattle.slot_batches.specs.Stands.{StageState};
 
     ghost Value = { StageState };
 
-    ghost view = { λ s. record { number = s.number; fill = fill_of s.filling; marks = s.marks.items; unopened = s.unopened; given = s.given; ends = s.ends } };
-
-    ghost invariant = { λ s. IsWhole s.filling s.marks.items };
-}
-
-/// Hands the items over as a list with the room that this one had. Where both have as much room they are not copied.
-pub fn give_items(items: &mut Vec<Item>, list: &mut DemandList)
-    requires { length items.old.items ≤ length list.old.items + list.old.spare }
-    ensures items { list.new.items ≡ items.old.items }
-    ensures spare { length list.new.items + list.new.spare ≡ length list.old.items + list.old.spare }
-    ensures capacity { vec_capacity items.new ≡ vec_capacity items.old }
-{
-    if list.room() == items.capacity() {
-        list.exchange(items);
-    } else {
-        list.clear();
-        list.append(items);
-    }
+    ghost view = { λ s. record { arrays = s.arrays; nodes = length s.loose } };
 }
 
 impl Stage {
@@ -58,82 +39,64 @@ impl Stage {
     pub fn open(alloc: Global, endpoints: u16, b: u8) -> Result<Stage, NoMemory>
         requires endpoints { endpoints ≤ 256 }
         requires b { b ≤ 64 }
-        ensures endpoints { IfOk result (λ stage. endpoints_of stage ≡ endpoints) }
-        ensures b { IfOk result (λ stage. batch_size_of stage ≡ b) }
+        ensures endpoints { IfOk result (λ s. endpoints_of s ≡ endpoints) }
+        ensures b { IfOk result (λ s. batch_size_of s ≡ b) }
+        ensures nodes { IfOk result (λ s. s.nodes ≡ 0) }
     {
         Ok(Stage {
-            filling: Filling::open(alloc, endpoints, b)?,
-            marks: vec![in alloc; 0; 512]?,
-            number: 0,
-            unopened: 0,
-            given: 0,
-            ends: false,
+            alloc,
+            arrays: ArrayStage::open(alloc, endpoints, b)?,
+            loose: Chain::new(alloc),
         })
     }
 
-    /// Begins the batch with this first slot; `stage` numbers its pieces.
-    pub fn begin(&mut self, batch: &Batch, stage: u32, first_slot: u32)
+    /// Begins the batch with this first slot; `stage` numbers its pieces. Takes a node for each flow that opens.
+    pub fn begin(&mut self, batch: &Batch, stage: u32, first_slot: u32, spare: &mut Chain<Item>)
+        requires none { self.old.nodes ≡ 0 }
+        requires nodes { length (opened batch.now.entries) ≤ length spare.old }
         requires first { 1 ≤ first_slot }
         requires numbers { first_slot + batch_size_of self.old ≤ 2 ^ 32 }
         requires in_range { AreBelow (endpoints_of self.old) (opened batch.now.entries) }
         ensures work { IsSameWork (endpoints_of self.old) (batch_size_of self.old) stage first_slot self.new }
         ensures stands { Stands batch.now [] false 0 self.new }
+        ensures spare { spare.new ≡ drop (length (opened batch.now.entries)) spare.old }
     {
-        self.filling.begin(first_slot, batch.limits());
-        mark_entries(&mut self.marks, batch);
-        self.number = stage;
-        self.unopened = batch.len();
-        self.given = 0;
-        self.ends = false;
+        self.arrays.begin(batch, stage, first_slot);
+        open_nodes(spare, &mut self.loose, batch);
     }
 
-    /// Feeds the next item of the list.
-    pub fn feed(&mut self, batch: &Batch, item: Item)
-        requires may { (fed : List Item) × (given : ℕ) × Stands batch.now fed false given self.old × MayBeFed batch.now.entries (endpoints_of self.old) (first_slot_of self.old) (fed ++ item ∷ []) }
-        requires need { need_with (entry_of batch.now.entries item.flow) item.need < 2 ^ 32 }
+    /// Feeds the item of the front node, and takes the node.
+    pub fn feed(&mut self, batch: &Batch, from: &mut Chain<Item>)
+        requires some { 0 < length from.old }
+        requires may { (fed : List Item) × (given : ℕ) × Stands batch.now fed false given self.old × MayBeFed batch.now.entries (endpoints_of self.old) (first_slot_of self.old) (fed ++ take 1 from.old) }
+        requires need { All (λ item. need_with (entry_of batch.now.entries item.flow) item.need < 2 ^ 32) (take 1 from.old) }
         ensures work { IsSameWork (endpoints_of self.old) (batch_size_of self.old) (number_of self.old) (first_slot_of self.old) self.new }
+        ensures from { from.new ≡ drop 1 from.old }
         ensures stands { (fed : List Item) → (given : ℕ) →
             Stands batch.now fed false given self.old →
-            MayBeFed batch.now.entries (endpoints_of self.old) (first_slot_of self.old) (fed ++ item ∷ []) →
-            Stands batch.now (fed ++ item ∷ []) false given self.new }
+            MayBeFed batch.now.entries (endpoints_of self.old) (first_slot_of self.old) (fed ++ take 1 from.old) →
+            Stands batch.now (fed ++ take 1 from.old) false given self.new }
     {
-        open_due(&mut self.filling, &mut self.unopened, batch, item.last > 0);
-        self.filling.take_up(with_entry(item, batch, &self.marks));
+        let item = front(from);
+        from.move_front(&mut self.loose);
+        self.arrays.feed(batch, item);
     }
 
-    /// Feeds the next items of the list, one after the other.
-    pub fn feed_items(&mut self, batch: &Batch, items: &[Item])
-        requires may { (fed : List Item) × (given : ℕ) × Stands batch.now fed false given self.old × MayBeFed batch.now.entries (endpoints_of self.old) (first_slot_of self.old) (fed ++ items.now) }
-        requires needs { All (λ item. need_with (entry_of batch.now.entries item.flow) item.need < 2 ^ 32) items.now }
+    /// Feeds the items of a piece's nodes, one after the other, and takes the nodes.
+    pub fn feed_all(&mut self, batch: &Batch, from: &mut Chain<Item>)
+        requires few { length from.old ≤ 64 }
+        requires may { (fed : List Item) × (given : ℕ) × Stands batch.now fed false given self.old × MayBeFed batch.now.entries (endpoints_of self.old) (first_slot_of self.old) (fed ++ from.old) }
+        requires needs { All (λ item. need_with (entry_of batch.now.entries item.flow) item.need < 2 ^ 32) from.old }
         ensures work { IsSameWork (endpoints_of self.old) (batch_size_of self.old) (number_of self.old) (first_slot_of self.old) self.new }
+        ensures from { from.new ≡ [] }
         ensures stands { (fed : List Item) → (given : ℕ) →
             Stands batch.now fed false given self.old →
-            MayBeFed batch.now.entries (endpoints_of self.old) (first_slot_of self.old) (fed ++ items.now) →
-            Stands batch.now (fed ++ items.now) false given self.new }
+            MayBeFed batch.now.entries (endpoints_of self.old) (first_slot_of self.old) (fed ++ from.old) →
+            Stands batch.now (fed ++ from.old) false given self.new }
     {
-        let mut from = 0;
-        while from < items.len() {
-            from += self.keep_resting(batch, &items[from..]);
-            if from < items.len() {
-                self.feed(batch, items[from]);
-                from += 1;
-            }
-        }
-    }
-
-    /// Feeds the items at the front that wait as they are, and answers how many these are.
-    fn keep_resting(&mut self, batch: &Batch, items: &[Item]) -> usize
-        requires may { (fed : List Item) × (given : ℕ) × Stands batch.now fed false given self.old × MayBeFed batch.now.entries (endpoints_of self.old) (first_slot_of self.old) (fed ++ items.now) }
-        ensures within { result ≤ length items.now }
-        ensures work { IsSameWork (endpoints_of self.old) (batch_size_of self.old) (number_of self.old) (first_slot_of self.old) self.new }
-        ensures stands { (fed : List Item) → (given : ℕ) →
-            Stands batch.now fed false given self.old →
-            MayBeFed batch.now.entries (endpoints_of self.old) (first_slot_of self.old) (fed ++ items.now) →
-            Stands batch.now (fed ++ take result items.now) false given self.new }
-    {
-        let count = resting(&self.filling, &self.marks, self.unopened, batch, items);
-        self.filling.keep(&items[..count]);
-        count
+        let mut items = ArrayVec::new();
+        read_all(from, &mut self.loose, &mut items);
+        self.arrays.feed_items(batch, &items);
     }
 
     /// Ends the list: the slots are filled, and all of the list that they leave is settled.
@@ -144,9 +107,7 @@ impl Stage {
             Stands batch.now fed false given self.old →
             Stands batch.now fed true given self.new }
     {
-        open_due(&mut self.filling, &mut self.unopened, batch, true);
-        self.filling.end();
-        self.ends = true;
+        self.arrays.finish(batch);
     }
 
     /// The next piece of the list that the batch leaves: as soon as more than 64 items wait, and once the list was ended until
@@ -165,88 +126,33 @@ impl Stage {
         ensures work { IsSameWork (endpoints_of self.old) (batch_size_of self.old) (number_of self.old) (first_slot_of self.old) self.new }
         ensures slots { slots_of self.new ≡ slots_of self.old }
     {
-        let mut piece = Piece::empty();
-        self.emit_into(&mut piece).then_some(piece)
-    }
-
-    /// As `emit`, but writes the piece over this one, and answers whether there is one: where there is none, the piece stays as
-    /// it was.
-    pub fn emit_into(&mut self, piece: &mut Piece) -> bool
-        requires { (batch : DemandBatch) × (fed : List Item) × (finished : Bool) × (given : ℕ) × Stands batch fed finished given self.old }
-        ensures piece { (batch : DemandBatch) → (fed : List Item) → (finished : Bool) → (given : ℕ) →
-            Stands batch fed finished given self.old →
-            (if result then Some (part_of piece.new) else None) ≡ next_piece (number_of self.old) finished given (settled batch (first_slot_of self.old) (batch_size_of self.old) fed finished) }
-        ensures more { (batch : DemandBatch) → (fed : List Item) → (finished : Bool) → (given : ℕ) →
-            Stands batch fed finished given self.old →
-            result ≡ true →
-            Stands batch fed finished (given + 1) self.new }
-        ensures none { result ≡ false → (self.new ≡ self.old) × (piece.new ≡ piece.old) }
-        ensures fewer { result ≡ true → left_to_give self.new < left_to_give self.old }
-        ensures work { IsSameWork (endpoints_of self.old) (batch_size_of self.old) (number_of self.old) (first_slot_of self.old) self.new }
-        ensures slots { slots_of self.new ≡ slots_of self.old }
-    {
-        let from = self.given;
-        let waiting = &self.filling.waiting[from as usize..];
-        let end = waiting.len() <= 64;
-        if end && !self.ends {
-            return false;
-        }
-        let items = &waiting[..waiting.len().min(64)];
-        piece.fill(self.number, from, items, end);
-        self.given += items.len() as u32;
-        self.ends &= !end;
-        true
-    }
-
-    /// All that is settled of the list that the batch leaves, whether it was given in pieces or not.
-    pub fn settled_items(&self) -> &[Item]
-        ensures { (batch : DemandBatch) → (fed : List Item) → (finished : Bool) → (given : ℕ) →
-            Stands batch fed finished given self.now →
-            result.now ≡ settled batch (first_slot_of self.now) (batch_size_of self.now) fed finished }
-    {
-        &self.filling.waiting
-    }
-
-    /// Hands the items over that wait, as a list with the room that this one had. Where both have as much room they are not
-    /// copied.
-    pub fn give(&mut self, list: &mut DemandList)
-        requires { length self.old.fill.waiting ≤ length list.old.items + list.old.spare }
-        ensures items { list.new.items ≡ self.old.fill.waiting }
-        ensures spare { length list.new.items + list.new.spare ≡ length list.old.items + list.old.spare }
-        ensures stays { self.new ≡ record self.old { fill = record self.old.fill { waiting = self.new.fill.waiting } } }
-    {
-        give_items(&mut self.filling.waiting, list);
+        self.arrays.emit(self.alloc, &mut self.loose)
     }
 
     /// Serves a whole list at once: it is fed all of it, and hands over the list that the batch leaves, as a list with the room that
-    /// this one had.
-    pub fn serve_list(&mut self, batch: &Batch, items: &[Item], left: &mut DemandList)
+    /// this one had. The nodes that it took go back.
+    pub fn serve_list(
+        &mut self,
+        batch: &Batch,
+        items: &[Item],
+        left: &mut DemandList,
+        spare: &mut Chain<Item>,
+    )
         requires begun { Stands batch.now [] false 0 self.old }
         requires may { MayBeFed batch.now.entries (endpoints_of self.old) (first_slot_of self.old) items.now }
         requires needs { All (λ item. need_with (entry_of batch.now.entries item.flow) item.need < 2 ^ 32) items.now }
         requires none { left.old.items ≡ [] }
         requires room { length (settled batch.now (first_slot_of self.old) (batch_size_of self.old) items.now true) ≤ left.old.spare }
+        requires fits { length spare.old + self.old.nodes < 2 ^ 64 }
         ensures work { IsSameWork (endpoints_of self.old) (batch_size_of self.old) (number_of self.old) (first_slot_of self.old) self.new }
         ensures slots { slots_of self.new ≡ slots_filled batch.now (first_slot_of self.old) (batch_size_of self.old) items.now true }
         ensures left { left.new.items ≡ settled batch.now (first_slot_of self.old) (batch_size_of self.old) items.now true }
-        ensures spare { length left.new.items + left.new.spare ≡ left.old.spare }
+        ensures left_room { length left.new.items + left.new.spare ≡ left.old.spare }
+        ensures spare { length spare.new ≡ length spare.old + self.old.nodes }
+        ensures nodes { self.new.nodes ≡ 0 }
     {
-        self.take_room(left);
-        self.feed_items(batch, items);
-        self.finish(batch);
-        self.give(left);
-    }
-
-    /// The items that are to wait will lie in the room of this list, where both lists have as much.
-    fn take_room(&mut self, list: &mut DemandList)
-        requires waiting { self.old.fill.waiting ≡ [] }
-        requires none { list.old.items ≡ [] }
-        ensures same { self.new ≡ self.old }
-        ensures list { list.new ≡ list.old }
-    {
-        if list.room() == self.filling.waiting.capacity() {
-            list.exchange(&mut self.filling.waiting);
-        }
+        self.arrays.serve_list(batch, items, left);
+        spare.append(&mut self.loose);
     }
 
     /// The slots of the batch, counted from 0.
@@ -255,6 +161,6 @@ impl Stage {
         ensures endpoints { result.now.endpoints ≡ endpoints_of self.now }
         ensures count { length result.now.slots ≡ batch_size_of self.now }
     {
-        &self.filling.slots
+        self.arrays.slots()
     }
 }

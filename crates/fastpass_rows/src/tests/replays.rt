@@ -89,9 +89,7 @@ fn many_raw_packets_name_one_endpoint(rt: HostRuntime) -> Result<(), Fail> {
     let mut trace = Vec::new(rt.alloc());
     trace.extend_from_slice(b"net,2,1,1\nask,0,0,1,1\n")?;
     for _ in 0..299 {
-        trace.extend_from_slice(
-            b"raw,2,0101000100000002000000010000000000000000000000000000\n",
-        )?;
+        trace.extend_from_slice(b"raw,2,0101000100000002000000010000000000000000000000000000\n")?;
     }
     trace.extend_from_slice(b"raw,2,0202000100000001\nend,7\n")?;
     let came = run_on(&rt, rt.alloc(), ONE_BY_ONE, &trace)?;
@@ -103,7 +101,11 @@ fn many_raw_packets_name_one_endpoint(rt: HostRuntime) -> Result<(), Fail> {
     }
     assert!(rt; lines.next() == Some(b"refused,2,otherversion".as_slice()));
     assert!(rt; lines.next() == Some(b"slot,2,0,1,0".as_slice()));
-    assert!(rt; came.out.held().ends_with(b"\nsent,2,0,1\ncount,0,1,1,1,0,0,0,1,0\nend,7\n"));
+    assert!(rt;
+        came.out
+            .held()
+            .ends_with(b"\nsent,2,0,1\ncount,0,1,1,1,0,0,0,1,0\nend,7\n")
+    );
     Ok(())
 }
 

@@ -1,5 +1,6 @@
 use super::opening;
-use greedy_rules::{Batch, Limits};
+use greedy_rules::{Batch, Flow, Item, Limits};
+use item_chain::Chain;
 use slot_batches::Stage;
 use std::process::Abort;
 use std::test::Fail;
@@ -25,8 +26,17 @@ fn a_rack_sends_two_packets_a_slot(rt: HostRuntime) -> Result<(), Fail> {
     batch.push(opening(1, 5, 1))?;
     batch.push(opening(2, 6, 1))?;
     batch.push(opening(3, 7, 1))?;
+    let mut spare = Chain::new(alloc);
+    let blank = Item {
+        flow: Flow { src: 0, dst: 0 },
+        need: 0,
+        last: 0,
+    };
+    spare.fill(5, blank)?;
     let mut stage = Stage::open(alloc, 8, 2)?;
-    stage.begin(&batch, 0, 1);
+    assert_eq!(rt; batch.len(), 5);
+    stage.begin(&batch, 0, 1, &mut spare);
+    assert_eq!(rt; spare.len(), 0);
     stage.finish(&batch);
     check_slot(&rt, &stage, 0, [Some(1), Some(5), Some(6), None]);
     check_slot(&rt, &stage, 1, [Some(4), None, None, Some(7)]);

@@ -210,6 +210,7 @@ loop-stage-preserved c =
           let after = next_stands endpoints most batches window stage crew edges list stands below e e_is w w_is c.serve.new.worker c.pass.new.self c.serve.new.self.list.items c.count_pieces-taken.result served.0 c.serve.ensures.worker c.serve.ensures.stage served.1
           (c.count_pieces-taken.ensures ∙ ap piece_count c.items.ensures) c.pass.ensures.pieces c.pass.ensures.taken c.pass.ensures.sent in
           (subst (λ (n : ℕ). StandsBefore endpoints most batches window (stage + 1) (set crew (stage % n) c.serve.new.worker) (set edges (stage % n) c.pass.new.self) c.serve.new.self.list.items) (sym stands.worker_count) after, omega (arith, so_far.1, taken, sent, on));
+      nodes = omega (arith, was.nodes, c.serve.ensures.nodes);
       rooms = λ k. room_kept edges number c.pass.new.self k room inside ∙ was.rooms k;
       list = λ pairs one other. let so_far = was.list pairs one other in (omega (arith, so_far.1, c.serve.ensures.list), omega (arith, so_far.0, c.serve.ensures.left));
     }

@@ -1,4 +1,4 @@
-use Rattle.std.proofs.Common.{◌≡◌, ◌+◌, map}
+use Rattle.std.proofs.Common.{◌≡◌, ◌+◌, ◌*◌, min, length, map}
 use Rattle.std.specs.List.{range_with_len}
 use Rattle.slot_batches.specs.Pieces.{piece_at}
 use Rattle.ring_core.proofs.whole.give_list.Given as goal
@@ -9,4 +9,5 @@ invariant-loop-place l = record {
   taken : l.edge.taken ≡ l.fn.edge.taken;
   sent : l.edge.sent ≡ l.fn.edge.sent + l.place;
   room : l.edge.room ≡ l.fn.edge.room;
+  nodes : length l.spare + min (l.place * 64) (length l.list.items) ≡ length l.fn.spare;
 }

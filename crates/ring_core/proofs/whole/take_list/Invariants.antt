@@ -9,6 +9,7 @@ invariant-loop-piece l = record {
   fits : length (items_of l.edge.pieces) ≤ l.list.spare;
   counts : l.edge.taken + length l.edge.pieces ≡ l.fn.edge.taken + length l.fn.edge.pieces;
   room : l.edge.room ≡ l.fn.edge.room;
+  nodes : length l.spare + length (items_of l.edge.pieces) ≡ length l.fn.spare + length (items_of l.fn.edge.pieces);
 }
 
 abbrev pub decreases-loop-piece : goal.decreases-loop-piece

@@ -1,6 +1,8 @@
-use Rattle.std.proofs.Common.{◌≡◌, ◌<◌, ◌+◌, ℕ, length, All, Some, slice_get}
+use Rattle.std.proofs.Common.{◌≡◌, ◌<◌, ◌≤◌, ◌+◌, ◌-◌, ℕ, length, All, Some, slice_get}
 use Rattle.greedy_rules.specs.Demands.{AreBelow, opened}
 use Rattle.slot_batches.specs.Stands.{StageState, endpoints_of, batch_size_of}
+use Rattle.std.specs.Prelude.{slice_index_or}
+use Rattle.ring_core.specs.Openings.{own_openings}
 use Rattle.ring_core.specs.Workers.{own_stage, HasBegun}
 use Rattle.ring_core.proofs.worker.begin_stages.Given as goal
 
@@ -12,6 +14,8 @@ invariant-loop-own l = record {
   in_range : All (λ stage. All (λ batch. AreBelow (endpoints_of stage) (opened batch.entries)) l.batches) l.own-items;
   endpoints : (endpoints : ℕ) → All (λ stage. endpoints_of stage ≡ endpoints) l.fn.stages → All (λ stage. endpoints_of stage ≡ endpoints) l.own-items;
   sizes : All (λ stage. batch_size_of stage ≡ l.b) l.own-items;
+  rest : (place : ℕ) (d : StageState) → l.own-index ≤ place → place < length l.own-items → (slice_index_or l.own-items place d).nodes ≡ 0;
+  spare : length l.spare + own_openings (length l.fn.stages) l.batches l.workers l.number ≡ length l.fn.spare + own_openings (length l.fn.stages - l.own-index) l.batches l.workers l.stage;
   begun : (endpoints : ℕ) → All (λ stage. endpoints_of stage ≡ endpoints) l.fn.stages → (place : ℕ) (state : StageState) → place < l.own-index → slice_get l.own-items place ≡ Some state
       → HasBegun endpoints l.b l.first_batch l.batches (own_stage l.workers l.number place) state;
 }

@@ -37,14 +37,14 @@ not_all crew items stages at d same within is going all =
 pub loop-worker-preserved : goal.loop-worker-preserved
 loop-worker-preserved c =
     one_more c.self.inside.crew.items c.deref-worker-items.result.now c.self.inside.stages c.loop-worker.worker-index c.worker-item.result c.deref-worker-items.ensures.value c.loop-worker-test.true c.worker-item.is
-    (sym c.has_ended.ensures ∙ c.if-not-has_ended.false) c.loop-worker.invariant
+    (sym c.has_ended.ensures.value ∙ c.if-not-has_ended.false) c.loop-worker.invariant
 
 pub returns-then-not-has_ended-clause-ended : goal.returns-then-not-has_ended-clause-ended
 returns-then-not-has_ended-clause-ended c =
     rw (← c.self.view_is) (
       (λ (q : false ≡ true). absurd (cc)),
       (λ all. absurd (not_all c.self.inside.crew.items c.deref-worker-items.result.now c.self.inside.stages c.loop-worker.worker-index c.worker-item.result
-          c.deref-worker-items.ensures.value c.loop-worker-test.true c.worker-item.is (sym c.has_ended.ensures ∙ c.if-not-has_ended.true) all)),
+          c.deref-worker-items.ensures.value c.loop-worker-test.true c.worker-item.is (sym c.has_ended.ensures.value ∙ c.if-not-has_ended.true) all)),
     )
 
 -- all have

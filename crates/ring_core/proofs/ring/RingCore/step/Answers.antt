@@ -1,4 +1,4 @@
-use Rattle.std.proofs.Common.{◌≡◌, ◌<◌, ◌∙◌, ℕ, List, length, Some, None, slice_get, refl, sym, ap, subst, arith}
+use Rattle.std.proofs.Common.{◌≡◌, ◌<◌, ◌-◌, ◌∙◌, ℕ, List, length, Some, None, slice_get, refl, sym, ap, subst, arith}
 use Rattle.std.specs.Vec.{with_items}
 use Rattle.std.proofs.lemmas.Option.{same_Some}
 use Rattle.greedy_rules.specs.declared.flows.Item.{Item}
@@ -10,11 +10,11 @@ use Rattle.ring_core.specs.Workers.{Plays}
 use Rattle.ring_core.specs.Turns.{Answers}
 use Rattle.ring_core.specs.Edges.{OthersStay, IsFoundEmpty, IsFoundFull, ends_between}
 use Rattle.ring_core.specs.Cores.{IsPlaying, window_in}
-use Rattle.ring_core.specs.Wholes.{with_list}
+use Rattle.ring_core.specs.Wholes.{with_list, whole_nodes}
 use Rattle.ring_core.proofs.BeginLemmas.{written}
 use Rattle.ring_core.proofs.WholeLemmas.{list_length}
 use Rattle.ring_core.proofs.PlayLemmas.{get_set_other}
-use Rattle.ring_core.proofs.RingLemmas.{next, here, plays_here, playing_on}
+use Rattle.ring_core.proofs.RingLemmas.{next, here, plays_here, playing_on, spare_on}
 use Rattle.ring_core.proofs.MoveLemmas.{moves}
 use Rattle.ring_core.proofs.ring.RingCore.step.Goals as goal
 
@@ -75,8 +75,11 @@ returns-clause-playing c =
     (subst (λ (n : ℕ). OthersStay number n c.deref_mut-2.result.now new) after told.others) in
     let plays = subst (λ (n : ℕ). Plays batches (ends_between (window_in batches core) new number n) c.turn_at.new.worker) after told.plays in
     let items = left_whole c.self.inside.workers c.send.new.self c.self.inside.whole new _ c.send.ensures.none (written (with_items c.self.inside.edges c.send.new.edges) new c.deref_mut-2.result.now c.deref_mut-2.ensures.value told.others.count) in
-    subst (λ (es : List EdgeState). IsPlaying batches (record (next batches core number c.index_mut.result.now c.turn_at.new.worker new playing below c.index_mut.ensures.value told.worker) { edges = es })) (sym items)
-    (playing_on batches core number c.index_mut.result.now c.turn_at.new.worker new playing below c.index_mut.ensures.value told.worker told.holds others plays)
+    let spare : core.spare ≡ length c.send.new.spare - whole_nodes c.send.new.self.stage c.send.new.self.list.items =
+    omega (arith, c.send.ensures.nodes, ap (λ (w : Whole). whole_nodes w.stage w.list.items) c.send.ensures.none) in
+    spare_on batches _ (length c.send.new.spare - whole_nodes c.send.new.self.stage c.send.new.self.list.items) spare
+    (subst (λ (es : List EdgeState). IsPlaying batches (record (next batches core number c.index_mut.result.now c.turn_at.new.worker new playing below c.index_mut.ensures.value told.worker) { edges = es })) (sym items)
+    (playing_on batches core number c.index_mut.result.now c.turn_at.new.worker new playing below c.index_mut.ensures.value told.worker told.holds others plays))
 
 pub returns-clause-answer : goal.returns-clause-answer
 returns-clause-answer c =

@@ -1,8 +1,8 @@
-use Rattle.std.proofs.Common.{◌≡◌, ◌≤◌, ◌∙◌, List, length, All, None, sym, ap, subst, arith}
+use Rattle.std.proofs.Common.{◌≡◌, ◌≤◌, ◌∙◌, ℕ, Some, slice_get, List, length, All, None, sym, ap, subst, arith}
 use Rattle.slot_batches.specs.Stands.{StageState, endpoints_of}
 use Rattle.ring_core.specs.contracts.worker.Worker.{the_view}
 use Rattle.ring_core.specs.States.{WorkerState}
-use Rattle.ring_core.specs.Workers.{HaveBegun, IsWorker}
+use Rattle.ring_core.specs.Workers.{own_stage, HaveBegun, IsWorker}
 use Rattle.ring_core.proofs.BeginLemmas.{begun_played, worker_with, written}
 use Rattle.ring_core.proofs.worker.Worker.begin.Goals as goal
 
@@ -30,4 +30,5 @@ returns-clause-plays c =
     let all : All (λ stage. endpoints_of stage ≡ w.endpoints) c.deref_mut.result.now = subst (All (λ stage. endpoints_of stage ≡ w.endpoints)) (sym c.deref_mut.ensures.value) is_worker.endpoints in
     let items = written c.self.inside.stages new c.deref_mut.result.now c.deref_mut.ensures.value c.begin_stages.ensures.count in
     let begun = subst (HaveBegun w.endpoints w.b c.args.first_batch c.args.batches.now w.workers w.number) (sym items) (c.begin_stages.ensures.begun w.endpoints all) in
-    (0, 0, begun_played w window c.args.first_batch c.args.batches.now is_window c.args.sent c.from-self-inside.result _ most sent_is c.from-self-inside.ensures (returns-clause-worker c) begun))
+    let idle = subst (λ (xs : List StageState). (place : ℕ) (state : StageState) → length c.args.batches.now ≤ own_stage w.workers w.number place → slice_get xs place ≡ Some state → state.nodes ≡ 0) (sym items) c.begin_stages.ensures.idle in
+    (0, 0, begun_played w window c.args.first_batch c.args.batches.now is_window c.args.sent c.from-self-inside.result _ most sent_is c.from-self-inside.ensures (returns-clause-worker c) begun idle))

@@ -1,10 +1,10 @@
-use Rattle.std.proofs.Common.{◌≡◌, ◌<◌, ◌+◌, ℕ, List, ◌++◌, length, get_or, Bool, false, None, All, sym, ap, ◌∙◌, subst, arith}
-use Rattle.std.proofs.lemmas.List.{get_or_default}
+use Rattle.std.proofs.Common.{◌≡◌, ◌<◌, ◌+◌, ◌*◌, drop, ℕ, List, ◌++◌, length, get_or, Bool, false, None, All, sym, ap, ◌∙◌, subst, arith}
+use Rattle.std.proofs.lemmas.List.{get_or_default, length-take}
 use Rattle.greedy_rules.specs.declared.flows.Item.{Item}
 use Rattle.greedy_rules.specs.Batches.{DemandBatch, entry_of}
 use Rattle.greedy_rules.specs.Demands.{need_with}
-use Rattle.slot_batches.specs.Pieces.{Part, part_of, piece_at}
-use Rattle.slot_batches.specs.Stands.{StageState, endpoints_of, first_slot_of, IsSameWork, MayBeFed, Stands, ListsMayBeFed}
+use Rattle.slot_batches.specs.Pieces.{Part, piece_at, part_of}
+use Rattle.slot_batches.specs.Stands.{endpoints_of, first_slot_of, IsSameWork, MayBeFed, Stands, ListsMayBeFed, StageState}
 use Rattle.ring_core.specs.contracts.worker.Worker.{the_view}
 use Rattle.ring_core.specs.States.{WorkerState}
 use Rattle.ring_core.specs.Windows.{Window, batch_at, batch_of, first_slot_in, items_fed, list_before_stage}
@@ -53,7 +53,7 @@ Asked batches piece w = ((ends : Ends) × Plays batches ends w × (piece_to_push
 pub feed_stage-requires-clause-may : goal.feed_stage-requires-clause-may
 feed_stage-requires-clause-may c =
     let w : WorkerState = the_view c.self.inside in
-    let asked : Asked c.args.batches.now c.args.piece.now w = subst (Asked c.args.batches.now c.args.piece.now) (sym c.self.view_is) (c.requires.plays, c.requires.going, c.requires.held) in
+    let asked : Asked c.args.batches.now c.args.piece w = subst (Asked c.args.batches.now c.args.piece) (sym c.self.view_is) (c.requires.plays, c.requires.going, c.requires.held) in
     let it = asked.0 in
     let going = asked.1 in
     let held = asked.2 in
@@ -61,14 +61,22 @@ feed_stage-requires-clause-may c =
     let given = it.1.1 in
     let here = batch_is c.args.batches.now it.0.before.window.batches w.stage c.index-batches-self.result it.1.2.window.batches_are going c.index-batches-self.is in
     let at = idle_state c.args.batches.now it.0 w fed given it.1.2 c.index_mut.result.now going held c.index_mut.ensures.value in
-    let part = piece_is c.args.batches.now it.0 w fed given it.1.2 going it.2 c.args.piece.now it.3 in
-    let may = may_feed c.args.batches.now it.0 w fed given c.index-batches-self.result c.index_mut.result.now (part_of c.args.piece.now) it.1.2 going it.2 here at part c.every_batch_leaves_a_list.ensures.next c.lists_may_be_fed.ensures in
+    let part = piece_is c.args.batches.now it.0 w fed given it.1.2 going it.2 c.args.piece it.3 in
+    let may = may_feed c.args.batches.now it.0 w fed given c.index-batches-self.result c.index_mut.result.now (part_of c.args.piece) it.1.2 going it.2 here at part c.every_batch_leaves_a_list.ensures.next c.lists_may_be_fed.ensures in
     (items_fed it.0.before.window w.stage fed, given, may.0, may.1)
+
+pub feed_stage-requires-clause-few : goal.feed_stage-requires-clause-few
+feed_stage-requires-clause-few c =
+    let w : WorkerState = the_view c.self.inside in
+    let asked : Asked c.args.batches.now c.args.piece w = subst (Asked c.args.batches.now c.args.piece) (sym c.self.view_is) (c.requires.plays, c.requires.going, c.requires.held) in
+    let it = asked.0 in
+    let part = piece_is c.args.batches.now it.0 w it.1.0 it.1.1 it.1.2 asked.1 it.2 c.args.piece it.3 in
+    omega (arith, ap (λ (p : Part). length p.items) part, length-take 64 (drop (64 * it.1.0) (list_before_stage it.0.before.window w.stage)))
 
 pub feed_stage-requires-clause-needs : goal.feed_stage-requires-clause-needs
 feed_stage-requires-clause-needs c =
     let w : WorkerState = the_view c.self.inside in
-    let asked : Asked c.args.batches.now c.args.piece.now w = subst (Asked c.args.batches.now c.args.piece.now) (sym c.self.view_is) (c.requires.plays, c.requires.going, c.requires.held) in
+    let asked : Asked c.args.batches.now c.args.piece w = subst (Asked c.args.batches.now c.args.piece) (sym c.self.view_is) (c.requires.plays, c.requires.going, c.requires.held) in
     let it = asked.0 in
     let going = asked.1 in
     let held = asked.2 in
@@ -76,17 +84,17 @@ feed_stage-requires-clause-needs c =
     let given = it.1.1 in
     let window : Window = it.0.before.window in
     let here = batch_is c.args.batches.now window.batches w.stage c.index-batches-self.result it.1.2.window.batches_are going c.index-batches-self.is in
-    let part = piece_is c.args.batches.now it.0 w fed given it.1.2 going it.2 c.args.piece.now it.3 in
+    let part = piece_is c.args.batches.now it.0 w fed given it.1.2 going it.2 c.args.piece it.3 in
     let inside : w.stage < length window.batches = omega (arith, going, ap length it.1.2.window.batches_are) in
     let Fit : DemandBatch → List Item → Type 0 = λ batch items. All (λ item. need_with (entry_of batch.entries item.flow) item.need < 4294967296) items in
-    subst (λ (b : DemandBatch). Fit b c.args.piece.now.items.items) (sym here)
+    subst (λ (b : DemandBatch). Fit b c.args.piece.items) (sym here)
     (subst (λ (p : Part). Fit (batch_of window w.stage) p.items) (sym part) (needs_fit w.endpoints window w.stage fed given it.1.2.window.may inside))
 
 pub returns-clause-plays : goal.returns-clause-plays
 returns-clause-plays c =
     rw (← c.self.view_is) (λ ends plays none is.
     let w : WorkerState = the_view c.self.inside in
-    let asked : Asked c.args.batches.now c.args.piece.now w = subst (Asked c.args.batches.now c.args.piece.now) (sym c.self.view_is) (c.requires.plays, c.requires.going, c.requires.held) in
+    let asked : Asked c.args.batches.now c.args.piece w = subst (Asked c.args.batches.now c.args.piece) (sym c.self.view_is) (c.requires.plays, c.requires.going, c.requires.held) in
     let held = asked.2 in
     let batches = c.args.batches.now in
     let fed = plays.0 in
@@ -96,8 +104,8 @@ returns-clause-plays c =
     let below = asked.1 in
     let here = batch_is batches window.batches w.stage c.index-batches-self.result played.window.batches_are below c.index-batches-self.is in
     let at = idle_state batches ends w fed given played c.index_mut.result.now below held c.index_mut.ensures.value in
-    let part = piece_is batches ends w fed given played below none c.args.piece.now is in
-    let may = may_feed batches ends w fed given c.index-batches-self.result c.index_mut.result.now (part_of c.args.piece.now) played below none here at part c.every_batch_leaves_a_list.ensures.next c.lists_may_be_fed.ensures in
+    let part = piece_is batches ends w fed given played below none c.args.piece is in
+    let may = may_feed batches ends w fed given c.index-batches-self.result c.index_mut.result.now (part_of c.args.piece) played below none here at part c.every_batch_leaves_a_list.ensures.next c.lists_may_be_fed.ensures in
     let stands = c.feed_stage.ensures.stands (items_fed window w.stage fed) given may.0 may.1 in
     let work = c.feed_stage.ensures.work in
     let same : IsSameWork w.endpoints window.b (w.stage + 1) (first_slot_in window w.stage) c.feed_stage.new.stage = record {
@@ -106,6 +114,6 @@ returns-clause-plays c =
       same_number = work.same_number ∙ at.work.same_number;
       same_first = work.same_first ∙ at.work.same_first;
     } in
-    let more = at_more batches ends w fed given played below none (part_of c.args.piece.now) c.feed_stage.new.stage part same
-    (subst (λ (b : DemandBatch). Stands b (items_fed window w.stage fed ++ c.args.piece.now.items.items) c.args.piece.now.end given c.feed_stage.new.stage) here stands) in
+    let more = at_more batches ends w fed given played below none (part_of c.args.piece) c.feed_stage.new.stage part same
+    (subst (λ (b : DemandBatch). Stands b (items_fed window w.stage fed ++ c.args.piece.items) c.args.piece.end given c.feed_stage.new.stage) here stands) in
     (fed + 1, given, fed_on batches ends w fed given played below none c.feed_stage.new.stage w.held held more))

@@ -1,6 +1,6 @@
 use Rattle.std.proofs.Common.{◌≡◌, ◌+◌, List, [], ◌∷◌, ◌++◌, length, All, sym, ap, ◌∙◌, subst, arith, length-append}
 use Rattle.std.proofs.lemmas.List.Elements.{All-push}
-use Rattle.slot_batches.specs.Stands.{StageState, endpoints_of, batch_size_of}
+use Rattle.slot_batches.specs.Stands.{endpoints_of, batch_size_of, StageState}
 use Rattle.ring_core.specs.Workers.{own_stage}
 use Rattle.ring_core.proofs.StreamLemmas.{row_on}
 use Rattle.ring_core.proofs.worker.Worker.open.Goals as goal
@@ -16,5 +16,6 @@ loop-stage-preserved c =
     record {
       stage = next ∙ ap (own_stage c.args.workers c.args.number) (sym count);
       endpoints = subst (All (λ stage. endpoints_of stage ≡ c.args.endpoints)) (sym items) (All-push (λ stage. endpoints_of stage ≡ c.args.endpoints) old c.in_ok-open.field-0 was.endpoints c.in_ok-open.ensures.endpoints);
+      none = subst (All (λ stage. stage.nodes ≡ 0)) (sym items) (All-push (λ stage. stage.nodes ≡ 0) old c.in_ok-open.field-0 was.none c.in_ok-open.ensures.nodes);
       sizes = subst (All (λ stage. batch_size_of stage ≡ c.args.b)) (sym items) (All-push (λ stage. batch_size_of stage ≡ c.args.b) old c.in_ok-open.field-0 was.sizes c.in_ok-open.ensures.b);
     }

@@ -8,6 +8,7 @@ invariant-loop-stage l = record {
   stage : l.stage ≡ own_stage l.workers l.number (length l.stages.items);
   endpoints : All (λ stage. endpoints_of stage ≡ l.endpoints) l.stages.items;
   sizes : All (λ stage. batch_size_of stage ≡ l.b) l.stages.items;
+  none : All (λ stage. stage.nodes ≡ 0) l.stages.items;
 }
 
 abbrev pub decreases-loop-stage : goal.decreases-loop-stage

@@ -11,7 +11,7 @@ use Rattle.ring_core.specs.States.{WorkerState}
 use Rattle.ring_core.specs.Windows.{Window, batch_at, batch_of, list_before_stage}
 use Rattle.ring_core.specs.Wholes.{StartsStage}
 use Rattle.ring_core.proofs.WindowLemmas.{few_items}
-use Rattle.ring_core.proofs.ServeLemmas.{inside, begun, may_be_fed, left_is, left_fits, taken_fits, sent_fits, starts_next}
+use Rattle.ring_core.proofs.ServeLemmas.{inside, begun, may_be_fed, left_is, left_fits, nodes_are, taken_fits, sent_fits, starts_next}
 use Rattle.ring_core.proofs.worker.Worker.serve_list.Goals as goal
 
 -- what is asked of the worker, as its fields have it
@@ -62,6 +62,31 @@ serve_list-requires-clause-room c =
     λ i. settled (here i) (first_slot_of state) (batch_size_of state) (asked.0.2 i) true in
     omega (arith, ap length same, fits, asked.2)
 
+-- the list that is handed over
+left_here : (batches : List DemandBatch) (window : Window) (w : WorkerState) (starts : StartsStage batches window w) (below : w.stage < length batches) (state : StageState) (batch : DemandBatch) (items left : List Item)
+    → state ≡ get_or w.stages w.place state → batch ≡ batch_of window w.stage → items ≡ list_before_stage window w.stage → left ≡ settled batch (first_slot_of state) (batch_size_of state) items true
+    → left ≡ list_before_stage window (w.stage + 1)
+left_here batches window w starts below state batch items left is batch_is items_are left_is' =
+    left_is' ∙ ((λ i. settled (batch_is i) (first_slot_of state) (batch_size_of state) (items_are i) true) ∙ left_is batches window w starts below state is)
+
+pub serve_list-requires-clause-fits : goal.serve_list-requires-clause-fits
+serve_list-requires-clause-fits c =
+    let w : WorkerState = the_view c.self.inside in
+    let batches = c.args.batches.now in
+    let asked : Asked batches c.args.items.now c.args.left.now.spare w = subst (Asked batches c.args.items.now c.args.left.now.spare) (sym c.self.view_is) (c.requires.starts, c.requires.going, c.requires.room) in
+    let inside = inside batches asked.0.0 w asked.0.1 asked.1 in
+    let few = few_items w.endpoints asked.0.0 asked.0.1.window.may c.every_batch_leaves_a_list.ensures.flows c.flows_fit_pairs.ensures (w.stage + 1) (omega (arith, inside)) in
+    omega (arith, c.requires.fits, nodes_are batches asked.0.0 w asked.0.1 asked.1 c.index_mut.result.now c.index_mut.ensures.value, few)
+
+pub returns-clause-spare : goal.returns-clause-spare
+returns-clause-spare c =
+    let w : WorkerState = the_view c.self.inside in
+    let batches = c.args.batches.now in
+    let asked : Asked batches c.args.items.now c.args.left.now.spare w = subst (Asked batches c.args.items.now c.args.left.now.spare) (sym c.self.view_is) (c.requires.starts, c.requires.going, c.requires.room) in
+    let here = batch_is batches asked.0.0.batches w.stage c.index-batches-self.result asked.0.1.window.batches_are asked.1 c.index-batches-self.is in
+    let left = left_here batches asked.0.0 w asked.0.1 asked.1 c.index_mut.result.now c.index-batches-self.result c.args.items.now c.serve_list.new.left.items c.index_mut.ensures.value here asked.0.2 c.serve_list.ensures.left in
+    omega (arith, c.serve_list.ensures.spare, nodes_are batches asked.0.0 w asked.0.1 asked.1 c.index_mut.result.now c.index_mut.ensures.value, ap length left, ap length asked.0.2)
+
 pub count_pieces-requires : goal.count_pieces-requires
 count_pieces-requires c =
     let w : WorkerState = the_view c.self.inside in
@@ -77,13 +102,6 @@ overflow_add-self c =
     let asked : Asked batches c.args.items.now c.args.left.now.spare w = subst (Asked batches c.args.items.now c.args.left.now.spare) (sym c.self.view_is) (c.requires.starts, c.requires.going, c.requires.room) in
     let fits = taken_fits batches asked.0.0 w asked.0.1 asked.1 c.every_batch_leaves_a_list.ensures.flows c.flows_fit_pairs.ensures in
     omega (arith, fits, c.count_pieces.ensures, ap piece_count asked.0.2)
-
--- the list that is handed over
-left_here : (batches : List DemandBatch) (window : Window) (w : WorkerState) (starts : StartsStage batches window w) (below : w.stage < length batches) (state : StageState) (batch : DemandBatch) (items left : List Item)
-    → state ≡ get_or w.stages w.place state → batch ≡ batch_of window w.stage → items ≡ list_before_stage window w.stage → left ≡ settled batch (first_slot_of state) (batch_size_of state) items true
-    → left ≡ list_before_stage window (w.stage + 1)
-left_here batches window w starts below state batch items left is batch_is items_are left_is' =
-    left_is' ∙ ((λ i. settled (batch_is i) (first_slot_of state) (batch_size_of state) (items_are i) true) ∙ left_is batches window w starts below state is)
 
 pub count_pieces-requires-2 : goal.count_pieces-requires-2
 count_pieces-requires-2 c =
@@ -118,4 +136,4 @@ returns-clause-starts c =
     let taken = ap (λ (n : ℕ). w.taken + n) (c.count_pieces.ensures ∙ ap piece_count is) in
     let sent = ap (λ (n : ℕ). w.sent + n) (c.count_pieces-2.ensures ∙ ap piece_count (c.items.ensures ∙ left)) in
     let stage = ap (λ (n : ℕ). w.stage + n) c.from.ensures in
-    (starts_next batches window w starts below state c.serve_list.new.self _ _ _ c.index_mut.ensures.value c.serve_list.ensures.work slots stage taken sent, left))
+    (starts_next batches window w starts below state c.serve_list.new.self _ _ _ c.index_mut.ensures.value c.serve_list.ensures.work slots c.serve_list.ensures.nodes stage taken sent, left))

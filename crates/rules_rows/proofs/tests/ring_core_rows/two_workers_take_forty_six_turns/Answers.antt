@@ -1,6 +1,7 @@
 use Rattle.std.proofs.Common.{◌≡◌, ◌+◌, ◌*◌, List, [], length, sym, ap, ◌∙◌, subst, arith}
 use Rattle.std.proofs.lemmas.List.{length-replicate}
 use Rattle.greedy_rules.specs.declared.flows.Flow.{Flow}
+use Rattle.greedy_rules.specs.declared.limits.Limits.{Limits}
 use Rattle.greedy_rules.specs.Batches.{DemandBatch}
 use Rattle.greedy_rules.specs.Recorded.{AreRecorded}
 use Rattle.greedy_rules.specs.Schedule.{first_slot}
@@ -8,34 +9,27 @@ use Rattle.ring_core.specs.Cores.{IsPlaying}
 use Rattle.rules_rows.proofs.AskLemmas.{asks_apply, none_before}
 use Rattle.rules_rows.proofs.tests.ring_core_rows.two_workers_take_forty_six_turns.Goals as goal
 
-pub begin-requires-clause-ring : goal.begin-requires-clause-ring
-begin-requires-clause-ring g c = c.in_ok-core.ensures.ring
-
-pub begin-requires-clause-endpoints : goal.begin-requires-clause-endpoints
-begin-requires-clause-endpoints g c = omega (arith, c.in_ok-core.ensures.endpoints)
-
-pub begin-requires-clause-count : goal.begin-requires-clause-count
-begin-requires-clause-count g c = omega (arith, ap length c.deref.ensures.value, c.in_ok-batches.ensures.count, c.in_ok-core.ensures.batches)
+pub begin-requires-clause-rest : goal.begin-requires-clause-rest
+begin-requires-clause-rest g c = c.in_ok-core.ensures.rest
 
 pub begin-requires-clause-may : goal.begin-requires-clause-may
 begin-requires-clause-may g c =
-    asks_apply c.in_ok-core.core.endpoints c.in_ok-core.core.b (record { hosts = 44; cores = 44 }) c.in_ok-list.list.items c.deref.result.now c.recorded_batches_may_be_applied.ensures.all c.in_ok-core.ensures.endpoints c.in_ok-list.ensures.empty
-    (subst (AreRecorded 132 (record { hosts = 44; cores = 44 })) (sym c.deref.ensures.value) c.in_ok-batches.ensures.recorded)
-
-pub begin-requires-clause-before : goal.begin-requires-clause-before
-begin-requires-clause-before g c = none_before (first_slot c.in_ok-core.core.b 0) c.in_ok-list.list.items c.in_ok-list.ensures.empty
-
-pub begin-requires-clause-numbers : goal.begin-requires-clause-numbers
-begin-requires-clause-numbers g c =
+    let core = c.in_ok-core.core in
+    let made = c.in_ok-core.ensures in
+    let limits : Limits = record { hosts = 44; cores = 44 } in
     let count : length c.deref.result.now ≡ 8 = ap length c.deref.ensures.value ∙ c.in_ok-batches.ensures.count in
-    let last : first_slot c.in_ok-core.core.b (0 + length c.deref.result.now) ≡ 65 = λ i. first_slot (c.in_ok-core.ensures.b i) (0 + count i) in
-    omega (arith, last)
-
-pub begin-requires-clause-few : goal.begin-requires-clause-few
-begin-requires-clause-few g c = omega (arith, ap length c.in_ok-list.ensures.empty)
-
-pub begin-requires-clause-room : goal.begin-requires-clause-room
-begin-requires-clause-room g c = omega (arith, ap length c.in_ok-list.ensures.empty, c.in_ok-core.ensures.room)
+    let last : first_slot core.b (0 + length c.deref.result.now) ≡ 65 = λ i. first_slot (made.b i) (0 + count i) in
+    let none = ap length c.in_ok-list.ensures.empty in
+    record {
+      few_endpoints = omega (arith, made.endpoints);
+      count = omega (arith, count, made.batches);
+      may = asks_apply core.endpoints core.b limits c.in_ok-list.list.items c.deref.result.now c.recorded_batches_may_be_applied.ensures.all made.endpoints c.in_ok-list.ensures.empty
+          (subst (AreRecorded 132 limits) (sym c.deref.ensures.value) c.in_ok-batches.ensures.recorded);
+      before = none_before (first_slot core.b 0) c.in_ok-list.list.items c.in_ok-list.ensures.empty;
+      numbers = omega (arith, last);
+      fits = omega (arith, none);
+      room = omega (arith, none, made.room);
+    }
 
 pub run_out-requires-clause-playing : goal.run_out-requires-clause-playing
 run_out-requires-clause-playing g c = subst (λ (ds : List DemandBatch). IsPlaying ds c.begin.new.self) (c.deref.ensures.value ∙ sym c.deref-2.ensures.value) c.begin.ensures.playing
