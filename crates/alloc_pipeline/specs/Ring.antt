@@ -1,8 +1,9 @@
--- What contracts see of a ring: its endpoints, the most batches of a window, and the slots of a batch (this project's own
--- profile).
+-- What contracts see of a ring: its workers, its endpoints, the most batches of a window, and the slots of a batch (this
+-- project's own profile).
 use Rattle.std.specs.Prelude.{◌≤◌, ◌<◌, ℕ}
 
 pub record RingWork : Type 0 where
+  pub workers : ℕ
   pub endpoints : ℕ
   pub batches : ℕ
   pub b : ℕ

@@ -35,7 +35,7 @@ impl Model for Ring {
 
     ghost Value = { RingWork };
 
-    ghost view = { λ r. record { endpoints = r.core.endpoints; batches = r.core.batches; b = r.core.b } };
+    ghost view = { λ r. record { workers = r.core.workers; endpoints = r.core.endpoints; batches = r.core.batches; b = r.core.b } };
 
     ghost invariant = { λ r. IsAtRest r.core × HasRoomFor r.core.endpoints r.picked × (r.core.endpoints ≤ 256) × ((0 < r.core.b) × (r.core.b ≤ 64)) × (r.core.batches ≤ 16) × (r.core.room ≡ 2048) };
 }
@@ -50,7 +50,7 @@ impl Ring {
         b: u8,
     ) -> Result<Ring, NoMemory>
         requires sizes { MayBeOpened workers endpoints batches b }
-        ensures { IfOk result (λ ring. ring ≡ record { endpoints = endpoints; batches = batches; b = b }) }
+        ensures { IfOk result (λ ring. ring ≡ record { workers = workers; endpoints = endpoints; batches = batches; b = b }) }
     {
         Ok(Ring {
             core: RingCore::open(alloc, workers, endpoints, batches, b, ROOM)?,

@@ -119,19 +119,19 @@ crew_total batches workers crew some count have =
     omega (arith, crewed, block_all batches workers n 0, whole, total_split batches n left 0, total_none batches left (0 + n) (omega arith))
 
 -- the lists grow by them
-pub list_grows : (window : Window) → EveryBatchKeepsItsFlows → (stage : ℕ) → stage ≤ length window.batches → length (list_before_stage window stage) ≡ length window.list + total window.batches stage 0
+pub list_grows : (window : Window) → EveryBatchKeepsItsFlows → (played : ℕ) → played ≤ length window.batches → length (list_before_stage window played) ≡ length window.list + total window.batches played 0
 list_grows window keeps zero within = let q = ap length (first_list window) in omega (arith, q)
-list_grows window keeps (suc stage) within =
-    let batch : DemandBatch = batch_of window stage in
-    let list : List Item = list_before_stage window stage in
-    let next : stage + 1 ≡ suc stage = omega arith in
+list_grows window keeps (suc played) within =
+    let batch : DemandBatch = batch_of window played in
+    let list : List Item = list_before_stage window played in
+    let next : played + 1 ≡ suc played = omega arith in
     let here = ap (λ (n : ℕ). length (list_before_stage window n)) next in
-    let one = ap length (one_list_on window stage (omega (arith, within))) in
-    let more = keeps (is_barred batch.limits) (first_slot_in window stage) window.b batch.entries list in
+    let one = ap length (one_list_on window played (omega (arith, within))) in
+    let more = keeps (is_barred batch.limits) (first_slot_in window played) window.b batch.entries list in
     let last = ap (λ (n : ℕ). total window.batches n 0) next in
-    let at = ap (total window.batches 1) (let q : 0 + stage ≡ stage = omega arith in q) in
-    let this : total window.batches 1 stage ≡ length (opened batch.entries) + 0 = refl in
-    omega (arith, here, one, more, last, list_grows window keeps stage (omega (arith, within)), total_split window.batches stage 1 0, at, this)
+    let at = ap (total window.batches 1) (let q : 0 + played ≡ played = omega arith in q) in
+    let this : total window.batches 1 played ≡ length (opened batch.entries) + 0 = refl in
+    omega (arith, here, one, more, last, list_grows window keeps played (omega (arith, within)), total_split window.batches played 1 0, at, this)
 
 pub crew_and_list : (window : Window) (crew : List WorkerState) → 0 < window.workers → length crew ≡ window.workers → HaveStages window.batches window.workers 0 crew → EveryBatchKeepsItsFlows
     → crew_openings window.batches crew + length window.list ≡ length (list_before_stage window (length window.batches))

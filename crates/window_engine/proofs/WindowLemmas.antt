@@ -82,8 +82,8 @@ exact slots window places n is same =
     let left : places - n ≡ 0 = omega arith in
     is ∙ (ap (λ (m : ℕ). window ++ replicate m none) left ∙ append-nil window)
 
-abbrev ring_of : Network → ℕ → ℕ → RingWork
-ring_of net most b = record { endpoints = endpoints_of net; batches = most; b = b }
+abbrev ring_of : Network → ℕ → ℕ → RingWork → RingWork
+ring_of net most b ring = record ring { endpoints = endpoints_of net; batches = most; b = b }
 
 pub has_allocated_more : (net : Network) (most : ℕ) (earlier batches : List DemandBatch) (old new : Allocated) → HasAllocated net most earlier old → AreOfNet net (earlier ++ batches) → IsReady net earlier batches old
     → new.b ≡ old.b → new.batches ≡ old.batches + length batches → new.list.items ≡ rest_from old.b old.batches old.list.items batches
@@ -96,7 +96,7 @@ has_allocated_more network most earlier batches old new has recorded is_ready b 
   left = list ∙ (is_ready.then ∙ ap (λ (m : ℕ). rest m (earlier ++ batches)) (sym b));
   before = rw (b, number) before;
   room = omega (arith, has.room);
-  ring = ring ∙ (has.ring ∙ ap (ring_of network most) (sym b));
+  ring = ring ∙ (has.ring ∙ (ap (λ (m : ℕ). ring_of network most m old.ring) (sym b) ∙ ap (ring_of network most new.b) (sym ring)));
   serves = net ∙ has.serves;
   colours = slots ∙ (has.colours ∙ ap (λ (m : ℕ). most * m) (sym b));
 }

@@ -57,7 +57,7 @@ pub record HasAllocated (net : Network) (most : ℕ) (batches : List DemandBatch
   pub left : half.list.items ≡ rest half.b batches
   pub before : IsListBefore (first_slot half.b half.batches) half.list.items
   pub room : endpoints_of net * endpoints_of net ≤ length half.list.items + half.list.spare
-  pub ring : half.ring ≡ record { endpoints = endpoints_of net; batches = most; b = half.b }
+  pub ring : half.ring ≡ record half.ring { endpoints = endpoints_of net; batches = most; b = half.b }
   pub serves : half.paths.net ≡ net
   pub colours : half.paths.slots ≡ most * half.b
 

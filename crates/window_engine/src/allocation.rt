@@ -59,6 +59,7 @@ impl Allocation {
         requires g { (0 < g) × (g ≤ 16) }
         ensures stands { IfOk result (HasAllocated net.now g []) }
         ensures b { IfOk result (λ half. half.b ≡ b) }
+        ensures workers { IfOk result (λ half. half.ring.workers ≡ workers) }
         ensures paths { IfOk result (λ half. half.paths.paths ≡ paths) }
     {
         let endpoints = net.endpoints();

@@ -61,6 +61,7 @@ impl Engine {
         ensures stands { IfOk result (Stands trace.now) }
         ensures start { IfOk result (λ engine. engine.collection.rounds ≡ 0) }
         ensures b { IfOk result (λ engine. engine.allocation.b ≡ setting.b) }
+        ensures workers { IfOk result (λ engine. engine.allocation.ring.workers ≡ setting.workers) }
         ensures paths { IfOk result (λ engine. engine.allocation.paths.paths ≡ setting.paths) }
         ensures g { IfOk result (λ engine. engine.g ≡ setting.g) }
     {

@@ -151,6 +151,7 @@ impl Replay {
         requires sizes { IsSetting setting }
         ensures stands { IfOk result (λ replay. (cores : Cores) → AreCores cores → StandsForReplay trace.now cores replay) }
         ensures b { IfOk result (λ replay. replay.lanes.b ≡ setting.b) }
+        ensures workers { IfOk result (λ replay. replay.allocation.ring.workers ≡ setting.workers) }
         ensures paths { IfOk result (λ replay. replay.allocation.paths.paths ≡ setting.paths) }
         ensures g { IfOk result (λ replay. replay.lanes.g ≡ setting.g) }
         ensures collected { IfOk result (λ replay. replay.lanes.collected ≡ 0) }
