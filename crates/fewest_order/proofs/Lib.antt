@@ -1,0 +1,4 @@
+mod ServeLemmas
+mod UnservedLemmas
+mod BarLemmas
+mod RowLemmas

@@ -1,0 +1,14 @@
+pub mod Examples
+pub mod Walk
+pub mod Batches
+pub mod Records
+pub mod Places
+pub mod Texts
+pub mod Shown
+pub mod Counts
+pub mod Reading
+pub mod FirstLines
+pub mod SumPlaces
+pub mod Standings
+pub mod Passes
+pub mod ReadBatches

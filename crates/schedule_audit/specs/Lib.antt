@@ -1,0 +1,12 @@
+pub mod Reading
+pub mod Lines
+pub mod Misplaced
+pub mod Wrong
+pub mod BadLines
+pub mod Examples
+pub mod Laws
+pub mod Texts
+pub mod Shown
+pub mod Counts
+pub mod ReadLaws
+pub mod Standing
