@@ -94,6 +94,14 @@ line_here lines dst within = elim (slice_get_cases lines dst).1 [
   | inr past ↦ absurd (omega (arith, within, past.0))
 ]
 
+-- so it is of each flow
+pub each-told-is-owed : CountsAddUp → (lane : LaneState) → IsSound lane → (history : LaneHistory) (allocations : List Allocation) → StandsFor lane history allocations →
+    (dst : ℕ) → dst < lane.endpoints → FlowIsWithinLedger lane.g history allocations dst
+each-told-is-owed sums lane sound history allocations stands dst below =
+    let as_many = sound.as_many in
+    let here = line_here lane.lines dst (omega (arith, as_many, below)) in
+    told-is-owed sums lane sound history allocations dst here.0 here.1 stands
+
 -- what is written through the slice of all lines
 pub Become-written : {Z : Type 0} (relation : ℕ → Line → Line → Type 0) (lines : Vec Line Z) (old new : List Line) → old ≡ lines.items → Become relation old new → Become relation lines.items (with_items lines new).items
 Become-written relation lines old new is become =

@@ -283,7 +283,12 @@ impl Lane {
         ensures stands { OnOk result ((history : LaneHistory) (allocations : List Allocation) →
             StandsFor self.old history allocations →
             StandsFor self.new (Records round ∷ history) allocations) }
+        // Of no flow more is told than is owed.
+        ensures told { OnOk result ((history : LaneHistory) (allocations : List Allocation) →
+            StandsFor self.new history allocations →
+            (dst : ℕ) → dst < self.new.endpoints → FlowIsWithinLedger self.new.g history allocations dst) }
     {
+        lanes_count_slots();
         flows::record(
             &mut self.lines,
             &mut self.risen,

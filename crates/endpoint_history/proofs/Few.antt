@@ -1,7 +1,7 @@
 -- How large numbers and losses can become.
-use Rattle.std.proofs.Common.{ℕ, ◌+◌, ◌-◌, ◌*◌, ◌≤◌, true, false, ◌&&◌, cond, nat_lt, ◌==◌, List, [], ◌∷◌, ap, inl, inr, arith}
+use Rattle.std.proofs.Common.{◌≡◌, ℕ, ◌+◌, ◌-◌, ◌*◌, ◌≤◌, true, false, ◌&&◌, cond, nat_lt, ◌==◌, refl, List, [], ◌∷◌, ap, inl, inr, arith}
 use Rattle.std.specs.Prelude.{nat_le}
-use Rattle.std.proofs.lemmas.Bool.{cases_Bool, cases_lt}
+use Rattle.std.proofs.lemmas.Bool.{cases_Bool, cases_lt, ne_eqb}
 use Rattle.ack_window.specs.Sends.{newest_of}
 use Rattle.fcp_framing.specs.declared.packet.Told.{Told}
 use Rattle.endpoint_history.specs.Packets.{Resets, Requests, slots_to}
@@ -10,8 +10,8 @@ use Rattle.endpoint_history.specs.Agent.{AgentHistory, Boots, Asks, TakesDown, M
 use Rattle.endpoint_history.specs.Lane as lane
 use Rattle.endpoint_history.specs.Lane.{LaneHistory, MakesDown, TakesUp, Records, telling_in}
 use Rattle.endpoint_history.specs.Steps.{ups_made, downs_made, rounds_begun, RoundsRise}
-use Rattle.endpoint_history.specs.Tellings.{AreWithin, RisesFrom}
-use Rattle.endpoint_history.specs.Bounds.{NumbersAreFew, ToldIsFew, RecordedIsNamed}
+use Rattle.endpoint_history.specs.Tellings.{AreWithin, RisesFrom, AreTo}
+use Rattle.endpoint_history.specs.Bounds.{NumbersAreFew, ToldIsFew, NoneIsToldBeyond, RecordedIsNamed}
 use Rattle.endpoint_history.specs.Windows.{Windows}
 use Rattle.endpoint_history.proofs.CallCounts.{making_tells, reading_decides, resets_count_anew}
 use Rattle.endpoint_history.proofs.Ledger.{told-nothing}
@@ -92,6 +92,43 @@ told_is_few w b g (MakesDown round slots ∷ history) dst within rises =
     elim (cases_lt 0 (lane.epoch_of history)) [
       | inl begun ↦ let grown = (making_tells w).tells g round slots history dst begun in omega arith
       | inr none ↦ let same = ((making_tells w).before g round slots history dst (omega arith)).0 in omega arith
+    ]
+
+-- slots to endpoints below a number are none to those that are not
+slots-beyond : (endpoints dst : ℕ) (slots : List Told) → AreTo endpoints slots → endpoints ≤ dst → slots_to dst slots ≡ 0
+slots-beyond endpoints dst [] to beyond = refl
+slots-beyond endpoints dst (t ∷ slots) to beyond =
+    let below = to.0 in
+    let rest = slots-beyond endpoints dst slots to.1 beyond in
+    let push = count_by-cons (λ (x : Told). x.dst == dst) t slots in
+    let other : (t.dst == dst) ≡ false = ne_eqb _ _ (λ same. omega (arith, same, below, beyond)) in
+    let it = ap (λ c. cond c (1 + slots_to dst slots) (slots_to dst slots)) other in
+    omega arith
+
+telling-beyond : (endpoints g round : ℕ) (slots : List Told) (history : LaneHistory) (dst : ℕ) → AreTo endpoints slots → endpoints ≤ dst → slots_to dst (telling_in g history round slots).told ≡ 0
+telling-beyond endpoints g round slots history dst to beyond =
+    let none = slots-beyond endpoints dst slots to beyond in
+    elim (nat_le (2 * g) round && nat_le (lane.last_reset history) (round - 2 * g)) as (λ t. slots_to dst (cond t slots []) ≡ 0) [ true ↦ none | false ↦ refl ]
+
+pub none_is_told_beyond : (w : Windows) → NoneIsToldBeyond
+none_is_told_beyond w endpoints g [] dst to beyond = told-nothing w g dst
+none_is_told_beyond w endpoints g (Records round ∷ history) dst to beyond = none_is_told_beyond w endpoints g history dst to beyond
+none_is_told_beyond w endpoints g (TakesUp round (Requests packet) ∷ history) dst to beyond =
+    let before = none_is_told_beyond w endpoints g history dst to beyond in
+    let same = (reading_decides w).tells_none g round packet history dst in
+    omega arith
+none_is_told_beyond w endpoints g (TakesUp round (Resets epoch version) ∷ history) dst to beyond =
+    let before = none_is_told_beyond w endpoints g history dst to beyond in
+    elim (cases_Bool (lane.restarts history epoch)) [
+      | inl new ↦ let none = (resets_count_anew.anew g round epoch version history dst new).1 in omega arith
+      | inr old ↦ let same = (resets_count_anew.as_before g round epoch version history dst old).1 in omega arith
+    ]
+none_is_told_beyond w endpoints g (MakesDown round slots ∷ history) dst to beyond =
+    let before = none_is_told_beyond w endpoints g history dst to.1 beyond in
+    let none = telling-beyond endpoints g round slots history dst to.0 beyond in
+    elim (cases_lt 0 (lane.epoch_of history)) [
+      | inl begun ↦ let grown = (making_tells w).tells g round slots history dst begun in omega arith
+      | inr none_yet ↦ let same = ((making_tells w).before g round slots history dst (omega arith)).0 in omega arith
     ]
 
 pub recorded_is_named : RecordedIsNamed

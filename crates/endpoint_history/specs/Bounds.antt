@@ -1,5 +1,5 @@
 -- How large numbers, losses and totals can become: so many packets were made, of batches of so many slots. From this project's own profile.
-use Rattle.std.specs.Prelude.{ℕ, ◌*◌, ◌≤◌, List, [], ◌∷◌}
+use Rattle.std.specs.Prelude.{◌≡◌, ℕ, ◌*◌, ◌≤◌, List, [], ◌∷◌}
 use Rattle.ack_window.specs.Sends.{newest_of}
 use Rattle.endpoint_history.specs.Packets.{Requests}
 use Rattle.endpoint_history.specs.Agent.{AgentHistory, slots_taken}
@@ -9,7 +9,7 @@ use Rattle.endpoint_history.specs.Lane.{LaneHistory, TakesUp}
 use Rattle.endpoint_history.specs.Lane as lane
 use Rattle.endpoint_history.specs.Counts.{recorded, told}
 use Rattle.endpoint_history.specs.Steps.{Step, agent_of, lane_of, ups_made, downs_made, rounds_begun, RoundsRise, ArrivesFromLane}
-use Rattle.endpoint_history.specs.Tellings.{ToldWithin, ToldRises}
+use Rattle.endpoint_history.specs.Tellings.{ToldWithin, ToldRises, ToldTo}
 
 -- each end numbers at most the packets that it made, and the lane makes at most one a round
 pub record NumbersAreFew : Type 0 where
@@ -20,6 +20,10 @@ pub record NumbersAreFew : Type 0 where
 -- at most b slots to a destination are told with each packet, and so at most as many are lost
 abbrev pub ToldIsFew : Type 0
 ToldIsFew = (b g : ℕ) (history : LaneHistory) (dst : ℕ) → ToldWithin b history → ToldRises history → told g history dst ≤ downs_made history * b
+
+-- none is told to an endpoint to which none was to be told
+abbrev pub NoneIsToldBeyond : Type 0
+NoneIsToldBeyond = (endpoints g : ℕ) (history : LaneHistory) (dst : ℕ) → ToldTo endpoints history → endpoints ≤ dst → told g history dst ≡ 0
 
 -- a boot takes in at most as many slots to a destination as were ever told, whatever upward packets are forged
 abbrev pub TakenIsFew : Type 0

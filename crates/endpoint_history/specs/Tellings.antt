@@ -36,7 +36,7 @@ IsLost g history telling =
     × (decision_of (reorder_of (version_of history)) (span_of (version_of history)) (numbers g history) number ≡ Some Lost))
     ⊎ Among telling (untold g history)
 
--- ---- places in the batch
+-- ---- places in the batch, and destinations
 
 -- the slots lie in a batch of b
 abbrev pub AreWithin : ℕ → List Told → Type 0
@@ -47,6 +47,16 @@ abbrev pub ToldWithin : ℕ → LaneHistory → Type 0
 ToldWithin b [] = Unit {0}
 ToldWithin b (MakesDown round told ∷ earlier) = AreWithin b told × ToldWithin b earlier
 ToldWithin b (_ ∷ earlier) = ToldWithin b earlier
+
+-- the slots are to endpoints below this number
+abbrev pub AreTo : ℕ → List Told → Type 0
+AreTo endpoints [] = Unit {0}
+AreTo endpoints (t ∷ told) = (t.dst < endpoints) × AreTo endpoints told
+
+abbrev pub ToldTo : ℕ → LaneHistory → Type 0
+ToldTo endpoints [] = Unit {0}
+ToldTo endpoints (MakesDown round told ∷ earlier) = AreTo endpoints told × ToldTo endpoints earlier
+ToldTo endpoints (_ ∷ earlier) = ToldTo endpoints earlier
 
 -- each slot is told once, and they rise
 abbrev pub RisesFrom : ℕ → List Told → Type 0

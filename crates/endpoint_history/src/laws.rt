@@ -1,6 +1,6 @@
 //! What holds of both ends of a connection at every moment. Crates above cite these functions' contracts.
 ghost use Rattle.endpoint_history.specs.AgentLaws.{TakingBringsSlots, SendsAreAsked, SentWasTaken, ConfirmedByGreatest, CarriedIsWhatIsShown, RequestsNameTotals};
-ghost use Rattle.endpoint_history.specs.Bounds.{NumbersAreFew, ToldIsFew, TakenIsFew, RecordedIsNamed};
+ghost use Rattle.endpoint_history.specs.Bounds.{NumbersAreFew, ToldIsFew, NoneIsToldBeyond, TakenIsFew, RecordedIsNamed};
 ghost use Rattle.endpoint_history.specs.CountLaws.{MakingTells, ReadingDecides, ResetsCountAnew, CountsAddUp, WhatIsToldWasHandedOver};
 ghost use Rattle.endpoint_history.specs.Examples.{WorkedRounds};
 ghost use Rattle.endpoint_history.specs.ForgedLaws.{EachTellingWasIssued, ComesAfterTwoWindows, OneNumberForABatch, SentOnce};
@@ -121,6 +121,7 @@ pub fn ledger_and_demand_list_agree()
 pub fn counts_are_bounded()
     ensures numbers { NumbersAreFew }
     ensures told { ToldIsFew }
+    ensures beyond { NoneIsToldBeyond }
     ensures taken { TakenIsFew }
     ensures recorded { RecordedIsNamed }
 {

@@ -1,5 +1,5 @@
 -- A row holds each source's destination at the source's place, and is seen as its flows, rising by source.
-use Rattle.std.proofs.Common.{◌≡◌, ◌<◌, ◌≤◌, ◌+◌, ℕ, zero, suc, List, [], ◌∷◌, length, get_or, set, replicate, Bool, true, false, ◌||◌, ◌==◌, nat_lt, Option, Some, None, IfSome, All, AllPairs, find, refl, sym, ap, ◌∙◌, arith}
+use Rattle.std.proofs.Common.{◌≡◌, ◌<◌, ◌≤◌, ◌+◌, ℕ, zero, suc, List, [], ◌∷◌, ◌++◌, length, get_or, set, replicate, Bool, true, false, ◌||◌, ◌==◌, nat_lt, Option, Some, None, IfSome, All, AllPairs, find, refl, sym, ap, ◌∙◌, arith}
 use Rattle.std.specs.List.{fold}
 use Rattle.std.specs.Option.{option_map, is_some}
 use Rattle.std.proofs.lemmas.Bool.{cond-true, cond-false, eq-eqb, ne_eqb, lt-ltb, le-ltb}
@@ -61,6 +61,12 @@ flows_from-set k (suc i) src dst (Some other ∷ cells) is below free =
 pub flows_from-replicate : (k n : ℕ) → flows_from k (replicate n None) ≡ []
 flows_from-replicate k zero = refl
 flows_from-replicate k (suc n) = flows_from-replicate (k + 1) n
+
+-- places behind a row in which nobody sends have no flows
+pub flows_from-idle : (k n : ℕ) (cells : List (Option ℕ)) → flows_from k (cells ++ replicate n None) ≡ flows_from k cells
+flows_from-idle k n [] = flows_from-replicate k n
+flows_from-idle k n (None ∷ cells) = flows_from-idle (k + 1) n cells
+flows_from-idle k n (Some dst ∷ cells) = ap (λ (slot : List Flow). record { src = k; dst = dst } ∷ slot) (flows_from-idle (k + 1) n cells)
 
 rising_from : (k : ℕ) (cells : List (Option ℕ)) → AllPairs (λ f g. f.src < g.src) (flows_from k cells)
 rising_from k [] = AllPairs-nil (λ f g. f.src < g.src)

@@ -1,5 +1,5 @@
 //! The rows of a slot table, of which a slot has one once something was written into it.
-ghost use Rattle.std.specs.Prelude.{◌≡◌, ◌<◌, ◌≤◌, ◌+◌, ◌*◌, ◌↔◌, ℕ, List, [], length, replicate, Option, Some, None, false, IsTrue, IfOk, slice_set, vec_len};
+ghost use Rattle.std.specs.Prelude.{◌≡◌, ◌<◌, ◌≤◌, ◌+◌, ◌-◌, ◌*◌, ◌↔◌, ℕ, List, [], ◌++◌, length, replicate, Option, Some, None, false, IsTrue, IfOk, slice_set, vec_len};
 ghost use Rattle.greedy_rules.specs.Slot.{slot_with};
 ghost use Rattle.greedy_rules.specs.Schedule.{slot_in};
 ghost use Rattle.greedy_rules.specs.SlotTable.{destination_of, flows_from, place_at, AreCells, IsTable, slots_of_rows};
@@ -110,11 +110,11 @@ impl Rows {
         from
     }
 
-    /// Lets the slot hold what this row holds.
+    /// Lets the slot hold what this row holds; who has no place in it sends nothing.
     pub(crate) fn write(&mut self, slot: u16, row: &[Option<u16>])
         requires table { IsTable self.old }
         requires slot { slot < vec_len self.old.places }
-        requires whole { length row.now ≡ self.old.endpoints }
+        requires whole { length row.now ≤ self.old.endpoints }
         requires cells { AreCells self.old.endpoints row.now }
         ensures table { IsTable self.new }
         ensures slots { slots_of_rows self.new ≡ slice_set (slots_of_rows self.old) slot (flows_from 0 row.now) }
@@ -122,7 +122,7 @@ impl Rows {
         ensures endpoints { self.new.endpoints ≡ self.old.endpoints }
     {
         let from = self.reach(slot);
-        self.cells[from..from + self.endpoints as usize].copy_from_slice(row);
+        write_row(&mut self.cells[from..from + self.endpoints as usize], row);
     }
 
     /// Lets the source, which sends nothing in the slot, send to this destination.
@@ -140,4 +140,14 @@ impl Rows {
         let from = self.reach(slot);
         self.cells[from + src as usize] = Some(dst);
     }
+}
+
+/// Writes a row over one that is as long or longer; nobody sends in the places behind it.
+fn write_row(into: &mut [Option<u16>], row: &[Option<u16>])
+    requires { length row.now ≤ length into.old }
+    ensures { into.new ≡ row.now ++ replicate (length into.old - length row.now) None }
+{
+    let (sends, idle) = into.split_at_mut(row.len());
+    sends.copy_from_slice(row);
+    idle.fill(None);
 }

@@ -86,9 +86,9 @@ impl SlotTable {
         self.rows.clear();
     }
 
-    /// Makes the slots from place `to` on those of a table for as many endpoints.
+    /// Makes the slots from place `to` on those of a table for as many endpoints or fewer.
     pub fn copy(&mut self, from: &SlotTable, to: u16)
-        requires endpoints { from.now.endpoints ≡ self.old.endpoints }
+        requires endpoints { from.now.endpoints ≤ self.old.endpoints }
         requires places { to + length from.now.slots ≤ length self.old.slots }
         ensures slots { self.new.slots ≡ take to self.old.slots ++ from.now.slots ++ drop (to + length from.now.slots) self.old.slots }
         ensures endpoints { self.new.endpoints ≡ self.old.endpoints }
@@ -99,9 +99,9 @@ impl SlotTable {
         }
     }
 
-    /// Makes the slot at place `to` the one at place `slot` of a table for as many endpoints.
+    /// Makes the slot at place `to` the one at place `slot` of a table for as many endpoints or fewer.
     fn copy_slot(&mut self, from: &SlotTable, slot: u16, to: u16)
-        requires endpoints { from.now.endpoints ≡ self.old.endpoints }
+        requires endpoints { from.now.endpoints ≤ self.old.endpoints }
         requires slot { slot < length from.now.slots }
         requires to { to < length self.old.slots }
         ensures slots { self.new.slots ≡ slice_set self.old.slots to (slot_in from.now.slots slot) }
@@ -112,10 +112,10 @@ impl SlotTable {
         }
     }
 
-    /// Lets the slot hold what this row holds, which has a place for each endpoint.
+    /// Lets the slot hold what this row holds; an endpoint that has no place in it sends nothing.
     pub(crate) fn write(&mut self, slot: u16, row: &[Option<u16>])
         requires slot { slot < length self.old.slots }
-        requires whole { length row.now ≡ self.old.endpoints }
+        requires whole { length row.now ≤ self.old.endpoints }
         requires cells { AreCells self.old.endpoints row.now }
         ensures slots { self.new.slots ≡ slice_set self.old.slots slot (flows_from 0 row.now) }
         ensures endpoints { self.new.endpoints ≡ self.old.endpoints }

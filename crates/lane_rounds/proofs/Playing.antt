@@ -18,7 +18,7 @@ use Rattle.endpoint_history.specs.Reading.{spelled, AsksBelow}
 use Rattle.endpoint_history.specs.RoundLaws.{RoundsAreInOrder}
 use Rattle.endpoint_history.specs.Rounds.{Round, Posted, Played, arriving, then_each, begun, posted_down, heard, posted_up, read, recorded, played}
 use Rattle.endpoint_history.specs.Steps.{Step, OfAgent, OfLane, agent_of, lane_of, RoundsRise}
-use Rattle.endpoint_history.specs.Tellings.{AreWithin, ToldWithin, RisesFrom, ToldRises}
+use Rattle.endpoint_history.specs.Tellings.{AreWithin, ToldWithin, RisesFrom, ToldRises, AreTo, ToldTo}
 use Rattle.endpoint_history.specs.Counts.{Allocation}
 use Rattle.arbiter_lane.specs.State.{LaneState}
 use Rattle.arbiter_lane.specs.Standing as lanes
@@ -179,7 +179,7 @@ read-up back alike endpoint endpoints p (inr spelled) =
       back = ap up_packet it.1 ∙ alike.up endpoint p;
     }
 
--- ---- what is told rises within its batch
+-- ---- what is told rises within its batch, and is to endpoints of the net
 
 pub are-within : (b : ℕ) (told : List Told) → All (λ (t : Told). t.offset < b) told → AreWithin b told
 are-within b [] all = tt
@@ -205,6 +205,14 @@ within-read b number (p ∷ packets) calls it = within-read b number packets (Ta
 pub rises-read : (number : ℕ) (packets : List UpPacket) (calls : LaneHistory) → ToldRises calls → ToldRises (reading number packets calls)
 rises-read number [] calls it = it
 rises-read number (p ∷ packets) calls it = rises-read number packets (TakesUp number p ∷ calls) it
+
+pub are-to : (endpoints : ℕ) (told : List Told) → All (λ (t : Told). t.dst < endpoints) told → AreTo endpoints told
+are-to endpoints [] all = tt
+are-to endpoints (t ∷ told) all = (All-head (λ (t : Told). t.dst < endpoints) t told all, are-to endpoints told (All-tail (λ (t : Told). t.dst < endpoints) t told all))
+
+pub to-read : (endpoints number : ℕ) (packets : List UpPacket) (calls : LaneHistory) → ToldTo endpoints calls → ToldTo endpoints (reading number packets calls)
+to-read endpoints number [] calls it = it
+to-read endpoints number (p ∷ packets) calls it = to-read endpoints number packets (TakesUp number p ∷ calls) it
 
 rise-read : (number : ℕ) (packets : List UpPacket) (calls : LaneHistory) → RoundsRise (reading number packets calls) → RoundsRise calls
 rise-read number [] calls it = it
@@ -246,4 +254,5 @@ stands-allocated state new a rounds allocations frame then it =
       upward = it.upward;
       within = it.within;
       rises = it.rises;
+      to = it.to;
     })

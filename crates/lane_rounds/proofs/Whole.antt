@@ -1,7 +1,10 @@
 -- What a round leaves, from what its parts leave.
-use Rattle.std.proofs.Common.{◌≡◌, ℕ, ◌+◌, ◌<◌, ◌≤◌, Bool, List, [], ◌∷◌, ◌++◌, length, map, replicate, Option, Some, IfSome, sym, ◌∙◌, ap, subst, arith}
+use Rattle.std.proofs.Common.{◌≡◌, ℕ, ◌+◌, ◌<◌, ◌≤◌, Bool, List, [], ◌∷◌, ◌++◌, length, map, replicate, Option, Some, IfSome, sym, ◌∙◌, ap, subst, inl, inr, arith}
 use Rattle.std.specs.List.{filter_map, range_with_len}
+use Rattle.std.proofs.lemmas.Bool.{cases_lt}
 use Rattle.greedy_rules.specs.declared.flows.Entry.{Entry}
+use Rattle.endpoint_history.specs.Bounds.{NoneIsToldBeyond}
+use Rattle.endpoint_history.specs.SlotLaws.{ToldIsOwed}
 use Rattle.loss_world.specs.Arrivals.{Departure}
 use Rattle.loss_world.specs.History.{EachAskTakesOne}
 use Rattle.loss_world.specs.InTransit.{Held, due_in}
@@ -15,7 +18,7 @@ use Rattle.endpoint_history.specs.Reading.{spelled, SpelledAlike}
 use Rattle.endpoint_history.specs.RoundLaws.{RoundsAreInOrder}
 use Rattle.endpoint_history.specs.Rounds.{Round, Posted, Played, posted_down, posted_up, after_round, read, recorded, played, entries_by, sent_by}
 use Rattle.endpoint_history.specs.Steps.{agent_of, lane_of}
-use Rattle.endpoint_history.specs.Tellings.{ToldWithin, ToldRises}
+use Rattle.endpoint_history.specs.Tellings.{ToldWithin, ToldRises, ToldTo}
 use Rattle.endpoint_agent.specs.State.{AgentState}
 use Rattle.endpoint_agent.specs.Standing as agents
 use Rattle.arbiter_lane.specs.State.{LaneState, AreSlots}
@@ -30,7 +33,7 @@ use Rattle.lane_rounds.proofs.Raw.{with_raw-reads}
 use Rattle.lane_rounds.specs.Standing.{StandsFor, played_by, StandsAt, HasCarried, EachPosted, IsDownOf, IsUpOf, spell_down, spell_up}
 use Rattle.lane_rounds.specs.Parts.{IsSameAgent, IsSameLane, hearing, reading, handed, Each, IsReadDown, IsReadUp, MayHear}
 use Rattle.lane_rounds.proofs.Coming.{Laws}
-use Rattle.lane_rounds.proofs.Playing.{posted, asked_calls, made_calls, down_now, heard_calls, up_now, read_calls, down-posted, up-posted, agent-recorded, lane-read, posted-spelled, due-arrives, posted-append, posted-some, each-arrives, read-down, read-up, within-read, rises-read, are-within, rises-from, round-heard}
+use Rattle.lane_rounds.proofs.Playing.{posted, asked_calls, made_calls, down_now, heard_calls, up_now, read_calls, down-posted, up-posted, agent-recorded, lane-read, posted-spelled, due-arrives, posted-append, posted-some, each-arrives, read-down, read-up, within-read, rises-read, are-within, rises-from, are-to, to-read, round-heard}
 
 -- ---- by the sizes of an endpoint
 
@@ -119,21 +122,21 @@ module _ (laws : WorldLaws) (e n b g number : ℕ) (round : Round) (before : Pla
         each = each-arrives (IsUpOf e n) (IsReadUp e n) all number (λ p rule. read-up laws.back laws.framed e n p rule) keeps;
       }
 
-  -- what is told rises within its batch, before and now
-  pub told-now : AreSlots n b e round.told → ToldWithin b (lane_of before.steps) → ToldRises (lane_of before.steps) →
-      ToldWithin b (made_calls n g number round before) × ToldRises (made_calls n g number round before)
-  told-now slots within rises = ((are-within b round.told slots.offsets, within), (rises-from round.told slots.rising, rises))
+  -- what is told rises within its batch and is to endpoints of the net, before and now
+  pub told-now : AreSlots n b e round.told → ToldWithin b (lane_of before.steps) → ToldRises (lane_of before.steps) → ToldTo n (lane_of before.steps) →
+      ToldWithin b (made_calls n g number round before) × ToldRises (made_calls n g number round before) × ToldTo n (made_calls n g number round before)
+  told-now slots within rises to = ((are-within b round.told slots.offsets, within), (rises-from round.told slots.rising, rises), (are-to n round.told slots.destinations, to))
 
   pub ends : (agent : AgentState) (lane : LaneState) (down up down_at_last up_at_last : Held) (allocations : List Allocation) →
-      AreSlots n b e round.told → ToldWithin b (lane_of before.steps) → ToldRises (lane_of before.steps) →
+      AreSlots n b e round.told → ToldWithin b (lane_of before.steps) → ToldRises (lane_of before.steps) → ToldTo n (lane_of before.steps) →
       IsDownward down → IsUpward up →
       agents.StandsFor agent (SendsDue number ∷ (MakesUp ∷ heard_calls n g number round before)) →
       lanes.StandsFor lane (Records number ∷ reading number round.raw (read_calls n g number round before)) allocations →
       ((departures : List Departure) → HasCarried down number departures → HasCarried down_at_last (number + 1) departures) →
       ((departures : List Departure) → HasCarried up number departures → HasCarried up_at_last (number + 1) departures) →
       StandsAt e n b agent lane down_at_last up_at_last (number + 1) (after_round n g number round before) allocations
-  ends agent lane down up down_at_last up_at_last allocations slots within rises below above agent_stands lane_stands goes_down goes_up =
-      let made = told-now slots within rises in
+  ends agent lane down up down_at_last up_at_last allocations slots within rises to below above agent_stands lane_stands goes_down goes_up =
+      let made = told-now slots within rises to in
       let read_is = lane-read n g number round before in
       let calls = read_calls n g number round before in
       record {
@@ -145,6 +148,7 @@ module _ (laws : WorldLaws) (e n b g number : ℕ) (round : Round) (before : Pla
         upward = above.rules;
         within = subst (ToldWithin b) (sym read_is) (within-read b number round.raw calls (within-read b number (up_now n g number round before) (made_calls n g number round before) made.0));
         rises = subst ToldRises (sym read_is) (rises-read number round.raw calls (rises-read number (up_now n g number round before) (made_calls n g number round before) made.1));
+        to = subst (ToldTo n) (sym read_is) (to-read n number round.raw calls (to-read n number (up_now n g number round before) (made_calls n g number round before) made.2));
       }
 
 -- ---- all of a round
@@ -238,7 +242,7 @@ ran laws order was number events told asked heard made ended told_to read_by raw
       agent = made_now;
       read = read_now;
       raw = raw_now;
-      all = ends laws e n b g number round before ended done below above below_at_last above_at_last allocations run.slots stood.within stood.rises down up
+      all = ends laws e n b g number round before ended done below above below_at_last above_at_last allocations run.slots stood.within stood.rises stood.to down up
           (run.sends (MakesUp ∷ heard_calls n g number round before) made_now)
           (run.records (reading number round.raw (read_calls n g number round before)) allocations raw_now)
           run.goes_down run.goes_up;
@@ -304,3 +308,15 @@ may-hear-now laws heard_laws order was number events told asked below rounds all
     to_sizes asked e n b g sizes
     (λ x y z w. (calls : AgentHistory) × (packets : List DownPacket) × agents.StandsFor asked calls × (due_in below.flights number ≡ map (spell_down x) packets) × Each (IsReadDown x y z) packets × MayHear w number calls packets)
     (asked_calls n g number round before, down_now n g number round before, asks (agent_of before.steps) stood.agent, down.due, down.each, may)
+
+-- of no destination more is told than is owed: of those of the net by the ledger, and to others nothing is told
+pub told-is-owed : NoneIsToldBeyond → (e b number : ℕ) (agent : AgentState) (lane : LaneState) (down up : Held) (all : Played) (allocations : List Allocation) →
+    StandsAt e lane.endpoints b agent lane down up number all allocations →
+    ((history : LaneHistory) (allocations : List Allocation) → lanes.StandsFor lane history allocations → (dst : ℕ) → dst < lane.endpoints → lanes.FlowIsWithinLedger lane.g history allocations dst) →
+    ToldIsOwed lane.g all.steps
+told-is-owed none_beyond e b number agent lane down up all allocations stands ledger dst =
+    let calls = lane_of all.steps in
+    elim (cases_lt dst lane.endpoints) [
+      | inl below ↦ let flow = ledger calls allocations stands.lane dst below in omega (arith, flow.counted, flow.owed)
+      | inr beyond ↦ let none = none_beyond lane.endpoints lane.g calls dst stands.to beyond in omega (arith, none)
+    ]

@@ -9,7 +9,7 @@ use Rattle.endpoint_history.specs.Packets.{DownPacket, UpPacket, framed_down, fr
 use Rattle.endpoint_history.specs.Reading.{spelled, AsksBelow}
 use Rattle.endpoint_history.specs.Rounds.{Round, Posted, Played, played}
 use Rattle.endpoint_history.specs.Steps.{agent_of, lane_of}
-use Rattle.endpoint_history.specs.Tellings.{ToldWithin, ToldRises}
+use Rattle.endpoint_history.specs.Tellings.{ToldWithin, ToldRises, ToldTo}
 use Rattle.endpoint_agent.specs.Standing as agents
 use Rattle.arbiter_lane.specs.Standing as lanes
 use Rattle.endpoint_agent.specs.State.{AgentState}
@@ -43,7 +43,7 @@ pub record HasCarried (world : Held) (round : ℕ) (sent : List Departure) : Typ
   pub asked : AsksBelow round calls
 
 -- both ends of an endpoint and both directions stand for all that was played before a round: each end for its calls, each direction
--- for what was posted, which keeps the rules of packets. What was to be told rose within its batch
+-- for what was posted, which keeps the rules of packets. What was to be told rose within its batch, and was to endpoints of the net
 pub record StandsAt (endpoint endpoints b : ℕ) (one : AgentState) (other : LaneState) (below above : Held) (number : ℕ) (all : Played) (allocations : List Allocation) : Type 0 where
   pub agent : agents.StandsFor one (agent_of all.steps)
   pub lane : lanes.StandsFor other (lane_of all.steps) allocations
@@ -53,6 +53,7 @@ pub record StandsAt (endpoint endpoints b : ℕ) (one : AgentState) (other : Lan
   pub upward : EachPosted (IsUpOf endpoint endpoints) all.up
   pub within : ToldWithin b (lane_of all.steps)
   pub rises : ToldRises (lane_of all.steps)
+  pub to : ToldTo endpoints (lane_of all.steps)
 
 -- all that was played, by the sizes of a state
 abbrev pub played_by : RoundsState → List Round → Played

@@ -13,7 +13,6 @@ ghost use Rattle.endpoint_history.specs.Lane.{LaneHistory, MakesDown, packet_dow
 ghost use Rattle.endpoint_history.specs.Counts.{Allocation, recorded, acknowledged, lost, allocated};
 ghost use Rattle.endpoint_history.specs.Entries.{had};
 ghost use Rattle.endpoint_history.specs.Rounds.{Round, entries_by, sent_by, NamedByNoRaw};
-ghost use Rattle.endpoint_history.specs.SlotLaws.{ToldIsOwed};
 ghost use Rattle.endpoint_history.specs.Unharmed.{IsUnharmed};
 ghost use Rattle.endpoint_history.specs.Steps.{agent_of, lane_of};
 ghost use Rattle.endpoint_agent.specs.Lines.{slots_sent};
@@ -36,8 +35,8 @@ use arbiter_lane::Lane;
 use arrayvec::ArrayVec;
 use endpoint_agent::{Agent, Sent};
 use endpoint_history::{
-    allocations_are_in_order, no_loss_or_boot_harms, packets_are_framed_alike, rounds_are_calls,
-    rounds_are_read_in_order,
+    allocations_are_in_order, counts_are_bounded, no_loss_or_boot_harms, packets_are_framed_alike,
+    rounds_are_calls, rounds_are_read_in_order,
 };
 use fcp_framing::{Told, what_is_encoded_is_read_back};
 use flow_ledger::FlowCount;
@@ -151,14 +150,14 @@ impl LaneRounds {
         ensures stands { OnOk result ((rounds : List Round) (allocations : List Allocation) →
             StandsFor self.old rounds allocations →
             StandsFor self.new (round_of self.old.lane.endpoint self.old.lane.endpoints events.now told.now.items ∷ rounds) allocations) }
-        // Where no raw packet names the endpoint and no more is told than is owed, as `count` says of each flow.
+        // Where no raw packet names the endpoint.
         ensures unharmed { OnOk result ((rounds : List Round) (allocations : List Allocation) →
             StandsFor self.old rounds allocations →
             NamedByNoRaw (round_of self.old.lane.endpoint self.old.lane.endpoints events.now told.now.items ∷ rounds) →
-            ToldIsOwed self.new.lane.g (played_by self.new (round_of self.old.lane.endpoint self.old.lane.endpoints events.now told.now.items ∷ rounds)).steps →
             IsUnharmed self.new.lane.endpoints self.new.lane.b self.new.lane.g (round_of self.old.lane.endpoint self.old.lane.endpoints events.now told.now.items ∷ rounds)) }
     {
         no_loss_or_boot_harms();
+        counts_are_bounded();
         rounds_are_calls();
         rounds_are_read_in_order();
         packets_are_framed_alike();

@@ -8,7 +8,7 @@ use Rattle.arbiter_lane.specs.Parts.{CanRise, AreMarked, entries_on}
 use Rattle.arbiter_lane.specs.State.{LaneState}
 use Rattle.arbiter_lane.specs.Standing.{StandsFor}
 use Rattle.arbiter_lane.specs.contracts.lane.Lane.{the_view}
-use Rattle.arbiter_lane.proofs.Held.{Become-written}
+use Rattle.arbiter_lane.proofs.Held.{Become-written, each-told-is-owed}
 use Rattle.arbiter_lane.proofs.Recording.{can_rise, entries-are, stands-recorded, sound-recorded}
 use Rattle.arbiter_lane.proofs.Marking.{marked-written}
 use Rattle.arbiter_lane.proofs.lane.Lane.record.Goals as goal
@@ -47,3 +47,11 @@ returns-clause-stands c = λ history allocations stands.
     let become = Become-written (λ dst. IsEntered) c.self.inside.lines c.deref_mut.result.now c.record.new.lines c.deref_mut.ensures.value c.in_ok-record.ensures.entered in
     let now : was.round ≡ c.args.round = ap (λ (l : LaneState). l.round) c.self.view_is ∙ sym c.requires.round in
     stands-recorded was c.args.round lines history allocations now (subst (λ (l : LaneState). StandsFor l history allocations) (sym c.self.view_is) stands) become
+
+pub returns-clause-told : goal.returns-clause-told
+returns-clause-told c = λ history allocations stands dst below.
+    let was : LaneState = the_view c.self.inside in
+    let lines = (with_items c.self.inside.lines c.record.new.lines).items in
+    let become = Become-written (λ dst. IsEntered) c.self.inside.lines c.deref_mut.result.now c.record.new.lines c.deref_mut.ensures.value c.in_ok-record.ensures.entered in
+    let now : was.round ≡ c.args.round = ap (λ (l : LaneState). l.round) c.self.view_is ∙ sym c.requires.round in
+    each-told-is-owed c.lanes_count_slots.ensures.sums _ (sound-recorded was c.args.round lines now c.self.invariant.0 c.requires.rounds become) history allocations stands dst below

@@ -28,6 +28,7 @@ invariant_of-result c = λ whole.
           upward = tt;
           within = tt;
           rises = tt;
+          to = tt;
         };
       },
     )
@@ -45,4 +46,5 @@ returns-clause-stands c =
       upward = tt;
       within = tt;
       rises = tt;
+      to = tt;
     }

@@ -23,7 +23,7 @@ use Rattle.lane_rounds.specs.Parts.{Each, IsReadDown, IsReadUp, hearing, reading
 use Rattle.lane_rounds.specs.contracts.rounds.LaneRounds.{the_view}
 use Rattle.lane_rounds.proofs.Coming.{Laws}
 use Rattle.lane_rounds.proofs.Playing.{heard_calls, read_calls}
-use Rattle.lane_rounds.proofs.Whole.{HasSizes, LaneSizes, WorldLaws, Run, by_sizes, to_sizes, lane_sizes, sizes-after, lane-after, round_in, number-is, went-down, may-hear-now, ran, stands-next, entries-are, sends-are, refused-are}
+use Rattle.lane_rounds.proofs.Whole.{HasSizes, LaneSizes, WorldLaws, Run, by_sizes, to_sizes, lane_sizes, sizes-after, lane-after, round_in, number-is, went-down, may-hear-now, ran, stands-next, entries-are, sends-are, refused-are, told-is-owed}
 use Rattle.lane_rounds.proofs.rounds.LaneRounds.round.Goals as goal
 
 -- ---- what the parts ask
@@ -526,5 +526,6 @@ returns-clause-stands c =
     stands-next e n b g number ended done c.hear.new.world c.read.new.world true (round_in was events told) rounds allocations done_sizes it.number_is it.all)
 
 pub returns-clause-unharmed : goal.returns-clause-unharmed
-returns-clause-unharmed c = λ rounds allocations stood none owed.
-    c.no_loss_or_boot_harms.ensures _ _ _ _ none (returns-clause-stands c rounds allocations stood).within owed
+returns-clause-unharmed c = λ rounds allocations stood none.
+    let stands = returns-clause-stands c rounds allocations stood in
+    c.no_loss_or_boot_harms.ensures _ _ _ _ none stands.within (told-is-owed c.counts_are_bounded.ensures.beyond _ _ _ _ _ _ _ _ allocations stands c.in_ok-record.ensures.told)
