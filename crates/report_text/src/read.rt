@@ -12,6 +12,7 @@ use crate::fields::{
 pub fn read_line(bytes: &[u8]) -> Option<Line>
     ensures spelled { IfSome result (λ line. bytes.now ≡ line_bytes line) }
     ensures named { IfSome result (λ line. HasName line) }
+    ensures fits { IfSome result (λ line. IsLine line) }
     ensures only { (line : Line) → IsLine line → bytes.now ≡ line_bytes line → result ≡ Some line }
 {
     let (name, values) = bytes.split_at(field_len(bytes));
@@ -31,6 +32,7 @@ pub fn read_line(bytes: &[u8]) -> Option<Line>
 fn read_batch(text: &[u8]) -> Option<Line>
     ensures spelled { IfSome result (λ line. codes "batch" ++ text.now ≡ line_bytes line) }
     ensures named { IfSome result (λ line. HasName line) }
+    ensures fits { IfSome result (λ line. IsLine line) }
     ensures only { (line : Line) → IsLine line → codes "batch" ++ text.now ≡ line_bytes line → result ≡ Some line }
 {
     let mut values = [NUMBER, ENDPOINT, ENDPOINT, 1, NUMBER];
@@ -50,6 +52,7 @@ fn read_batch(text: &[u8]) -> Option<Line>
 fn read_slot(text: &[u8]) -> Option<Line>
     ensures spelled { IfSome result (λ line. codes "slot" ++ text.now ≡ line_bytes line) }
     ensures named { IfSome result (λ line. HasName line) }
+    ensures fits { IfSome result (λ line. IsLine line) }
     ensures only { (line : Line) → IsLine line → codes "slot" ++ text.now ≡ line_bytes line → result ≡ Some line }
 {
     let mut values = [NUMBER, ENDPOINT, ENDPOINT];
@@ -66,6 +69,7 @@ fn read_slot(text: &[u8]) -> Option<Line>
 fn read_sent(text: &[u8]) -> Option<Line>
     ensures spelled { IfSome result (λ line. codes "sent" ++ text.now ≡ line_bytes line) }
     ensures named { IfSome result (λ line. HasName line) }
+    ensures fits { IfSome result (λ line. IsLine line) }
     ensures only { (line : Line) → IsLine line → codes "sent" ++ text.now ≡ line_bytes line → result ≡ Some line }
 {
     let mut values = [NUMBER, ENDPOINT, ENDPOINT];
@@ -83,6 +87,7 @@ fn read_sent(text: &[u8]) -> Option<Line>
 fn read_refused(text: &[u8]) -> Option<Line>
     ensures spelled { IfSome result (λ line. codes "refused" ++ text.now ≡ line_bytes line) }
     ensures named { IfSome result (λ line. HasName line) }
+    ensures fits { IfSome result (λ line. IsLine line) }
     ensures only { (line : Line) → IsLine line → codes "refused" ++ text.now ≡ line_bytes line → result ≡ Some line }
 {
     let mut values = [NUMBER];
@@ -97,6 +102,7 @@ fn read_refused(text: &[u8]) -> Option<Line>
 fn read_flow(text: &[u8]) -> Option<Line>
     ensures spelled { IfSome result (λ line. codes "flow" ++ text.now ≡ line_bytes line) }
     ensures named { IfSome result (λ line. HasName line) }
+    ensures fits { IfSome result (λ line. IsLine line) }
     ensures only { (line : Line) → IsLine line → codes "flow" ++ text.now ≡ line_bytes line → result ≡ Some line }
 {
     let mut values = [ENDPOINT, ENDPOINT, NUMBER, NUMBER, NUMBER];
@@ -116,6 +122,7 @@ fn read_flow(text: &[u8]) -> Option<Line>
 fn read_count(text: &[u8]) -> Option<Line>
     ensures spelled { IfSome result (λ line. codes "count" ++ text.now ≡ line_bytes line) }
     ensures named { IfSome result (λ line. HasName line) }
+    ensures fits { IfSome result (λ line. IsLine line) }
     ensures only { (line : Line) → IsLine line → codes "count" ++ text.now ≡ line_bytes line → result ≡ Some line }
 {
     let mut values = [
@@ -151,6 +158,7 @@ fn read_count(text: &[u8]) -> Option<Line>
 fn read_end(text: &[u8]) -> Option<Line>
     ensures spelled { IfSome result (λ line. codes "end" ++ text.now ≡ line_bytes line) }
     ensures named { IfSome result (λ line. HasName line) }
+    ensures fits { IfSome result (λ line. IsLine line) }
     ensures only { (line : Line) → IsLine line → codes "end" ++ text.now ≡ line_bytes line → result ≡ Some line }
 {
     let mut values = [NUMBER];
@@ -166,6 +174,7 @@ fn read_end(text: &[u8]) -> Option<Line>
 fn read_made(text: &[u8]) -> Option<Line>
     ensures spelled { IfSome result (λ line. codes "made" ++ text.now ≡ line_bytes line) }
     ensures named { IfSome result (λ line. HasName line) }
+    ensures fits { IfSome result (λ line. IsLine line) }
     ensures only { (line : Line) → IsLine line → codes "made" ++ text.now ≡ line_bytes line → result ≡ Some line }
 {
     let mut values = [NUMBER, NUMBER, SUM, SUM, SUM, SUM, SUM, SUM, SUM];

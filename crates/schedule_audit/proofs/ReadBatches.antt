@@ -22,7 +22,7 @@ use Rattle.schedule_audit.specs.Wrong.{batches_of_records}
 use Rattle.schedule_audit.specs.Laws.{GoodRecords}
 use Rattle.report_text.specs.declared.line.Line.{Line}
 use Rattle.report_text.specs.declared.line.Line.TheVariants as line
-use Rattle.schedule_audit.specs.BadLines.{first_from, after_last}
+use Rattle.schedule_audit.specs.BadLines.{first_from, after_last, first_misplaced}
 use Rattle.schedule_audit.specs.Shown.{NoMisplacedLineIsRecorded}
 use Rattle.schedule_audit.proofs.Walk.{AllGood}
 use Rattle.schedule_audit.proofs.Shown.{or_else-none, all_good, ended}
@@ -337,3 +337,32 @@ no_misplaced_line_is_recorded net lines none =
     let last = end_line endpoints lines [] lines all (ended lines one.1) in
     let low = (or_parts (nat_lt 100000 rounds) (reaches rounds (records lines)) (or_parts (nat_lt rounds 1) (nat_lt 100000 rounds || reaches rounds (records lines)) last).1).1 in
     good_records_are_recorded net endpoints rounds (records lines) (record_lines endpoints lines [] lines all) low
+
+-- ---- the batches that the lines of a text give
+
+pub record ReadOff (net : Network) (lines : List (Option Line)) : Type 0 where
+  pub batches : List DemandBatch
+  pub many : length batches ≡ rounds_of lines
+  pub few : rounds_of lines ≤ 100000
+  pub are : AreRecorded (endpoints_of net) (record { hosts = net.hosts; cores = net.cores }) batches
+  pub is : records_of 0 batches ≡ records lines
+  pub same : batches_of_records net (rounds_of lines) (records lines) ≡ batches
+
+pub read_off : (net : Network) (lines : List (Option Line)) → first_misplaced (endpoints_of net) lines ≡ None → ReadOff net lines
+read_off net lines none =
+    let endpoints = endpoints_of net in
+    let rounds = rounds_of lines in
+    let limits : Limits = record { hosts = net.hosts; cores = net.cores } in
+    let one = or_else-none (first_from (is_misplaced endpoints lines) 1 [] lines) (after_last lines) none in
+    let stand = all_good (is_misplaced endpoints lines) 1 [] lines one.0 in
+    let last = end_line endpoints lines [] lines stand (ended lines one.1) in
+    let more = or_parts (nat_lt 100000 rounds) (reaches rounds (records lines)) (or_parts (nat_lt rounds 1) (nat_lt 100000 rounds || reaches rounds (records lines)) last).1 in
+    let all = read_all endpoints rounds 0 rounds limits [] [] (records lines) (omega arith) (at_start endpoints) (record_lines endpoints lines [] lines stand) (from_zero (records lines)) more.1 in
+    record {
+      batches = all.batches;
+      many = all.many;
+      few = ltb-false 100000 rounds more.0;
+      are = all.are;
+      is = all.is;
+      same = ap (λ n. batches_of_records net n (records lines)) (sym all.many) ∙ (ap (λ xs. batches_of_records net (length all.batches) xs) (sym all.is) ∙ batches_again net endpoints all.batches all.are);
+    }

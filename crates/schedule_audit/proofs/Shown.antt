@@ -73,7 +73,7 @@ enough net b expected whole before (Some (line.Made number flows demanded acknow
 
 -- ---- what good paths are
 
-place-true : (p q : Place) → same_place p q ≡ true → p ≡ q
+pub place-true : (p q : Place) → same_place p q ≡ true → p ≡ q
 place-true p q same =
     let parts = and_parts (p.slot == q.slot) (same_flow p.flow q.flow) same in
     ap (λ (n : ℕ). record { slot = n; flow = p.flow }) (eqb-true p.slot q.slot parts.0) ∙ ap (λ (f : Flow). record { slot = q.slot; flow = f }) (same_flow-true p.flow q.flow parts.1)

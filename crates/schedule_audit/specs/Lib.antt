@@ -10,3 +10,15 @@ pub mod Shown
 pub mod Counts
 pub mod ReadLaws
 pub mod Standing
+pub mod Numbered
+pub mod Totals
+pub mod Collecting
+pub mod FlowNumbers
+pub mod Marks
+pub mod Judged
+pub mod Walked
+pub mod Entered
+pub mod Played
+pub mod Summed
+pub mod Judging
+pub mod Audited

@@ -6,19 +6,11 @@ use Rattle.greedy_rules.specs.Flows.{same_flow}
 use Rattle.report_text.specs.declared.line.Line.{Line}
 use Rattle.report_text.specs.declared.line.Line.TheVariants as line
 pub use Rattle.schedule_audit.specs.declared.recorded.Recorded.{Recorded}
+pub use Rattle.schedule_audit.specs.declared.packets.Place.{Place}
+pub use Rattle.schedule_audit.specs.declared.packets.Path.{Path}
 
 abbrev pub flow_of : ℕ → ℕ → Flow
 flow_of src dst = record { src = src; dst = dst }
-
--- a flow in a slot: what a `slot` line allocates, and in what a `sent` line sends
-pub record Place : Type 0 where
-  pub slot : ℕ
-  pub flow : Flow
-
--- and by which core
-pub record Path : Type 0 where
-  pub place : Place
-  pub core : Option ℕ
 
 abbrev pub recorded_by : Option Line → Option Recorded
 recorded_by (Some (line.Batch batch src dst clear add)) = Some (record { batch = batch; flow = flow_of src dst; clear = clear; add = add })

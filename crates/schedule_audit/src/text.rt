@@ -3,7 +3,6 @@ ghost use Rattle.std.specs.Prelude.{◌≡◌, ◌≢◌, ◌<◌, ◌≤◌, �
 ghost use Rattle.report_text.specs.declared.line.Line.{Line};
 ghost use Rattle.schedule_audit.specs.Reading.{Reads, AreLines, BeginsWith};
 
-use crate::fields::line_fits;
 use report_text::{Line, read_line};
 
 /// How many bytes stand before the first line feed.
@@ -21,9 +20,7 @@ fn line_len(text: &[u8]) -> usize
 fn spelled_line(bytes: &[u8]) -> Option<Line>
     ensures { Reads bytes.now result }
 {
-    let line = read_line(bytes)?;
-    line_fits(&line);
-    Some(line)
+    read_line(bytes)
 }
 
 /// The first line of a text, and the text after it. `None` where its bytes spell no line or it has no line feed.

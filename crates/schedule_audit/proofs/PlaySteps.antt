@@ -1,0 +1,202 @@
+-- One round more is played: what the calls ask, and what they come to.
+use Rattle.std.proofs.Common.{◌≡◌, ◌<◌, ◌≤◌, ◌+◌, ◌-◌, ◌*◌, ◌^◌, ◌==◌, not, ℕ, zero, suc, List, [], ◌∷◌, ◌++◌, map, length, drop, replicate, All, refl, sym, ap, ◌∙◌, subst, arith, append_assoc, append-nil, length-append}
+use Rattle.std.proofs.lemmas.List.{length-map, length-drop}
+use Rattle.std.proofs.lemmas.List.Elements.{All-nil, All-cons, All-weaker}
+use Rattle.greedy_rules.specs.declared.flows.Flow.{Flow}
+use Rattle.greedy_rules.specs.declared.flows.Entry.{Entry}
+use Rattle.greedy_rules.specs.declared.flows.Item.{Item}
+use Rattle.greedy_rules.specs.declared.limits.Limits.{Limits}
+use Rattle.greedy_rules.specs.Batches.{DemandBatch, IsBatch, entry_of}
+use Rattle.greedy_rules.specs.Demands.{Demands, HasEachFlowOnce, AreBelow, OpensNewFlows, need_with, opened, after_batch}
+use Rattle.greedy_rules.specs.Limits.{is_barred}
+use Rattle.greedy_rules.specs.SlotTable.{IsSlotOf}
+use Rattle.greedy_rules.specs.Matching.{AreAmong, EverySlotIsInRange}
+use Rattle.greedy_rules.specs.Room.{FlowsFitPairs}
+use Rattle.greedy_rules.specs.Allocation.{batch_slots, list_after_slots, slots_of}
+use Rattle.greedy_rules.specs.Schedule.{schedule, rest, slots_then}
+use Rattle.greedy_rules.specs.Fronts.{FrontsAreFronts, EveryBatchHasItsSlots}
+use Rattle.greedy_rules.specs.Balance.{is_recorded}
+use Rattle.greedy_rules.specs.Recorded.{IsRecordedAfter, AreRecordedAfter, AreRecorded, Applies, LaterBatchesMayBeApplied}
+use Rattle.clos_topology.specs.Network.{Network, endpoints_of}
+use Rattle.schedule_audit.specs.declared.rounds.Rounds.{Rounds}
+use Rattle.schedule_audit.specs.declared.judges.Judges.{Judges}
+use Rattle.schedule_audit.specs.Lines.{Recorded}
+use Rattle.schedule_audit.specs.FlowNumbers.{number_of}
+use Rattle.schedule_audit.specs.Texts.{record_of, records_of}
+use Rattle.schedule_audit.specs.Wrong.{places_from}
+use Rattle.schedule_audit.specs.Judged.{AreBefore}
+use Rattle.schedule_audit.specs.Walked.{JudgesStand}
+use Rattle.schedule_audit.specs.Entered.{Enters, AreSized}
+use Rattle.schedule_audit.specs.Played.{BeginWith, RoundsStand}
+use Rattle.schedule_audit.proofs.RoundSteps.{places-append, places-before, counted-places, ledger-more}
+
+-- ---- recorded batches
+
+pub recorded-here : (endpoints : ℕ) (limits : Limits) (earlier front : List DemandBatch) (batch : DemandBatch) (later : List DemandBatch) → AreRecordedAfter endpoints limits earlier (front ++ batch ∷ later) → IsRecordedAfter endpoints limits (earlier ++ front) batch
+recorded-here endpoints limits earlier [] batch later are = subst (λ xs. IsRecordedAfter endpoints limits xs batch) (sym (append-nil earlier)) are.0
+recorded-here endpoints limits earlier (x ∷ front) batch later are =
+    subst (λ xs. IsRecordedAfter endpoints limits xs batch) (append_assoc earlier (x ∷ []) front) (recorded-here endpoints limits (earlier ++ x ∷ []) front batch later are.1)
+
+pub among-front : (endpoints : ℕ) (limits : Limits) (earlier front later : List DemandBatch) → AreRecordedAfter endpoints limits earlier (front ++ later) → All (λ (b : DemandBatch). AreAmong endpoints b.entries) front
+among-front endpoints limits earlier [] later are = All-nil (λ (b : DemandBatch). AreAmong endpoints b.entries)
+among-front endpoints limits earlier (x ∷ front) later are =
+    All-cons (λ (b : DemandBatch). AreAmong endpoints b.entries) x front are.0.in_range (among-front endpoints limits (earlier ++ x ∷ []) front later are.1)
+
+drop-all : {X : Type 0} (xs ys : List X) → drop (length xs) (xs ++ ys) ≡ ys
+drop-all [] ys = refl
+drop-all (x ∷ xs) ys = drop-all xs ys
+
+drop-none : {X : Type 0} (n : ℕ) → drop {A = X} n [] ≡ []
+drop-none zero = refl
+drop-none (suc n) = refl
+
+drop-more : {X : Type 0} (m n : ℕ) (xs : List X) → drop (m + n) xs ≡ drop n (drop m xs)
+drop-more zero n xs = ap (λ k. drop k xs) (plain n)
+  where
+    plain : (n : ℕ) → 0 + n ≡ n
+    plain n = omega arith
+drop-more (suc m) n [] = drop-none (suc m + n) ∙ sym (drop-none n)
+drop-more (suc m) n (x ∷ xs) = ap (λ k. drop k (x ∷ xs)) (next m n) ∙ drop-more m n xs
+  where
+    next : (m n : ℕ) → suc m + n ≡ suc (m + n)
+    next m n = omega arith
+
+none-behind : {X : Type 0} (xs : List X) (n b : ℕ) (x : X) → n ≡ b → xs ++ replicate (n - b) x ≡ xs
+none-behind xs n b x is = ap (λ k. xs ++ replicate k x) (zero-left n b is) ∙ append-nil xs
+  where
+    zero-left : (n b : ℕ) → n ≡ b → n - b ≡ 0
+    zero-left n b is = omega (arith, is)
+
+-- ---- what a batch asks of the list
+
+pub record Asks (endpoints : ℕ) (batch : DemandBatch) (list : Demands) : Type 0 where
+  pub once : HasEachFlowOnce list.items
+  pub opens : OpensNewFlows batch.entries list.items
+  pub room : length (opened batch.entries) ≤ list.spare
+  pub needs : All (λ item. need_with (entry_of batch.entries item.flow) item.need < 2 ^ 32) list.items
+  pub below : AreBelow endpoints (list.items ++ opened batch.entries)
+
+module _ (net : Network) (b : ℕ) (front : List DemandBatch) (batch : DemandBatch) (later : List DemandBatch) (rounds : Rounds) (stands : RoundsStand net b front (batch ∷ later) rounds) where
+  abbrev N : ℕ
+  N = endpoints_of net
+
+  abbrev limits : Limits
+  limits = record { hosts = net.hosts; cores = net.cores }
+
+  here : IsRecordedAfter N limits front batch
+  here = recorded-here N limits [] front batch later stands.recorded
+
+  pub batch-is : batch ≡ record { entries = batch.entries; limits = limits }
+  batch-is = ap (λ l. record { entries = batch.entries; limits = l }) here.same_limits
+
+  pub given-is : (given : DemandBatch) (hosts cores : ℕ) → given ≡ record { entries = batch.entries; limits = record { hosts = hosts; cores = cores } } → hosts ≡ net.hosts → cores ≡ net.cores → given ≡ batch
+  given-is given hosts cores is of_hosts of_cores =
+      is ∙ (ap (λ (n : ℕ). record { entries = batch.entries; limits = record { hosts = n; cores = cores } }) of_hosts
+      ∙ (ap (λ (n : ℕ). record { entries = batch.entries; limits = record { hosts = net.hosts; cores = n } }) of_cores ∙ sym batch-is))
+
+  pub batch-rises : IsBatch batch.entries
+  batch-rises = here.rises
+
+  pub among : AreAmong N batch.entries
+  among = here.in_range
+
+  -- the records of the round come first
+  pub begins : (k : ℕ) (todo : List Recorded) → length front ≡ k → todo ≡ drop rounds.next rounds.records.items → BeginWith k rounds.ledger.seen batch.entries later todo
+  begins k todo long is = record {
+    records = is ∙ (stands.todo ∙ ap (λ n. map (record_of n) batch.entries ++ records_of (n + 1) later) long);
+    rises = here.rises;
+    opens = All-weaker (λ (e : Entry). e.opens ≡ not (is_recorded front e.flow)) (λ (e : Entry). e.opens ≡ (number_of rounds.ledger.seen e.flow == 0)) (λ e opens. opens ∙ sym (stands.ledger.seen e.flow)) batch.entries here.opens;
+  }
+
+  pub applied : LaterBatchesMayBeApplied → (given : DemandBatch) → given ≡ batch → Applies N given rounds.list.items
+  applied may given is =
+      subst (λ x. Applies N x rounds.list.items) (sym is) (subst (λ xs. Applies N batch xs) (sym stands.list) (may N b limits front (batch ∷ later) stands.recorded).0)
+
+  pub asks : LaterBatchesMayBeApplied → FlowsFitPairs → (given : DemandBatch) → given ≡ batch → Asks N given rounds.list
+  asks may fit given is =
+      let one = applied may given is in
+      let few = fit N given.entries rounds.list.items one.rises one.opens one.once one.below one.apart in
+      record { once = one.once; opens = one.opens; room = (let room = stands.room in omega (arith, few, room)); needs = one.needs; below = one.below }
+
+  -- ---- the slots so far
+
+  pub so_far : EverySlotIsInRange → All (IsSlotOf N) (schedule b front)
+  so_far ranged = ranged N b front (among-front N limits [] front (batch ∷ later) stands.recorded)
+
+  schedule-long : EveryBatchHasItsSlots → length (schedule b front) ≡ length front * b
+  schedule-long counts = counts b 0 [] front
+
+  pub visited-before : EverySlotIsInRange → EveryBatchHasItsSlots → N ≤ 256 → (first : ℕ) → first ≡ length front * b + 1 → AreBefore (first * 65536) (places_from 1 (schedule b front))
+  visited-before ranged counts few first is =
+      let at : 1 + length (schedule b front) ≡ first = (let long = schedule-long counts in omega (arith, long, is)) in
+      subst (λ n. AreBefore (n * 65536) (places_from 1 (schedule b front))) at (places-before N 1 (schedule b front) (omega (arith, few)) (so_far ranged))
+
+  -- ---- what the batch comes to
+
+  slots-now : (first : ℕ) (given : DemandBatch) (slots : List (List Flow)) (n : ℕ) → given ≡ batch → first ≡ length front * b + 1 → n ≡ b
+      → slots ≡ batch_slots (is_barred given.limits) first b (after_batch given.entries rounds.list.items) ++ replicate (n - b) [] → slots ≡ slots_then b (length front) batch (rest b front)
+  slots-now first given slots n is at all so =
+      so ∙ (none-behind (batch_slots (is_barred given.limits) first b (after_batch given.entries rounds.list.items)) n b [] all
+      ∙ (ap (λ (x : DemandBatch). batch_slots (is_barred x.limits) first b (after_batch x.entries rounds.list.items)) is
+      ∙ (ap (λ m. batch_slots (is_barred batch.limits) m b (after_batch batch.entries rounds.list.items)) at
+      ∙ ap (λ xs. batch_slots (is_barred batch.limits) (length front * b + 1) b (after_batch batch.entries xs)) stands.list)))
+
+  slots-long : EveryBatchHasItsSlots → length (slots_then b (length front) batch (rest b front)) ≡ b
+  slots-long counts =
+      let long : length (slots_then b (length front) batch (rest b front) ++ []) ≡ 1 * b = counts b (length front) (rest b front) (batch ∷ []) in
+      ap (λ xs. length xs) (sym (append-nil (slots_then b (length front) batch (rest b front)))) ∙ (long ∙ omega arith)
+
+  pub slots-count : EveryBatchHasItsSlots → (first : ℕ) (given : DemandBatch) (slots : List (List Flow)) (n : ℕ) → given ≡ batch → first ≡ length front * b + 1 → n ≡ b
+      → slots ≡ batch_slots (is_barred given.limits) first b (after_batch given.entries rounds.list.items) ++ replicate (n - b) [] → length slots ≡ b
+  slots-count counts first given slots n is at all so = ap (λ xs. length xs) (slots-now first given slots n is at all so) ∙ slots-long counts
+
+  schedule-more : FrontsAreFronts → schedule b (front ++ batch ∷ []) ≡ schedule b front ++ slots_then b (length front) batch (rest b front)
+  schedule-more fronts = (fronts b front (batch ∷ [])).0 ∙ ap (λ xs. schedule b front ++ xs) (append-nil (slots_then b (length front) batch (rest b front)))
+
+  pub places-more : FrontsAreFronts → EveryBatchHasItsSlots → (first : ℕ) (given : DemandBatch) (slots : List (List Flow)) (n : ℕ) → given ≡ batch → first ≡ length front * b + 1 → n ≡ b
+      → slots ≡ batch_slots (is_barred given.limits) first b (after_batch given.entries rounds.list.items) ++ replicate (n - b) [] → places_from 1 (schedule b front) ++ places_from first slots ≡ places_from 1 (schedule b (front ++ batch ∷ []))
+  places-more fronts counts first given slots n is at all so =
+      let long = schedule-long counts in
+      let next : first ≡ 1 + length (schedule b front) = omega (arith, at, long) in
+      ap (λ m. places_from 1 (schedule b front) ++ places_from m slots) next
+      ∙ (ap (λ xs. places_from 1 (schedule b front) ++ places_from (1 + length (schedule b front)) xs) (slots-now first given slots n is at all so)
+      ∙ (sym (places-append 1 (schedule b front) (slots_then b (length front) batch (rest b front))) ∙ ap (λ xs. places_from 1 xs) (sym (schedule-more fronts))))
+
+  list-now : FrontsAreFronts → (first : ℕ) (given : DemandBatch) (items : List Item) → given ≡ batch → first ≡ length front * b + 1
+      → items ≡ list_after_slots (is_barred given.limits) first b (after_batch given.entries rounds.list.items) → items ≡ rest b (front ++ batch ∷ [])
+  list-now fronts first given items is at so =
+      so ∙ (ap (λ (x : DemandBatch). list_after_slots (is_barred x.limits) first b (after_batch x.entries rounds.list.items)) is
+      ∙ (ap (λ m. list_after_slots (is_barred batch.limits) m b (after_batch batch.entries rounds.list.items)) at
+      ∙ (ap (λ xs. list_after_slots (is_barred batch.limits) (length front * b + 1) b (after_batch batch.entries xs)) stands.list
+      ∙ sym (fronts b front (batch ∷ [])).1)))
+
+  pub counted-so-far : EverySlotIsInRange → (judges : Judges) → JudgesStand (places_from 1 (schedule b front)) judges → (flow : Flow) → number_of judges.slots flow ≡ slots_of flow (schedule b front)
+  counted-so-far ranged judges judged flow = judged.slots flow ∙ counted-places N 1 flow (schedule b front) (so_far ranged)
+
+  -- the rounds, with this one
+  pub played-more : FrontsAreFronts → EveryBatchHasItsSlots → EverySlotIsInRange → (judges : Judges) → JudgesStand (places_from 1 (schedule b front)) judges → (given : DemandBatch) (first n : ℕ) (new : Rounds) → given ≡ batch
+      → first ≡ length front * b + 1 → n ≡ b → new.records ≡ rounds.records → new.next ≡ rounds.next + length given.entries → Enters given.entries judges.slots rounds.ledger new.ledger → AreSized rounds.ledger.seen.endpoints new.ledger
+      → new.list.items ≡ list_after_slots (is_barred given.limits) first b (after_batch given.entries rounds.list.items) → length new.list.items + new.list.spare ≡ length rounds.list.items + rounds.list.spare
+      → new.table.slots ≡ batch_slots (is_barred given.limits) first b (after_batch given.entries rounds.list.items) ++ replicate (n - b) [] → new.table.endpoints ≡ rounds.table.endpoints → RoundsStand net b (front ++ batch ∷ []) later new
+  played-more fronts counts ranged judges judged given first n new is at all kept next enters sized items room slots ends =
+      let entries : given.entries ≡ batch.entries = ap (λ (x : DemandBatch). x.entries) is in
+      let many : length given.entries ≡ length (map (record_of (length front)) batch.entries) = ap (λ xs. length xs) entries ∙ sym (length-map batch.entries (record_of (length front))) in
+      let left = ap (λ xs. length xs) stands.todo in
+      record {
+        recorded = subst (λ xs. AreRecorded N limits xs) (sym (append_assoc front (batch ∷ []) later)) stands.recorded;
+        within = subst (λ v. new.next ≤ length v.items) (sym kept)
+            (let dropped = length-drop rounds.next rounds.records.items in let low = stands.within in
+            omega (arith, next, many, left, dropped, low, length-append (map (record_of (length front)) batch.entries) (records_of (length front + 1) later)));
+        todo = ap (λ v. drop new.next v.items) kept
+            ∙ (ap (λ m. drop m rounds.records.items) next
+            ∙ (drop-more rounds.next (length given.entries) rounds.records.items
+            ∙ (ap (λ xs. drop (length given.entries) xs) stands.todo
+            ∙ (ap (λ m. drop m (map (record_of (length front)) batch.entries ++ records_of (length front + 1) later)) many
+            ∙ (drop-all (map (record_of (length front)) batch.entries) (records_of (length front + 1) later) ∙ ap (λ m. records_of m later) (sym (length-append front (batch ∷ []))))))));
+        ledger = ledger-more b front batch judges.slots rounds.ledger new.ledger fronts counts here.rises (counted-so-far ranged judges judged) stands.ledger (subst (λ xs. Enters xs judges.slots rounds.ledger new.ledger) entries enters);
+        sized = subst (λ m. AreSized m new.ledger) stands.sized.seen sized;
+        list = list-now fronts first given new.list.items is at items;
+        room = (let was = stands.room in omega (arith, was, room));
+        slots = slots-count counts first given new.table.slots n is at all slots;
+        endpoints = ends ∙ stands.endpoints;
+      }

@@ -1,0 +1,35 @@
+-- A schedule that goes by, place after place (this project's own profile).
+use Rattle.std.specs.Prelude.{◌≡◌, ◌<◌, ◌≤◌, ℕ, List, length, map, count_by, All}
+use Rattle.greedy_rules.specs.declared.flows.Flow.{Flow}
+use Rattle.greedy_rules.specs.Flows.{same_flow}
+use Rattle.clos_topology.specs.Network.{endpoints_of}
+use Rattle.schedule_audit.specs.declared.judges.Judges.{Judges}
+use Rattle.schedule_audit.specs.Lines.{Place}
+use Rattle.schedule_audit.specs.FlowNumbers.{number_of}
+use Rattle.schedule_audit.specs.Marks.{HaveMarks}
+use Rattle.schedule_audit.specs.Judged.{PathsStand, SendsStand, AreBefore}
+
+-- the places of a slot whose flows these are
+abbrev pub in_slot : ℕ → List Flow → List Place
+in_slot slot flows = map (λ flow. record { slot = slot; flow = flow }) flows
+
+-- these places went by
+pub record JudgesStand (visited : List Place) (judges : Judges) : Type 0 where
+  pub paths : PathsStand judges.net visited judges.paths
+  pub marks : HaveMarks judges.net judges.paths.links
+  pub sends : SendsStand visited judges.sends
+  pub slots : (flow : Flow) → number_of judges.slots flow ≡ count_by (λ place. same_flow place.flow flow) visited
+  pub sizes : endpoints_of judges.net ≤ 256
+  pub between : judges.slots.endpoints ≡ endpoints_of judges.net
+  pub count : judges.places ≡ length visited
+  pub few : (order : ℕ) → AreBefore order visited → length visited ≤ order
+
+-- the text that is judged stays
+pub record IsSameText (old new : Judges) : Type 0 where
+  pub net : new.net ≡ old.net
+  pub paths : new.paths.lines ≡ old.paths.lines
+  pub sends : new.sends.lines ≡ old.sends.lines
+
+-- these flows are between so many endpoints
+abbrev pub AreBetween : ℕ → List Flow → Type 0
+AreBetween endpoints flows = All (λ flow. (flow.src < endpoints) × (flow.dst < endpoints)) flows

@@ -1,0 +1,58 @@
+//! A schedule goes by, slot after slot.
+ghost use Rattle.std.specs.Prelude.{◌≡◌, ◌<◌, ◌≤◌, ◌+◌, ◌*◌, ◌^◌, ◌++◌, ◌∷◌, [], List, length};
+ghost use Rattle.clos_topology.specs.Network.{endpoints_of};
+ghost use Rattle.greedy_rules.specs.SlotTable.{flows_from};
+ghost use Rattle.schedule_audit.specs.Lines.{Place};
+ghost use Rattle.schedule_audit.specs.Wrong.{places_from};
+ghost use Rattle.schedule_audit.specs.Judged.{AreBefore};
+ghost use Rattle.schedule_audit.specs.Walked.{in_slot, JudgesStand, IsSameText, AreBetween};
+
+use crate::judges::Judges;
+use crate::packets::Place;
+use greedy_rules::{Flow, SlotTable};
+
+/// Takes the packet of a source in a slot, if it sends one.
+fn walk_cell(judges: &mut Judges, slot: u32, src: u16, to: Option<u16>)
+    requires slot { 0 < slot }
+    requires flows { AreBetween (endpoints_of judges.old.net) (flows_from src (to ∷ [])) }
+    requires stands { (visited : List Place) × AreBefore (slot * 65536 + src) visited × JudgesStand visited judges.old }
+    ensures stands { (visited : List Place) → AreBefore (slot * 65536 + src) visited → JudgesStand visited judges.old → JudgesStand (visited ++ in_slot slot (flows_from src (to ∷ []))) judges.new }
+    ensures text { IsSameText judges.old judges.new }
+{
+    if let Some(dst) = to {
+        let flow = Flow { src, dst };
+        judges.visit(Place { slot, flow });
+    }
+}
+
+/// Takes the packets of a slot, by a row that holds each source's destination.
+fn walk_row(judges: &mut Judges, slot: u32, row: &[Option<u16>], endpoints: u16)
+    requires slot { 0 < slot }
+    requires row { length row.now ≡ endpoints }
+    requires flows { AreBetween (endpoints_of judges.old.net) (flows_from 0 row.now) }
+    requires stands { (visited : List Place) × AreBefore (slot * 65536) visited × JudgesStand visited judges.old }
+    ensures stands { (visited : List Place) → AreBefore (slot * 65536) visited → JudgesStand visited judges.old → JudgesStand (visited ++ in_slot slot (flows_from 0 row.now)) judges.new }
+    ensures text { IsSameText judges.old judges.new }
+{
+    for src in 0..endpoints {
+        walk_cell(judges, slot, src, row[src as usize]);
+    }
+}
+
+/// Takes the packets of a table of slots.
+pub(crate) fn walk(judges: &mut Judges, table: &SlotTable, first_slot: u32, b: u8)
+    requires first { 0 < first_slot }
+    requires numbers { first_slot + b ≤ 2 ^ 32 }
+    requires slots { length table.now.slots ≡ b }
+    requires endpoints { table.now.endpoints ≡ endpoints_of judges.old.net }
+    requires stands { (visited : List Place) × AreBefore (first_slot * 65536) visited × JudgesStand visited judges.old }
+    ensures stands { (visited : List Place) → AreBefore (first_slot * 65536) visited → JudgesStand visited judges.old → JudgesStand (visited ++ places_from first_slot table.now.slots) judges.new }
+    ensures text { IsSameText judges.old judges.new }
+{
+    let _slots = table.slots();
+    let endpoints = table.endpoints();
+    for offset in 0..b {
+        let slot = first_slot + u32::from(offset);
+        walk_row(judges, slot, table.row(u16::from(offset)), endpoints);
+    }
+}
