@@ -1,0 +1,6 @@
+mod Arriving
+pub mod Crossing
+mod Entering
+mod Lines
+mod Reading
+mod Twos
