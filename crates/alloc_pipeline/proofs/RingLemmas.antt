@@ -1,69 +1,21 @@
--- A window, and what was picked of its list.
-use Rattle.std.proofs.Common.{◌≡◌, ◌<◌, ◌≤◌, ◌+◌, ◌-◌, ◌*◌, ℕ, List, [], ◌∷◌, length, false, true, not, ◌==◌, sym, ap, ◌∙◌, subst, arith}
-use Rattle.std.proofs.lemmas.Nat.{mul-le}
-use Rattle.std.proofs.lemmas.Bool.{and_parts, eqb-true, not-true}
-use Rattle.std.proofs.lemmas.List.Elements.{All-weaker}
-use Rattle.greedy_rules.specs.declared.flows.Flow.{Flow}
+-- What batches leave of a list.
+use Rattle.std.proofs.Common.{◌≡◌, ◌+◌, ◌*◌, ℕ, List, [], ◌∷◌, length, subst, arith}
 use Rattle.greedy_rules.specs.declared.flows.Item.{Item}
 use Rattle.greedy_rules.specs.Batches.{DemandBatch}
 use Rattle.greedy_rules.specs.Limits.{is_barred}
-use Rattle.greedy_rules.specs.Schedule.{first_slot, list_then, schedule_from, rest_from}
+use Rattle.greedy_rules.specs.Schedule.{first_slot, list_then, rest_from}
 use Rattle.greedy_rules.specs.Recorded.{MayBeApplied}
-use Rattle.greedy_rules.specs.Room.{FlowsFitPairs}
-use Rattle.slot_batches.specs.Marks.{WindowMarks, has_mark}
-use Rattle.slot_batches.specs.Woven.{picked, woven, OnlyOpen, HaveNoEntry, NeedNothing, ItemsMayBeSetAside, ListedFlowsAreOpen}
-use Rattle.alloc_pipeline.specs.Picked.{is_aside}
-use Rattle.slot_batches.specs.NextList.{IsListBefore, EveryBatchKeepsItsFlows}
+use Rattle.slot_batches.specs.NextList.{IsListBefore, EveryBatchLeavesAList}
 
--- a list that a batch may be applied to has no more items than there are pairs of endpoints, and so has what batches leave of it
-module _ (endpoints b : ℕ) (fit : FlowsFitPairs) (flows : EveryBatchKeepsItsFlows) where
-  fewer_pairs : endpoints * (endpoints - 1) ≤ endpoints * endpoints
-  fewer_pairs = mul-le endpoints (endpoints - 1) endpoints endpoints (omega arith) (omega arith)
+slots_on : (k b : ℕ) → k * b + 1 + b ≡ (k + 1) * b + 1
+slots_on k b = grind arith
 
-  few_left : (k : ℕ) (list : List Item) (batches : List DemandBatch) → length list ≤ endpoints * endpoints → MayBeApplied endpoints b k list batches
-      → length (rest_from b k list batches) ≤ endpoints * endpoints
-  few_left k list [] few may = few
-  few_left k list (batch ∷ batches) few may =
-      let now = fit endpoints batch.entries list may.0.rises may.0.opens may.0.once may.0.below may.0.apart in
-      let more = flows (is_barred batch.limits) (first_slot b k) b batch.entries list in
-      few_left (k + 1) (list_then b k batch list) batches (omega (arith, now, more, fewer_pairs)) may.1
-
-  pub few_found : (k : ℕ) (list : List Item) (batches : List DemandBatch) → 0 < length batches → MayBeApplied endpoints b k list batches → length list ≤ endpoints * endpoints
-  few_found k list [] some may = absurd (omega arith)
-  few_found k list (batch ∷ batches) some may = let now = fit endpoints batch.entries list may.0.rises may.0.opens may.0.once may.0.below may.0.apart in omega (arith, now, fewer_pairs)
-
-  pub few_rest : (k : ℕ) (list : List Item) (batches : List DemandBatch) → 0 < length batches → MayBeApplied endpoints b k list batches
-      → length (rest_from b k list batches) ≤ endpoints * endpoints
-  few_rest k list batches some may = few_left k list batches (few_found k list batches some may) may
-
--- what was picked of a window's list, for its batches
-pub record IsPicked (endpoints b first : ℕ) (marks : WindowMarks) (list found : List Item) (batches : List DemandBatch) : Type 0 where
-  pub may : MayBeApplied endpoints b first found batches
-  pub before : IsListBefore (first_slot b first) found
-  pub few : length (rest_from b first found batches) ≤ endpoints * endpoints
-  pub slots : schedule_from b first found batches ≡ schedule_from b first list batches
-  pub rest : woven (is_aside marks) list (rest_from b first found batches) ≡ rest_from b first list batches
-  pub few_whole : length (rest_from b first list batches) ≤ endpoints * endpoints
-
-need_nothing : (endpoints b first : ℕ) (marks : WindowMarks) (list : List Item) (batches : List DemandBatch) → ListedFlowsAreOpen → MayBeApplied endpoints b first list batches
-    → ((flow : Flow) → has_mark marks flow ≡ false → OnlyOpen batches flow) → NeedNothing (is_aside marks) batches list
-need_nothing endpoints b first marks list batches listed may unmarked =
-    All-weaker (λ item. OnlyOpen batches item.flow → HaveNoEntry batches item.flow) (λ item. is_aside marks item ≡ true → (item.need ≡ 0) × HaveNoEntry batches item.flow)
-    (λ item none out. let parts = and_parts (item.need == 0) (not (has_mark marks item.flow)) out in (eqb-true _ _ parts.0, none (unmarked item.flow (not-true _ parts.1)))) list
-    (listed endpoints b first list batches may)
-
-pub picked_window : (endpoints b first : ℕ) (marks : WindowMarks) (list items found : List Item) (batches : List DemandBatch) → FlowsFitPairs → EveryBatchKeepsItsFlows → ItemsMayBeSetAside → ListedFlowsAreOpen
-    → 0 < length batches → MayBeApplied endpoints b first list batches → IsListBefore (first_slot b first) list → ((flow : Flow) → has_mark marks flow ≡ false → OnlyOpen batches flow)
-    → items ≡ list → found ≡ picked (is_aside marks) items → IsPicked endpoints b first marks list found batches
-picked_window endpoints b first marks list items found batches fit flows set_aside listed some may before unmarked items_are found_are =
-    let law = set_aside endpoints b first (is_aside marks) list batches before may (need_nothing endpoints b first marks list batches listed may unmarked) in
-    let is : found ≡ picked (is_aside marks) list = found_are ∙ ap (picked (is_aside marks)) items_are in
-    let may_found : MayBeApplied endpoints b first found batches = subst (λ (xs : List Item). MayBeApplied endpoints b first xs batches) (sym is) law.may in
-    record {
-      may = may_found;
-      before = subst (IsListBefore (first_slot b first)) (sym is) law.before;
-      few = few_rest endpoints b fit flows first found batches some may_found;
-      slots = ap (λ (xs : List Item). schedule_from b first xs batches) is ∙ law.slots;
-      rest = ap (λ (xs : List Item). woven (is_aside marks) list (rest_from b first xs batches)) is ∙ law.rest;
-      few_whole = few_rest endpoints b fit flows first list batches some may;
-    }
+-- batches leave a list before the slot that follows them
+pub left_before : (endpoints b k : ℕ) (list : List Item) (batches : List DemandBatch) → EveryBatchLeavesAList → MayBeApplied endpoints b k list batches → IsListBefore (first_slot b k) list
+    → IsListBefore (first_slot b (k + length batches)) (rest_from b k list batches)
+left_before endpoints b k list [] leaves may before = let here : k ≡ k + 0 = omega arith in subst (λ (n : ℕ). IsListBefore (first_slot b n) list) here before
+left_before endpoints b k list (batch ∷ batches) leaves may before =
+    let then : List Item = list_then b k batch list in
+    let after = leaves (is_barred batch.limits) (first_slot b k) b batch.entries list (omega arith) may.0.rises may.0.opens before in
+    let number : k + 1 + length batches ≡ k + length (batch ∷ batches) = omega arith in
+    subst (λ (n : ℕ). IsListBefore (first_slot b n) (rest_from b (k + 1) then batches)) number (left_before endpoints b (k + 1) then batches leaves may.1 (subst (λ (n : ℕ). IsListBefore n then) (slots_on k b) after))

@@ -1,3 +1,8 @@
 pub mod Ring
-pub mod Idle
-pub mod Picked
+pub mod Rules
+pub mod Steps
+pub mod Players
+pub mod Rings
+pub mod Joined
+pub mod Starts
+pub mod Crews

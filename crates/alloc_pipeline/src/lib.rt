@@ -1,12 +1,18 @@
-//! The batches of a window, allocated one after the other: the slots of each batch are those of the greedy allocation of the
-//! list that the batch before it left. Items that need nothing in the window are set aside for it.
+//! The batches of a window, allocated one after the other by a ring of workers, each in a thread of its own: they hand the demand
+//! list on to one another piece by piece, through queues under a rule.
 #![tactic(auto)]
 
-mod batches;
-mod in_place;
-mod picked;
+mod crew;
+mod edge;
+mod ends;
+mod link;
+mod parcel;
+mod play;
+mod player;
+mod rejoin;
 mod ring;
-mod weave;
+mod rule;
+mod start;
 
 pub use no_memory::NoMemory;
 pub use ring::Ring;

@@ -87,23 +87,23 @@ fn run_on<R: Threads + Wait + Sync>(
     ))
 }
 
-// What is written where the words name no number of path workers; with 1, 2 and 16 it is the same.
-fn run_with_any_paths<R: Abort + Threads + Wait + Sync>(
+// What is written where the words name no number of workers; with these it is the same.
+fn run_with_any_workers<R: Abort + Threads + Wait + Sync>(
     rt: &R,
     alloc: Global,
     words: &[&'static str],
     trace: &[u8],
 ) -> Result<Came, Fail> {
     let came = run_on(rt, alloc, words, trace)?;
-    for paths in ["1", "2", "16"] {
+    for (workers, paths) in [("1", "2"), ("2", "16"), ("3", "1"), ("16", "3")] {
         let mut told = Vec::new(alloc);
         told.extend_from_slice(words)?;
-        told.extend_from_slice(&["--paths", paths])?;
+        told.extend_from_slice(&["--workers", workers, "--paths", paths])?;
         let same = run_on(rt, alloc, &told, trace)?;
         assert_eq!(rt; same.status, came.status);
         assert!(rt;
             same.out.held() == came.out.held(),
-            "with {paths} path workers"
+            "with {workers} workers and {paths} path workers"
         );
         assert!(rt; same.notes.held() == came.notes.held());
     }
@@ -141,7 +141,7 @@ fn plans_are_written_whole(rt: HostRuntime) -> Result<(), Fail> {
         ),
     ];
     for (words, trace, text) in cases.iter() {
-        let came = run_with_any_paths(&rt, rt.alloc(), words, trace)?;
+        let came = run_with_any_workers(&rt, rt.alloc(), words, trace)?;
         assert_eq!(rt; came.status, 0);
         assert!(rt; came.out.held() == *text);
         assert!(rt; came.notes.held().is_empty());
@@ -170,7 +170,7 @@ fn a_batch_of_64_slots_leaves_the_rest(rt: HostRuntime) -> Result<(), Fail> {
         ),
     ];
     for (trace, slots, end) in cases.iter() {
-        let came = run_with_any_paths(&rt, rt.alloc(), &["plan", "--batch", "64"], trace)?;
+        let came = run_with_any_workers(&rt, rt.alloc(), &["plan", "--batch", "64"], trace)?;
         assert_eq!(rt; came.status, 0);
         let mut lines = came.out.held().split(|byte| *byte == b'\n').skip(1);
         for slot in 1..=*slots {
@@ -184,7 +184,7 @@ fn a_batch_of_64_slots_leaves_the_rest(rt: HostRuntime) -> Result<(), Fail> {
 
 #[test]
 fn other_words_are_refused(rt: HostRuntime) -> Result<(), Fail> {
-    let cases: [&[&str]; 22] = [
+    let cases: [&[&str]; 25] = [
         &[],
         &["plan", "--batch", "0"],
         &["plan", "--batch", "65"],
@@ -201,6 +201,9 @@ fn other_words_are_refused(rt: HostRuntime) -> Result<(), Fail> {
         &["plan", "--paths", "0"],
         &["plan", "--paths", "17"],
         &["plan", "--paths", "2", "--batch", "2", "--paths", "2"],
+        &["plan", "--workers", "0"],
+        &["plan", "--workers", "17"],
+        &["replay", "--workers", "2", "--workers", "2"],
         &["make"],
         &["make", "07"],
         &["make", "+7"],

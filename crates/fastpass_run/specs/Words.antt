@@ -32,8 +32,9 @@ abbrev pub with_option : List ℕ → List ℕ → Options → Option Options
 with_option name value options =
     if is_word (codes "--batch") name && is_none options.batch then option_map (λ n. record options { batch = Some n }) (plain_up_to 64 value)
     else (if is_word (codes "--window") name && is_none options.window then option_map (λ n. record options { window = Some n }) (plain_up_to 16 value)
+    else (if is_word (codes "--workers") name && is_none options.workers then option_map (λ n. record options { workers = Some n }) (plain_up_to 16 value)
     else (if is_word (codes "--paths") name && is_none options.paths then option_map (λ n. record options { paths = Some n }) (plain_up_to 16 value)
-    else None))
+    else None)))
 
 abbrev pub options_then : (Options → Option Options) → Option Options → Option Options
 options_then more None = None
@@ -46,7 +47,7 @@ options_of (name ∷ []) options = None
 options_of (name ∷ (value ∷ words)) options = options_then (options_of words) (with_option name value options)
 
 abbrev pub no_options : Options
-no_options = record { batch = None; window = None; paths = None }
+no_options = record { batch = None; window = None; workers = None; paths = None }
 
 abbrev pub command_of : List ℕ → Option Command
 command_of word = if is_word (codes "plan") word then Some Plan else (if is_word (codes "replay") word then Some Replay else None)
@@ -64,7 +65,7 @@ abbrev pub asked_with : Option Input → Option Options → Option Asked
 asked_with None options = None
 asked_with (Some input) None = None
 asked_with (Some input) (Some options) =
-    Some (record { input = input; b = unwrap_or options.batch 8; g = unwrap_or options.window 8; workers = 4; paths = unwrap_or options.paths 2 })
+    Some (record { input = input; b = unwrap_or options.batch 8; g = unwrap_or options.window 8; workers = unwrap_or options.workers 4; paths = unwrap_or options.paths 2 })
 
 -- a number and then pairs
 abbrev pub asked_to_make : List (List ℕ) → Option Asked
@@ -86,4 +87,5 @@ asked_in task = record { input = task.input; b = task.sizes.b; g = task.sizes.g;
 pub record AreWithin (options : Options) : Type 0 where
   pub some_slots : IfSome options.batch (λ n. (0 < n) × (n ≤ 64))
   pub some_rounds : IfSome options.window (λ n. (0 < n) × (n ≤ 16))
+  pub some_workers : IfSome options.workers (λ n. (0 < n) × (n ≤ 16))
   pub some_paths : IfSome options.paths (λ n. (0 < n) × (n ≤ 16))

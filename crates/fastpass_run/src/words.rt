@@ -17,8 +17,11 @@ const WINDOW: u8 = 8;
 /// The most rounds of a window.
 const MOST_WINDOW: u32 = 16;
 
-/// How many workers there are.
+/// How many workers there are where nothing else is asked for.
 const WORKERS: u8 = 4;
+
+/// The most workers.
+const MOST_WORKERS: u32 = 16;
 
 /// How many path workers there are where nothing else is asked for.
 const PATHS: u8 = 2;
@@ -45,11 +48,12 @@ pub(crate) struct Task {
 struct Options {
     batch: Option<u8>,
     window: Option<u8>,
+    workers: Option<u8>,
     paths: Option<u8>,
 }
 
-/// What the words ask for: `plan`, `replay`, or `make` and a number, and then `--batch n`, `--window n` and `--paths n`, in any order
-/// and each at most once. None where they are refused.
+/// What the words ask for: `plan`, `replay`, or `make` and a number, and then `--batch n`, `--window n`, `--workers n` and `--paths n`,
+/// in any order and each at most once. None where they are refused.
 pub(crate) fn read_task(words: &[&str]) -> Option<Task>
     ensures asked { option_map asked_in result ≡ asked_of (texts words.now) }
     ensures within { IfSome result (λ task. AreSizes task.sizes) }
@@ -77,7 +81,7 @@ fn with_options(input: Input, pairs: &[&str]) -> Option<Task>
         sizes: Sizes {
             b: options.batch.unwrap_or(BATCH),
             g: options.window.unwrap_or(WINDOW),
-            workers: WORKERS,
+            workers: options.workers.unwrap_or(WORKERS),
             paths: options.paths.unwrap_or(PATHS),
         },
     })
@@ -100,6 +104,7 @@ fn read_options(pairs: &[&str]) -> Option<Options>
     let mut options = Options {
         batch: None,
         window: None,
+        workers: None,
         paths: None,
     };
     let mut rest = pairs;
@@ -130,6 +135,13 @@ fn with_option(name: &str, value: &str, options: Options) -> Option<Options>
         let window = plain_number(value, MOST_WINDOW)? as u8;
         return Some(Options {
             window: Some(window),
+            ..options
+        });
+    }
+    if name == "--workers" && options.workers.is_none() {
+        let workers = plain_number(value, MOST_WORKERS)? as u8;
+        return Some(Options {
+            workers: Some(workers),
             ..options
         });
     }

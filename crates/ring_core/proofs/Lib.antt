@@ -8,6 +8,7 @@ pub mod TurnLemmas
 pub mod EdgeLemmas
 pub mod RingLemmas
 pub mod ListLemmas
+pub mod CutLemmas
 pub mod OpeningLemmas
 pub mod GoneLemmas
 pub mod StartLemmas

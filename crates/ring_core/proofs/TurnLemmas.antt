@@ -40,3 +40,10 @@ module _ (batches : List DemandBatch) (w v : WorkerState) (same : IsAt w v) (old
   answers_same (NoPiece at) (below, is, at_is, stays, found) = (within below, none is, at_is, stays, found)
   answers_same (NoRoom at) (below, is, at_is, stays, found) = (within below, some is, at_is, stays, found)
   answers_same Done (ended, rest) = (subst (λ (n : ℕ). length batches ≤ n) same.same_stage ended, rest)
+
+-- where a turn finds its worker done, all its stages have ended
+pub done_ended : (batches : List DemandBatch) (w : WorkerState) (old new : Ends) (empty full : ℕ → Type 0) (turn : Turn) → Answers batches w old new empty full turn → turn ≡ Done → length batches ≤ w.stage
+done_ended batches w old new empty full Moved told is = absurd (cc)
+done_ended batches w old new empty full (NoPiece at) told is = absurd (cc)
+done_ended batches w old new empty full (NoRoom at) told is = absurd (cc)
+done_ended batches w old new empty full Done told is = told.0

@@ -12,6 +12,6 @@ mod worker;
 pub use laws::{every_window_is_small, small_windows};
 pub use link::Link;
 pub use no_memory::NoMemory;
-pub use ring::RingCore;
+pub use ring::{RingCore, open_crew};
 pub use turn::Turn;
-pub use worker::Worker;
+pub use worker::{Worker, count_pieces};

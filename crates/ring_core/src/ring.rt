@@ -245,7 +245,7 @@ impl RingCore {
         requires finished { IsFinished self.old }
         requires room { (batches : List DemandBatch) × IsPlaying batches self.old × (length (rest_from self.old.b self.old.first_batch self.old.list batches) ≤ length list.old.items + list.old.spare) }
         requires places { self.old.stages * self.old.b ≤ length out.old.slots }
-        requires serves { out.old.endpoints ≡ self.old.endpoints }
+        requires serves { self.old.endpoints ≤ out.old.endpoints }
         ensures list { (batches : List DemandBatch) → IsPlaying batches self.old → list.new.items ≡ rest_from self.old.b self.old.first_batch self.old.list batches }
         ensures spare { length list.new.items + list.new.spare ≡ length list.old.items + list.old.spare }
         ensures slots { (batches : List DemandBatch) →
@@ -266,7 +266,7 @@ impl RingCore {
         requires room { (batches : List DemandBatch) × IsPlaying batches self.old × (length (rest_from self.old.b self.old.first_batch self.old.list batches) ≤ length list.old.items + list.old.spare) }
         requires places { (passed + self.old.stages) * self.old.b ≤ length out.old.slots }
         requires empty { drop (passed * self.old.b) out.old.slots ≡ replicate (length out.old.slots - passed * self.old.b) [] }
-        requires serves { out.old.endpoints ≡ self.old.endpoints }
+        requires serves { self.old.endpoints ≤ out.old.endpoints }
         ensures list { (batches : List DemandBatch) → IsPlaying batches self.old → list.new.items ≡ rest_from self.old.b self.old.first_batch self.old.list batches }
         ensures spare { length list.new.items + list.new.spare ≡ length list.old.items + list.old.spare }
         ensures slots { (batches : List DemandBatch) →
@@ -289,7 +289,7 @@ impl RingCore {
         requires playing { (batches : List DemandBatch) × IsPlaying batches self.now }
         requires empty { drop (passed * self.now.b) out.old.slots ≡ replicate (length out.old.slots - passed * self.now.b) [] }
         requires places { (passed + self.now.stages) * self.now.b ≤ length out.old.slots }
-        requires serves { out.old.endpoints ≡ self.now.endpoints }
+        requires serves { self.now.endpoints ≤ out.old.endpoints }
         ensures slots { (batches : List DemandBatch) →
             IsPlaying batches self.now →
             out.new.slots ≡ (take (passed * self.now.b) out.old.slots ++ schedule_from self.now.b self.now.first_batch self.now.list batches) ++ replicate (length out.old.slots - (passed + self.now.stages) * self.now.b) [] }
@@ -317,8 +317,8 @@ fn open_edges(alloc: Global, workers: u16, room: u32) -> Result<Vec<Edge>, NoMem
     Ok(edges)
 }
 
-/// The workers of a ring, by their numbers.
-fn open_crew(
+/// The workers of a ring, by their numbers, none of which has a node.
+pub fn open_crew(
     alloc: Global,
     workers: u16,
     endpoints: u16,

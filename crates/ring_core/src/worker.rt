@@ -10,6 +10,7 @@ ghost use Rattle.ring_core.specs.Workers.{own_stage, IsWorker, MayBegin, IsWindo
 ghost use Rattle.ring_core.specs.Openings.{own_openings};
 ghost use Rattle.ring_core.specs.Wholes.{room_for, StartsStage};
 ghost use Rattle.ring_core.specs.Turns.{piece_to_push, Answers};
+ghost use Rattle.ring_core.specs.declared.turn.Turn.TheVariants.{Done};
 
 use crate::link::Link;
 use crate::turn::Turn;
@@ -159,6 +160,7 @@ impl Worker {
         ensures plays { Plays batches.now (L.ends link.new) self.new }
         ensures ready { L.ready link.new × L.stays link.old link.new }
         ensures answer { Answers batches.now self.old (L.ends link.old) (L.ends link.new) (L.found_empty link.new) (L.found_full link.new) result }
+        ensures done { result ≡ Done → self.new ≡ self.old }
         ensures worker { IsSameWorker self.old self.new }
     {
         if self.stage as usize >= batches.len() {
@@ -381,7 +383,7 @@ fn feed_stage(stage: &mut Stage, batch: &Batch, piece: Piece)
 }
 
 /// How many pieces a list of these items has.
-pub(crate) fn count_pieces(items: &[Item]) -> u32
+pub fn count_pieces(items: &[Item]) -> u32
     requires { length items.now ≤ 65536 }
     ensures { result ≡ piece_count items.now }
 {

@@ -2,6 +2,7 @@ ghost use Rattle.std.specs.Prelude.{◌≡◌, true, false};
 
 use greedy_rules::{Entry, Flow};
 
+mod alloc_pipeline_rows;
 mod batch_lookup_rows;
 mod endpoint_bitmaps_rows;
 mod greedy_rules_rows;

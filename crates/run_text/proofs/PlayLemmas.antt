@@ -5,8 +5,8 @@ use Rattle.trace_text.specs.Trace.{TraceContent}
 use Rattle.trace_text.specs.Valid.{IsTrace}
 use Rattle.replay_rounds.specs.Setting.{Cores, AreCores}
 use Rattle.replay_rounds.specs.Standing.{slots_between}
-use Rattle.window_engine.specs.declared.window.Span.{Span}
-use Rattle.window_engine.specs.Step.{IsWindowOf}
+use Rattle.window_allocation.specs.declared.window.Span.{Span}
+use Rattle.window_engine.specs.Windows.{IsWindowOf}
 use Rattle.window_engine.specs.Replay.{ReplayState, ReplayStepContent, StandsForReplay, HasCoresOf, run_of}
 use Rattle.run_text.specs.ReplayProgress.{cores_of_replay_step}
 use Rattle.run_text.specs.ReplayScheduled.{AgreeAbove}

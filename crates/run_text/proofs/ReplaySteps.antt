@@ -24,9 +24,9 @@ use Rattle.replay_rounds.specs.declared.played.Departure.{Departure}
 use Rattle.replay_rounds.specs.Setting.{Cores}
 use Rattle.replay_rounds.specs.Played.{Played, rounds_played, answers_in, departures_in, EveryRefusalHasANumber}
 use Rattle.replay_rounds.specs.Standing.{slots_between}
-use Rattle.window_engine.specs.declared.window.Span.{Span}
+use Rattle.window_allocation.specs.declared.window.Span.{Span}
 use Rattle.window_engine.specs.Scheduled.{AreClean, cores_from}
-use Rattle.window_engine.specs.Step.{WindowContent, IsWindowOf}
+use Rattle.window_engine.specs.Windows.{WindowContent, IsWindowOf}
 use Rattle.window_engine.specs.Replay.{ReplayState, ReplayStepContent, StandsForReplay, HasCoresOf, run_of}
 use Rattle.run_lines.specs.Text.{text_of, no_batch, entry_line, slots_lines, refused_line, sent_line, line_text}
 use Rattle.run_text.specs.ReplayText.{round_lines, rounds_lines, window_lines, step_lines}

@@ -12,7 +12,8 @@ use Rattle.greedy_rules.specs.Batches.{IsAboveLast}
 use Rattle.clos_topology.specs.Network.{endpoints_of}
 use Rattle.trace_text.specs.Trace.{TraceContent}
 use Rattle.trace_text.specs.Valid.{amount_for, total_asked, IsAskList, IsTrace}
-use Rattle.window_engine.specs.Tallies.{Tallies, place_of}
+use Rattle.window_allocation.specs.Needs.{place_of}
+use Rattle.window_engine.specs.Tallies.{Tallies}
 use Rattle.window_engine.specs.Batches.{Round, asks_for, is_asked}
 
 -- a row of a round is a list of asks, also past the last source

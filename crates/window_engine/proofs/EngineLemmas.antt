@@ -1,7 +1,7 @@
 -- What an engine stands for, at its start and after a step, and what it tells of a flow at the end.
-use Rattle.std.proofs.Common.{◌≡◌, ◌<◌, ◌≤◌, ◌+◌, ◌-◌, ◌*◌, ℕ, zero, suc, List, [], ◌∷◌, ◌++◌, length, get_or, take, drop, not, ◌==◌, Option, Some, None, sym, ap, ◌∙◌, subst, arith}
+use Rattle.std.proofs.Common.{◌≡◌, ◌≢◌, ◌<◌, ◌≤◌, ◌+◌, ◌-◌, ◌*◌, ℕ, zero, suc, List, [], ◌∷◌, ◌++◌, length, get_or, take, drop, not, ◌==◌, Option, Some, None, sym, ap, ◌∙◌, subst, arith}
 use Rattle.std.proofs.lemmas.Bool.{cond-true, cond-false, eq-eqb, ne_eqb}
-use Rattle.std.proofs.lemmas.Nat.{mul-add-lt}
+use Rattle.std.proofs.lemmas.Nat.{mul-add-lt, mul-le}
 use Rattle.std.proofs.lemmas.List.{get_or_default, length-take, length-drop, take_all, take_at, drop_at, take-append-drop}
 use Rattle.std.proofs.SliceLists.{take_long}
 use Rattle.greedy_rules.specs.declared.flows.Flow.{Flow}
@@ -18,14 +18,19 @@ use Rattle.clos_topology.specs.Network.{Network, endpoints_of}
 use Rattle.trace_text.specs.Trace.{TraceContent}
 use Rattle.trace_text.specs.Valid.{total_asked, IsTrace}
 use Rattle.window_engine.specs.declared.counts.Counts.{Counts}
-use Rattle.replay_rounds.specs.Setting.{limits_of}
-use Rattle.window_engine.specs.Batches.{Round, AreOfNet, plan_batches, EveryPlanIsRecorded}
+use Rattle.window_allocation.specs.Nets.{limits_of}
+use Rattle.window_allocation.specs.Nets.{AreOfNet}
+use Rattle.window_engine.specs.Batches.{Round, plan_batches, EveryPlanIsRecorded}
 use Rattle.window_engine.specs.Counts.{plan_counts, counts_of, EveryPlanBalances}
-use Rattle.window_engine.specs.Standing.{Collected, Allocated, EngineState, Needs, HasCollected, HasAllocated, Stands, window_of}
-use Rattle.window_engine.specs.declared.window.Span.{Span}
-use Rattle.window_engine.specs.Step.{WindowContent, StepContent, IsWindowOf, IsPlanned, window_slots}
-use Rattle.window_engine.specs.Tallies.{place_of}
-use Rattle.window_engine.proofs.WindowLemmas.{HasNext, Goes}
+use Rattle.window_allocation.specs.Standing.{Allocated, HasAllocated}
+use Rattle.window_allocation.specs.Needs.{Needs}
+use Rattle.window_engine.specs.Standing.{Collected, EngineState, HasCollected, Stands, window_of}
+use Rattle.window_allocation.specs.declared.window.Span.{Span}
+use Rattle.window_allocation.specs.Windows.{WindowContent, IsWindowOf, jobs_for}
+use Rattle.window_allocation.specs.Giving.{MayGive}
+use Rattle.window_engine.specs.Step.{StepContent, IsPlanned, window_slots}
+use Rattle.window_allocation.specs.Needs.{place_of}
+use Rattle.window_allocation.proofs.WindowLemmas.{HasNext, Goes}
 use Rattle.window_engine.proofs.PlanCounts.{added_in_plan, is_in_plan}
 
 -- ---- the next window of a plan
@@ -136,14 +141,38 @@ window_numbers trace engine batches count sound stands recorded is are =
       stands.allocated.number ∙ omega (arith, length-take engine.collection.rounds plan, (recorded trace sound).1, stands.collected.within),
     )
 
+-- the half that allocates may give the batches of the next window their slots
+pub may_give : (trace : TraceContent) (engine : EngineState) (batches : List DemandBatch) (count : ℕ) → IsTrace trace → Stands trace engine → EveryPlanIsRecorded → EveryFrontIsRecorded → count ≡ window_of engine
+    → batches ≡ take count (drop engine.collection.rounds (plan_batches trace)) → MayGive engine.allocation batches
+may_give trace engine batches count sound stands recorded front is are =
+    let half : Allocated = engine.allocation in
+    let numbers = window_numbers trace engine batches count sound stands recorded is are in
+    let fits = window_fits engine (omega (arith, stands.collected.within, stands.rounds)) in
+    let most : half.ring.batches ≡ engine.g = ap (λ (r : RingWork). r.batches) stands.allocated.ring in
+    let all : ℕ = half.batches + length batches in
+    let few : all ≤ 100000 = omega (arith, numbers.0, numbers.1, is, fits.1, stands.rounds, sound.few_rounds) in
+    record {
+      stands = next_window trace engine batches count sound stands recorded front are;
+      count = omega (arith, numbers.0, is, fits.0, most);
+      few = omega (arith, most, stands.window.1);
+      numbers = omega (arith, mul-le all half.b 100000 64 few stands.allocated.size.1);
+    }
+
+some_jobs : (count b paths : ℕ) → 0 < count → jobs_for count b paths ≡ count * b + paths
+some_jobs count b paths some = cond-false (count == 0) 0 (count * b + paths) (ne_eqb count 0 (λ none. omega arith))
+
 -- each slot of the window is a job, and each worker's end
 pub jobs_raised : (trace : TraceContent) (here now : EngineState) (batches : List DemandBatch) (count jobs : ℕ) → here ≡ now → IsTrace trace → Stands trace here → EveryPlanIsRecorded → count ≡ window_of here
-    → batches ≡ take count (drop here.collection.rounds (plan_batches trace)) → jobs ≡ here.allocation.paths.jobs + length batches * here.allocation.b + here.allocation.paths.paths
+    → here.collection.rounds ≢ here.rounds
+    → batches ≡ take count (drop here.collection.rounds (plan_batches trace)) → jobs ≡ here.allocation.paths.jobs + jobs_for (length batches) here.allocation.b here.allocation.paths.paths
     → jobs ≡ now.allocation.paths.jobs + window_of now * now.allocation.b + now.allocation.paths.paths
-jobs_raised trace here now batches count jobs same sound stands recorded is are raised =
+jobs_raised trace here now batches count jobs same sound stands recorded is more are raised =
+    let half : Allocated = here.allocation in
     let numbers = window_numbers trace here batches count sound stands recorded is are in
+    let some : 0 < window_of here = omega (arith, stands.window.0, stands.collected.within, stands.rounds, more) in
+    let all : jobs ≡ half.paths.jobs + jobs_for (window_of here) half.b half.paths.paths = raised ∙ ap (λ (n : ℕ). half.paths.jobs + jobs_for n half.b half.paths.paths) (numbers.0 ∙ is) in
     subst (λ (e : EngineState). jobs ≡ e.allocation.paths.jobs + window_of e * e.allocation.b + e.allocation.paths.paths) same
-    (raised ∙ ap (λ (n : ℕ). here.allocation.paths.jobs + n * here.allocation.b + here.allocation.paths.paths) (numbers.0 ∙ is))
+    (omega (arith, all, some_jobs (window_of here) half.b half.paths.paths some))
 
 -- a step is planned
 pub planned : (trace : TraceContent) (here now : EngineState) (batches : List DemandBatch) (count first : ℕ) (window : WindowContent) → here ≡ now → IsTrace trace → Stands trace here → EveryPlanIsRecorded → SchedulesGoOn → FrontsAreFronts → EveryBatchHasItsSlots

@@ -2,7 +2,7 @@
 use Rattle.std.proofs.Common.{◌≡◌, ◌≢◌, ◌<◌, ◌+◌, ℕ, zero, suc, List, [], ◌∷◌, ◌++◌, length, get_or, map, false, ◌==◌, ◌&&◌, ◌||◌, cond, Option, Some, None, is_some, All, AllPairs, refl, sym, ap, ◌∙◌, subst, arith, inl, inr}
 use Rattle.std.specs.List.{list_any}
 use Rattle.std.specs.Option.{option_or}
-use Rattle.std.proofs.lemmas.Bool.{cond-true, cond-false, cases_Bool, eqb-true, eq-eqb, ne_eqb, and_parts}
+use Rattle.std.proofs.lemmas.Bool.{cond-true, cond-false, cases_Bool, eqb-true, eq-eqb, ne_eqb}
 use Rattle.std.proofs.lemmas.List.Sums.{sum_by-cons, sum_by-append}
 use Rattle.std.proofs.lemmas.List.Folds.{find-append}
 use Rattle.std.proofs.lemmas.List.Elements.{All-nil, All-head, All-tail, All-append, All-map}
@@ -19,16 +19,6 @@ use Rattle.window_engine.proofs.AskLemmas.{slots_if}
 
 abbrev pub flow_of : ℕ → ℕ → Flow
 flow_of src dst = record { src = src; dst = dst }
-
--- flows that are not equal are told apart
-pub differs : (f g : Flow) → f ≢ g → same_flow f g ≡ false
-differs f g apart =
-    elim (cases_Bool (same_flow f g)) [
-      | inl same ↦
-          let parts = and_parts (f.src == g.src) (f.dst == g.dst) same in
-          absurd (apart (ap (λ (s : ℕ). flow_of s f.dst) (eqb-true f.src g.src parts.0) ∙ ap (λ (d : ℕ). flow_of g.src d) (eqb-true f.dst g.dst parts.1)))
-      | inr other ↦ other
-    ]
 
 -- what holds of each entry of each source holds of all
 pub all_entries : (P : Entry → Type 0) (before : List Round) (start : ℕ) (sources : Round)

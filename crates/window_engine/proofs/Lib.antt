@@ -7,9 +7,6 @@ pub mod TallyLemmas
 pub mod PlanBatches
 pub mod PlanRecord
 pub mod PlanCounts
-pub mod CleanSlots
-pub mod WindowLemmas
-pub mod NeedTable
 pub mod StepCounts
 pub mod EngineLemmas
 pub mod BatchCopies

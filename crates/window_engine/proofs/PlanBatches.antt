@@ -13,9 +13,10 @@ use Rattle.list_facts.proofs.Pairs.{AllPairs-nil, AllPairs-head, AllPairs-tail, 
 use Rattle.clos_topology.specs.Network.{endpoints_of}
 use Rattle.trace_text.specs.Trace.{TraceContent, asked_at}
 use Rattle.trace_text.specs.Valid.{amount_for, total_asked, IsAskList, IsTrace}
-use Rattle.replay_rounds.specs.Setting.{limits_of}
+use Rattle.window_allocation.specs.Nets.{limits_of}
 use Rattle.window_engine.specs.Batches.{Round, entry_for, entries_from, batch_after, batches_after, plan_batches}
-use Rattle.window_engine.specs.Tallies.{Tallies, place_of, added_in, Adds}
+use Rattle.window_allocation.specs.Needs.{place_of}
+use Rattle.window_engine.specs.Tallies.{Tallies, added_in, Adds}
 use Rattle.window_engine.proofs.AskLemmas.{row_of}
 use Rattle.window_engine.proofs.EntryLemmas.{all_entries, round_adds}
 

@@ -13,7 +13,7 @@ use Rattle.greedy_rules.specs.Balance.{is_recorded, AreInOrder, clears, added_by
 use Rattle.clos_topology.specs.Network.{endpoints_of}
 use Rattle.trace_text.specs.Trace.{TraceContent}
 use Rattle.trace_text.specs.Valid.{total_asked, IsTrace}
-use Rattle.replay_rounds.specs.Setting.{limits_of}
+use Rattle.window_allocation.specs.Nets.{limits_of}
 use Rattle.window_engine.specs.Batches.{is_asked, plan_batches}
 use Rattle.window_engine.specs.Counts.{AllIsAllocatedOrPending}
 use Rattle.window_engine.proofs.AskLemmas.{total_asked-zero}

@@ -14,7 +14,7 @@ use Rattle.greedy_rules.specs.Balance.{is_recorded, clears, added_by, added_of, 
 use Rattle.greedy_rules.specs.Recorded.{demand_through, demand_of, IsRecordedAfter, AreRecordedAfter}
 use Rattle.clos_topology.specs.Network.{endpoints_of}
 use Rattle.trace_text.specs.Valid.{amount_for, total_asked, IsAskList}
-use Rattle.replay_rounds.specs.Setting.{limits_of}
+use Rattle.window_allocation.specs.Nets.{limits_of}
 use Rattle.window_engine.specs.Batches.{Round, asks_for, is_asked, entries_from, batch_after, batches_after, EveryPlanIsRecorded}
 use Rattle.window_engine.proofs.AskLemmas.{row_of}
 use Rattle.window_engine.proofs.EntryLemmas.{flow_of, all_entries, round_has, round_added, round_needs}

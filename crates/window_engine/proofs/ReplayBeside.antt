@@ -1,20 +1,21 @@
 -- The two halves of a step of a replay, which run at once: they may be begun, and what each makes is what the step goes on with.
-use Rattle.std.proofs.Common.{◌≡◌, ◌≤◌, ℕ, refl, sym, ap, subst, arith}
+use Rattle.std.proofs.Common.{◌≡◌, refl, sym, ap, subst, arith}
 use Rattle.alloc_pipeline.specs.Ring.{RingWork}
 use Rattle.trace_text.specs.Trace.{TraceContent}
 use Rattle.trace_text.specs.Valid.{IsTrace}
 use Rattle.replay_rounds.specs.Setting.{Cores}
 use Rattle.replay_rounds.specs.Played.{Played}
 use Rattle.replay_rounds.specs.Standing.{RoundsContent}
-use Rattle.window_engine.specs.Beside.{MayAllocate, HasPlayed, HasGiven}
+use Rattle.window_allocation.specs.Giving.{MayGive, HasGiven}
+use Rattle.window_engine.specs.Beside.{HasPlayed}
 use Rattle.window_engine.specs.Premises.{Replays}
 use Rattle.window_engine.specs.Replay.{ReplayState, StandsForReplay}
-use Rattle.window_engine.specs.Standing.{Allocated}
-use Rattle.window_engine.specs.Step.{WindowContent}
+use Rattle.window_allocation.specs.Standing.{Allocated}
+use Rattle.window_allocation.specs.Windows.{WindowContent}
 use Rattle.window_engine.proofs.ReplaySteps.{few_wait, replay_next}
 use Rattle.window_engine.proofs.ReplayPublish.{Collects, collects_with, IsNextWhole, next_whole}
 
-pub may_allocate : Replays → (trace : TraceContent) (cores : Cores) (engine : ReplayState) → IsTrace trace → StandsForReplay trace cores engine → MayAllocate engine.allocation engine.waiting
+pub may_allocate : Replays → (trace : TraceContent) (cores : Cores) (engine : ReplayState) → IsTrace trace → StandsForReplay trace cores engine → MayGive engine.allocation engine.waiting
 may_allocate laws trace cores engine sound stands =
     let few = few_wait laws trace cores engine sound stands in
     let most : engine.allocation.ring.batches ≡ engine.lanes.g = ap (λ (r : RingWork). r.batches) stands.allocated.ring in

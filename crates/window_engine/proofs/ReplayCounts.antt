@@ -19,7 +19,7 @@ use Rattle.replay_rounds.specs.Setting.{Cores}
 use Rattle.replay_rounds.specs.Counts.{LaneCount, counted, lane_count, sent_and_missed}
 use Rattle.window_engine.specs.declared.counts.Counts.{Counts}
 use Rattle.window_engine.specs.Replay.{ReplayState, StandsForReplay, run_of, replay_counts}
-use Rattle.window_engine.specs.Tallies.{place_of}
+use Rattle.window_allocation.specs.Needs.{place_of}
 
 -- every batch is allocated, so every round is collected
 pub all_collected : (trace : TraceContent) (cores : Cores) (engine : ReplayState) → StandsForReplay trace cores engine → engine.lanes.published ≡ engine.rounds

@@ -20,9 +20,12 @@ use Rattle.replay_rounds.specs.Standing as lanes
 use Rattle.replay_rounds.specs.Standing.{RoundsContent, slots_between, AreOfTable, IsNextWindow}
 use Rattle.window_engine.specs.Premises.{Replays}
 use Rattle.window_engine.specs.Replay.{ReplayState, run_of, StandsForReplay}
-use Rattle.window_engine.specs.Standing.{Allocated, HasAllocated, Needs}
-use Rattle.window_engine.specs.Step.{WindowContent, IsWindowOf}
-use Rattle.window_engine.specs.declared.window.Span.{Span}
+use Rattle.window_allocation.specs.Standing.{Allocated, HasAllocated}
+use Rattle.window_allocation.specs.Needs.{Needs}
+use Rattle.greedy_rules.specs.SlotTable.{Slots}
+use Rattle.path_workers.specs.CoreTable.{CoreSlots}
+use Rattle.window_allocation.specs.declared.window.Span.{Span}
+use Rattle.window_allocation.specs.Windows.{WindowContent, IsWindowOf}
 use Rattle.window_engine.proofs.ReplayCores.{AgreeBelow, between-same, stands-with}
 use Rattle.window_engine.proofs.ReplayTables.{clean_cores, with_table, table-before, table-there, table-named}
 use Rattle.window_engine.proofs.ReplaySteps.{next_batches, replay_span, replay_window}
@@ -76,6 +79,10 @@ next_with trace cores engine states window behind span is named =
 pub next_named : (trace : TraceContent) (cores : Cores) (engine : ReplayState) (states : List RoundsState) (window : WindowContent) → StandsForReplay trace cores engine → IsSpanOf engine window.span
     → IsWindowOf trace.net engine.lanes.b (slots_between (run_of trace cores engine) engine.lanes.published engine.lanes.collected) window → HasCores engine window cores → IsNextOf trace engine states window cores
 next_named trace cores engine states window stands span shows named = next_with trace cores engine states window stands.windows.behind span shows.is named
+
+-- a window by its parts
+pub seen_as : (span : Span) (slots : Slots) (cores : CoreSlots) (window : WindowContent) → span ≡ window.span → slots ≡ window.slots → cores ≡ window.cores → record { span = span; slots = slots; cores = cores } ≡ window
+seen_as span slots cores window span_is slots_are cores_are = λ i. record { span = span_is i; slots = slots_are i; cores = cores_are i }
 
 -- there is a run for which all endpoints' rounds stand, and of which the window is the next
 abbrev pub MayPublish : RoundsContent → WindowContent → Type 0

@@ -11,7 +11,7 @@ use Rattle.clos_topology.specs.Links.{CoreOf, HasItsCore, IsClean, links, Shares
 use Rattle.trace_run.specs.Run.{replayed}
 use Rattle.trace_run.specs.Cores.{CoresDecideNothing}
 use Rattle.replay_rounds.specs.Setting.{Cores, AreCores, byte_of, setting_of}
-use Rattle.window_engine.specs.Scheduled.{EverySlotIsScheduled, EveryRecordHasCores}
+use Rattle.window_allocation.specs.Scheduled.{EverySlotIsScheduled, EveryRecordHasCores}
 use Rattle.window_engine.specs.Premises.{Replays}
 use Rattle.window_engine.specs.Replay.{AreCleanUpTo, CoresGoOn}
 use Rattle.window_engine.proofs.ReplayTables.{core_below}

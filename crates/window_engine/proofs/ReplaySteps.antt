@@ -16,13 +16,13 @@ use Rattle.trace_run.specs.Fronts.{EveryRoundHasABatch}
 use Rattle.trace_run.specs.Windows.{batch_at}
 use Rattle.replay_rounds.specs.Setting.{Cores}
 use Rattle.replay_rounds.specs.Standing.{slots_between}
-use Rattle.window_engine.specs.Batches.{AreOfNet}
+use Rattle.window_allocation.specs.Nets.{AreOfNet}
 use Rattle.window_engine.specs.Premises.{Replays}
 use Rattle.window_engine.specs.Replay.{ReplayState, run_of, StandsForReplay}
-use Rattle.window_engine.specs.Standing.{Allocated, HasAllocated}
-use Rattle.window_engine.specs.Step.{WindowContent, IsWindowOf}
-use Rattle.window_engine.specs.declared.window.Span.{Span}
-use Rattle.window_engine.proofs.WindowLemmas.{HasNext, Goes}
+use Rattle.window_allocation.specs.Standing.{Allocated, HasAllocated}
+use Rattle.window_allocation.specs.declared.window.Span.{Span}
+use Rattle.window_allocation.specs.Windows.{WindowContent, IsWindowOf}
+use Rattle.window_allocation.proofs.WindowLemmas.{HasNext, Goes}
 
 -- ---- the batches that wait
 

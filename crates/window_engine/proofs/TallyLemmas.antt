@@ -6,7 +6,8 @@ use Rattle.std.proofs.lemmas.List.{get_or-set_same, get_or-set_other, length-set
 use Rattle.std.proofs.lemmas.List.Sums.{sum_by_more, sum_by-take-le}
 use Rattle.greedy_rules.specs.declared.flows.Entry.{Entry}
 use Rattle.greedy_rules.specs.Flows.{same_flow}
-use Rattle.window_engine.specs.Tallies.{place_of, added_for, added_in, Adds}
+use Rattle.window_allocation.specs.Needs.{place_of}
+use Rattle.window_engine.specs.Tallies.{added_for, added_in, Adds}
 use Rattle.window_engine.proofs.AskLemmas.{read_at}
 
 pub added_more : (src dst : ℕ) (batch : List Entry) (at : ℕ) (entry : Entry) → at < length batch → slice_get batch at ≡ Some entry

@@ -1,11 +1,11 @@
+pub use Rattle.window_allocation.specs.Scheduled
+pub use Rattle.window_allocation.specs.Windows
 pub mod Batches
 pub mod Tallies
 pub mod Counts
-pub mod Scheduled
 pub mod Step
 pub mod Standing
 pub mod Settings
-pub mod Ready
 pub mod Replay
 pub mod Premises
 pub mod Beside

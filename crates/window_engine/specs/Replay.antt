@@ -22,9 +22,10 @@ use Rattle.replay_rounds.specs.Played.{Played}
 use Rattle.replay_rounds.specs.Standing as lanes
 use Rattle.replay_rounds.specs.Standing.{RoundsContent, slots_between, AreOfTable}
 use Rattle.window_engine.specs.declared.counts.Counts.{Counts}
-use Rattle.window_engine.specs.Scheduled.{HasCores, EverySlotIsScheduled}
-use Rattle.window_engine.specs.Standing.{Allocated, HasAllocated, Needs}
-use Rattle.window_engine.specs.Step.{WindowContent}
+use Rattle.window_allocation.specs.Needs.{Needs}
+use Rattle.window_allocation.specs.Scheduled.{HasCores, EverySlotIsScheduled}
+use Rattle.window_allocation.specs.Standing.{Allocated, HasAllocated}
+use Rattle.window_allocation.specs.Windows.{WindowContent}
 
 -- what contracts see of a replay: the rounds of the trace, all endpoints' rounds, the batches that are collected and not allocated,
 -- the half that allocates, and at the end the slots pending of each flow

@@ -1,43 +1,20 @@
 -- What a step gives: the batches of the rounds that it collected, and the slots and cores of those that it allocated (this
 -- project's own profile).
-use Rattle.std.specs.Prelude.{◌≡◌, ◌<◌, ℕ, ◌+◌, ◌*◌, ◌==◌, List, take, drop, length, if◌then◌else◌}
+use Rattle.std.specs.Prelude.{◌≡◌, ℕ, ◌*◌, List, take, drop, length}
 use Rattle.greedy_rules.specs.declared.flows.Flow.{Flow}
 use Rattle.greedy_rules.specs.Batches.{DemandBatch}
-use Rattle.greedy_rules.specs.SlotTable.{Slots}
-use Rattle.greedy_rules.specs.Schedule.{first_slot, schedule, slot_in}
-use Rattle.clos_topology.specs.Network.{Network, endpoints_of}
-use Rattle.path_workers.specs.Coloured.{NamesNoOther}
-use Rattle.path_workers.specs.CoreTable.{CoreSlots, core_of}
+use Rattle.greedy_rules.specs.Schedule.{schedule}
+use Rattle.window_allocation.specs.declared.window.Span.{Span}
+use Rattle.window_allocation.specs.Windows.{WindowContent, IsWindowOf}
 use Rattle.trace_text.specs.Trace.{TraceContent}
 use Rattle.trace_text.specs.Valid.{IsTrace}
-use Rattle.window_engine.specs.declared.window.Span.{Span}
 use Rattle.window_engine.specs.Batches.{plan_batches}
-use Rattle.window_engine.specs.Scheduled.{AreClean, cores_from}
 
--- what contracts see of an allocated window, and of a step
-pub record WindowContent : Type 0 where
-  pub span : Span
-  pub slots : Slots
-  pub cores : CoreSlots
-
+-- what contracts see of a step
 pub record StepContent : Type 0 where
   pub collected : Span
   pub batches : List DemandBatch
   pub window : WindowContent
-
--- a window's tables hold these slots, each with cores that make it clean; the first slot's number is that of its first batch
-pub record IsWindowOf (net : Network) (b : ℕ) (slots : List (List Flow)) (window : WindowContent) : Type 0 where
-  pub is : window.slots.slots ≡ slots
-  pub number : length slots ≡ window.span.count * b
-  pub endpoints : window.slots.endpoints ≡ endpoints_of net
-  pub core_slots : window.cores.slots ≡ window.span.count * b
-  pub core_endpoints : window.cores.endpoints ≡ endpoints_of net
-  pub clean : AreClean net (cores_from (first_slot b window.span.first) window.cores) (first_slot b window.span.first) slots
-  pub others : (at : ℕ) → at < length slots → NamesNoOther net.hosts (slot_in slots at) (core_of window.cores at)
-
--- the jobs of so many batches of b slots: each slot is one, and each path worker's end; none where there is no batch
-abbrev pub jobs_for : ℕ → ℕ → ℕ → ℕ
-jobs_for count b paths = if count == 0 then 0 else count * b + paths
 
 -- the slots of so many batches from this one on
 abbrev pub window_slots : ℕ → List DemandBatch → ℕ → ℕ → List (List Flow)

@@ -3,11 +3,8 @@ use Rattle.std.specs.Prelude.{◌≡◌, ◌<◌, ℕ, ◌+◌, ◌*◌, List, l
 use Rattle.greedy_rules.specs.declared.flows.Entry.{Entry}
 use Rattle.greedy_rules.specs.Flows.{same_flow}
 use Rattle.trace_text.specs.Valid.{total_asked}
+use Rattle.window_allocation.specs.Needs.{place_of}
 use Rattle.window_engine.specs.Batches.{Round}
-
--- a table of a number for each flow, by source and then destination
-abbrev pub place_of : ℕ → ℕ → ℕ → ℕ
-place_of endpoints src dst = src * endpoints + dst
 
 -- the table holds the slots of each flow over these rounds
 pub record Tallies (endpoints : ℕ) (rounds : List Round) (table : List ℕ) : Type 0 where

@@ -2,10 +2,11 @@ ghost use Rattle.std.specs.Prelude.{◌≡◌, ◌<◌, ◌≤◌, ◌+◌, ◌*
 ghost use Rattle.std.specs.List.{slice_index_or};
 ghost use Rattle.greedy_rules.specs.Matching.{AreAmong};
 ghost use Rattle.clos_topology.specs.Network.{endpoints_of};
-ghost use Rattle.replay_rounds.specs.Setting.{limits_of};
+ghost use Rattle.window_allocation.specs.Nets.{limits_of};
+ghost use Rattle.window_allocation.specs.Needs.{place_of};
 ghost use Rattle.window_engine.specs.Batches.{batch_after, plan_batches};
 ghost use Rattle.window_engine.specs.Standing.{HasCollected};
-ghost use Rattle.window_engine.specs.Tallies.{Tallies, place_of, added_in, Adds};
+ghost use Rattle.window_engine.specs.Tallies.{Tallies, added_in, Adds};
 
 use clos_topology::Net;
 use greedy_rules::{Batch, Entry, Flow, Limits};
@@ -13,6 +14,7 @@ use no_memory::NoMemory;
 use std::alloc::Global;
 use std::marker::Model;
 use trace_text::Trace;
+use window_allocation::place;
 
 /// The half of an engine that collects what is asked for into batches, round after round.
 #[derive(Drop)]
@@ -82,16 +84,6 @@ impl Collection {
         self.rounds += count;
         Ok(batches)
     }
-}
-
-/// The place of a flow in a table of a number for each flow.
-pub(crate) fn place(endpoints: u16, flow: Flow) -> usize
-    requires src { flow.src < endpoints }
-    requires dst { flow.dst < endpoints }
-    ensures place { result ≡ place_of endpoints flow.src flow.dst }
-    ensures within { result < endpoints * endpoints }
-{
-    flow.src as usize * endpoints as usize + flow.dst as usize
 }
 
 fn limits(net: &Net) -> Limits

@@ -6,16 +6,16 @@ ghost use Rattle.trace_text.specs.Valid.{IsTrace};
 ghost use Rattle.window_engine.specs.Batches.{plan_batches};
 ghost use Rattle.window_engine.specs.Counts.{counts_of};
 ghost use Rattle.window_engine.specs.Settings.{IsSetting};
-ghost use Rattle.window_engine.specs.Standing.{Needs, HasAllocated, Stands, window_of};
+ghost use Rattle.window_allocation.specs.Needs.{Needs};
+ghost use Rattle.window_allocation.specs.Standing.{HasAllocated};
+ghost use Rattle.window_engine.specs.Standing.{Stands, window_of};
 ghost use Rattle.window_engine.specs.Step.{IsPlanned};
 
-use crate::allocation::Allocation;
-use crate::collection::{Collection, place};
+use crate::collection::Collection;
 use crate::counts::Counts;
 use crate::laws::{every_plan_balances, every_plan_is_recorded};
 use crate::setting::Setting;
 use crate::step::Step;
-use crate::window::Span;
 use fp_edge::Gate;
 use greedy_rules::{Flow, recorded_batches_may_be_applied, schedules_go_on};
 use no_memory::NoMemory;
@@ -24,6 +24,7 @@ use std::marker::Model;
 use std::sync::Wait;
 use std::thread::Threads;
 use trace_text::Trace;
+use window_allocation::{Allocation, Span, place};
 
 /// Plays a trace, window after window of rounds.
 #[derive(Drop)]

@@ -2,27 +2,24 @@
 //! cores.
 #![tactic(auto)]
 
-mod allocation;
 mod collection;
 mod counts;
 mod engine;
 mod laws;
-mod needs;
 mod replay;
 mod replay_laws;
 mod setting;
 mod step;
-mod window;
 
 pub use counts::Counts;
 pub use engine::Engine;
 pub use laws::{
     every_plan_balances, every_plan_has_its_slots, every_plan_is_recorded,
-    every_plan_takes_its_steps, every_record_has_cores,
+    every_plan_takes_its_steps,
 };
 pub use no_memory::NoMemory;
 pub use replay::{Replay, ReplayStep};
 pub use replay_laws::{every_replay_has_cores, every_replay_takes_its_steps};
 pub use setting::Setting;
 pub use step::Step;
-pub use window::Span;
+pub use window_allocation::{Span, every_record_has_cores};

@@ -1,6 +1,10 @@
 ghost use Rattle.std.specs.Prelude.{◌≡◌, ◌≢◌, ◌<◌, ◌≤◌, ◌+◌, ◌*◌, ◌-◌, ◌↔◌, ℕ, List, length, min, IsTrue, IfOk, OnOk, if◌then◌else◌};
 ghost use Rattle.greedy_rules.specs.Batches.{DemandBatch};
 ghost use Rattle.clos_topology.specs.Network.{Network};
+ghost use Rattle.window_allocation.specs.Needs.{Needs};
+ghost use Rattle.window_allocation.specs.Standing.{HasAllocated};
+ghost use Rattle.window_allocation.specs.Windows.{IsWindowOf, jobs_for};
+ghost use Rattle.window_allocation.specs.Giving.{MayGive, HasGiven};
 ghost use Rattle.trace_text.specs.Trace.{TraceContent};
 ghost use Rattle.trace_text.specs.Valid.{IsTrace};
 ghost use Rattle.trace_run.specs.Shown.{IsShown};
@@ -9,16 +13,11 @@ ghost use Rattle.replay_rounds.specs.Played.{rounds_played};
 ghost use Rattle.replay_rounds.specs.Standing.{Stands, slots_between};
 ghost use Rattle.window_engine.specs.Replay.{StandsForReplay, HasCoresOf, run_of, replay_counts};
 ghost use Rattle.window_engine.specs.Settings.{IsSetting};
-ghost use Rattle.window_engine.specs.Standing.{Needs, HasAllocated};
-ghost use Rattle.window_engine.specs.Step.{IsWindowOf, jobs_for};
-ghost use Rattle.window_engine.specs.Beside.{MayPlay, HasPlayed, MayAllocate, HasGiven};
+ghost use Rattle.window_engine.specs.Beside.{MayPlay, HasPlayed};
 
-use crate::allocation::Allocation;
-use crate::collection::place;
 use crate::counts::Counts;
 use crate::replay_laws::replays_hold;
 use crate::setting::Setting;
-use crate::window::{Span, Window};
 use fp_edge::Gate;
 use greedy_rules::{Batch, Flow, SlotTable};
 use no_memory::NoMemory;
@@ -30,6 +29,7 @@ use std::sync::Wait;
 use std::thread::{Threads, join_mut};
 use trace_run::every_replay_shows;
 use trace_text::Trace;
+use window_allocation::{Allocation, Span, Window, place};
 
 /// From so many entries on, a thread allocates a window's batches while the next rounds are played.
 const MANY: usize = 16;
@@ -127,21 +127,21 @@ impl ReplayStep {
     pub fn allocated(&self) -> Span
         ensures { result ≡ self.now.window.span }
     {
-        self.window.span
+        self.window.span()
     }
 
     /// The slots of these: slot i of batch s, both counted from 0, stands at place `s * b + i`.
     pub fn slots(&self) -> &SlotTable
         ensures { result.now ≡ self.now.window.slots }
     {
-        &self.window.slots
+        self.window.slots()
     }
 
     /// The cores of these slots, at the same places.
     pub fn cores(&self) -> &CoreTable
         ensures { result.now ≡ self.now.window.cores }
     {
-        &self.window.cores
+        self.window.cores()
     }
 }
 
@@ -205,7 +205,7 @@ impl Replay {
         trace: &Trace,
     ) -> Result<(Played, Window), NoMemory>
         requires may_play { MayPlay trace.now self.old.lanes }
-        requires may_allocate { MayAllocate self.old.allocation self.old.waiting }
+        requires may_allocate { MayGive self.old.allocation self.old.waiting }
         ensures others { self.new ≡ record self.old { lanes = self.new.lanes; allocation = self.new.allocation } }
         ensures rounds { IfOk result (λ both. HasPlayed trace.now self.old.lanes self.new.lanes both.0) }
         ensures given { IfOk result (λ both. HasGiven self.old.allocation self.old.waiting self.new.allocation both.1) }
@@ -215,15 +215,15 @@ impl Replay {
         let allocation = &mut self.allocation;
         let batches = self.waiting.as_slice();
         if !have_many(batches) {
-            let window = allocation.window_of_any(alloc, rt, gate, batches)?;
+            let window = allocation.window(alloc, rt, gate, batches)?;
             return Ok((lanes.collect(alloc, trace)?, window));
         }
         let (window, played) = join_mut(
             rt,
             &mut || -> Result<Window, NoMemory>
-                requires { MayAllocate allocation.now batches.now }
+                requires { MayGive allocation.now batches.now }
                 ensures { IfOk result (HasGiven allocation.entry.now batches.entry.now allocation.exit.now) }
-            { allocation.window_of_any(alloc, rt, gate, batches) },
+            { allocation.window(alloc, rt, gate, batches) },
             &mut || -> Result<Played, NoMemory>
                 requires { MayPlay trace.now lanes.now }
                 ensures { IfOk result (HasPlayed trace.entry.now lanes.entry.now lanes.exit.now) }
@@ -265,8 +265,9 @@ impl Replay {
         let _rounds = trace.rounds();
         let first = self.lanes.collected();
         let (played, window) = self.play_beside(rt, gate, trace)?;
+        let published = window.span().count as u16;
         self.lanes
-            .publish(window.span.count as u16, &window.slots, &window.cores);
+            .publish(published, window.slots(), window.cores());
         self.waiting = copied(self.alloc, played.batches())?;
         self.end();
         Ok(ReplayStep {

@@ -1,12 +1,12 @@
 ghost use Rattle.window_engine.specs.Premises.{Replays};
 ghost use Rattle.window_engine.specs.Replay.{EveryReplayHasCores, CoresGoOn, EveryReplayTakesItsSteps};
 
-use crate::laws::every_record_has_cores;
 use greedy_rules::schedules_go_on;
 use replay_rounds::every_setting_is_of_a_trace;
 use trace_run::{
     cores_decide_nothing, every_run_is_recorded, runs_go_on, steps_go_on, windows_make_the_schedule,
 };
+use window_allocation::every_record_has_cores;
 
 /// The laws that the steps of a replay rest on.
 pub(crate) fn replays_hold()

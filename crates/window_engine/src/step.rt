@@ -1,9 +1,9 @@
 ghost use Rattle.std.specs.Prelude.{◌≡◌};
 
-use crate::window::{Span, Window};
 use greedy_rules::{Batch, SlotTable};
 use path_workers::CoreTable;
 use std::marker::Model;
+use window_allocation::{Span, Window};
 
 /// What a step gives: the batches that it collected, and the slots and cores of those that it allocated.
 #[derive(Drop)]
@@ -40,20 +40,20 @@ impl Step {
     pub fn allocated(&self) -> Span
         ensures { result ≡ self.now.window.span }
     {
-        self.window.span
+        self.window.span()
     }
 
     /// The slots of these: slot i of batch s, both counted from 0, stands at place `s * b + i`.
     pub fn slots(&self) -> &SlotTable
         ensures { result.now ≡ self.now.window.slots }
     {
-        &self.window.slots
+        self.window.slots()
     }
 
     /// The cores of these slots, at the same places.
     pub fn cores(&self) -> &CoreTable
         ensures { result.now ≡ self.now.window.cores }
     {
-        &self.window.cores
+        self.window.cores()
     }
 }

@@ -5,7 +5,7 @@ use fp_edge::Gate;
 use std::alloc::Global;
 use std::process::Abort;
 use std::sync::Wait;
-use std::sync::atomic::{AtomicBool, AtomicU64, Ordering};
+use std::sync::atomic::{AtomicBool, AtomicU32, AtomicU64, Ordering};
 use std::test::Fail;
 use std::thread::{self, Threads};
 
@@ -84,5 +84,106 @@ fn meet<R: Abort + Threads + Wait + Sync>(
 #[test]
 fn path_workers_run_at_once(rt: HostRuntime) -> Result<(), Fail> {
     meet(&rt, rt.alloc(), &["plan", "--paths", "2"], 2)?;
-    meet(&rt, rt.alloc(), &["plan", "--paths", "3"], 3)
+    meet(&rt, rt.alloc(), &["plan", "--paths", "3"], 3)?;
+    meet(
+        &rt,
+        rt.alloc(),
+        &["plan", "--workers", "2", "--paths", "2"],
+        2,
+    )?;
+    meet(
+        &rt,
+        rt.alloc(),
+        &["replay", "--window", "16", "--paths", "3"],
+        3,
+    )
+}
+
+/// In the second window the first worker, which has taken up its third piece, waits until the second one has taken up its first,
+/// and the second until the first.
+#[derive(Drop)]
+struct Handshake {
+    // How many windows the first worker has begun.
+    begun: AtomicU32,
+    third_piece: AtomicBool,
+    next_stage: AtomicBool,
+    // One has waited for all its turns.
+    alone: AtomicBool,
+}
+
+impl Handshake {
+    fn new() -> Handshake {
+        Handshake {
+            begun: AtomicU32::new(0),
+            third_piece: AtomicBool::new(false),
+            next_stage: AtomicBool::new(false),
+            alone: AtomicBool::new(false),
+        }
+    }
+
+    fn is_second_window(&self) -> bool {
+        self.begun.load(Ordering::SeqCst) == 2
+    }
+
+    fn meet(&self, came: &AtomicBool, awaited: &AtomicBool) {
+        came.store(true, Ordering::SeqCst);
+        for _ in 0..TURNS {
+            if awaited.load(Ordering::SeqCst) {
+                return;
+            }
+            thread::yield_now();
+        }
+        self.alone.store(true, Ordering::SeqCst);
+    }
+}
+
+impl Gate for Handshake {
+    fn enter(&self, worker: u16, stage: u32, piece: u32) {
+        match (worker, stage, piece) {
+            (0, 0, 0) => {
+                self.begun.fetch_add(1, Ordering::SeqCst);
+            }
+            (0, 0, 2) if self.is_second_window() => {
+                self.meet(&self.third_piece, &self.next_stage);
+            }
+            (1, 1, 0) if self.is_second_window() => {
+                self.meet(&self.next_stage, &self.third_piece);
+            }
+            _ => {}
+        }
+    }
+
+    fn paint(&self, _worker: u16, _slot: u32) {}
+}
+
+// Two workers run at once: before its third piece the first one needs nothing of the second. Where one thread plays both, in whatever
+// order of turns, it never leaves the first of the two calls that wait.
+#[test]
+fn workers_run_at_once(rt: HostRuntime) -> Result<(), Fail> {
+    let alloc = rt.alloc();
+    let words = ["plan", "--workers", "2"];
+    let trace = many_to_one(alloc)?;
+    let mut src = source(alloc, &trace)?;
+    let mut out = sink(alloc)?;
+    let mut notes = sink(alloc)?;
+    let gate = Handshake::new();
+    let status = run(&rt, alloc, &words, &mut src, &mut out, &mut notes, &gate);
+    assert_eq!(rt; status, 0);
+    assert!(rt; gate.begun.load(Ordering::SeqCst) >= 2);
+    assert!(rt;
+        gate.third_piece.load(Ordering::SeqCst),
+        "the first worker took up no third piece"
+    );
+    assert!(rt;
+        gate.next_stage.load(Ordering::SeqCst),
+        "the second worker took up no piece"
+    );
+    assert!(rt;
+        !gate.alone.load(Ordering::SeqCst),
+        "one waited for all its turns"
+    );
+    let open = run_on(&rt, alloc, &words, &trace)?;
+    assert!(rt; out.held() == open.out.held());
+    assert!(rt; notes.held().is_empty());
+    Ok(())
 }

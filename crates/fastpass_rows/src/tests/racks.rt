@@ -1,4 +1,4 @@
-use super::run_with_any_paths;
+use super::run_with_any_workers;
 use report_text::{Line, read_line};
 use std::alloc::{AllocError, Global};
 use std::process::Abort;
@@ -13,7 +13,7 @@ const CORES: u16 = 4;
 // Three racks of two with two cores: the fourth packet finds no core that is free at both its racks, and one path is flipped.
 #[test]
 fn a_path_is_flipped_for_the_fourth_packet(rt: HostRuntime) -> Result<(), Fail> {
-    let came = run_with_any_paths(
+    let came = run_with_any_workers(
         &rt,
         rt.alloc(),
         &["plan", "--batch", "1"],
@@ -31,7 +31,7 @@ fn a_path_is_flipped_for_the_fourth_packet(rt: HostRuntime) -> Result<(), Fail> 
 // A core is named only for the packet that leaves its rack.
 #[test]
 fn packets_within_a_rack_take_no_core(rt: HostRuntime) -> Result<(), Fail> {
-    let came = run_with_any_paths(
+    let came = run_with_any_workers(
         &rt,
         rt.alloc(),
         &["plan", "--batch", "1"],
@@ -73,7 +73,7 @@ fn a_rack_sends_and_receives_as_many_packets_as_there_are_cores(
         ),
     ];
     for (trace, text) in cases.iter() {
-        let came = run_with_any_paths(&rt, rt.alloc(), &["plan", "--batch", "2"], trace)?;
+        let came = run_with_any_workers(&rt, rt.alloc(), &["plan", "--batch", "2"], trace)?;
         assert_eq!(rt; came.status, 0);
         assert!(rt; came.out.held() == *text);
     }
@@ -96,7 +96,7 @@ pub(super) fn many_to_one(alloc: Global) -> Result<Vec<u8>, AllocError> {
 #[test]
 fn equal_demands_keep_their_order(rt: HostRuntime) -> Result<(), Fail> {
     let trace = many_to_one(rt.alloc())?;
-    let came = run_with_any_paths(&rt, rt.alloc(), &["plan"], &trace)?;
+    let came = run_with_any_workers(&rt, rt.alloc(), &["plan"], &trace)?;
     assert_eq!(rt; came.status, 0);
     let mut source = 0u16;
     for bytes in came.out.held().split(|byte| *byte == b'\n') {
@@ -180,7 +180,7 @@ fn busy_trace(alloc: Global) -> Result<Vec<u8>, AllocError> {
 fn no_link_is_used_twice_in_a_busy_network(rt: HostRuntime) -> Result<(), Fail> {
     let alloc = rt.alloc();
     let trace = busy_trace(alloc)?;
-    let came = run_with_any_paths(&rt, rt.alloc(), &["plan"], &trace)?;
+    let came = run_with_any_workers(&rt, rt.alloc(), &["plan"], &trace)?;
     assert_eq!(rt; came.status, 0);
     let mut links = UNUSED;
     let mut last = 0u32;

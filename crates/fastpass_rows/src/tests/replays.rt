@@ -1,4 +1,4 @@
-use super::{failing_sink, failing_source, run_on, run_with, run_with_any_paths, sink, source};
+use super::{failing_sink, failing_source, run_on, run_with, run_with_any_workers, sink, source};
 use std::test::Fail;
 
 const ONE_BY_ONE: &[&str] = &["replay", "--batch", "1", "--window", "1"];
@@ -58,7 +58,7 @@ fn replays_are_written_whole(rt: HostRuntime) -> Result<(), Fail> {
         ),
     ];
     for (trace, text) in cases.iter() {
-        let came = run_with_any_paths(&rt, rt.alloc(), ONE_BY_ONE, trace)?;
+        let came = run_with_any_workers(&rt, rt.alloc(), ONE_BY_ONE, trace)?;
         assert_eq!(rt; came.status, 0);
         assert!(rt; came.out.held() == *text);
         assert!(rt; came.notes.held().is_empty());

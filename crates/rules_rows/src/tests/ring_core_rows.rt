@@ -1,4 +1,4 @@
-ghost use Rattle.std.specs.Prelude.{◌≡◌, ◌<◌, ◌≤◌, length, IfOk, All};
+ghost use Rattle.std.specs.Prelude.{◌≡◌, ◌<◌, ◌≤◌, ◌+◌, length, IfOk, All};
 ghost use Rattle.greedy_rules.specs.Batches.{IsBatch};
 ghost use Rattle.greedy_rules.specs.Recorded.{AreRecorded};
 ghost use Rattle.rules_rows.specs.Asks.{OpensOneSlot};
@@ -37,7 +37,7 @@ fn asks(alloc: Global) -> Result<Batch, NoMemory>
 }
 
 // These asks, and then batches without entries: so many in all.
-fn window(alloc: Global, batches: u16) -> Result<Vec<Batch>, NoMemory>
+pub(super) fn window(alloc: Global, batches: u16) -> Result<Vec<Batch>, NoMemory>
     requires { 1 ≤ batches }
     ensures recorded { IfOk result (λ window. AreRecorded 132 (record { hosts = 44; cores = 44 }) window.items) }
     ensures count { IfOk result (λ window. length window.items ≡ batches) }
@@ -50,16 +50,22 @@ fn window(alloc: Global, batches: u16) -> Result<Vec<Batch>, NoMemory>
     Ok(window)
 }
 
-// Slot t of the window is source t's, and the list that is left has the sources that wait, then those that were served.
-fn check_answers(rt: &impl Abort, list: &DemandList, out: &SlotTable, served: u16)
-    requires { served ≤ 130 }
+// The first of so many slots is the source's after those that were served before, and so on.
+pub(super) fn check_slots(rt: &impl Abort, out: &SlotTable, before: u16, served: u16)
+    requires { before + served ≤ 130 }
 {
     for place in 0..out.slots() {
         for src in 0..out.endpoints() {
-            let dst = (place < served && src == place + 1).then_some(0);
+            let dst = (place < served && src == before + place + 1).then_some(0);
             assert_eq!(rt; out.to(place, src), dst);
         }
     }
+}
+
+// The list that is left has the sources that wait, then those that were served.
+pub(super) fn check_list(rt: &impl Abort, list: &DemandList, served: u16)
+    requires { served ≤ 130 }
+{
     assert_eq!(rt; list.len(), 130);
     for at in 0..130 {
         let item = list.item(at as usize);
@@ -83,7 +89,8 @@ fn two_workers_take_forty_six_turns(rt: HostRuntime) -> Result<(), Fail> {
     core.begin(&mut list, 0, &batches);
     assert_eq!(rt; core.run_out(&batches), 46);
     core.take(&mut list, &mut out);
-    check_answers(&rt, &list, &out, 64);
+    check_slots(&rt, &out, 0, 64);
+    check_list(&rt, &list, 64);
     Ok(())
 }
 
@@ -125,7 +132,8 @@ fn plays_in_order(
     }
     assert!(rt; core.finished());
     core.take(&mut list, &mut out);
-    check_answers(rt, &list, &out, 24);
+    check_slots(rt, &out, 0, 24);
+    check_list(rt, &list, 24);
     Ok(())
 }
 

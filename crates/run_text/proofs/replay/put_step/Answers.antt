@@ -2,7 +2,7 @@ use Rattle.std.proofs.Common.{◌≡◌, ◌<◌, ◌≤◌, ◌+◌, ◌-◌, �
 use Rattle.greedy_rules.specs.declared.flows.Flow.{Flow}
 use Rattle.replay_rounds.specs.Setting.{Cores}
 use Rattle.replay_rounds.specs.Standing.{slots_between}
-use Rattle.window_engine.specs.declared.window.Span.{Span}
+use Rattle.window_allocation.specs.declared.window.Span.{Span}
 use Rattle.window_engine.specs.Replay.{run_of}
 use Rattle.run_lines.specs.Text.{text_of}
 use Rattle.run_lines.specs.Steps.{ArePlayed}

@@ -6,7 +6,7 @@ use Rattle.greedy_rules.specs.Batches.{DemandBatch, IsAboveLast}
 use Rattle.clos_topology.specs.Network.{endpoints_of}
 use Rattle.trace_text.specs.declared.ask.Ask.{Ask}
 use Rattle.window_engine.specs.Batches.{is_asked}
-use Rattle.window_engine.specs.Tallies.{place_of}
+use Rattle.window_allocation.specs.Needs.{place_of}
 use Rattle.window_engine.proofs.AskLemmas.{opens_is}
 use Rattle.window_engine.proofs.RoundAsks.{entry_by, asks_entries, ask_above, ask_in_range}
 use Rattle.window_engine.proofs.collection.batch_of.Goals as goal

@@ -1,5 +1,5 @@
 use Rattle.std.proofs.Common.{◌≡◌, map, take}
-use Rattle.replay_rounds.specs.Setting.{limits_of}
+use Rattle.window_allocation.specs.Nets.{limits_of}
 use Rattle.window_engine.proofs.RoundAsks.{entry_by}
 use Rattle.window_engine.proofs.collection.batch_of.Given as goal
 

@@ -36,7 +36,7 @@ copy-requires-clause-endpoints c =
     let crew = ap (λ (v : RingState). v.crew) c.self.view_is in
     let len : c.len.result ≡ core.workers = omega (arith, c.len.ensures, c.self.inside.crew.ok.0, ap length crew, ring.worker_count) in
     let here = worker_here core c.self.inside.crew.items c.len.result stage w ring crew len c.index-worker.ensures in
-    c.slots.ensures.endpoints ∙ ((ring.each (stage % core.workers) w here).endpoints_is ∙ (sym c.requires.serves ∙ sym c.loop-stage.invariant.endpoints))
+    omega (arith, c.slots.ensures.endpoints, (ring.each (stage % core.workers) w here).endpoints_is, c.requires.serves, c.loop-stage.invariant.endpoints)
 
 pub copy-requires-clause-places : goal.copy-requires-clause-places
 copy-requires-clause-places c =

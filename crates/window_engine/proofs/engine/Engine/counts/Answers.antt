@@ -2,7 +2,7 @@ use Rattle.std.proofs.Common.{◌≡◌, ℕ, get_or, sym, ap, ◌∙◌, arith}
 use Rattle.trace_text.specs.Trace.{TraceContent}
 use Rattle.trace_text.specs.Valid.{IsTrace}
 use Rattle.window_engine.specs.Standing.{EngineState, Stands}
-use Rattle.window_engine.specs.Tallies.{place_of}
+use Rattle.window_allocation.specs.Needs.{place_of}
 use Rattle.window_engine.proofs.EngineLemmas.{Tells, tells_none, tells}
 use Rattle.window_engine.proofs.engine.Engine.counts.Goals as goal
 

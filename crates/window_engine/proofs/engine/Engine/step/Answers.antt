@@ -1,24 +1,25 @@
-use Rattle.std.proofs.Common.{◌≡◌, ◌+◌, ◌-◌, min, ℕ, List, ◌++◌, length, take, drop, refl, sym, ap, ◌∙◌, subst, arith}
+use Rattle.std.proofs.Common.{◌≡◌, ◌≢◌, ◌+◌, ◌-◌, min, ℕ, List, ◌++◌, length, take, drop, refl, sym, ap, ◌∙◌, subst, arith}
 use Rattle.greedy_rules.specs.Batches.{DemandBatch}
 use Rattle.greedy_rules.specs.Schedule.{schedule_from}
 use Rattle.window_engine.specs.Batches.{plan_batches}
-use Rattle.window_engine.specs.Standing.{Collected, Allocated, HasCollected, HasAllocated}
-use Rattle.window_engine.specs.Step.{IsWindowOf}
-use Rattle.window_engine.proofs.EngineLemmas.{stands_too, next_window, next_allocated, pending_room, stands_next, jobs_raised, planned}
+use Rattle.window_allocation.specs.Standing.{Allocated, HasAllocated}
+use Rattle.window_engine.specs.Standing.{Collected, EngineState, HasCollected}
+use Rattle.window_allocation.specs.Windows.{IsWindowOf}
+use Rattle.window_engine.proofs.EngineLemmas.{stands_too, may_give, next_allocated, pending_room, stands_next, jobs_raised, planned}
 use Rattle.window_engine.proofs.engine.Engine.step.Goals as goal
 
-pub window-requires-2-clause-stands : goal.window-requires-2-clause-stands
-window-requires-2-clause-stands g c κs within =
+pub window-requires-2-clause-may : goal.window-requires-2-clause-may
+window-requires-2-clause-may g c κs within =
     let trace = c.args.trace.now in
-    next_window trace _ c.deref.result.now c.min-count.result c.rounds-rounds.ensures.sound (stands_too trace _ _ c.self.view_is c.requires.stands) c.every_plan_is_recorded.ensures c.recorded_batches_may_be_applied.ensures.front
-    (c.deref.ensures.value ∙ c.in_ok-batches.ensures.batches)
+    may_give trace _ c.deref.result.now c.min-count.result c.rounds-rounds.ensures.sound (stands_too trace _ _ c.self.view_is c.requires.stands) c.every_plan_is_recorded.ensures c.recorded_batches_may_be_applied.ensures.front
+    (omega (arith, c.min-count.ensures, c.from.ensures, c.rounds-first.ensures)) (c.deref.ensures.value ∙ c.in_ok-batches.ensures.batches)
 
 pub end-requires-clause-allocated : goal.end-requires-clause-allocated
 end-requires-clause-allocated g c =
     let trace = c.args.trace.now in
     let has =
     next_allocated trace _ c.deref.result.now c.min-count.result c.window-2.new.self c.rounds-rounds.ensures.sound (stands_too trace _ _ c.self.view_is c.requires.stands) c.every_plan_is_recorded.ensures c.recorded_batches_may_be_applied.ensures.front
-    (c.deref.ensures.value ∙ c.in_ok-batches.ensures.batches) c.in_ok-window.ensures.stands in
+    (c.deref.ensures.value ∙ c.in_ok-batches.ensures.batches) c.in_ok-window.ensures.given.stands in
     (trace.net, c.self.inside.g, take c.self.inside.collection.rounds (plan_batches trace) ++ c.deref.result.now, has)
 
 pub end-requires-clause-pending : goal.end-requires-clause-pending
@@ -27,7 +28,7 @@ end-requires-clause-pending g c =
     let stands = stands_too trace _ _ c.self.view_is c.requires.stands in
     let has =
     next_allocated trace _ c.deref.result.now c.min-count.result c.window-2.new.self c.rounds-rounds.ensures.sound stands c.every_plan_is_recorded.ensures c.recorded_batches_may_be_applied.ensures.front
-    (c.deref.ensures.value ∙ c.in_ok-batches.ensures.batches) c.in_ok-window.ensures.stands in
+    (c.deref.ensures.value ∙ c.in_ok-batches.ensures.batches) c.in_ok-window.ensures.given.stands in
     pending_room trace _ (take c.self.inside.collection.rounds (plan_batches trace) ++ c.deref.result.now) c.window-2.new.self c.self.inside.pending.items stands has refl
 
 pub returns-clause-stands : goal.returns-clause-stands
@@ -38,7 +39,7 @@ returns-clause-stands g c =
     let count_is : c.min-count.result ≡ min c.self.inside.g (c.self.inside.rounds - k) = omega (arith, c.min-count.ensures, c.from.ensures, c.rounds-first.ensures) in
     let are = c.deref.ensures.value ∙ c.in_ok-batches.ensures.batches in
     let has =
-    next_allocated trace _ c.deref.result.now c.min-count.result c.window-2.new.self c.rounds-rounds.ensures.sound stands c.every_plan_is_recorded.ensures c.recorded_batches_may_be_applied.ensures.front are c.in_ok-window.ensures.stands in
+    next_allocated trace _ c.deref.result.now c.min-count.result c.window-2.new.self c.rounds-rounds.ensures.sound stands c.every_plan_is_recorded.ensures c.recorded_batches_may_be_applied.ensures.front are c.in_ok-window.ensures.given.stands in
     stands_next trace _ c.end.new.self c.deref.result.now stands c.end.ensures.g c.end.ensures.endpoints c.end.ensures.rounds (are ∙ ap (λ (m : ℕ). take m (drop k (plan_batches trace))) count_is)
     (subst (HasCollected trace) (sym c.end.ensures.collection) c.in_ok-batches.ensures.stands)
     (ap (λ (half : Collected). half.rounds) c.end.ensures.collection ∙ (c.in_ok-batches.ensures.rounds ∙ ap (λ (m : ℕ). k + m) count_is))
@@ -49,12 +50,12 @@ returns-clause-jobs g c =
     let trace = c.args.trace.now in
     let stands = stands_too trace _ _ c.self.view_is c.requires.stands in
     jobs_raised trace _ _ c.deref.result.now c.min-count.result c.end.new.self.allocation.paths.jobs c.self.view_is c.rounds-rounds.ensures.sound stands c.every_plan_is_recorded.ensures (omega (arith, c.min-count.ensures, c.from.ensures, c.rounds-first.ensures))
-    (c.deref.ensures.value ∙ c.in_ok-batches.ensures.batches) (ap (λ (half : Allocated). half.paths.jobs) c.end.ensures.allocation ∙ c.in_ok-window.ensures.jobs)
+    (subst (λ (e : EngineState). e.collection.rounds ≢ e.rounds) (sym c.self.view_is) c.requires.more) (c.deref.ensures.value ∙ c.in_ok-batches.ensures.batches) (ap (λ (half : Allocated). half.paths.jobs) c.end.ensures.allocation ∙ c.in_ok-window.ensures.given.jobs)
 
 pub returns-clause-planned : goal.returns-clause-planned
 returns-clause-planned g c =
     let trace = c.args.trace.now in
     planned trace _ _ c.in_ok-batches.batches.items c.min-count.result c.rounds-first.result c.in_ok-window.window c.self.view_is c.rounds-rounds.ensures.sound (stands_too trace _ _ c.self.view_is c.requires.stands) c.every_plan_is_recorded.ensures
     c.schedules_go_on.ensures.more c.schedules_go_on.ensures.front c.schedules_go_on.ensures.count c.rounds-first.ensures (omega (arith, c.min-count.ensures, c.from.ensures, c.rounds-first.ensures)) c.in_ok-batches.ensures.batches
-    (subst (λ (bs : List DemandBatch). c.in_ok-window.window.span ≡ record { first = c.self.inside.allocation.batches; count = length bs }) c.deref.ensures.value c.in_ok-window.ensures.span)
-    (subst (λ (bs : List DemandBatch). IsWindowOf c.self.inside.allocation.paths.net c.self.inside.allocation.b (schedule_from c.self.inside.allocation.b c.self.inside.allocation.batches c.self.inside.allocation.list.items bs) c.in_ok-window.window) c.deref.ensures.value c.in_ok-window.ensures.window)
+    (subst (λ (bs : List DemandBatch). c.in_ok-window.window.span ≡ record { first = c.self.inside.allocation.batches; count = length bs }) c.deref.ensures.value c.in_ok-window.ensures.given.span)
+    (subst (λ (bs : List DemandBatch). IsWindowOf c.self.inside.allocation.paths.net c.self.inside.allocation.b (schedule_from c.self.inside.allocation.b c.self.inside.allocation.batches c.self.inside.allocation.list.items bs) c.in_ok-window.window) c.deref.ensures.value c.in_ok-window.ensures.given.window)

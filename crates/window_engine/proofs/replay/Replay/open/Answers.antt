@@ -4,7 +4,7 @@ use Rattle.greedy_rules.specs.Batches.{DemandBatch}
 use Rattle.clos_topology.specs.Network.{Network}
 use Rattle.trace_run.specs.Run.{replayed}
 use Rattle.replay_rounds.specs.Setting.{setting_of}
-use Rattle.window_engine.specs.Standing.{HasAllocated}
+use Rattle.window_allocation.specs.Standing.{HasAllocated}
 use Rattle.window_engine.proofs.replay.Replay.open.Goals as goal
 
 pub returns-clause-stands : goal.returns-clause-stands

@@ -1,14 +1,14 @@
-use Rattle.std.proofs.Common.{◌≡◌, ◌≤◌, ◌+◌, ◌-◌, ◌*◌, ℕ, List, length, sym, ap, ◌∙◌, subst, min}
+use Rattle.std.proofs.Common.{◌≤◌, ◌+◌, ◌-◌, ◌*◌, ℕ, length, sym, ap, ◌∙◌, subst, min}
 use Rattle.alloc_pipeline.specs.Ring.{RingWork}
 use Rattle.trace_run.specs.Run.{replayed}
 use Rattle.replay_rounds.specs.Setting.{setting_of}
 use Rattle.replay_rounds.specs.Played.{Played, rounds_played}
 use Rattle.replay_rounds.specs.Standing.{RoundsContent}
 use Rattle.window_engine.specs.Replay.{ReplayState, run_of}
-use Rattle.window_engine.specs.Standing.{Allocated, HasAllocated}
-use Rattle.window_engine.specs.Step.{WindowContent, jobs_for}
+use Rattle.window_allocation.specs.Standing.{Allocated, HasAllocated}
+use Rattle.window_allocation.specs.Windows.{WindowContent, jobs_for}
 use Rattle.window_engine.proofs.ReplaySteps.{are_next, replay_allocated}
-use Rattle.window_engine.proofs.ReplayPublish.{MayPublish, publishes_with, publish_next, publish_fits, lanes_after, stands_next}
+use Rattle.window_engine.proofs.ReplayPublish.{MayPublish, seen_as, publishes_with, publish_next, publish_fits, lanes_after, stands_next}
 use Rattle.window_engine.proofs.ReplayBeside.{may_allocate, collects_beside, next_beside}
 use Rattle.window_engine.proofs.replay.Replay.step.Goals as goal
 
@@ -27,7 +27,7 @@ publish-requires-clause-next g c =
     let here = ap (λ (e : ReplayState). e.lanes) c.self-2.view_is in
     let collects = collects_beside trace old _ c.self-2.inside.lanes _ here c.in_ok-played.ensures.rounds in
     let next = next_beside laws trace cores old _ _ sound stands c.in_ok-played.ensures.given in
-    subst (MayPublish c.self-2.inside.lanes) (sym c.window.view_is) (publish_next laws trace cores old c.self-2.inside.lanes c.in_ok-played.window sound stands collects next)
+    subst (MayPublish c.self-2.inside.lanes) (sym (seen_as _ _ _ _ c.span-published.ensures c.slots.ensures c.cores.ensures)) (publish_next laws trace cores old c.self-2.inside.lanes c.in_ok-played.window sound stands collects next)
 
 pub publish-requires-clause-collected : goal.publish-requires-clause-collected
 publish-requires-clause-collected g c =
@@ -38,7 +38,7 @@ publish-requires-clause-collected g c =
     let collects = collects_beside trace old _ c.self-2.inside.lanes _ here c.in_ok-played.ensures.rounds in
     let next = next_beside c.replays_hold.ensures trace cores old _ _ c.rounds-rounds.ensures.sound stands c.in_ok-played.ensures.given in
     let fits = publish_fits trace cores old c.self-2.inside.lanes c.in_ok-played.window stands collects next in
-    subst (λ (w : WindowContent). c.self-2.inside.lanes.published + w.span.count ≤ c.self-2.inside.lanes.collected) (sym c.window.view_is) fits.0
+    subst (λ (w : WindowContent). c.self-2.inside.lanes.published + w.span.count ≤ c.self-2.inside.lanes.collected) (sym (seen_as _ _ _ _ c.span-published.ensures c.slots.ensures c.cores.ensures)) fits.0
 
 pub publish-requires-clause-room : goal.publish-requires-clause-room
 publish-requires-clause-room g c =
@@ -49,7 +49,7 @@ publish-requires-clause-room g c =
     let collects = collects_beside trace old _ c.self-2.inside.lanes _ here c.in_ok-played.ensures.rounds in
     let next = next_beside c.replays_hold.ensures trace cores old _ _ c.rounds-rounds.ensures.sound stands c.in_ok-played.ensures.given in
     let fits = publish_fits trace cores old c.self-2.inside.lanes c.in_ok-played.window stands collects next in
-    subst (λ (w : WindowContent). w.span.count ≤ c.self-2.inside.lanes.g) (sym c.window.view_is) fits.1
+    subst (λ (w : WindowContent). w.span.count ≤ c.self-2.inside.lanes.g) (sym (seen_as _ _ _ _ c.span-published.ensures c.slots.ensures c.cores.ensures)) fits.1
 
 pub end-requires-clause-stands : goal.end-requires-clause-stands
 end-requires-clause-stands g c =
@@ -61,7 +61,7 @@ end-requires-clause-stands g c =
     let here = ap (λ (e : ReplayState). e.lanes) c.self-2.view_is in
     let collects = collects_beside trace old _ c.self-2.inside.lanes _ here c.in_ok-played.ensures.rounds in
     let next = next_beside laws trace cores old _ _ sound stands c.in_ok-played.ensures.given in
-    let publishes = publishes_with c.self-2.inside.lanes c.publish.new.self _ _ c.window.view_is c.publish.ensures.frame c.publish.ensures.first c.publish.ensures.stands in
+    let publishes = publishes_with c.self-2.inside.lanes c.publish.new.self _ _ (seen_as _ _ _ _ c.span-published.ensures c.slots.ensures c.cores.ensures) c.publish.ensures.frame c.publish.ensures.first c.publish.ensures.stands in
     let (run, named, is_trace, all, is) = publish_next laws trace cores old c.self-2.inside.lanes c.in_ok-played.window sound stands collects next in
     (run, named, publishes.stands run named is_trace all is)
 
@@ -92,7 +92,7 @@ returns-clause-published g c =
     let here = ap (λ (e : ReplayState). e.lanes) c.self-2.view_is in
     let collects = collects_beside trace old _ c.self-2.inside.lanes _ here c.in_ok-played.ensures.rounds in
     let next = next_beside c.replays_hold.ensures trace cores old _ _ c.rounds-rounds.ensures.sound stands c.in_ok-played.ensures.given in
-    let publishes = publishes_with c.self-2.inside.lanes c.publish.new.self _ _ c.window.view_is c.publish.ensures.frame c.publish.ensures.first c.publish.ensures.stands in
+    let publishes = publishes_with c.self-2.inside.lanes c.publish.new.self _ _ (seen_as _ _ _ _ c.span-published.ensures c.slots.ensures c.cores.ensures) c.publish.ensures.frame c.publish.ensures.first c.publish.ensures.stands in
     ap (λ (all : RoundsContent). all.published) c.end.ensures.lanes
     ∙ ap (λ (all : RoundsContent). all.published) (lanes_after trace cores old c.self-2.inside.lanes c.publish.new.self c.in_ok-played.window stands collects next publishes)
 
@@ -137,7 +137,7 @@ returns-clause-stands g c cores stands named =
     let here = ap (λ (e : ReplayState). e.lanes) c.self-2.view_is in
     let collects = collects_beside trace old _ c.self-2.inside.lanes _ here c.in_ok-played.ensures.rounds in
     let next = next_beside laws trace cores old _ _ sound stands c.in_ok-played.ensures.given in
-    let publishes = publishes_with c.self-2.inside.lanes c.publish.new.self _ _ c.window.view_is c.publish.ensures.frame c.publish.ensures.first c.publish.ensures.stands in
+    let publishes = publishes_with c.self-2.inside.lanes c.publish.new.self _ _ (seen_as _ _ _ _ c.span-published.ensures c.slots.ensures c.cores.ensures) c.publish.ensures.frame c.publish.ensures.first c.publish.ensures.stands in
     let batches = (replayed (setting_of trace old.lanes.b old.lanes.g cores) old.lanes.collected).batches in
     let half = c.end.ensures.allocation ∙ ap (λ (e : ReplayState). e.allocation) c.self-2.view_is in
     let has = replay_allocated laws trace cores old _ sound stands c.in_ok-played.ensures.given.stands in

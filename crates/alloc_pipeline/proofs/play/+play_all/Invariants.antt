@@ -1,0 +1,5 @@
+use Rattle.std.proofs.Common.{vec_len}
+use Rattle.alloc_pipeline.proofs.play.+play_all.Given as goal
+
+abbrev pub decreases-play_all : goal.decreases-play_all
+decreases-play_all g l = vec_len l.players.now

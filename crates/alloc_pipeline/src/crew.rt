@@ -1,0 +1,202 @@
+ghost use Rattle.std.specs.Prelude.{◌≡◌, ◌≤◌, ◌+◌, ◌-◌, ◌*◌, ◌<◌, ◌^◌, ℕ, [], ◌++◌, length, map, replicate, All, IfOk, vec_capacity};
+ghost use Rattle.crossbeam_queue.specs.Passes.{ruled_capacity};
+ghost use Rattle.greedy_rules.specs.Schedule.{schedule_from, rest_from};
+ghost use Rattle.ring_core.specs.Windows.{Window, window_of};
+ghost use Rattle.alloc_pipeline.specs.Ring.{IsRing as MayBeOpened, moved_by};
+ghost use Rattle.alloc_pipeline.specs.Starts.{AllResting};
+ghost use Rattle.alloc_pipeline.specs.Crews.{IsReady, MayPlay, AllPlayedOut, HavePlayedOut, IsSameCrew, moved_of};
+
+use crate::edge;
+use crate::player::Player;
+use crate::rejoin::play_window;
+use crate::rule::{EdgePass, EdgeQueue};
+use crate::start::{Opening, start};
+use fp_edge::Gate;
+use greedy_rules::{Batch, DemandList, Flow, Item, SlotTable, flows_fit_pairs};
+use item_chain::Chain;
+use no_memory::NoMemory;
+use ring_core::{Worker, count_pieces, open_crew};
+use slot_batches::every_batch_leaves_a_list;
+use std::alloc::Global;
+use std::mem;
+use std::snapshot::Snapshot;
+use std::sync::Wait;
+use std::thread::Threads;
+
+// Room in each edge for twice the pieces of the longest list.
+const ROOM: usize = 2040;
+
+// The least list, in pieces, for which threads are started: below it the caller plays all workers.
+const THREADS_FROM: u32 = 3;
+
+// What the nodes hold at first.
+const BLANK: Item = Item {
+    flow: Flow { src: 0, dst: 0 },
+    need: 0,
+    last: 0,
+};
+
+/// The workers of a ring with their edges, and the memory of their windows.
+#[derive(Drop)]
+pub(crate) struct Crew {
+    alloc: Global,
+    pub(crate) count: u16,
+    pub(crate) endpoints: u16,
+    pub(crate) batches: u16,
+    pub(crate) b: u8,
+    // Edge k is the one into worker k.
+    pub(crate) queues: Vec<EdgeQueue>,
+    pub(crate) passes: Vec<EdgePass>,
+    pub(crate) workers: Vec<Worker>,
+    // Where a window runs, each worker is here with its passes.
+    pub(crate) players: Vec<Player>,
+    // The batches of the last window, for contracts alone.
+    pub(crate) window: Vec<Snapshot<Batch>>,
+    // Nodes that no piece and no worker has.
+    pub(crate) spare: Chain<Item>,
+}
+
+impl Crew {
+    pub(crate) fn open(
+        alloc: Global,
+        workers: u16,
+        endpoints: u16,
+        batches: u16,
+        b: u8,
+    ) -> Result<Crew, NoMemory>
+        requires sizes { MayBeOpened workers endpoints batches b }
+        ensures ready { IfOk result IsReady }
+        ensures count { IfOk result (λ crew. crew.count ≡ workers) }
+        ensures endpoints { IfOk result (λ crew. crew.endpoints ≡ endpoints) }
+        ensures batches { IfOk result (λ crew. crew.batches ≡ batches) }
+        ensures b { IfOk result (λ crew. crew.b ≡ b) }
+        ensures moved { IfOk result (λ crew. moved_of crew.passes.items ≡ replicate workers 0) }
+    {
+        let count = workers as usize;
+        let pairs = endpoints as usize * (endpoints as usize).saturating_sub(1);
+        let mut spare = Chain::new(alloc);
+        spare.fill(pairs, BLANK)?;
+        let (queues, passes) = open_edges(alloc, workers)?;
+        let crew = open_crew(alloc, workers, endpoints, batches, b)?;
+        Ok(Crew {
+            alloc,
+            count: workers,
+            endpoints,
+            batches,
+            b,
+            queues,
+            passes,
+            workers: crew,
+            players: Vec::with_capacity(alloc, count)?,
+            window: Vec::with_capacity(alloc, batches as usize)?,
+            spare,
+        })
+    }
+    /// Plays a window: its list goes through the edges in pieces, worker after worker, and what its batches leave comes back.
+    pub(crate) fn play<R: Threads + Wait + Sync, G: Gate + Sync>(
+        &mut self,
+        rt: &R,
+        gate: &G,
+        list: &mut DemandList,
+        first_batch: u32,
+        batches: &[Batch],
+    )
+        requires ready { IsReady self.old }
+        requires may { MayPlay self.old first_batch batches.now list.old.items }
+        requires room { length (rest_from self.old.b first_batch list.old.items batches.now) ≤ length list.old.items + list.old.spare }
+        ensures ready { IsReady self.new }
+        ensures same { IsSameCrew self.old self.new }
+        ensures list { list.new.items ≡ rest_from self.old.b first_batch list.old.items batches.now }
+        ensures spare { length list.new.items + list.new.spare ≡ length list.old.items + list.old.spare }
+        ensures moved { moved_of self.new.passes.items ≡ moved_by (window_of list.old.items batches.now first_batch self.old.b self.old.count) 0 (moved_of self.old.passes.items) }
+        ensures played { AllPlayedOut (window_of list.old.items batches.now first_batch self.old.b self.old.count) self.new.workers.items }
+    {
+        every_batch_leaves_a_list();
+        flows_fit_pairs();
+        name_batches(&mut self.window, batches);
+        let threads = count_pieces(list.items()) >= THREADS_FROM;
+        let opening = Opening {
+            list,
+            batches: &self.window,
+            first_batch,
+            b: self.b,
+            workers: self.count,
+        };
+        start(
+            rt,
+            self.alloc,
+            &self.queues,
+            &opening,
+            batches,
+            &mut self.workers,
+            &mut self.passes,
+            &mut self.spare,
+            &mut self.players,
+        );
+        list.clear();
+        let players = mem::replace(&mut self.players, Vec::new(self.alloc));
+        self.players = play_window(
+            rt,
+            gate,
+            &self.queues,
+            batches,
+            threads,
+            batches.len() % self.count as usize,
+            players,
+            list,
+            &mut self.spare,
+            &mut self.workers,
+            &mut self.passes,
+        );
+    }
+}
+
+/// An edge into each of so many workers, with its whole pass.
+fn open_edges(alloc: Global, workers: u16) -> Result<(Vec<EdgeQueue>, Vec<EdgePass>), NoMemory>
+    ensures queues { IfOk result (λ edges. length edges.0.items ≡ workers) }
+    ensures rooms { IfOk result (λ edges. All (λ queue. ruled_capacity queue ≡ 2040) edges.0.items) }
+    ensures passes { IfOk result (λ edges. length edges.1.items ≡ workers) }
+    ensures resting { IfOk result (λ edges. AllResting edges.0.items 0 edges.1.items) }
+    ensures moved { IfOk result (λ edges. moved_of edges.1.items ≡ replicate workers 0) }
+{
+    let mut queues = Vec::with_capacity(alloc, workers as usize)?;
+    let mut passes = Vec::with_capacity(alloc, workers as usize)?;
+    for _ in 0..workers {
+        let (queue, pass) = edge::open(alloc, ROOM)?;
+        queues.push(queue)?;
+        passes.push(pass)?;
+    }
+    Ok((queues, passes))
+}
+
+/// Names the batches of a window.
+fn name_batches(window: &mut Vec<Snapshot<Batch>>, batches: &[Batch])
+    requires room { length batches.now ≤ vec_capacity window.old }
+    ensures batches { map (λ batch. batch.value) window.new.items ≡ batches.now }
+    ensures capacity { vec_capacity window.new ≡ vec_capacity window.old }
+{
+    window.clear();
+    for batch in batches {
+        window.push_reserved(Snapshot::of(batch));
+    }
+}
+
+/// Copies the slots of every stage of a window that was played: slot i of stage s to place `s * b + i` of the table, whose other
+/// places are emptied.
+pub(crate) fn copy_slots(workers: &[Worker], b: u8, stages: usize, out: &mut SlotTable)
+    requires played { (endpoints most : ℕ) × (window : Window) × HavePlayedOut endpoints most b stages window workers.now × (endpoints ≤ out.old.endpoints) }
+    requires places { stages * b ≤ length out.old.slots }
+    requires few { stages < 2 ^ 16 }
+    ensures slots { (endpoints most : ℕ) → (window : Window) →
+        HavePlayedOut endpoints most b stages window workers.now →
+        out.new.slots ≡ schedule_from b window.first_batch window.list window.batches ++ replicate (length out.old.slots - stages * b) [] }
+    ensures endpoints { out.new.endpoints ≡ out.old.endpoints }
+{
+    out.clear();
+    let _places = out.slots();
+    for stage in 0..stages {
+        let worker = &workers[stage % workers.len()];
+        let place = stage * b as usize;
+        out.copy(worker.slots(stage as u32), place as u16);
+    }
+}

@@ -1,0 +1,11 @@
+pub mod Weaving
+pub mod Places
+pub mod IdleLemmas
+pub mod RunLemmas
+pub mod PickedLemmas
+pub mod Down
+pub mod CleanSlots
+pub mod WindowLemmas
+pub mod NeedTable
+pub mod SlotLemmas
+pub mod Crossing

@@ -1,0 +1,10 @@
+pub mod Nets
+pub mod Needs
+pub mod Scheduled
+pub mod Windows
+pub mod Standing
+pub mod Ready
+pub mod Giving
+pub mod Idle
+pub mod Picked
+pub mod Runs

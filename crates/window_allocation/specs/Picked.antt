@@ -1,0 +1,22 @@
+-- What of a window's demand list is set aside, and the memory for the rest (this project's own profile).
+use Rattle.std.specs.Prelude.{◌≤◌, ℕ, ◌+◌, ◌*◌, List, [], ◌∷◌, length, Bool, ◌==◌, ◌&&◌, not, if◌then◌else◌, vec_capacity}
+use Rattle.greedy_rules.specs.declared.flows.Item.{Item}
+use Rattle.slot_batches.specs.Marks.{WindowMarks, has_mark}
+use Rattle.slot_batches.specs.Woven.{stays}
+use Rattle.window_allocation.specs.declared.picked.Picked.{Picked}
+
+-- an item is set aside that needs no slot and whose flow has no mark
+abbrev pub is_aside : WindowMarks → Item → Bool
+is_aside marks item = (item.need == 0) && not (has_mark marks item.flow)
+
+-- the first item of the list as it stands in the rest, if it stays as the next one there
+abbrev pub staying : List Item → List Item → List Item
+staying [] rest = []
+staying (item ∷ list) [] = []
+staying (item ∷ list) (next ∷ rest) = if stays item next then next ∷ [] else []
+
+-- there is room for an item of each pair of endpoints, twice, and for the places of as many
+pub record HasRoomFor (endpoints : ℕ) (picked : Picked) : Type 0 where
+  pub items : endpoints * endpoints ≤ length picked.items.items + picked.items.spare
+  pub places : endpoints * endpoints ≤ vec_capacity picked.places
+  pub whole : endpoints * endpoints ≤ vec_capacity picked.whole

@@ -1,0 +1,28 @@
+-- A ring that plays a window's batches run by run (this project's own profile).
+use Rattle.std.specs.Prelude.{◌≡◌, ◌<◌, ◌≤◌, ℕ, ◌+◌, ◌-◌, ◌*◌, List, [], ◌++◌, length, replicate}
+use Rattle.greedy_rules.specs.Batches.{DemandBatch}
+use Rattle.greedy_rules.specs.Demands.{Demands}
+use Rattle.greedy_rules.specs.Schedule.{first_slot, schedule_from, rest_from}
+use Rattle.greedy_rules.specs.SlotTable.{Slots}
+use Rattle.slot_batches.specs.NextList.{IsListBefore}
+use Rattle.alloc_pipeline.specs.Ring.{RingWork, IsSameRing}
+use Rattle.window_allocation.specs.declared.runs.Runs.{Runs}
+
+-- its table is for the slots of a whole window of the ring's, which has at most 16 batches of at most 64 slots
+pub record HasRunTable (runs : Runs) : Type 0 where
+  pub b : runs.b ≡ runs.ring.b
+  pub some_slots : (0 < runs.b) × (runs.b ≤ 64)
+  pub few_batches : runs.ring.batches ≤ 16
+  pub endpoints : runs.slots.endpoints ≡ runs.ring.endpoints
+  pub places : length runs.slots.slots ≡ runs.ring.batches * runs.ring.b
+
+-- the batches got their slots, whatever of the list was handed to the ring and in however many runs
+pub record GivesSlots (ring_old ring_new : RingWork) (first_batch : ℕ) (list_old list_new : Demands) (batches : List DemandBatch) (out_old out_new : Slots) : Type 0 where
+  -- the list is what they leave, with as much room as before
+  pub list : list_new.items ≡ rest_from ring_old.b first_batch list_old.items batches
+  pub spare : length list_new.items + list_new.spare ≡ length list_old.items + list_old.spare
+  pub next : IsListBefore (first_slot ring_old.b (first_batch + length batches)) list_new.items
+  -- the table holds their slots, and no others
+  pub slots : out_new.slots ≡ schedule_from ring_old.b first_batch list_old.items batches ++ replicate (length out_old.slots - length batches * ring_old.b) []
+  pub endpoints : out_new.endpoints ≡ out_old.endpoints
+  pub same : IsSameRing ring_old ring_new

@@ -1,0 +1,231 @@
+//! What of a window's demand list its batches run over, while the rest is set aside.
+ghost use Rattle.std.specs.Prelude.{◌≡◌, ◌<◌, ◌≤◌, ◌+◌, ◌^◌, [], ◌++◌, Bool, length, true, false, IfOk, All, vec_len, vec_capacity};
+ghost use Rattle.greedy_rules.specs.declared.flows.Flow.{Flow};
+ghost use Rattle.greedy_rules.specs.declared.flows.Item.{Item};
+ghost use Rattle.slot_batches.specs.Feeding.{IsInOrder};
+ghost use Rattle.slot_batches.specs.Marks.{has_mark};
+ghost use Rattle.slot_batches.specs.Woven.{picked as picked_of, woven, OnlyOpen, places_from};
+ghost use Rattle.window_allocation.specs.Picked.{is_aside as is_aside_in, HasRoomFor};
+
+use crate::batches::needs_of;
+use crate::in_place::weave_in_place;
+use crate::weave::{first_served, weave_lists};
+use greedy_rules::{Batch, DemandList, Item};
+use no_memory::NoMemory;
+use slot_batches::{FlowMarks, give_items};
+use std::alloc::Global;
+
+/// How many windows pass before it is tried again to pick few items of a list of which many may change.
+const PAUSE: u8 = 15;
+
+/// Whether all these items are set aside, where that is seen of their needs alone.
+fn need_nothing(items: &[Item], marks: &FlowMarks) -> bool
+    ensures { result ≡ true → All (λ item. is_aside_in marks.now item ≡ true) items.now }
+{
+    marks.is_empty() && needs_of(items) == 0
+}
+
+/// Appends the items at these places, and where they stand in the list, the first item's place being `from`.
+fn take_picked(
+    items: &[Item],
+    from: usize,
+    picked: &[usize],
+    found: &mut DemandList,
+    places: &mut Vec<usize>,
+)
+    requires picked { (aside : Item → Bool) × (picked.now ≡ places_from aside 0 items.now) }
+    requires room { length picked.now ≤ found.old.spare }
+    requires places_room { vec_len places.old + length picked.now ≤ vec_capacity places.old }
+    requires fits { from + length items.now < 2 ^ 63 }
+    ensures items { (aside : Item → Bool) → picked.now ≡ places_from aside 0 items.now → found.new.items ≡ found.old.items ++ picked_of aside items.now }
+    ensures places { (aside : Item → Bool) → picked.now ≡ places_from aside 0 items.now → places.new.items ≡ places.old.items ++ places_from aside from items.now }
+    ensures room { length found.new.items + found.new.spare ≡ length found.old.items + found.old.spare }
+    ensures capacity { vec_capacity places.new ≡ vec_capacity places.old }
+{
+    for at in picked {
+        found.push(items[*at]);
+        places.push_reserved(from + *at);
+    }
+}
+
+/// Appends those of the items that are not set aside, and their places, the first item's being `from`, where no more than
+/// `most` are found then.
+fn pick_few(
+    items: &[Item],
+    from: usize,
+    marks: &FlowMarks,
+    most: usize,
+    found: &mut DemandList,
+    places: &mut Vec<usize>,
+) -> bool
+    requires room { most ≤ length found.old.items + found.old.spare }
+    requires places_room { most ≤ vec_capacity places.old }
+    requires same { length found.old.items ≡ length places.old.items }
+    requires few { length items.now ≤ 64 }
+    requires fits { from + length items.now < 2 ^ 63 }
+    ensures items { result ≡ true → found.new.items ≡ found.old.items ++ picked_of (is_aside_in marks.now) items.now }
+    ensures places { result ≡ true → places.new.items ≡ places.old.items ++ places_from (is_aside_in marks.now) from items.now }
+    ensures same { length found.new.items ≡ length places.new.items }
+    ensures room { length found.new.items + found.new.spare ≡ length found.old.items + found.old.spare }
+    ensures capacity { vec_capacity places.new ≡ vec_capacity places.old }
+{
+    if need_nothing(items, marks) {
+        return true;
+    }
+    if most < found.len() || most - found.len() < items.len() {
+        return false;
+    }
+    let mut picked = [0; 64];
+    let count = marks.note_busy(items, &mut picked);
+    take_picked(items, from, &picked[..count], found, places);
+    true
+}
+
+/// Picks the items that are not set aside, in their order, and their places, where they are no more than `most`.
+fn pick_items(
+    items: &[Item],
+    marks: &FlowMarks,
+    most: usize,
+    found: &mut DemandList,
+    places: &mut Vec<usize>,
+) -> bool
+    requires room { most ≤ length found.old.items + found.old.spare }
+    requires places_room { most ≤ vec_capacity places.old }
+    ensures items { result ≡ true → found.new.items ≡ picked_of (is_aside_in marks.now) items.now }
+    ensures places { result ≡ true → places.new.items ≡ places_from (is_aside_in marks.now) 0 items.now }
+    ensures room { length found.new.items + found.new.spare ≡ length found.old.items + found.old.spare }
+    ensures capacity { vec_capacity places.new ≡ vec_capacity places.old }
+{
+    found.clear();
+    places.clear();
+    let mut from = 0;
+    for few in items.chunks(64) {
+        if !pick_few(few, from, marks, most, found, places) {
+            return false;
+        }
+        from += few.len();
+    }
+    true
+}
+
+/// The items of a window's list that need a slot or may have an entry in its batches, and the memory in which they and the
+/// others come together again.
+#[derive(Drop)]
+pub(crate) struct Picked {
+    marks: FlowMarks,
+    pub(crate) items: DemandList,
+    // Where each of them stood in the list.
+    places: Vec<usize>,
+    whole: Vec<Item>,
+    // The window's list, while it is woven where it stands. There is room for so many items that the list may have these in its
+    // place.
+    list: Vec<Item>,
+    // So many windows pass before it is tried again to pick few.
+    pause: u8,
+}
+
+impl Picked {
+    /// With room for an item of each pair of endpoints.
+    pub(crate) fn open(alloc: Global, endpoints: u16) -> Result<Picked, NoMemory>
+        ensures { IfOk result (HasRoomFor endpoints) }
+    {
+        let pairs = endpoints as usize * endpoints as usize;
+        Ok(Picked {
+            marks: FlowMarks::open(alloc)?,
+            items: DemandList::open(alloc, pairs)?,
+            places: Vec::with_capacity(alloc, pairs)?,
+            whole: Vec::with_capacity(alloc, pairs)?,
+            list: Vec::with_capacity(alloc, pairs)?,
+            pause: 0,
+        })
+    }
+
+    /// Picks the items of the list that need a slot or may have an entry in one of the batches, unless they are more than an
+    /// eighth of it; where they were, some windows pass before that is looked at again.
+    pub(crate) fn pick(&mut self, list: &[Item], batches: &[Batch]) -> bool
+        requires room { length list.now ≤ length self.old.items.items + self.old.items.spare }
+        requires places_room { length list.now ≤ vec_capacity self.old.places }
+        ensures items { result ≡ true → self.new.items.items ≡ picked_of (is_aside_in self.new.marks) list.now }
+        ensures places { result ≡ true → self.new.places.items ≡ places_from (is_aside_in self.new.marks) 0 list.now }
+        ensures unmarked { (flow : Flow) → has_mark self.new.marks flow ≡ false → OnlyOpen batches.now flow }
+        ensures room { length self.new.items.items + self.new.items.spare ≡ length self.old.items.items + self.old.items.spare }
+        ensures places_room { vec_capacity self.new.places ≡ vec_capacity self.old.places }
+        ensures whole { self.new.whole ≡ self.old.whole }
+    {
+        self.marks.mark(batches);
+        if self.pause > 0 {
+            self.pause -= 1;
+            return false;
+        }
+        let picked = pick_items(
+            list,
+            &self.marks,
+            list.len() / 8,
+            &mut self.items,
+            &mut self.places,
+        );
+        if !picked {
+            self.pause = PAUSE;
+        }
+        picked
+    }
+
+    /// Puts the list together again by a copy of all its items.
+    fn weave_anew(&mut self, list: &mut DemandList)
+        requires list_order { IsInOrder list.old.items }
+        requires order { IsInOrder self.old.items.items }
+        requires places { self.old.places.items ≡ places_from (is_aside_in self.old.marks) 0 list.old.items }
+        requires room { length (woven (is_aside_in self.old.marks) list.old.items self.old.items.items) ≤ length list.old.items + list.old.spare }
+        requires whole_room { length (woven (is_aside_in self.old.marks) list.old.items self.old.items.items) ≤ vec_capacity self.old.whole }
+        ensures items { list.new.items ≡ woven (is_aside_in self.old.marks) list.old.items self.old.items.items }
+        ensures spare { length list.new.items + list.new.spare ≡ length list.old.items + list.old.spare }
+        ensures rest { self.new.items ≡ self.old.items }
+        ensures places { self.new.places ≡ self.old.places }
+        ensures whole { vec_capacity self.old.whole ≤ vec_capacity self.new.whole }
+    {
+        weave_lists(
+            list.items(),
+            &self.places,
+            self.items.items(),
+            &mut self.whole,
+        );
+        give_items(&mut self.whole, list);
+    }
+
+    /// Puts the list together again from itself and what the batches left of the items that were picked from it. It has as much
+    /// room as before. Where no item was picked and all that opened was served, that follows the list, and nothing is copied; a
+    /// list of other room than it was opened for is copied whole.
+    pub(crate) fn weave_into(&mut self, list: &mut DemandList)
+        requires list_order { IsInOrder list.old.items }
+        requires order { IsInOrder self.old.items.items }
+        requires places { self.old.places.items ≡ places_from (is_aside_in self.old.marks) 0 list.old.items }
+        requires room { length (woven (is_aside_in self.old.marks) list.old.items self.old.items.items) ≤ length list.old.items + list.old.spare }
+        requires whole_room { length (woven (is_aside_in self.old.marks) list.old.items self.old.items.items) ≤ vec_capacity self.old.whole }
+        ensures items { list.new.items ≡ woven (is_aside_in self.old.marks) list.old.items self.old.items.items }
+        ensures spare { length list.new.items + list.new.spare ≡ length list.old.items + list.old.spare }
+        ensures room { length self.new.items.items + self.new.items.spare ≡ length self.old.items.items + self.old.items.spare }
+        ensures places { vec_capacity self.new.places ≡ vec_capacity self.old.places }
+        ensures whole { vec_capacity self.old.whole ≤ vec_capacity self.new.whole }
+    {
+        if self.places.is_empty() && first_served(self.items.items()) == 0 {
+            list.append(self.items.items());
+            return;
+        }
+        if list.room() != self.list.capacity() {
+            self.weave_anew(list);
+            return;
+        }
+        list.exchange(&mut self.list);
+        let end = weave_in_place(
+            &mut self.list,
+            &self.places,
+            self.items.items(),
+            &mut self.whole,
+        );
+        list.exchange(&mut self.list);
+        match end {
+            Some(at) => list.append(&self.items.items()[at..]),
+            None => self.weave_anew(list),
+        }
+    }
+}

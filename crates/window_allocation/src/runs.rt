@@ -1,0 +1,228 @@
+//! The ring, which is handed what of a window may change.
+ghost use Rattle.std.specs.Prelude.{◌≡◌, ◌<◌, ◌≤◌, ◌+◌, ◌-◌, ◌*◌, [], ◌++◌, length, take, drop, replicate, IfOk};
+ghost use Rattle.greedy_rules.specs.Schedule.{schedule_from, rest_from};
+ghost use Rattle.alloc_pipeline.specs.Ring.{IsRing as MayBeOpened, IsSameRing, MayAllocate, pairs_of};
+ghost use Rattle.window_allocation.specs.Picked.{HasRoomFor};
+ghost use Rattle.window_allocation.specs.Runs.{HasRunTable, GivesSlots};
+
+use crate::batches::{count_idle, count_run};
+use crate::picked::Picked;
+use crate::table::put_slots;
+use alloc_pipeline::Ring;
+use fp_edge::Gate;
+use greedy_rules::{Batch, DemandList, SlotTable, flows_fit_pairs, schedules_go_on};
+use no_memory::NoMemory;
+use slot_batches::{every_batch_leaves_a_list, idle_lists_stay, items_may_be_set_aside};
+use std::alloc::Global;
+use std::marker::Model;
+use std::sync::Wait;
+use std::thread::Threads;
+
+/// A ring that is handed what of a window's list may change, and of its batches those that may change it.
+#[derive(Drop)]
+pub(crate) struct WindowRing {
+    runs: Runs,
+    picked: Picked,
+}
+
+impl Model for WindowRing {
+    ghost use Rattle.std.specs.Prelude.{◌≡◌, ◌<◌, ◌≤◌};
+    ghost use Rattle.alloc_pipeline.specs.Ring.{RingWork};
+    ghost use Rattle.window_allocation.specs.Picked.{HasRoomFor};
+    ghost use Rattle.window_allocation.specs.Runs.{HasRunTable};
+
+    ghost Value = { RingWork };
+
+    ghost view = { λ r. r.runs.ring };
+
+    ghost invariant = { λ r. HasRunTable r.runs × HasRoomFor r.runs.ring.endpoints r.picked };
+}
+
+impl WindowRing {
+    /// For so many workers (1 to 16), endpoints, batches a window (1 to 16) and slots a batch (1 to 64).
+    pub(crate) fn open(
+        alloc: Global,
+        workers: u16,
+        endpoints: u16,
+        batches: u16,
+        b: u8,
+    ) -> Result<WindowRing, NoMemory>
+        requires sizes { MayBeOpened workers endpoints batches b }
+        ensures { IfOk result (λ ring. ring ≡ record { workers = workers; endpoints = endpoints; batches = batches; b = b; moved = replicate workers 0; spare = pairs_of endpoints }) }
+    {
+        Ok(WindowRing {
+            runs: Runs {
+                b,
+                ring: Ring::open(alloc, workers, endpoints, batches, b)?,
+                slots: SlotTable::open(alloc, batches * u16::from(b), endpoints)?,
+            },
+            picked: Picked::open(alloc, endpoints)?,
+        })
+    }
+
+    /// Gives the batches their slots, as the ring does.
+    pub(crate) fn allocate<R: Threads + Wait + Sync, G: Gate + Sync>(
+        &mut self,
+        rt: &R,
+        gate: &G,
+        list: &mut DemandList,
+        first_batch: u32,
+        batches: &[Batch],
+        out: &mut SlotTable,
+    )
+        requires may { MayAllocate self.old first_batch list.old batches.now out.old }
+        ensures allocates { GivesSlots self.old self.new first_batch list.old list.new batches.now out.old out.new }
+    {
+        self.runs.allocate_window(rt, gate, &mut self.picked, list, first_batch, batches, out);
+    }
+}
+
+/// A ring that plays the batches of a window run by run, and a table for the slots of a run that comes behind other batches.
+#[derive(Drop)]
+pub(crate) struct Runs {
+    pub(crate) b: u8,
+    pub(crate) ring: Ring,
+    pub(crate) slots: SlotTable,
+}
+
+impl Runs {
+    /// The batches over what of the list may change, where that is little of it, and else over the whole list.
+    fn allocate_window<R: Threads + Wait + Sync, G: Gate + Sync>(
+        &mut self,
+        rt: &R,
+        gate: &G,
+        picked: &mut Picked,
+        list: &mut DemandList,
+        first_batch: u32,
+        batches: &[Batch],
+        out: &mut SlotTable,
+    )
+        requires table { HasRunTable self.old }
+        requires memory { HasRoomFor self.old.ring.endpoints picked.old }
+        requires may { MayAllocate self.old.ring first_batch list.old batches.now out.old }
+        ensures table { HasRunTable self.new }
+        ensures memory { HasRoomFor self.old.ring.endpoints picked.new }
+        ensures allocates { GivesSlots self.old.ring self.new.ring first_batch list.old list.new batches.now out.old out.new }
+    {
+        if batches.is_empty() {
+            out.clear();
+            return;
+        }
+        every_batch_leaves_a_list();
+        flows_fit_pairs();
+        if !picked.pick(list.items(), batches) {
+            self.allocate_runs(rt, gate, list, first_batch, batches, out);
+            return;
+        }
+        items_may_be_set_aside();
+        self.allocate_runs(rt, gate, &mut picked.items, first_batch, batches, out);
+        picked.weave_into(list);
+    }
+
+    /// Gives the batches of a window their slots, run by run.
+    fn allocate_runs<R: Threads + Wait + Sync, G: Gate + Sync>(
+        &mut self,
+        rt: &R,
+        gate: &G,
+        list: &mut DemandList,
+        first_batch: u32,
+        batches: &[Batch],
+        out: &mut SlotTable,
+    )
+        requires table { HasRunTable self.old }
+        requires may { MayAllocate self.old.ring first_batch list.old batches.now out.old }
+        ensures table { HasRunTable self.new }
+        ensures allocates { GivesSlots self.old.ring self.new.ring first_batch list.old list.new batches.now out.old out.new }
+    {
+        every_batch_leaves_a_list();
+        schedules_go_on();
+        flows_fit_pairs();
+        out.clear();
+        let mut served = 0;
+        while served < batches.len() {
+            served += self.allocate_run(
+                rt,
+                gate,
+                served as u16,
+                list,
+                first_batch + served as u32,
+                &batches[served..],
+                out,
+            );
+        }
+    }
+
+    /// Gives the first of these batches their slots, behind those of so many batches that came before, and answers how many they
+    /// are: all at the front that change nothing, which are passed over, or else a run that is played.
+    fn allocate_run<R: Threads + Wait + Sync, G: Gate + Sync>(
+        &mut self,
+        rt: &R,
+        gate: &G,
+        passed: u16,
+        list: &mut DemandList,
+        first_batch: u32,
+        batches: &[Batch],
+        out: &mut SlotTable,
+    ) -> usize
+        requires table { HasRunTable self.old }
+        requires some { 0 < length batches.now }
+        requires may { MayAllocate self.old.ring first_batch list.old batches.now out.old }
+        requires count { passed + length batches.now ≤ self.old.ring.batches }
+        requires places { (passed + length batches.now) * self.old.ring.b ≤ length out.old.slots }
+        requires empty { drop (passed * self.old.ring.b) out.old.slots ≡ replicate (length out.old.slots - passed * self.old.ring.b) [] }
+        ensures table { HasRunTable self.new }
+        ensures same { IsSameRing self.old.ring self.new.ring }
+        ensures some { 0 < result }
+        ensures count { result ≤ length batches.now }
+        ensures list { list.new.items ≡ rest_from self.old.ring.b first_batch list.old.items (take result batches.now) }
+        ensures spare { length list.new.items + list.new.spare ≡ length list.old.items + list.old.spare }
+        ensures slots { out.new.slots ≡ (take (passed * self.old.ring.b) out.old.slots ++ schedule_from self.old.ring.b first_batch list.old.items (take result batches.now)) ++ replicate (length out.old.slots - (passed + result) * self.old.ring.b) [] }
+        ensures endpoints { out.new.endpoints ≡ out.old.endpoints }
+    {
+        every_batch_leaves_a_list();
+        idle_lists_stay();
+        schedules_go_on();
+        let idle = count_idle(list.items(), batches);
+        if idle > 0 {
+            return idle;
+        }
+        let run = count_run(list.items(), batches);
+        self.play_behind(rt, gate, passed, list, first_batch, &batches[..run], out);
+        run
+    }
+
+    /// Plays these batches by the ring; their slots stand behind those of so many batches that came before.
+    fn play_behind<R: Threads + Wait + Sync, G: Gate + Sync>(
+        &mut self,
+        rt: &R,
+        gate: &G,
+        passed: u16,
+        list: &mut DemandList,
+        first_batch: u32,
+        batches: &[Batch],
+        out: &mut SlotTable,
+    )
+        requires table { HasRunTable self.old }
+        requires may { MayAllocate self.old.ring first_batch list.old batches.now out.old }
+        requires count { passed + length batches.now ≤ self.old.ring.batches }
+        requires places { (passed + length batches.now) * self.old.ring.b ≤ length out.old.slots }
+        requires empty { drop (passed * self.old.ring.b) out.old.slots ≡ replicate (length out.old.slots - passed * self.old.ring.b) [] }
+        ensures table { HasRunTable self.new }
+        ensures same { IsSameRing self.old.ring self.new.ring }
+        ensures list { list.new.items ≡ rest_from self.old.ring.b first_batch list.old.items batches.now }
+        ensures spare { length list.new.items + list.new.spare ≡ length list.old.items + list.old.spare }
+        ensures slots { out.new.slots ≡ (take (passed * self.old.ring.b) out.old.slots ++ schedule_from self.old.ring.b first_batch list.old.items batches.now) ++ replicate (length out.old.slots - (passed + length batches.now) * self.old.ring.b) [] }
+        ensures endpoints { out.new.endpoints ≡ out.old.endpoints }
+    {
+        if passed == 0 {
+            self.ring
+                .allocate(rt, gate, list, first_batch, batches, out);
+            return;
+        }
+        schedules_go_on();
+        self.ring
+            .allocate(rt, gate, list, first_batch, batches, &mut self.slots);
+        let b = u16::from(self.b);
+        put_slots(&self.slots, batches.len() as u16 * b, out, passed * b);
+    }
+}

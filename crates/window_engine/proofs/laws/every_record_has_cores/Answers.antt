@@ -1,5 +1,0 @@
-use Rattle.window_engine.proofs.CleanSlots.{record_has_cores}
-use Rattle.window_engine.proofs.laws.every_record_has_cores.Goals as goal
-
-pub returns : goal.returns
-returns c = record_has_cores c.every_recorded_slot.ensures c.limits_are_degrees.ensures c.every_matching_has_clean_cores.ensures

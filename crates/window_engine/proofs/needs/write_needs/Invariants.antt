@@ -1,6 +1,0 @@
-use Rattle.std.proofs.Common.{take}
-use Rattle.window_engine.specs.Standing.{Needs}
-use Rattle.window_engine.proofs.needs.write_needs.Given as goal
-
-abbrev pub invariant-loop-at : goal.invariant-loop-at
-invariant-loop-at l = Needs l.endpoints (take l.at l.list.items) l.needs
