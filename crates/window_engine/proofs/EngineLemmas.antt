@@ -20,18 +20,19 @@ use Rattle.trace_text.specs.Valid.{total_asked, IsTrace}
 use Rattle.window_engine.specs.declared.counts.Counts.{Counts}
 use Rattle.window_allocation.specs.Nets.{limits_of}
 use Rattle.window_allocation.specs.Nets.{AreOfNet}
-use Rattle.window_engine.specs.Batches.{Round, plan_batches, EveryPlanIsRecorded}
+use Rattle.plan_rounds.specs.Asked.{EveryPlanAddsWhatIsAsked}
+use Rattle.plan_rounds.specs.Batches.{Round, plan_batches, EveryPlanIsRecorded}
+use Rattle.plan_rounds.specs.Standing.{Collected, HasCollected}
 use Rattle.window_engine.specs.Counts.{plan_counts, counts_of, EveryPlanBalances}
 use Rattle.window_allocation.specs.Standing.{Allocated, HasAllocated}
 use Rattle.window_allocation.specs.Needs.{Needs}
-use Rattle.window_engine.specs.Standing.{Collected, EngineState, HasCollected, Stands, window_of}
+use Rattle.window_engine.specs.Standing.{EngineState, Stands, window_of}
 use Rattle.window_allocation.specs.declared.window.Span.{Span}
 use Rattle.window_allocation.specs.Windows.{WindowContent, IsWindowOf, jobs_for}
 use Rattle.window_allocation.specs.Giving.{MayGive}
 use Rattle.window_engine.specs.Step.{StepContent, IsPlanned, window_slots}
 use Rattle.window_allocation.specs.Needs.{place_of}
 use Rattle.window_allocation.proofs.WindowLemmas.{HasNext, Goes}
-use Rattle.window_engine.proofs.PlanCounts.{added_in_plan, is_in_plan}
 
 -- ---- the next window of a plan
 
@@ -218,11 +219,11 @@ all_batches : (trace : TraceContent) (k : ℕ) → IsTrace trace → EveryPlanIs
 all_batches trace k sound recorded is = take_long (plan_batches trace) k (omega (arith, (recorded trace sound).1))
 
 -- the two tables tell a flow's counts once all rounds are done
-pub tells : (trace : TraceContent) (engine : EngineState) (flow : Flow) (asked pending : ℕ) → IsTrace trace → Stands trace engine → EveryPlanBalances → EveryPlanIsRecorded → engine.collection.rounds ≡ engine.rounds
+pub tells : (trace : TraceContent) (engine : EngineState) (flow : Flow) (asked pending : ℕ) → IsTrace trace → Stands trace engine → EveryPlanBalances → EveryPlanAddsWhatIsAsked → EveryPlanIsRecorded → engine.collection.rounds ≡ engine.rounds
     → flow.src < engine.endpoints → flow.dst < engine.endpoints
     → asked ≡ get_or engine.collection.asked (place_of engine.collection.endpoints flow.src flow.dst) 0 → pending ≡ get_or engine.pending (place_of engine.endpoints flow.src flow.dst) pending
     → Tells trace engine.allocation.b flow asked pending
-tells trace engine flow asked pending sound stands balances recorded done src dst asked_is pending_is =
+tells trace engine flow asked pending sound stands balances adds recorded done src dst asked_is pending_is =
     let b : ℕ = engine.allocation.b in
     let n : ℕ = endpoints_of trace.net in
     let plan : List DemandBatch = plan_batches trace in
@@ -244,10 +245,10 @@ tells trace engine flow asked pending sound stands balances recorded done src ds
     ∙ (ap (λ (p : ℕ). get_or engine.pending p 0) there
     ∙ ((stands.ended ended).at flow.src flow.dst s d
     ∙ ap (λ (items : List Item). need_in (item_of items flow)) (stands.allocated.left ∙ ap (rest b) (all_batches trace half.rounds sound recorded ended))))) in
-    let demand : asked ≡ added_of flow plan = total ∙ sym (added_in_plan trace flow.src flow.dst sound) in
+    let demand : asked ≡ added_of flow plan = total ∙ sym (adds trace flow sound).added in
     let sum = balances b trace sound flow in
     let given : asked - pending ≡ slots_of flow (schedule b plan) = omega arith in
-    let entry : is_recorded plan flow ≡ not (asked == 0) = is_in_plan trace flow.src flow.dst sound ∙ ap (λ (m : ℕ). not (m == 0)) (sym total) in
+    let entry : is_recorded plan flow ≡ not (asked == 0) = (adds trace flow sound).recorded ∙ ap (λ (m : ℕ). not (m == 0)) (sym total) in
     let told : ℕ → ℕ → ℕ → Option Counts = λ x y z. Some (record { demanded = x; allocated = y; acknowledged = 0; lost = 0; pending = z; sent = 0; missed = 0 }) in
     record {
       none = λ nothing. cond-false (is_recorded plan flow) (Some (plan_counts b plan flow)) None (entry ∙ ap not (eq-eqb asked 0 nothing));
@@ -259,13 +260,13 @@ tells trace engine flow asked pending sound stands balances recorded done src ds
     }
 
 -- the first table alone tells that a flow has no counts
-pub tells_none : (trace : TraceContent) (engine : EngineState) (flow : Flow) (asked : ℕ) → IsTrace trace → Stands trace engine → EveryPlanBalances → EveryPlanIsRecorded → engine.collection.rounds ≡ engine.rounds
+pub tells_none : (trace : TraceContent) (engine : EngineState) (flow : Flow) (asked : ℕ) → IsTrace trace → Stands trace engine → EveryPlanBalances → EveryPlanAddsWhatIsAsked → EveryPlanIsRecorded → engine.collection.rounds ≡ engine.rounds
     → flow.src < engine.endpoints → flow.dst < engine.endpoints
     → asked ≡ get_or engine.collection.asked (place_of engine.collection.endpoints flow.src flow.dst) 0 → asked ≡ 0 → counts_of engine.allocation.b (plan_batches trace) flow ≡ None
-tells_none trace engine flow asked sound stands balances recorded done src dst asked_is nothing =
+tells_none trace engine flow asked sound stands balances adds recorded done src dst asked_is nothing =
     let n : ℕ = engine.endpoints in
     let at : ℕ = place_of n flow.src flow.dst in
     let pending : ℕ = get_or engine.pending at 0 in
     let within = mul-add-lt flow.src n flow.dst n src dst in
     let same = get_or_default engine.pending at 0 pending (omega (arith, stands.pending_room, within, ap (λ (m : ℕ). m * m) stands.endpoints)) in
-    (tells trace engine flow asked pending sound stands balances recorded done src dst asked_is same).none nothing
+    (tells trace engine flow asked pending sound stands balances adds recorded done src dst asked_is same).none nothing

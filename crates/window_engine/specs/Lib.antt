@@ -1,7 +1,6 @@
 pub use Rattle.window_allocation.specs.Scheduled
 pub use Rattle.window_allocation.specs.Windows
-pub mod Batches
-pub mod Tallies
+pub use Rattle.plan_rounds.specs.Batches
 pub mod Counts
 pub mod Step
 pub mod Standing

@@ -6,17 +6,11 @@ use Rattle.window_allocation.specs.Needs.{Needs}
 use Rattle.window_allocation.specs.Standing.{Allocated, HasAllocated}
 use Rattle.trace_text.specs.Trace.{TraceContent}
 use Rattle.trace_run.specs.Windows.{collected_after}
-use Rattle.window_engine.specs.Batches.{plan_batches}
-use Rattle.window_engine.specs.Tallies.{Tallies}
+use Rattle.plan_rounds.specs.Batches.{plan_batches}
+use Rattle.plan_rounds.specs.Standing.{Collected, HasCollected}
 
--- what contracts see of the half that collects: the rounds that it has done, and the slots that were asked for of each flow
-pub record Collected : Type 0 where
-  pub endpoints : ℕ
-  pub rounds : ℕ
-  pub asked : List ℕ
-
--- and of an engine: this half and the one that allocates, the rounds of a window, those of the trace, and at the end the slots
--- pending of each flow
+-- what contracts see of an engine: the half that collects and the one that allocates, the rounds of a window, those of the trace,
+-- and at the end the slots pending of each flow
 pub record EngineState : Type 0 where
   pub g : ℕ
   pub endpoints : ℕ
@@ -24,12 +18,6 @@ pub record EngineState : Type 0 where
   pub collection : Collected
   pub allocation : Allocated
   pub pending : List ℕ
-
--- so many rounds of the trace were collected
-pub record HasCollected (trace : TraceContent) (half : Collected) : Type 0 where
-  pub within : half.rounds ≤ trace.rounds
-  pub endpoints : half.endpoints ≡ endpoints_of trace.net
-  pub asked : Tallies (endpoints_of trace.net) (take half.rounds trace.asked) half.asked
 
 -- the engine has done so many rounds of the trace, both halves
 pub record Stands (trace : TraceContent) (engine : EngineState) : Type 0 where

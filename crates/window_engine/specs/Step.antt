@@ -8,7 +8,7 @@ use Rattle.window_allocation.specs.declared.window.Span.{Span}
 use Rattle.window_allocation.specs.Windows.{WindowContent, IsWindowOf}
 use Rattle.trace_text.specs.Trace.{TraceContent}
 use Rattle.trace_text.specs.Valid.{IsTrace}
-use Rattle.window_engine.specs.Batches.{plan_batches}
+use Rattle.plan_rounds.specs.Batches.{plan_batches}
 
 -- what contracts see of a step
 pub record StepContent : Type 0 where

@@ -3,7 +3,7 @@ ghost use Rattle.greedy_rules.specs.Batches.{DemandBatch};
 ghost use Rattle.clos_topology.specs.Network.{Network};
 ghost use Rattle.trace_text.specs.Trace.{TraceContent};
 ghost use Rattle.trace_text.specs.Valid.{IsTrace};
-ghost use Rattle.window_engine.specs.Batches.{plan_batches};
+ghost use Rattle.plan_rounds.specs.Batches.{plan_batches};
 ghost use Rattle.window_engine.specs.Counts.{counts_of};
 ghost use Rattle.window_engine.specs.Settings.{IsSetting};
 ghost use Rattle.window_allocation.specs.Needs.{Needs};
@@ -11,14 +11,14 @@ ghost use Rattle.window_allocation.specs.Standing.{HasAllocated};
 ghost use Rattle.window_engine.specs.Standing.{Stands, window_of};
 ghost use Rattle.window_engine.specs.Step.{IsPlanned};
 
-use crate::collection::Collection;
 use crate::counts::Counts;
-use crate::laws::{every_plan_balances, every_plan_is_recorded};
+use crate::laws::every_plan_balances;
 use crate::setting::Setting;
 use crate::step::Step;
 use fp_edge::Gate;
 use greedy_rules::{Flow, recorded_batches_may_be_applied, schedules_go_on};
 use no_memory::NoMemory;
+use plan_rounds::{Collection, every_plan_adds_what_is_asked, every_plan_is_recorded};
 use std::alloc::Global;
 use std::marker::Model;
 use std::sync::Wait;
@@ -154,6 +154,7 @@ impl Engine {
         ensures { (trace : TraceContent) → IsTrace trace → Stands trace self.now → result ≡ counts_of self.now.allocation.b (plan_batches trace) flow }
     {
         every_plan_balances();
+        every_plan_adds_what_is_asked();
         every_plan_is_recorded();
         let demanded = self.collection.asked(flow);
         if demanded == 0 {

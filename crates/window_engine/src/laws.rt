@@ -1,20 +1,16 @@
-ghost use Rattle.window_engine.specs.Batches.{EveryPlanIsRecorded};
 ghost use Rattle.window_engine.specs.Counts.{EveryPlanBalances};
 ghost use Rattle.window_engine.specs.Standing.{EveryPlanTakesItsSteps};
 ghost use Rattle.window_engine.specs.Step.{EveryPlanHasItsSlots};
 
 use greedy_rules::{every_schedule_balances, recorded_batches_may_be_applied, schedules_go_on};
-
-/// A law over every trace: the batches of its plan are as they are recorded, one for each round.
-pub fn every_plan_is_recorded()
-    ensures { EveryPlanIsRecorded }
-{}
+use plan_rounds::{every_plan_adds_what_is_asked, every_plan_is_recorded};
 
 /// A law over every trace and batch size: what is asked for of a flow is allocated or pending.
 pub fn every_plan_balances()
     ensures { EveryPlanBalances }
 {
     every_plan_is_recorded();
+    every_plan_adds_what_is_asked();
     recorded_batches_may_be_applied();
     every_schedule_balances();
 }

@@ -1,5 +1,5 @@
 use Rattle.std.proofs.Common.{◌*◌, ℕ, [], ap, ◌∙◌}
-use Rattle.window_engine.specs.Batches.{plan_batches}
+use Rattle.plan_rounds.specs.Batches.{plan_batches}
 use Rattle.window_engine.proofs.laws.every_plan_has_its_slots.Goals as goal
 
 pub returns : goal.returns

@@ -2,7 +2,7 @@ use Rattle.std.proofs.Common.{◌≡◌, ◌<◌, ◌++◌, List, [], ◌∷◌,
 use Rattle.greedy_rules.specs.declared.flows.Entry.{Entry}
 use Rattle.greedy_rules.specs.declared.limits.Limits.{Limits}
 use Rattle.greedy_rules.specs.Batches.{DemandBatch, IsAboveLast}
-use Rattle.window_engine.proofs.BatchCopies.{above_first, one_more_entry, all_entries}
+use Rattle.plan_rounds.proofs.BatchCopies.{above_first, one_more_entry, all_entries}
 use Rattle.window_engine.proofs.replay.copy.Goals as goal
 
 pub loop-at-init : goal.loop-at-init

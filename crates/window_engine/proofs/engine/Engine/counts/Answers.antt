@@ -13,7 +13,7 @@ returns-then-demanded-eq0 c trace sound stands =
     let asked : ℕ = c.asked-demanded.result in
     let asked_is : asked ≡ get_or now.collection.asked (place_of now.collection.endpoints flow.src flow.dst) 0 =
     c.asked-demanded.ensures ∙ ap (λ (e : EngineState). get_or e.collection.asked (place_of e.collection.endpoints flow.src flow.dst) 0) c.self.view_is in
-    sym (tells_none trace now flow asked sound stands c.every_plan_balances.ensures c.every_plan_is_recorded.ensures c.requires.done c.requires.src c.requires.dst asked_is c.if-demanded-eq0.true)
+    sym (tells_none trace now flow asked sound stands c.every_plan_balances.ensures c.every_plan_adds_what_is_asked.ensures c.every_plan_is_recorded.ensures c.requires.done c.requires.src c.requires.dst asked_is c.if-demanded-eq0.true)
 
 -- what the two tables say where some slot was asked for
 told : (c : goal.After-row_known-1) (trace : TraceContent) → IsTrace trace → Stands trace c.args.self.now → Tells trace c.args.self.now.allocation.b c.args.flow c.asked-demanded.result c.index-pending.result.now
@@ -27,7 +27,7 @@ told c trace sound stands =
     let pending_is : pending ≡ get_or now.pending (place_of now.endpoints flow.src flow.dst) pending =
     c.index-pending.ensures
     ∙ (ap (λ (n : ℕ). get_or c.self.inside.pending.items n pending) c.place.ensures.place ∙ ap (λ (e : EngineState). get_or e.pending (place_of e.endpoints flow.src flow.dst) pending) c.self.view_is) in
-    tells trace now flow asked pending sound stands c.every_plan_balances.ensures c.every_plan_is_recorded.ensures c.requires.done c.requires.src c.requires.dst asked_is pending_is
+    tells trace now flow asked pending sound stands c.every_plan_balances.ensures c.every_plan_adds_what_is_asked.ensures c.every_plan_is_recorded.ensures c.requires.done c.requires.src c.requires.dst asked_is pending_is
 
 pub overflow_sub-result : goal.overflow_sub-result
 overflow_sub-result c = (told c c.requires.stands.0 c.requires.stands.1 c.requires.stands.2).less

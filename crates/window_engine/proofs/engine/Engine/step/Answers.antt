@@ -1,9 +1,10 @@
 use Rattle.std.proofs.Common.{◌≡◌, ◌≢◌, ◌+◌, ◌-◌, min, ℕ, List, ◌++◌, length, take, drop, refl, sym, ap, ◌∙◌, subst, arith}
 use Rattle.greedy_rules.specs.Batches.{DemandBatch}
 use Rattle.greedy_rules.specs.Schedule.{schedule_from}
-use Rattle.window_engine.specs.Batches.{plan_batches}
+use Rattle.plan_rounds.specs.Batches.{plan_batches}
 use Rattle.window_allocation.specs.Standing.{Allocated, HasAllocated}
-use Rattle.window_engine.specs.Standing.{Collected, EngineState, HasCollected}
+use Rattle.plan_rounds.specs.Standing.{Collected, HasCollected}
+use Rattle.window_engine.specs.Standing.{EngineState}
 use Rattle.window_allocation.specs.Windows.{IsWindowOf}
 use Rattle.window_engine.proofs.EngineLemmas.{stands_too, may_give, next_allocated, pending_room, stands_next, jobs_raised, planned}
 use Rattle.window_engine.proofs.engine.Engine.step.Goals as goal

@@ -7,8 +7,8 @@ use Rattle.std.proofs.lemmas.List.Sums.{sum_by_more, sum_by-take-le}
 use Rattle.greedy_rules.specs.declared.flows.Entry.{Entry}
 use Rattle.greedy_rules.specs.Flows.{same_flow}
 use Rattle.window_allocation.specs.Needs.{place_of}
-use Rattle.window_engine.specs.Tallies.{added_for, added_in, Adds}
-use Rattle.window_engine.proofs.AskLemmas.{read_at}
+use Rattle.plan_rounds.specs.Tallies.{added_for, added_in, Adds}
+use Rattle.plan_rounds.proofs.AskLemmas.{read_at}
 
 pub added_more : (src dst : ℕ) (batch : List Entry) (at : ℕ) (entry : Entry) → at < length batch → slice_get batch at ≡ Some entry
     → added_in src dst (take (at + 1) batch) ≡ added_in src dst (take at batch) + added_for src dst entry

@@ -5,7 +5,7 @@ use Rattle.std.proofs.lemmas.List.{get_or-take, length-take, take_all}
 use Rattle.greedy_rules.specs.declared.flows.Entry.{Entry}
 use Rattle.greedy_rules.specs.Flows.{flow_below}
 use Rattle.greedy_rules.specs.Batches.{DemandBatch, IsBatch, IsAboveLast}
-use Rattle.window_engine.proofs.AskLemmas.{above_last, read_at}
+use Rattle.plan_rounds.proofs.AskLemmas.{above_last, read_at}
 
 abbrev pub first_entries : ℕ → DemandBatch → DemandBatch
 first_entries at batch = record { entries = take at batch.entries; limits = batch.limits }

@@ -11,9 +11,9 @@ use Rattle.trace_text.specs.Asks.{ask_for, asks_in}
 use Rattle.trace_text.specs.Trace.{TraceContent, asked_at}
 use Rattle.trace_text.specs.Valid.{IsTrace}
 use Rattle.trace_text.specs.declared.ask.Ask.{Ask}
-use Rattle.window_engine.specs.Batches.{Round, entry_for, entries_from}
-use Rattle.window_engine.proofs.BatchCopies.{above_first}
-use Rattle.window_engine.proofs.PlanBatches.{among, long, rise_from, round_of}
+use Rattle.plan_rounds.specs.Batches.{Round, entry_for, entries_from}
+use Rattle.plan_rounds.proofs.BatchCopies.{above_first}
+use Rattle.plan_rounds.proofs.PlanBatches.{among, long, rise_from, round_of}
 
 -- the entry of an ask
 abbrev pub entry_by : List Round → Ask → Entry

@@ -12,10 +12,10 @@ use Rattle.greedy_rules.specs.Flows.{same_flow}
 use Rattle.greedy_rules.specs.Batches.{entry_of}
 use Rattle.greedy_rules.specs.Demands.{need_with}
 use Rattle.trace_text.specs.Valid.{amount_for, IsAskList}
-use Rattle.window_engine.specs.Tallies.{added_for, added_in}
+use Rattle.plan_rounds.specs.Tallies.{added_for, added_in}
 use Rattle.greedy_rules.specs.Balance.{added_by}
-use Rattle.window_engine.specs.Batches.{Round, asks_for, entry_for, entries_from}
-use Rattle.window_engine.proofs.AskLemmas.{slots_if}
+use Rattle.plan_rounds.specs.Batches.{Round, asks_for, entry_for, entries_from}
+use Rattle.plan_rounds.proofs.AskLemmas.{slots_if}
 
 abbrev pub flow_of : ℕ → ℕ → Flow
 flow_of src dst = record { src = src; dst = dst }

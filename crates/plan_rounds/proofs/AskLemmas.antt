@@ -13,8 +13,8 @@ use Rattle.clos_topology.specs.Network.{endpoints_of}
 use Rattle.trace_text.specs.Trace.{TraceContent}
 use Rattle.trace_text.specs.Valid.{amount_for, total_asked, IsAskList, IsTrace}
 use Rattle.window_allocation.specs.Needs.{place_of}
-use Rattle.window_engine.specs.Tallies.{Tallies}
-use Rattle.window_engine.specs.Batches.{Round, asks_for, is_asked}
+use Rattle.plan_rounds.specs.Tallies.{Tallies}
+use Rattle.plan_rounds.specs.Batches.{Round, asks_for, is_asked}
 
 -- a row of a round is a list of asks, also past the last source
 pub row_of : (endpoints : ℕ) (round : Round) (src : ℕ) → All (IsAskList endpoints) round → IsAskList endpoints (get_or round src [])

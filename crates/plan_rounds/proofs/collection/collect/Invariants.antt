@@ -1,8 +1,8 @@
 use Rattle.std.proofs.Common.{◌≡◌, ◌-◌, take, drop}
 use Rattle.clos_topology.specs.Network.{endpoints_of}
-use Rattle.window_engine.specs.Batches.{plan_batches}
-use Rattle.window_engine.specs.Tallies.{Tallies}
-use Rattle.window_engine.proofs.collection.collect.Given as goal
+use Rattle.plan_rounds.specs.Batches.{plan_batches}
+use Rattle.plan_rounds.specs.Tallies.{Tallies}
+use Rattle.plan_rounds.proofs.collection.collect.Given as goal
 
 abbrev pub invariant-loop-round : goal.invariant-loop-round
 invariant-loop-round l = record {

@@ -2,12 +2,12 @@ use Rattle.std.proofs.Common.{◌≡◌, ◌<◌, ◌+◌, ◌-◌, ◌^◌, ℕ
 use Rattle.greedy_rules.specs.Batches.{DemandBatch}
 use Rattle.greedy_rules.specs.Matching.{AreAmong}
 use Rattle.clos_topology.specs.Network.{endpoints_of}
-use Rattle.window_engine.specs.Batches.{plan_batches}
+use Rattle.plan_rounds.specs.Batches.{plan_batches}
 use Rattle.window_allocation.specs.Needs.{place_of}
-use Rattle.window_engine.specs.Tallies.{added_in, Adds}
-use Rattle.window_engine.proofs.PlanBatches.{batch_of, batch_among, batches_more}
-use Rattle.window_engine.proofs.PlanBatches.{batch_fits, tallies_more}
-use Rattle.window_engine.proofs.collection.collect.Goals as goal
+use Rattle.plan_rounds.specs.Tallies.{added_in, Adds}
+use Rattle.plan_rounds.proofs.PlanBatches.{batch_of, batch_among, batches_more}
+use Rattle.plan_rounds.proofs.PlanBatches.{batch_fits, tallies_more}
+use Rattle.plan_rounds.proofs.collection.collect.Goals as goal
 
 pub tally-requires-clause-among : goal.tally-requires-clause-among
 tally-requires-clause-among c =

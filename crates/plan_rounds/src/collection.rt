@@ -4,9 +4,9 @@ ghost use Rattle.greedy_rules.specs.Matching.{AreAmong};
 ghost use Rattle.clos_topology.specs.Network.{endpoints_of};
 ghost use Rattle.window_allocation.specs.Nets.{limits_of};
 ghost use Rattle.window_allocation.specs.Needs.{place_of};
-ghost use Rattle.window_engine.specs.Batches.{batch_after, plan_batches};
-ghost use Rattle.window_engine.specs.Standing.{HasCollected};
-ghost use Rattle.window_engine.specs.Tallies.{Tallies, added_in, Adds};
+ghost use Rattle.plan_rounds.specs.Batches.{batch_after, plan_batches};
+ghost use Rattle.plan_rounds.specs.Standing.{HasCollected};
+ghost use Rattle.plan_rounds.specs.Tallies.{Tallies, added_in, Adds};
 
 use clos_topology::Net;
 use greedy_rules::{Batch, Entry, Flow, Limits};
@@ -16,9 +16,9 @@ use std::marker::Model;
 use trace_text::Trace;
 use window_allocation::place;
 
-/// The half of an engine that collects what is asked for into batches, round after round.
+/// Collects what a trace asks for into batches, round after round.
 #[derive(Drop)]
-pub(crate) struct Collection {
+pub struct Collection {
     endpoints: u16,
     // The first round that isn't done.
     rounds: u32,
@@ -27,7 +27,7 @@ pub(crate) struct Collection {
 }
 
 impl Model for Collection {
-    ghost use Rattle.window_engine.specs.Standing.{Collected};
+    ghost use Rattle.plan_rounds.specs.Standing.{Collected};
 
     ghost Value = { Collected };
 
@@ -36,7 +36,7 @@ impl Model for Collection {
 
 impl Collection {
     /// Before the first round.
-    pub(crate) fn open(alloc: Global, trace: &Trace) -> Result<Collection, NoMemory>
+    pub fn open(alloc: Global, trace: &Trace) -> Result<Collection, NoMemory>
         ensures stands { IfOk result (HasCollected trace.now) }
         ensures start { IfOk result (λ half. half.rounds ≡ 0) }
     {
@@ -50,14 +50,14 @@ impl Collection {
     }
 
     /// How many rounds are done.
-    pub(crate) fn rounds(&self) -> u32
+    pub fn rounds(&self) -> u32
         ensures { result ≡ self.now.rounds }
     {
         self.rounds
     }
 
     /// The slots of the flow that were asked for.
-    pub(crate) fn asked(&self, flow: Flow) -> u32
+    pub fn asked(&self, flow: Flow) -> u32
         requires long { length self.now.asked ≡ self.now.endpoints * self.now.endpoints }
         requires src { flow.src < self.now.endpoints }
         requires dst { flow.dst < self.now.endpoints }
@@ -67,7 +67,7 @@ impl Collection {
     }
 
     /// The batches of the next so many rounds. After want of memory it is only to be dropped.
-    pub(crate) fn window(
+    pub fn window(
         &mut self,
         alloc: Global,
         trace: &Trace,

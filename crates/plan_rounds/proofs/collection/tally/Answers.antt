@@ -1,9 +1,9 @@
 use Rattle.std.proofs.Common.{◌<◌, ◌+◌, ◌^◌, length, get_or, subst, arith}
 use Rattle.greedy_rules.specs.declared.flows.Entry.{Entry}
 use Rattle.window_allocation.specs.Needs.{place_of}
-use Rattle.window_engine.proofs.AskLemmas.{read_at}
-use Rattle.window_engine.proofs.TallyLemmas.{next_fits, adds_more}
-use Rattle.window_engine.proofs.collection.tally.Goals as goal
+use Rattle.plan_rounds.proofs.AskLemmas.{read_at}
+use Rattle.plan_rounds.proofs.TallyLemmas.{next_fits, adds_more}
+use Rattle.plan_rounds.proofs.collection.tally.Goals as goal
 
 pub overflow_add-asked : goal.overflow_add-asked
 overflow_add-asked c =

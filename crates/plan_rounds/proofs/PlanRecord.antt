@@ -1,5 +1,5 @@
 -- The batches of a plan are as they are recorded.
-use Rattle.std.proofs.Common.{◌≡◌, ◌≢◌, ◌≤◌, ◌+◌, ℕ, List, [], ◌∷◌, ◌++◌, length, get_or, not, false, ◌||◌, IsTrue, All, Some, inl, inr, refl, sym, ap, ◌∙◌, subst, arith}
+use Rattle.std.proofs.Common.{◌≡◌, ◌≢◌, ◌≤◌, ◌+◌, ℕ, ◌==◌, List, [], ◌∷◌, ◌++◌, length, get_or, Bool, not, true, false, ◌||◌, IsTrue, All, Some, inl, inr, refl, sym, ap, ◌∙◌, subst, arith}
 use Rattle.std.proofs.lemmas.Bool.{cond-true, cond-false, cases_Bool}
 use Rattle.std.proofs.lemmas.List.{append-nil, append_assoc, get_or_default}
 use Rattle.std.proofs.lemmas.List.Sums.{sum_by-cons, sum_by-append}
@@ -13,12 +13,14 @@ use Rattle.greedy_rules.specs.Demands.{need_with}
 use Rattle.greedy_rules.specs.Balance.{is_recorded, clears, added_by, added_of, NoneClears}
 use Rattle.greedy_rules.specs.Recorded.{demand_through, demand_of, IsRecordedAfter, AreRecordedAfter}
 use Rattle.clos_topology.specs.Network.{endpoints_of}
-use Rattle.trace_text.specs.Valid.{amount_for, total_asked, IsAskList}
+use Rattle.trace_text.specs.Trace.{TraceContent}
+use Rattle.trace_text.specs.Valid.{amount_for, total_asked, IsAskList, IsTrace}
 use Rattle.window_allocation.specs.Nets.{limits_of}
-use Rattle.window_engine.specs.Batches.{Round, asks_for, is_asked, entries_from, batch_after, batches_after, EveryPlanIsRecorded}
-use Rattle.window_engine.proofs.AskLemmas.{row_of}
-use Rattle.window_engine.proofs.EntryLemmas.{flow_of, all_entries, round_has, round_added, round_needs}
-use Rattle.window_engine.proofs.PlanBatches.{among, rise_from, batch_count}
+use Rattle.plan_rounds.specs.Batches.{Round, asks_for, is_asked, entries_from, batch_after, batches_after, plan_batches, EveryPlanIsRecorded}
+use Rattle.plan_rounds.specs.Asked.{EveryPlanAddsWhatIsAsked}
+use Rattle.plan_rounds.proofs.AskLemmas.{row_of, total_asked-zero}
+use Rattle.plan_rounds.proofs.EntryLemmas.{flow_of, all_entries, round_has, round_added, round_needs}
+use Rattle.plan_rounds.proofs.PlanBatches.{among, rise_from, batch_count}
 
 batches-append : (limits : Limits) (before xs ys : List Round) → batches_after limits before (xs ++ ys) ≡ batches_after limits before xs ++ batches_after limits (before ++ xs) ys
 batches-append limits before [] ys = ap (λ (rs : List Round). batches_after limits rs ys) (sym (append-nil before))
@@ -27,14 +29,14 @@ batches-append limits before (x ∷ xs) ys =
     (batches-append limits (before ++ x ∷ []) xs ys ∙ ap (λ (rs : List Round). batches_after limits (before ++ x ∷ []) xs ++ batches_after limits rs ys) (append_assoc before (x ∷ []) xs))
 
 -- some batch has a flow where some round asks for it
-pub is_recorded-is : (limits : Limits) (before rounds : List Round) (src dst : ℕ) → is_recorded (batches_after limits before rounds) (flow_of src dst) ≡ is_asked rounds src dst
+is_recorded-is : (limits : Limits) (before rounds : List Round) (src dst : ℕ) → is_recorded (batches_after limits before rounds) (flow_of src dst) ≡ is_asked rounds src dst
 is_recorded-is limits before [] src dst = refl
 is_recorded-is limits before (round ∷ rounds) src dst =
     ap (λ p. p || is_recorded (batches_after limits (before ++ round ∷ []) rounds) (flow_of src dst)) (round_has before round src dst)
     ∙ ap (λ p. asks_for src dst round || p) (is_recorded-is limits (before ++ round ∷ []) rounds src dst)
 
 -- what the batches add to a flow is what their rounds ask for
-pub added_of-is : (endpoints : ℕ) (limits : Limits) (before rounds : List Round) (src dst : ℕ) → All (All (IsAskList endpoints)) rounds → added_of (flow_of src dst) (batches_after limits before rounds) ≡ total_asked rounds src dst
+added_of-is : (endpoints : ℕ) (limits : Limits) (before rounds : List Round) (src dst : ℕ) → All (All (IsAskList endpoints)) rounds → added_of (flow_of src dst) (batches_after limits before rounds) ≡ total_asked rounds src dst
 added_of-is endpoints limits before [] src dst asks = refl
 added_of-is endpoints limits before (round ∷ rounds) src dst asks =
     let this = round_added endpoints before round src dst (row_of endpoints round src (All-head (All (IsAskList endpoints)) round rounds asks)) in
@@ -120,9 +122,26 @@ no_clear (e ∷ entries) flow kept =
       | inr other ↦ ap clears (cond-false (same_flow e.flow flow) (Some e) (entry_of entries flow) other) ∙ no_clear entries flow (All-tail (λ (x : Entry). x.clear ≡ false) e entries kept)
     ]
 
-pub none_clears : (limits : Limits) (before rounds : List Round) (flow : Flow) → NoneClears flow (batches_after limits before rounds)
+none_clears : (limits : Limits) (before rounds : List Round) (flow : Flow) → NoneClears flow (batches_after limits before rounds)
 none_clears limits before [] flow = All-nil (λ (batch : DemandBatch). clears (entry_of batch.entries flow) ≡ false)
 none_clears limits before (round ∷ rounds) flow =
     All-cons (λ (batch : DemandBatch). clears (entry_of batch.entries flow) ≡ false) (batch_after limits before round) (batches_after limits (before ++ round ∷ []) rounds)
     (no_clear (entries_from before 0 round) flow (all_entries (λ e. e.clear ≡ false) before 0 round (λ n below k d within. refl)))
     (none_clears limits (before ++ round ∷ []) rounds flow)
+
+not-not : (p : Bool) → not (not p) ≡ p
+not-not true = refl
+not-not false = refl
+
+-- a flow without demand is in no batch, and one with some is
+is_in_plan : (trace : TraceContent) (flow : Flow) → IsTrace trace → is_recorded (plan_batches trace) flow ≡ not (total_asked trace.asked flow.src flow.dst == 0)
+is_in_plan trace flow sound =
+    is_recorded-is (limits_of trace.net) [] trace.asked flow.src flow.dst
+    ∙ (sym (not-not (is_asked trace.asked flow.src flow.dst)) ∙ ap not (sym (total_asked-zero (endpoints_of trace.net) trace.asked flow.src flow.dst sound.asks)))
+
+pub adds_what_is_asked : EveryPlanAddsWhatIsAsked
+adds_what_is_asked trace flow sound = record {
+  added = added_of-is (endpoints_of trace.net) (limits_of trace.net) [] trace.asked flow.src flow.dst sound.asks;
+  recorded = is_in_plan trace flow sound;
+  kept = none_clears (limits_of trace.net) [] trace.asked flow;
+}

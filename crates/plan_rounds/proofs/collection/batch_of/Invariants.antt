@@ -1,7 +1,7 @@
 use Rattle.std.proofs.Common.{◌≡◌, map, take}
 use Rattle.window_allocation.specs.Nets.{limits_of}
-use Rattle.window_engine.proofs.RoundAsks.{entry_by}
-use Rattle.window_engine.proofs.collection.batch_of.Given as goal
+use Rattle.plan_rounds.proofs.RoundAsks.{entry_by}
+use Rattle.plan_rounds.proofs.collection.batch_of.Given as goal
 
 abbrev pub invariant-loop-ask : goal.invariant-loop-ask
 invariant-loop-ask l = record {

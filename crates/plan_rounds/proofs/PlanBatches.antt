@@ -14,11 +14,11 @@ use Rattle.clos_topology.specs.Network.{endpoints_of}
 use Rattle.trace_text.specs.Trace.{TraceContent, asked_at}
 use Rattle.trace_text.specs.Valid.{amount_for, total_asked, IsAskList, IsTrace}
 use Rattle.window_allocation.specs.Nets.{limits_of}
-use Rattle.window_engine.specs.Batches.{Round, entry_for, entries_from, batch_after, batches_after, plan_batches}
+use Rattle.plan_rounds.specs.Batches.{Round, entry_for, entries_from, batch_after, batches_after, plan_batches}
 use Rattle.window_allocation.specs.Needs.{place_of}
-use Rattle.window_engine.specs.Tallies.{Tallies, added_in, Adds}
-use Rattle.window_engine.proofs.AskLemmas.{row_of}
-use Rattle.window_engine.proofs.EntryLemmas.{all_entries, round_adds}
+use Rattle.plan_rounds.specs.Tallies.{Tallies, added_in, Adds}
+use Rattle.plan_rounds.proofs.AskLemmas.{row_of}
+use Rattle.plan_rounds.proofs.EntryLemmas.{all_entries, round_adds}
 
 abbrev pub round_of : TraceContent → ℕ → Round
 round_of trace k = get_or trace.asked k []

@@ -5,11 +5,11 @@ use Rattle.greedy_rules.specs.declared.limits.Limits.{Limits}
 use Rattle.greedy_rules.specs.Batches.{DemandBatch, IsAboveLast}
 use Rattle.clos_topology.specs.Network.{endpoints_of}
 use Rattle.trace_text.specs.declared.ask.Ask.{Ask}
-use Rattle.window_engine.specs.Batches.{is_asked}
+use Rattle.plan_rounds.specs.Batches.{is_asked}
 use Rattle.window_allocation.specs.Needs.{place_of}
-use Rattle.window_engine.proofs.AskLemmas.{opens_is}
-use Rattle.window_engine.proofs.RoundAsks.{entry_by, asks_entries, ask_above, ask_in_range}
-use Rattle.window_engine.proofs.collection.batch_of.Goals as goal
+use Rattle.plan_rounds.proofs.AskLemmas.{opens_is}
+use Rattle.plan_rounds.proofs.RoundAsks.{entry_by, asks_entries, ask_above, ask_in_range}
+use Rattle.plan_rounds.proofs.collection.batch_of.Goals as goal
 
 abbrev none : Ask
 none = record { round = 0; src = 0; dst = 0; slots = 0 }

@@ -4,7 +4,7 @@ use Rattle.greedy_rules.specs.declared.flows.Entry.{Entry}
 use Rattle.greedy_rules.specs.Flows.{same_flow}
 use Rattle.trace_text.specs.Valid.{total_asked}
 use Rattle.window_allocation.specs.Needs.{place_of}
-use Rattle.window_engine.specs.Batches.{Round}
+use Rattle.plan_rounds.specs.Batches.{Round}
 
 -- the table holds the slots of each flow over these rounds
 pub record Tallies (endpoints : ℕ) (rounds : List Round) (table : List ℕ) : Type 0 where

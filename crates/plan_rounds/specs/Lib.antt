@@ -1,0 +1,4 @@
+pub mod Batches
+pub mod Asked
+pub mod Tallies
+pub mod Standing
