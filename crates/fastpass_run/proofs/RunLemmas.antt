@@ -11,8 +11,8 @@ use Rattle.trace_text.specs.Trace.{TraceContent, FaultyRow, trace_of}
 use Rattle.fp_edge.specs.declared.source.Failed.{Failed}
 use Rattle.run_lines.specs.Output.{IsCaused}
 use Rattle.run_lines.specs.Transfer.{AppendsFront}
-use Rattle.run_lines.specs.declared.output.Stop.{Stop}
-use Rattle.run_lines.specs.declared.output.Stop.TheVariants.{Write, Memory}
+use Rattle.text_output.specs.declared.output.Stop.{Stop}
+use Rattle.text_output.specs.declared.output.Stop.TheVariants.{Write, Memory}
 use Rattle.fastpass_run.specs.Failures.{failure_of_stop}
 use Rattle.fastpass_run.specs.Outside.{Outside}
 use Rattle.fastpass_run.specs.Run.{Ending, EndsBy, Growth, Performs, HasWords, IsRead, HasFaultyRow, AsksToRead, Gives, Completes, TellsFaults, TellsExcess, status_of}

@@ -3,8 +3,8 @@ use Rattle.trace_text.specs.declared.fault.TraceRefused.{TraceRefused}
 use Rattle.trace_text.specs.declared.fault.TraceRefused.TheVariants as trace
 use Rattle.fastpass_run.specs.declared.outcome.Failure.{Failure}
 use Rattle.fastpass_run.specs.declared.outcome.Failure.TheVariants.{Row, Read, Write, Memory, Big}
-use Rattle.run_lines.specs.declared.output.Stop.{Stop}
-use Rattle.run_lines.specs.declared.output.Stop.TheVariants as stop
+use Rattle.text_output.specs.declared.output.Stop.{Stop}
+use Rattle.text_output.specs.declared.output.Stop.TheVariants as stop
 use Rattle.fastpass_run.specs.declared.transfer.ReadRefused.{ReadRefused}
 use Rattle.fastpass_run.specs.declared.transfer.ReadRefused.TheVariants as read
 

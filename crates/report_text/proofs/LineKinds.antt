@@ -54,16 +54,17 @@ kind_by first second =
 abbrev kind_told : List ℕ → Kind
 kind_told bytes = kind_by (get_or bytes 0 0) (get_or bytes 1 0)
 
--- a line has the kind that its bytes tell
-line_told : (l : Line) → (f : Fields (kind_told (line_bytes l))) × (build (kind_told (line_bytes l)) f ≡ l)
-line_told (line.Batch batch src dst clear add) = ((batch, src, dst, clear, add), refl)
-line_told (line.Slot slot src dst core) = ((slot, src, dst, core), refl)
-line_told (line.Sent slot src dst) = ((slot, src, dst), refl)
-line_told (line.Refused round number) = ((round, number), refl)
-line_told (line.Flow src dst demanded allocated pending) = ((src, dst, demanded, allocated, pending), refl)
-line_told (line.Count src dst demanded acknowledged flight pending lost sent missed) = ((src, dst, demanded, acknowledged, flight, pending, lost, sent, missed), refl)
-line_told (line.End rounds) = (rounds, refl)
-line_told (line.Made number flows demanded acknowledged flight pending lost sent missed) = ((number, flows, demanded, acknowledged, flight, pending, lost, sent, missed), refl)
+-- a line that is read has the kind that its bytes tell
+line_told : (l : Line) → IsLine l → (f : Fields (kind_told (line_bytes l))) × (build (kind_told (line_bytes l)) f ≡ l)
+line_told (line.Batch batch src dst clear add) is = ((batch, src, dst, clear, add), refl)
+line_told (line.Slot slot src dst core) is = ((slot, src, dst, core), refl)
+line_told (line.Sent slot src dst) is = ((slot, src, dst), refl)
+line_told (line.Refused round number) is = ((round, number), refl)
+line_told (line.Flow src dst demanded allocated pending) is = ((src, dst, demanded, allocated, pending), refl)
+line_told (line.Count src dst demanded acknowledged flight pending lost sent missed) is = ((src, dst, demanded, acknowledged, flight, pending, lost, sent, missed), refl)
+line_told (line.End rounds) is = (rounds, refl)
+line_told (line.Made number flows demanded acknowledged flight pending lost sent missed) is = ((number, flows, demanded, acknowledged, flight, pending, lost, sent, missed), refl)
+line_told l is = absurd is
 
 name_told : (kind : Kind) (text : List ℕ) → kind_told (name kind ++ text) ≡ kind
 name_told Batch text = refl
@@ -80,16 +81,17 @@ pub of_kind : (kind : Kind) (text : List ℕ) (X : Line → Type 0) → ((f : Fi
     → (l : Line) → IsLine l → name kind ++ text ≡ line_bytes l → X l
 of_kind kind text X known l ok is =
     let same : kind_told (line_bytes l) ≡ kind = ap kind_told (sym is) ∙ name_told kind text in
-    let told = subst (λ (k : Kind). (f : Fields k) × (build k f ≡ l)) same (line_told l) in
+    let told = subst (λ (k : Kind). (f : Fields k) × (build k f ≡ l)) same (line_told l ok) in
     subst X told.1 (known told.0 (subst IsLine (sym told.1) ok) (subst (λ (m : Line). name kind ++ text ≡ line_bytes m) (sym told.1) is))
 
 -- each name ends at a comma by the eighth byte
-pub name_ends : (l : Line) (bytes : List ℕ) (n : ℕ) → bytes ≡ line_bytes l → 8 ≤ n → ((i : ℕ) → i < n → get_or bytes i 0 ≢ 44) → ⊥
-name_ends (line.Batch batch src dst clear add) bytes n is long before = before 5 (omega arith) (ap (λ (bs : List ℕ). get_or bs 5 0) is)
-name_ends (line.Slot slot src dst core) bytes n is long before = before 4 (omega arith) (ap (λ (bs : List ℕ). get_or bs 4 0) is)
-name_ends (line.Sent slot src dst) bytes n is long before = before 4 (omega arith) (ap (λ (bs : List ℕ). get_or bs 4 0) is)
-name_ends (line.Refused round number) bytes n is long before = before 7 (omega arith) (ap (λ (bs : List ℕ). get_or bs 7 0) is)
-name_ends (line.Flow src dst demanded allocated pending) bytes n is long before = before 4 (omega arith) (ap (λ (bs : List ℕ). get_or bs 4 0) is)
-name_ends (line.Count src dst demanded acknowledged flight pending lost sent missed) bytes n is long before = before 5 (omega arith) (ap (λ (bs : List ℕ). get_or bs 5 0) is)
-name_ends (line.End rounds) bytes n is long before = before 3 (omega arith) (ap (λ (bs : List ℕ). get_or bs 3 0) is)
-name_ends (line.Made number flows demanded acknowledged flight pending lost sent missed) bytes n is long before = before 4 (omega arith) (ap (λ (bs : List ℕ). get_or bs 4 0) is)
+pub name_ends : (l : Line) (bytes : List ℕ) (n : ℕ) → IsLine l → bytes ≡ line_bytes l → 8 ≤ n → ((i : ℕ) → i < n → get_or bytes i 0 ≢ 44) → ⊥
+name_ends (line.Batch batch src dst clear add) bytes n ok is long before = before 5 (omega arith) (ap (λ (bs : List ℕ). get_or bs 5 0) is)
+name_ends (line.Slot slot src dst core) bytes n ok is long before = before 4 (omega arith) (ap (λ (bs : List ℕ). get_or bs 4 0) is)
+name_ends (line.Sent slot src dst) bytes n ok is long before = before 4 (omega arith) (ap (λ (bs : List ℕ). get_or bs 4 0) is)
+name_ends (line.Refused round number) bytes n ok is long before = before 7 (omega arith) (ap (λ (bs : List ℕ). get_or bs 7 0) is)
+name_ends (line.Flow src dst demanded allocated pending) bytes n ok is long before = before 4 (omega arith) (ap (λ (bs : List ℕ). get_or bs 4 0) is)
+name_ends (line.Count src dst demanded acknowledged flight pending lost sent missed) bytes n ok is long before = before 5 (omega arith) (ap (λ (bs : List ℕ). get_or bs 5 0) is)
+name_ends (line.End rounds) bytes n ok is long before = before 3 (omega arith) (ap (λ (bs : List ℕ). get_or bs 3 0) is)
+name_ends (line.Made number flows demanded acknowledged flight pending lost sent missed) bytes n ok is long before = before 4 (omega arith) (ap (λ (bs : List ℕ). get_or bs 4 0) is)
+name_ends l bytes n ok is long before = absurd ok

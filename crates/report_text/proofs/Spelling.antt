@@ -8,7 +8,7 @@ use Rattle.std.proofs.lemmas.List.{get_or_append_left, get_or-append_right}
 use Rattle.std.proofs.lemmas.List.Elements.{All-head, All-tail}
 use Rattle.report_text.specs.declared.line.Line.TheVariants as line
 use Rattle.report_text.specs.Lines.{fields, numbers, core_field, bit, AreWithin, endpoint_most, number_most, sum_most}
-use Rattle.report_text.specs.Names.{refusal_name}
+use Rattle.report_text.specs.Names.{answer_name}
 use Rattle.report_text.specs.Laws.{EachLineHasItsOwnSpelling}
 use Rattle.report_text.proofs.NumberText.{decimal_no_comma, cut_field, no_core}
 use Rattle.report_text.proofs.NumbersRead.{numbers_begin, numbers_first}
@@ -65,9 +65,9 @@ own_spelling (line.Slot slot src dst core) other ok ok' same = of_kind Slot (num
     λ i. line.Slot (get_or (s.0 i) 0 0) (get_or (s.0 i) 1 0) (get_or (s.0 i) 2 0) (through i)) other ok' same
 own_spelling (line.Sent slot src dst) other ok ok' same = of_kind Sent (numbers (slot ∷ src ∷ dst ∷ [])) (λ l. line.Sent slot src dst ≡ l) (λ f known is.
     ap (λ (vs : List ℕ). line.Sent (get_or vs 0 0) (get_or vs 1 0) (get_or vs 2 0)) (all_same (number_most ∷ endpoint_most ∷ endpoint_most ∷ []) (slot ∷ src ∷ dst ∷ []) (f.0 ∷ f.1 ∷ f.2 ∷ []) refl refl refl ok known (ap (drop 4) is))) other ok' same
-own_spelling (line.Refused round number) other ok ok' same = of_kind Refused (numbers (round ∷ []) ++ fields (refusal_name number ∷ [])) (λ l. line.Refused round number ≡ l) (λ f known is.
-    let s = front_same (number_most ∷ []) (round ∷ []) (f.0 ∷ []) (fields (refusal_name number ∷ [])) (fields (refusal_name f.1 ∷ [])) refl refl refl ok.0 known.0 refl refl (ap (drop 7) is) in
-    let names : refusal_name number ≡ refusal_name f.1 = sym (append-nil (refusal_name number)) ∙ ap (drop 1) s.1 ∙ append-nil (refusal_name f.1) in
+own_spelling (line.Refused round number) other ok ok' same = of_kind Refused (numbers (round ∷ []) ++ fields (answer_name number ∷ [])) (λ l. line.Refused round number ≡ l) (λ f known is.
+    let s = front_same (number_most ∷ []) (round ∷ []) (f.0 ∷ []) (fields (answer_name number ∷ [])) (fields (answer_name f.1 ∷ [])) refl refl refl ok.0 known.0 refl refl (ap (drop 7) is) in
+    let names : answer_name number ≡ answer_name f.1 = sym (append-nil (answer_name number)) ∙ ap (drop 1) s.1 ∙ append-nil (answer_name f.1) in
     let named = one_name number f.1 ok.1 known.1 names in
     λ i. line.Refused (get_or (s.0 i) 0 0) (named i)) other ok' same
 own_spelling (line.Flow src dst demanded allocated pending) other ok ok' same = of_kind Flow (numbers (src ∷ dst ∷ demanded ∷ allocated ∷ pending ∷ [])) (λ l. line.Flow src dst demanded allocated pending ≡ l) (λ f known is.
@@ -78,3 +78,4 @@ own_spelling (line.End rounds) other ok ok' same = of_kind End (numbers (rounds 
     ap (λ (vs : List ℕ). line.End (get_or vs 0 0)) (all_same (number_most ∷ []) (rounds ∷ []) (f ∷ []) refl refl refl ok known (ap (drop 3) is))) other ok' same
 own_spelling (line.Made number flows demanded acknowledged flight pending lost sent missed) other ok ok' same = of_kind Made (numbers (number ∷ flows ∷ demanded ∷ acknowledged ∷ flight ∷ pending ∷ lost ∷ sent ∷ missed ∷ [])) (λ l. line.Made number flows demanded acknowledged flight pending lost sent missed ≡ l) (λ f known is.
     ap (λ (vs : List ℕ). line.Made (get_or vs 0 0) (get_or vs 1 0) (get_or vs 2 0) (get_or vs 3 0) (get_or vs 4 0) (get_or vs 5 0) (get_or vs 6 0) (get_or vs 7 0) (get_or vs 8 0)) (all_same (number_most ∷ number_most ∷ sum_most ∷ sum_most ∷ sum_most ∷ sum_most ∷ sum_most ∷ sum_most ∷ sum_most ∷ []) (number ∷ flows ∷ demanded ∷ acknowledged ∷ flight ∷ pending ∷ lost ∷ sent ∷ missed ∷ []) (f.0 ∷ f.1 ∷ f.2 ∷ f.3 ∷ f.4 ∷ f.5 ∷ f.6 ∷ f.7 ∷ f.8 ∷ []) refl refl refl ok known (ap (drop 4) is))) other ok' same
+own_spelling one other ok ok' same = absurd ok

@@ -3,7 +3,7 @@
 use Rattle.std.specs.Prelude.{ℕ, ◌+◌, ◌≤◌, ⊤, List, [], ◌∷◌, ◌++◌, Bool, true, false, Option, Some, None, IfSome, codes, decimal, map, slice_index}
 use Rattle.report_text.specs.declared.line.Line.{Line}
 use Rattle.report_text.specs.declared.line.Line.TheVariants as line
-use Rattle.report_text.specs.Names.{refusal_name, IsRefusal}
+use Rattle.report_text.specs.Names.{answer_name, event_name, IsRefusal, IsAnswer, IsEventRefusal}
 
 -- each field after a comma
 abbrev pub fields : List (List ℕ) → List ℕ
@@ -26,13 +26,18 @@ abbrev pub line_bytes : Line → List ℕ
 line_bytes (line.Batch batch src dst clear add) = codes "batch" ++ numbers (batch ∷ src ∷ dst ∷ bit clear ∷ add ∷ [])
 line_bytes (line.Slot slot src dst core) = codes "slot" ++ numbers (slot ∷ src ∷ dst ∷ []) ++ fields (core_field core ∷ [])
 line_bytes (line.Sent slot src dst) = codes "sent" ++ numbers (slot ∷ src ∷ dst ∷ [])
-line_bytes (line.Refused round number) = codes "refused" ++ numbers (round ∷ []) ++ fields (refusal_name number ∷ [])
+line_bytes (line.Refused round number) = codes "refused" ++ numbers (round ∷ []) ++ fields (answer_name number ∷ [])
 line_bytes (line.Flow src dst demanded allocated pending) = codes "flow" ++ numbers (src ∷ dst ∷ demanded ∷ allocated ∷ pending ∷ [])
 line_bytes (line.Count src dst demanded acknowledged flight pending lost sent missed) =
     codes "count" ++ numbers (src ∷ dst ∷ demanded ∷ acknowledged ∷ flight ∷ pending ∷ lost ∷ sent ∷ missed ∷ [])
 line_bytes (line.End rounds) = codes "end" ++ numbers (rounds ∷ [])
 line_bytes (line.Made number flows demanded acknowledged flight pending lost sent missed) =
     codes "made" ++ numbers (number ∷ flows ∷ demanded ∷ acknowledged ∷ flight ∷ pending ∷ lost ∷ sent ∷ missed ∷ [])
+line_bytes (line.Answer endpoint place number) = codes "answer" ++ numbers (endpoint ∷ place ∷ []) ++ fields (answer_name number ∷ [])
+line_bytes (line.Granted message node generation first) = codes "granted" ++ numbers (message ∷ node ∷ generation ∷ first ∷ [])
+line_bytes (line.Published node batch) = codes "published" ++ numbers (node ∷ batch ∷ [])
+line_bytes (line.Declined row place) = codes "refused" ++ numbers (row ∷ []) ++ fields (event_name place ∷ [])
+line_bytes (line.Total src dst asked sent) = codes "total" ++ numbers (src ∷ dst ∷ asked ∷ sent ∷ [])
 
 -- ---- the range of each field
 
@@ -54,7 +59,8 @@ WithinFrom i (most ∷ mosts) ns = (slice_index ns i ≤ most) × WithinFrom (i 
 abbrev pub AreWithin : List ℕ → List ℕ → Type 0
 AreWithin mosts ns = WithinFrom 0 mosts ns
 
--- each number fits its field, and a refusal has a name
+-- a line of a plan or a replay, or of a made trace: each number fits its field, and a refusal has a name; the other lines are only
+-- written
 abbrev pub IsLine : Line → Type 0
 IsLine (line.Batch batch src dst clear add) = AreWithin (number_most ∷ endpoint_most ∷ endpoint_most ∷ 1 ∷ number_most ∷ []) (batch ∷ src ∷ dst ∷ bit clear ∷ add ∷ [])
 IsLine (line.Slot slot src dst core) = AreWithin (number_most ∷ endpoint_most ∷ endpoint_most ∷ []) (slot ∷ src ∷ dst ∷ []) × IfSome core (λ c. c ≤ endpoint_most)
@@ -69,8 +75,15 @@ IsLine (line.End rounds) = AreWithin (number_most ∷ []) (rounds ∷ [])
 IsLine (line.Made number flows demanded acknowledged flight pending lost sent missed) =
     AreWithin (number_most ∷ number_most ∷ sum_most ∷ sum_most ∷ sum_most ∷ sum_most ∷ sum_most ∷ sum_most ∷ sum_most ∷ [])
     (number ∷ flows ∷ demanded ∷ acknowledged ∷ flight ∷ pending ∷ lost ∷ sent ∷ missed ∷ [])
+IsLine (line.Answer endpoint place number) = ⊥
+IsLine (line.Granted message node generation first) = ⊥
+IsLine (line.Published node batch) = ⊥
+IsLine (line.Declined row place) = ⊥
+IsLine (line.Total src dst asked sent) = ⊥
 
 -- what a line must keep to be written, beside the types of its numbers
 abbrev pub HasName : Line → Type 0
 HasName (line.Refused round number) = IsRefusal number
+HasName (line.Answer endpoint place number) = IsAnswer number
+HasName (line.Declined row place) = IsEventRefusal place
 HasName _ = ⊤

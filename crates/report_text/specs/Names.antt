@@ -1,15 +1,19 @@
--- The names of refused packets, each at the number of its refusal (this project's own profile).
+-- The names of what an arbiter answers, each at its number: of packets, and of the events of a script (this project's own profile).
 use Rattle.std.specs.Prelude.{◌≡◌, ◌⊎◌, ◌<◌, ◌≤◌, ℕ, List, [], ◌∷◌, codes, slice_index_or}
 
--- the numbers 0, 13 to 20 and 25 have no name
-abbrev pub refusal_names : List (List ℕ)
-refusal_names =
-    [] ∷ codes "short" ∷ codes "version" ∷ codes "kind" ∷ codes "endpoint" ∷ codes "count" ∷ codes "order" ∷ codes "selfflow" ∷ codes "toomuch" ∷ codes "mask"
+-- 0 is a packet that was taken, all others are refusals; the numbers 13 to 20 have no name
+abbrev pub answer_names : List (List ℕ)
+answer_names =
+    codes "ok" ∷ codes "short" ∷ codes "version" ∷ codes "kind" ∷ codes "endpoint" ∷ codes "count" ∷ codes "order" ∷ codes "selfflow" ∷ codes "toomuch" ∷ codes "mask"
     ∷ codes "trailing" ∷ codes "epoch" ∷ codes "seq" ∷ [] ∷ [] ∷ [] ∷ [] ∷ [] ∷ [] ∷ [] ∷ [] ∷ codes "unsynced" ∷ codes "oldepoch" ∷ codes "oldseq" ∷ codes "repeat"
-    ∷ [] ∷ codes "otherversion" ∷ []
+    ∷ codes "notmine" ∷ codes "otherversion" ∷ []
 
-unfoldable pub refusal_name : ℕ → List ℕ
-refusal_name number = slice_index_or refusal_names number []
+unfoldable pub answer_name : ℕ → List ℕ
+answer_name number = slice_index_or answer_names number []
+
+-- an answer of an arbiter's lane, framing and its own
+abbrev pub IsAnswer : ℕ → Type 0
+IsAnswer number = (number ≤ 12) ⊎ ((21 ≤ number) × (number ≤ 26))
 
 -- the refusals of framing, and those of an arbiter's lane but the one of another endpoint's packet, which comes to no lane
 abbrev pub IsRefusal : ℕ → Type 0
@@ -17,3 +21,13 @@ IsRefusal number = ((1 ≤ number) × (number ≤ 12)) ⊎ (((21 ≤ number) × 
 
 abbrev pub IsNoRefusal : ℕ → Type 0
 IsNoRefusal number = (number ≡ 0) ⊎ (((12 < number) × (number < 21)) ⊎ ((number ≡ 25) ⊎ (26 < number)))
+
+-- why an event of a script is refused
+abbrev pub event_names : List (List ℕ)
+event_names = codes "nomessage" ∷ codes "oldboot" ∷ codes "oldlease" ∷ codes "nolease" ∷ codes "stale" ∷ codes "unpublished" ∷ codes "repeat" ∷ []
+
+unfoldable pub event_name : ℕ → List ℕ
+event_name place = slice_index_or event_names place []
+
+abbrev pub IsEventRefusal : ℕ → Type 0
+IsEventRefusal place = place ≤ 6

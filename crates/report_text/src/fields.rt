@@ -1,6 +1,6 @@
 ghost use Rattle.std.specs.Prelude.{◌≡◌, ◌≢◌, ◌<◌, ◌≤◌, ◌^◌, ℕ, List, [], ◌∷◌, ◌++◌, length, codes, decimal, Some, IfSome, IsSomeAnd, slice_index, slice_index_or, true, Bool, MatchBool, ◌⊎◌, Option};
 ghost use Rattle.report_text.specs.Lines.{fields, numbers, core_field, bit, AreWithin, endpoint_most};
-ghost use Rattle.report_text.specs.Names.{refusal_name, IsRefusal};
+ghost use Rattle.report_text.specs.Names.{answer_name, IsRefusal};
 
 use crate::names::number_named;
 use std::str;
@@ -109,8 +109,8 @@ pub(crate) fn read_core(text: &[u8]) -> Option<Option<u16>>
 
 /// Reads the field of a refusal's name: a comma, and then the name.
 pub(crate) fn read_name(text: &[u8]) -> Option<u8>
-    ensures spelled { IfSome result (λ number. IsRefusal number × (text.now ≡ fields (refusal_name number ∷ []))) }
-    ensures only { (number : ℕ) → IsRefusal number → text.now ≡ fields (refusal_name number ∷ []) → IsSomeAnd result (λ n. n ≡ number) }
+    ensures spelled { IfSome result (λ number. IsRefusal number × (text.now ≡ fields (answer_name number ∷ []))) }
+    ensures only { (number : ℕ) → IsRefusal number → text.now ≡ fields (answer_name number ∷ []) → IsSomeAnd result (λ n. n ≡ number) }
 {
     number_named(text.strip_prefix(b",")?)
 }

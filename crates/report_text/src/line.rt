@@ -1,4 +1,4 @@
-/// A line of the output. Slots are numbered from 1, batches and rounds from 0.
+/// A line of the output. Slots are numbered from 1, batches, rounds and packets of an endpoint from 0.
 #[derive(Clone, Copy, Debug, PartialEq, Eq)]
 pub enum Line {
     /// What a batch records of a flow.
@@ -62,5 +62,35 @@ pub enum Line {
         lost: u64,
         sent: u64,
         missed: u64,
+    },
+    /// What a lane answered to a packet of its endpoint: 0 where it was taken, else the number of its refusal.
+    Answer {
+        endpoint: u16,
+        place: u32,
+        number: u8,
+    },
+    /// The lease that the keeper gave to a node.
+    Granted {
+        message: u32,
+        node: u16,
+        generation: u32,
+        first: u32,
+    },
+    /// A batch that a node published.
+    Published {
+        node: u16,
+        batch: u32,
+    },
+    /// An event of a script that was refused, by the place of its refusal.
+    Declined {
+        row: u32,
+        place: u8,
+    },
+    /// What was asked for of a flow over a script, and sent.
+    Total {
+        src: u16,
+        dst: u16,
+        asked: u32,
+        sent: u32,
     },
 }

@@ -1,9 +1,8 @@
 ghost use Rattle.std.specs.Prelude.{◌≡◌, ◌+◌, ◌*◌, ◌^◌, ◌<◌, ◌≤◌, [], ◌∷◌, ◌++◌, length, take, drop};
-ghost use Rattle.report_text.specs.Lines.{line_bytes, numbers, HasName};
-ghost use Rattle.report_text.specs.Names.{IsRefusal};
+ghost use Rattle.report_text.specs.Lines.{line_bytes, numbers, fields, HasName};
 
 use crate::Line;
-use crate::names::refusal_name;
+use crate::names::{answer_name, event_name};
 use itoa::Buffer;
 
 /// The most bytes that a number of 32 bits takes in its field, with the comma.
@@ -70,7 +69,7 @@ fn put_sums(buf: &mut [u8; 192], start: usize, sums: &[u64]) -> usize
 
 /// Writes a line with its line feed at the front of the buffer, and answers the length.
 pub fn write_line(line: &Line, buf: &mut [u8; 192]) -> usize
-    // The number of a refusal is one that has a name: 1 to 12, 21 to 24 or 26.
+    // Numbers have a name: that of a refusal is 1 to 12, 21 to 24 or 26, of an answer 0 to 12 or 21 to 26, of an event's refusal 0 to 6.
     requires { HasName line.now }
     ensures length { result ≡ length (line_bytes line.now) + 1 }
     ensures within { result ≤ 192 }
@@ -107,7 +106,9 @@ fn put_line(line: &Line, buf: &mut [u8; 192]) -> usize
             core,
         } => put_slot(buf, slot, src, dst, core),
         Line::Sent { slot, src, dst } => put_all(buf, b"sent", &[slot, src.into(), dst.into()]),
-        Line::Refused { round, number } => put_refused(buf, round, number),
+        Line::Refused { round, number } => {
+            put_named(buf, b"refused", &[round], answer_name(number))
+        }
         Line::Flow {
             src,
             dst,
@@ -160,6 +161,30 @@ fn put_line(line: &Line, buf: &mut [u8; 192]) -> usize
             let sums = [demanded, acknowledged, flight, pending, lost, sent, missed];
             put_sums(buf, at, &sums)
         }
+        Line::Answer {
+            endpoint,
+            place,
+            number,
+        } => put_named(
+            buf,
+            b"answer",
+            &[endpoint.into(), place],
+            answer_name(number),
+        ),
+        Line::Granted {
+            message,
+            node,
+            generation,
+            first,
+        } => put_all(buf, b"granted", &[message, node.into(), generation, first]),
+        Line::Published { node, batch } => put_all(buf, b"published", &[node.into(), batch]),
+        Line::Declined { row, place } => put_named(buf, b"refused", &[row], event_name(place)),
+        Line::Total {
+            src,
+            dst,
+            asked,
+            sent,
+        } => put_all(buf, b"total", &[src.into(), dst.into(), asked, sent]),
     }
 }
 
@@ -176,14 +201,15 @@ fn put_slot(buf: &mut [u8; 192], slot: u32, src: u16, dst: u16, core: Option<u16
     }
 }
 
-fn put_refused(buf: &mut [u8; 192], round: u32, number: u8) -> usize
-    requires { IsRefusal number }
-    ensures end { result ≡ length (line_bytes (Line.Refused round number)) }
+/// Spells a name, its numbers, and after them another name.
+fn put_named(buf: &mut [u8; 192], name: &[u8], values: &[u32], last: &[u8]) -> usize
+    requires { length name.now + NUMBER * length values.now + length last.now + NUMBER < 192 }
+    ensures end { result ≡ length (name.now ++ numbers values.now ++ fields (last.now ∷ [])) }
     ensures fits { result < 192 }
-    ensures written { take result buf.new ≡ line_bytes (Line.Refused round number) }
+    ensures written { take result buf.new ≡ name.now ++ numbers values.now ++ fields (last.now ∷ []) }
     ensures rest { drop result buf.new ≡ drop result buf.old }
 {
-    let at = put_all(buf, b"refused", &[round]);
+    let at = put_all(buf, name, values);
     let at = put(buf, at, b",");
-    put(buf, at, refusal_name(number))
+    put(buf, at, last)
 }

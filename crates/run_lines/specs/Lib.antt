@@ -1,6 +1,6 @@
-pub mod Content
-pub mod Transfer
-pub mod Output
+pub use Rattle.text_output.specs.Content
+pub use Rattle.text_output.specs.Transfer
+pub use Rattle.text_output.specs.Output
 pub mod Text
 pub mod Steps
 pub mod Laws

@@ -1,7 +1,6 @@
--- The parts of a step, and the flow of a place in a row of a slot table.
+-- The parts of a step.
 use Rattle.std.specs.Prelude.{◌≡◌, ◌<◌, ◌≤◌, ℕ, ◌+◌, ◌*◌, ◌^◌, List, [], ◌∷◌, ◌++◌, length, map, take, drop, Option, Some, None, All, IfSome, slice_index_or}
 use Rattle.std.specs.List.{flat_map}
-use Rattle.greedy_rules.specs.declared.flows.Flow.{Flow}
 use Rattle.greedy_rules.specs.Schedule.{first_slot}
 use Rattle.report_text.specs.declared.line.Line.{Line}
 use Rattle.report_text.specs.Names.{IsRefusal}
@@ -10,11 +9,6 @@ use Rattle.replay_rounds.specs.Played.{Played}
 use Rattle.window_engine.specs.Scheduled.{cores_from}
 use Rattle.window_engine.specs.Step.{StepContent}
 use Rattle.run_lines.specs.Text.{no_batch, entry_line, batch_lines, refused_line, sent_line}
-
--- the flow of a source that sends there, if it sends
-abbrev pub flow_list : ℕ → Option ℕ → List Flow
-flow_list src None = []
-flow_list src (Some dst) = record { src = src; dst = dst } ∷ []
 
 -- ---- of a plan
 

@@ -1,15 +1,12 @@
 -- The lines of what a run gives (this project's own profile), and their bytes.
 use Rattle.std.specs.Prelude.{ℕ, zero, suc, ◌+◌, ◌-◌, List, [], ◌∷◌, ◌++◌, map, Option, Some, None}
-use Rattle.std.specs.List.{flat_map}
 use Rattle.greedy_rules.specs.declared.flows.Flow.{Flow}
-use Rattle.greedy_rules.specs.declared.flows.Entry.{Entry}
 use Rattle.greedy_rules.specs.Batches.{DemandBatch}
 use Rattle.greedy_rules.specs.Schedule.{first_slot}
 use Rattle.clos_topology.specs.Network.{endpoints_of}
-use Rattle.clos_topology.specs.Links.{CoreOf}
 use Rattle.report_text.specs.declared.line.Line.{Line}
 use Rattle.report_text.specs.declared.line.Line.TheVariants as line
-use Rattle.report_text.specs.Lines.{line_bytes}
+pub use Rattle.text_output.specs.Text.{line_text, text_of, entry_line, slot_line, slots_lines}
 use Rattle.trace_text.specs.Trace.{TraceContent}
 use Rattle.trace_run.specs.Run.{Setting}
 use Rattle.replay_rounds.specs.declared.played.Departure.{Departure}
@@ -19,27 +16,7 @@ use Rattle.window_engine.specs.Batches.{plan_batches}
 use Rattle.window_engine.specs.Counts.{counts_of}
 use Rattle.window_engine.specs.Replay.{replay_counts}
 
--- ---- bytes
-
--- each line with a line feed
-abbrev pub line_text : Line → List ℕ
-line_text l = line_bytes l ++ 10 ∷ []
-
-abbrev pub text_of : List Line → List ℕ
-text_of lines = flat_map line_text lines
-
 -- ---- batches and slots
-
-abbrev pub entry_line : ℕ → Entry → Line
-entry_line k entry = line.Batch k entry.flow.src entry.flow.dst entry.clear entry.add
-
-abbrev pub slot_line : ℕ → CoreOf → Flow → Line
-slot_line number core_of flow = line.Slot number flow.src flow.dst (core_of flow.src)
-
--- the slots from this number on
-abbrev pub slots_lines : Cores → ℕ → List (List Flow) → List Line
-slots_lines cores number [] = []
-slots_lines cores number (slot ∷ slots) = map (slot_line number (cores number)) slot ++ slots_lines cores (number + 1) slots
 
 -- what stands for a batch past the last
 abbrev pub no_batch : DemandBatch

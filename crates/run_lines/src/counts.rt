@@ -4,14 +4,14 @@ ghost use Rattle.clos_topology.specs.Network.{endpoints_of};
 ghost use Rattle.trace_text.specs.Valid.{IsTrace};
 ghost use Rattle.replay_rounds.specs.Setting.{Cores};
 ghost use Rattle.window_engine.specs.Replay.{StandsForReplay, run_of};
-ghost use Rattle.run_lines.specs.Output.{Passes};
+ghost use Rattle.text_output.specs.Output.{Passes};
 ghost use Rattle.run_lines.specs.Text.{text_of, flight_of, count_lines_of, counts_of_source, counts_lines};
 
 use crate::laws::every_count_has_a_flight;
-use crate::output::{Output, Stop};
 use fp_edge::Sink;
 use greedy_rules::Flow;
 use report_text::Line;
+use text_output::{Output, Stop};
 use trace_text::Trace;
 use window_engine::{Counts, Replay};
 

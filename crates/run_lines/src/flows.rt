@@ -3,13 +3,13 @@ ghost use Rattle.std.specs.Prelude.{◌≡◌, ◌<◌};
 ghost use Rattle.clos_topology.specs.Network.{endpoints_of};
 ghost use Rattle.trace_text.specs.Valid.{IsTrace};
 ghost use Rattle.window_engine.specs.Standing.{Stands};
-ghost use Rattle.run_lines.specs.Output.{Passes};
+ghost use Rattle.text_output.specs.Output.{Passes};
 ghost use Rattle.run_lines.specs.Text.{text_of, flow_lines_of, flows_of_source, flows_lines};
 
-use crate::output::{Output, Stop};
 use fp_edge::Sink;
 use greedy_rules::Flow;
 use report_text::Line;
+use text_output::{Output, Stop};
 use trace_text::Trace;
 use window_engine::{Counts, Engine};
 

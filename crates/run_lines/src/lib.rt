@@ -1,18 +1,15 @@
-//! The lines of what a run gives, and the output that gathers them for a sink.
+//! The lines of what a run gives.
 #![tactic(auto)]
 
 mod counts;
 mod flows;
 mod laws;
 mod lines;
-mod output;
 mod rounds;
-mod transfer;
 
 pub use counts::{flight, put_counts};
 pub use flows::put_flows;
-pub use laws::{every_count_has_a_flight, texts_follow};
+pub use laws::every_count_has_a_flight;
 pub use lines::{put_batch, put_slots};
-pub use output::{Output, Stop};
 pub use rounds::put_round;
-pub use transfer::write_all;
+pub use text_output::{Output, Stop, texts_follow, write_all};

@@ -1,82 +1,18 @@
 // The lines of batches and of slots.
 ghost use Rattle.std.specs.Prelude.{◌≡◌, ◌<◌, ◌≤◌, ◌+◌, ◌^◌, length, map, take, drop};
 ghost use Rattle.greedy_rules.specs.Schedule.{slot_in};
-ghost use Rattle.greedy_rules.specs.SlotTable.{flows_from};
-ghost use Rattle.edge_colouring.specs.Cores.{core_in};
 ghost use Rattle.path_workers.specs.CoreTable.{core_of};
 ghost use Rattle.window_engine.specs.Scheduled.{cores_from};
-ghost use Rattle.run_lines.specs.Output.{Passes};
-ghost use Rattle.run_lines.specs.Steps.{IsWindow, batch_of_step, flow_list};
-ghost use Rattle.run_lines.specs.Text.{text_of, entry_line, slot_line, slots_lines};
+ghost use Rattle.text_output.specs.Output.{Passes};
+ghost use Rattle.run_lines.specs.Steps.{IsWindow, batch_of_step};
+ghost use Rattle.run_lines.specs.Text.{text_of, slot_line, slots_lines};
 
-use crate::output::{Output, Stop};
 use fp_edge::Sink;
-use greedy_rules::{Batch, SlotTable};
+use greedy_rules::SlotTable;
 use path_workers::CoreTable;
 use report_text::Numeral;
+use text_output::{Output, Stop, put_entries, put_row};
 use window_engine::Step;
-
-/// A line for each entry of a round's batch.
-pub(crate) fn put_entries<K: Sink>(
-    output: &mut Output<'_, K>,
-    round: u32,
-    batch: &Batch,
-) -> Result<(), Stop>
-    ensures { Passes output.old output.new (text_of (map (entry_line round) batch.now.entries)) result }
-{
-    if batch.is_empty() {
-        return Ok(());
-    }
-    let number = Numeral::new(round);
-    for at in 0..batch.len() {
-        output.put_entry(&number, batch.entry(at))?;
-    }
-    Ok(())
-}
-
-/// The packet of a source in the slot of this number, if it sends one.
-fn put_source<K: Sink>(
-    output: &mut Output<'_, K>,
-    number: &Numeral,
-    src: u16,
-    to: Option<u16>,
-    cores: &[Option<u16>],
-) -> Result<(), Stop>
-    ensures { Passes output.old output.new
-        (text_of (map (slot_line number.now (core_in cores.now)) (flow_list src to))) result }
-{
-    match to {
-        Some(dst) => output.put_slot(number, src, dst, core_at(cores, src)),
-        None => Ok(()),
-    }
-}
-
-/// The core of a source in a row of cores, which names none past its end.
-fn core_at(cores: &[Option<u16>], src: u16) -> Option<u16>
-    ensures { result ≡ core_in cores.now src }
-{
-    match cores.get(src as usize) {
-        Some(core) => *core,
-        None => None,
-    }
-}
-
-/// The packets of a row, by source, in the slot of this number.
-fn put_row<K: Sink>(
-    output: &mut Output<'_, K>,
-    number: &Numeral,
-    row: &[Option<u16>],
-    cores: &[Option<u16>],
-) -> Result<(), Stop>
-    requires { length row.now < 2 ^ 16 }
-    ensures { Passes output.old output.new
-        (text_of (map (slot_line number.now (core_in cores.now)) (flows_from 0 row.now))) result }
-{
-    for at in 0..row.len() {
-        put_source(output, number, at as u16, row[at], cores)?;
-    }
-    Ok(())
-}
 
 /// The packets of the slot of this number, by source.
 fn put_slot<K: Sink>(

@@ -2,15 +2,14 @@
 ghost use Rattle.std.specs.Prelude.{◌<◌, map, length, All, IfSome};
 ghost use Rattle.std.specs.List.{flat_map};
 ghost use Rattle.report_text.specs.Names.{IsRefusal};
-ghost use Rattle.run_lines.specs.Output.{Passes};
+ghost use Rattle.text_output.specs.Output.{Passes};
 ghost use Rattle.run_lines.specs.Steps.{ArePlayed, played_round};
 ghost use Rattle.run_lines.specs.Text.{text_of, line_text, refused_line, sent_line};
 
-use crate::lines::put_entries;
-use crate::output::{Output, Stop};
 use fp_edge::Sink;
 use replay_rounds::{Departure, Played};
 use report_text::{Line, Numeral};
+use text_output::{Output, Stop, put_entries};
 
 /// The refusal of a raw packet, if it was refused.
 fn put_answer<K: Sink>(

@@ -49,24 +49,14 @@ NamesNoCounts (line.Count src dst demanded acknowledged flight pending lost sent
 NamesNoCounts _ = ⊤
 
 balanced_without : (l : Line) → NamesNoCounts l → IsBalanced l
-balanced_without (line.Batch batch src dst clear add) is = tt
-balanced_without (line.Slot number src dst core) is = tt
-balanced_without (line.Sent number src dst) is = tt
-balanced_without (line.Refused round number) is = tt
 balanced_without (line.Flow src dst demanded allocated pending) is = absurd is
 balanced_without (line.Count src dst demanded acknowledged flight pending lost sent missed) is = absurd is
-balanced_without (line.End rounds) is = tt
-balanced_without (line.Made number flows demanded acknowledged flight pending lost sent missed) is = tt
+balanced_without l is = tt
 
 adds_up_without : (setting : Setting) (rounds : ℕ) (lines : List Line) (l : Line) → NamesNoCounts l → AddsUp setting rounds lines l
-adds_up_without setting rounds lines (line.Batch batch src dst clear add) is = tt
-adds_up_without setting rounds lines (line.Slot number src dst core) is = tt
-adds_up_without setting rounds lines (line.Sent number src dst) is = tt
-adds_up_without setting rounds lines (line.Refused round number) is = tt
 adds_up_without setting rounds lines (line.Flow src dst demanded allocated pending) is = absurd is
 adds_up_without setting rounds lines (line.Count src dst demanded acknowledged flight pending lost sent missed) is = absurd is
-adds_up_without setting rounds lines (line.End all) is = tt
-adds_up_without setting rounds lines (line.Made number flows demanded acknowledged flight pending lost sent missed) is = tt
+adds_up_without setting rounds lines l is = tt
 
 All-flat : {X : Type 0} (P : X → Type 0) (f : ℕ → List X) (ks : List ℕ) → ((k : ℕ) → All P (f k)) → All P (flat_map f ks)
 All-flat P f [] all = All-nil P

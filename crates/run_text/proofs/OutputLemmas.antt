@@ -2,7 +2,7 @@
 use Rattle.std.proofs.Common.{◌≡◌, ℕ, List, [], Result, Ok, Err, IsErrAnd, OnOk, subst}
 use Rattle.run_lines.specs.Content.{OutputContent}
 use Rattle.run_lines.specs.Output.{Passes, Ends}
-use Rattle.run_lines.specs.declared.output.Stop.{Stop}
+use Rattle.text_output.specs.declared.output.Stop.{Stop}
 
 pub Passes-same : {a b : OutputContent} {x y : List ℕ} {r : Result (Unit {0}) Stop} → Passes a b x r → x ≡ y → Passes a b y r
 Passes-same {a = a} {b = b} {r = r} passed is = subst (λ (w : List ℕ). Passes a b w r) is passed

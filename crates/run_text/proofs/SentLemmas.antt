@@ -98,24 +98,12 @@ IsNoSend (line.Sent slot src dst) = ⊥
 IsNoSend _ = ⊤
 
 no_send : (slot src : ℕ) (l : Line) → IsNoSend l → is_send_in slot src l ≡ false
-no_send slot src (line.Batch batch source dst clear add) is = refl
-no_send slot src (line.Slot number source dst core) is = refl
 no_send slot src (line.Sent number source dst) is = absurd is
-no_send slot src (line.Refused round number) is = refl
-no_send slot src (line.Flow source dst demanded allocated pending) is = refl
-no_send slot src (line.Count source dst demanded acknowledged flight pending lost sent missed) is = refl
-no_send slot src (line.End rounds) is = refl
-no_send slot src (line.Made number flows demanded acknowledged flight pending lost sent missed) is = refl
+no_send slot src l is = refl
 
 no_send_scheduled : (setting : Setting) (rounds : ℕ) (l : Line) → IsNoSend l → IsScheduledSend setting rounds l
-no_send_scheduled setting rounds (line.Batch batch source dst clear add) is = tt
-no_send_scheduled setting rounds (line.Slot number source dst core) is = tt
 no_send_scheduled setting rounds (line.Sent number source dst) is = absurd is
-no_send_scheduled setting rounds (line.Refused round number) is = tt
-no_send_scheduled setting rounds (line.Flow source dst demanded allocated pending) is = tt
-no_send_scheduled setting rounds (line.Count source dst demanded acknowledged flight pending lost sent missed) is = tt
-no_send_scheduled setting rounds (line.End all) is = tt
-no_send_scheduled setting rounds (line.Made number flows demanded acknowledged flight pending lost sent missed) is = tt
+no_send_scheduled setting rounds l is = tt
 
 none_counted : (slot src : ℕ) (lines : List Line) → All IsNoSend lines → count_by (is_send_in slot src) lines ≡ 0
 none_counted slot src lines all = count-none (is_send_in slot src) lines (λ i d below. no_send slot src _ (all i d below))

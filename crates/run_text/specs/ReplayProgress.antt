@@ -12,7 +12,7 @@ use Rattle.run_lines.specs.Content.{OutputContent}
 use Rattle.run_lines.specs.Output.{Passes}
 use Rattle.run_lines.specs.Steps.{played_round}
 use Rattle.run_lines.specs.Text.{slots_lines, text_of}
-use Rattle.run_lines.specs.declared.output.Stop.{Stop}
+use Rattle.text_output.specs.declared.output.Stop.{Stop}
 use Rattle.run_text.specs.ReplayScheduled.{AreReplayCores, WithCoresBetween, AgreeAbove}
 use Rattle.run_text.specs.ReplayText.{rounds_lines, window_lines, all_steps_lines}
 

@@ -212,10 +212,6 @@ module _ (net : Network) (b : ℕ) (expected : Expected) (whole : List (Option L
   splits : (before lines : List (Option Line)) (front : List (Numbered Place)) (number : ℕ) → AreSmall lines → AreSame front (sends before) → Splits before front number lines
   splits before [] front number small same = refl
   splits before (None ∷ lines) front number small same = splits (None ∷ before) lines front (number + 1) small.1 same
-  splits before (Some (line.Batch batch src dst clear add) ∷ lines) front number small same = splits (Some (line.Batch batch src dst clear add) ∷ before) lines front (number + 1) small.1 same
-  splits before (Some (line.Refused round n) ∷ lines) front number small same = splits (Some (line.Refused round n) ∷ before) lines front (number + 1) small.1 same
-  splits before (Some (line.Made n flows demanded acknowledged flight pending lost sent missed) ∷ lines) front number small same =
-      splits (Some (line.Made n flows demanded acknowledged flight pending lost sent missed) ∷ before) lines front (number + 1) small.1 same
   splits before (Some (line.Slot slot src dst core) ∷ lines) front number small same =
       let p : Path = record { place = record { slot = slot; flow = flow_of src dst }; core = core } in
       slot-line before lines front number p (is_bad_path net expected (paths before) p) refl (first_from (is_wrong net b expected whole) (number + 1) (Some (line.Slot slot src dst core) ∷ before) lines)
@@ -234,6 +230,7 @@ module _ (net : Network) (b : ℕ) (expected : Expected) (whole : List (Option L
   splits before (Some (line.End rounds) ∷ lines) front number small same =
       total-line before lines front number (nat_lt count (length expected.places)) (first_from (is_wrong net b expected whole) (number + 1) (Some (line.End rounds) ∷ before) lines)
       (splits (Some (line.End rounds) ∷ before) lines front (number + 1) small.1 same)
+  splits before (Some l ∷ lines) front number small same = splits (Some l ∷ before) lines front (number + 1) small.1 same
 
   pub first-of-all : AreSmall whole → first_from (is_wrong net b expected whole) 1 [] whole
       ≡ earlier (first_path net expected.places [] (numbered path_of 1 whole)) (earlier (first_missed expected.places [] (numbered sent_by 1 whole)) (first_total (is_wrong_total b expected count) (numbered total_of 1 whole)))

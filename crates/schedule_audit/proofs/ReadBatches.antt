@@ -304,29 +304,13 @@ module _ (endpoints : ℕ) (whole : List (Option Line)) where
   record_lines before (Some (line.Batch batch src dst clear add) ∷ lines) all =
       let l : Line = line.Batch batch src dst clear add in
       ((or_parts (has_end before) (is_misplaced_line endpoints whole before l) all.0).1, record_lines (Some l ∷ before) lines all.1)
-  record_lines before (Some (line.Slot slot src dst core) ∷ lines) all = record_lines (Some (line.Slot slot src dst core) ∷ before) lines all.1
-  record_lines before (Some (line.Sent slot src dst) ∷ lines) all = record_lines (Some (line.Sent slot src dst) ∷ before) lines all.1
-  record_lines before (Some (line.Refused round number) ∷ lines) all = record_lines (Some (line.Refused round number) ∷ before) lines all.1
-  record_lines before (Some (line.Flow src dst demanded allocated pending) ∷ lines) all = record_lines (Some (line.Flow src dst demanded allocated pending) ∷ before) lines all.1
-  record_lines before (Some (line.Count src dst demanded acknowledged flight pending lost sent missed) ∷ lines) all =
-      record_lines (Some (line.Count src dst demanded acknowledged flight pending lost sent missed) ∷ before) lines all.1
-  record_lines before (Some (line.End rounds) ∷ lines) all = record_lines (Some (line.End rounds) ∷ before) lines all.1
-  record_lines before (Some (line.Made number flows demanded acknowledged flight pending lost sent missed) ∷ lines) all =
-      record_lines (Some (line.Made number flows demanded acknowledged flight pending lost sent missed) ∷ before) lines all.1
+  record_lines before (Some l ∷ lines) all = record_lines (Some l ∷ before) lines all.1
 
   end_line : (before lines : List (Option Line)) → AllStand before lines → has_end lines ≡ true → is_bad_end (records whole) (rounds_of lines) ≡ false
   end_line before [] all some = absurd (false≢true some)
   end_line before (None ∷ lines) all some = end_line (None ∷ before) lines all.1 some
-  end_line before (Some (line.Batch batch src dst clear add) ∷ lines) all some = end_line (Some (line.Batch batch src dst clear add) ∷ before) lines all.1 some
-  end_line before (Some (line.Slot slot src dst core) ∷ lines) all some = end_line (Some (line.Slot slot src dst core) ∷ before) lines all.1 some
-  end_line before (Some (line.Sent slot src dst) ∷ lines) all some = end_line (Some (line.Sent slot src dst) ∷ before) lines all.1 some
-  end_line before (Some (line.Refused round number) ∷ lines) all some = end_line (Some (line.Refused round number) ∷ before) lines all.1 some
-  end_line before (Some (line.Flow src dst demanded allocated pending) ∷ lines) all some = end_line (Some (line.Flow src dst demanded allocated pending) ∷ before) lines all.1 some
-  end_line before (Some (line.Count src dst demanded acknowledged flight pending lost sent missed) ∷ lines) all some =
-      end_line (Some (line.Count src dst demanded acknowledged flight pending lost sent missed) ∷ before) lines all.1 some
   end_line before (Some (line.End rounds) ∷ lines) all some = (or_parts (has_end before) (is_bad_end (records whole) rounds) all.0).1
-  end_line before (Some (line.Made number flows demanded acknowledged flight pending lost sent missed) ∷ lines) all some =
-      end_line (Some (line.Made number flows demanded acknowledged flight pending lost sent missed) ∷ before) lines all.1 some
+  end_line before (Some l ∷ lines) all some = end_line (Some l ∷ before) lines all.1 some
 
 pub no_misplaced_line_is_recorded : NoMisplacedLineIsRecorded
 no_misplaced_line_is_recorded net lines none =

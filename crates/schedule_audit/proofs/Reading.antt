@@ -148,6 +148,7 @@ free-bytes (line.Made number flows demanded acknowledged flight pending lost sen
         ),
       ),
     )
+free-bytes l is = absurd is
 
 -- ---- texts
 

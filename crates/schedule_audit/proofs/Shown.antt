@@ -44,32 +44,16 @@ ended lines none = elim (cases_Bool (has_end lines)) [
 good_paths : (net : Network) (b : ℕ) (expected : Expected) (whole before lines : List (Option Line)) → AllGood (is_wrong net b expected whole) before lines → GoodPaths net expected (paths before) (paths lines)
 good_paths net b expected whole before [] all = tt
 good_paths net b expected whole before (None ∷ lines) all = good_paths net b expected whole (None ∷ before) lines all.1
-good_paths net b expected whole before (Some (line.Batch batch src dst clear add) ∷ lines) all = good_paths net b expected whole (Some (line.Batch batch src dst clear add) ∷ before) lines all.1
 good_paths net b expected whole before (Some (line.Slot slot src dst core) ∷ lines) all = (all.0, good_paths net b expected whole (Some (line.Slot slot src dst core) ∷ before) lines all.1)
-good_paths net b expected whole before (Some (line.Sent slot src dst) ∷ lines) all = good_paths net b expected whole (Some (line.Sent slot src dst) ∷ before) lines all.1
-good_paths net b expected whole before (Some (line.Refused round number) ∷ lines) all = good_paths net b expected whole (Some (line.Refused round number) ∷ before) lines all.1
-good_paths net b expected whole before (Some (line.Flow src dst demanded allocated pending) ∷ lines) all = good_paths net b expected whole (Some (line.Flow src dst demanded allocated pending) ∷ before) lines all.1
-good_paths net b expected whole before (Some (line.Count src dst demanded acknowledged flight pending lost sent missed) ∷ lines) all =
-    good_paths net b expected whole (Some (line.Count src dst demanded acknowledged flight pending lost sent missed) ∷ before) lines all.1
-good_paths net b expected whole before (Some (line.End rounds) ∷ lines) all = good_paths net b expected whole (Some (line.End rounds) ∷ before) lines all.1
-good_paths net b expected whole before (Some (line.Made number flows demanded acknowledged flight pending lost sent missed) ∷ lines) all =
-    good_paths net b expected whole (Some (line.Made number flows demanded acknowledged flight pending lost sent missed) ∷ before) lines all.1
+good_paths net b expected whole before (Some l ∷ lines) all = good_paths net b expected whole (Some l ∷ before) lines all.1
 
 -- ---- and the end
 
 enough : (net : Network) (b : ℕ) (expected : Expected) (whole before lines : List (Option Line)) → AllGood (is_wrong net b expected whole) before lines → is_any (ends lines) ≡ true → nat_lt (length (paths whole)) (length expected.places) ≡ false
 enough net b expected whole before [] all some = absurd (false≢true some)
 enough net b expected whole before (None ∷ lines) all some = enough net b expected whole (None ∷ before) lines all.1 some
-enough net b expected whole before (Some (line.Batch batch src dst clear add) ∷ lines) all some = enough net b expected whole (Some (line.Batch batch src dst clear add) ∷ before) lines all.1 some
-enough net b expected whole before (Some (line.Slot slot src dst core) ∷ lines) all some = enough net b expected whole (Some (line.Slot slot src dst core) ∷ before) lines all.1 some
-enough net b expected whole before (Some (line.Sent slot src dst) ∷ lines) all some = enough net b expected whole (Some (line.Sent slot src dst) ∷ before) lines all.1 some
-enough net b expected whole before (Some (line.Refused round number) ∷ lines) all some = enough net b expected whole (Some (line.Refused round number) ∷ before) lines all.1 some
-enough net b expected whole before (Some (line.Flow src dst demanded allocated pending) ∷ lines) all some = enough net b expected whole (Some (line.Flow src dst demanded allocated pending) ∷ before) lines all.1 some
-enough net b expected whole before (Some (line.Count src dst demanded acknowledged flight pending lost sent missed) ∷ lines) all some =
-    enough net b expected whole (Some (line.Count src dst demanded acknowledged flight pending lost sent missed) ∷ before) lines all.1 some
 enough net b expected whole before (Some (line.End rounds) ∷ lines) all some = all.0
-enough net b expected whole before (Some (line.Made number flows demanded acknowledged flight pending lost sent missed) ∷ lines) all some =
-    enough net b expected whole (Some (line.Made number flows demanded acknowledged flight pending lost sent missed) ∷ before) lines all.1 some
+enough net b expected whole before (Some l ∷ lines) all some = enough net b expected whole (Some l ∷ before) lines all.1 some
 
 -- ---- what good paths are
 

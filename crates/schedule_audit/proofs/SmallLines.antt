@@ -8,14 +8,8 @@ use Rattle.schedule_audit.specs.Reading.{Reads, unformed_line, AreLines}
 use Rattle.schedule_audit.specs.Judging.{IsSmall, AreSmall}
 
 one-small : (l : Line) → IsLine l → IsSmall (Some l)
-one-small (line.Batch batch src dst clear add) is = tt
-one-small (line.Slot slot src dst core) is = tt
 one-small (line.Sent slot src dst) is = is.1.0
-one-small (line.Refused round number) is = tt
-one-small (line.Flow src dst demanded allocated pending) is = tt
-one-small (line.Count src dst demanded acknowledged flight pending lost sent missed) is = tt
-one-small (line.End rounds) is = tt
-one-small (line.Made number flows demanded acknowledged flight pending lost sent missed) is = tt
+one-small l is = tt
 
 rest-small : (rest : List ℕ) → AreSmall (unformed_line rest)
 rest-small [] = tt

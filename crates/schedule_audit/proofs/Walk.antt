@@ -51,8 +51,7 @@ good_first endpoints whole before rounds (line.Flow src dst demanded allocated p
 good_first endpoints whole before rounds (line.Count src dst demanded acknowledged flight pending lost sent missed ∷ body) none inner good last =
     let l : Line = line.Count src dst demanded acknowledged flight pending lost sent missed in
     (inner_first endpoints whole before l none refl, good_first endpoints whole (Some l ∷ before) rounds body none inner.1 good last)
-good_first endpoints whole before rounds (line.End n ∷ body) none inner good last = absurd inner.0
-good_first endpoints whole before rounds (line.Made number flows demanded acknowledged flight pending lost sent missed ∷ body) none inner good last = absurd inner.0
+good_first endpoints whole before rounds (l ∷ body) none inner good last = absurd inner.0
 
 -- ---- what the lines are
 
@@ -64,8 +63,7 @@ ends_are (line.Sent slot src dst ∷ body) rounds inner = ends_are body rounds i
 ends_are (line.Refused round number ∷ body) rounds inner = ends_are body rounds inner.1
 ends_are (line.Flow src dst demanded allocated pending ∷ body) rounds inner = ends_are body rounds inner.1
 ends_are (line.Count src dst demanded acknowledged flight pending lost sent missed ∷ body) rounds inner = ends_are body rounds inner.1
-ends_are (line.End n ∷ body) rounds inner = absurd inner.0
-ends_are (line.Made number flows demanded acknowledged flight pending lost sent missed ∷ body) rounds inner = absurd inner.0
+ends_are (l ∷ body) rounds inner = absurd inner.0
 
 -- what a line adds, in a list of lines
 kept : {X : Type 0} (f : Option Line → Option X) (rounds : ℕ) (body : List Line) → f (Some (line.End rounds)) ≡ None → filter_map f (ended body rounds) ≡ filter_map f (read body)
@@ -90,8 +88,7 @@ good_second net b expected whole before rounds (line.Flow src dst demanded alloc
     (ls.0, good_second net b expected whole (Some (line.Flow src dst demanded allocated pending) ∷ before) rounds body inner.1 ps ss ls.1 last)
 good_second net b expected whole before rounds (line.Count src dst demanded acknowledged flight pending lost sent missed ∷ body) inner ps ss ls last =
     (ls.0, good_second net b expected whole (Some (line.Count src dst demanded acknowledged flight pending lost sent missed) ∷ before) rounds body inner.1 ps ss ls.1 last)
-good_second net b expected whole before rounds (line.End n ∷ body) inner ps ss ls last = absurd inner.0
-good_second net b expected whole before rounds (line.Made number flows demanded acknowledged flight pending lost sent missed ∷ body) inner ps ss ls last = absurd inner.0
+good_second net b expected whole before rounds (l ∷ body) inner ps ss ls last = absurd inner.0
 
 -- ---- all of it
 

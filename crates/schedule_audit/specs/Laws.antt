@@ -18,9 +18,13 @@ ended body rounds = read body ++ Some (line.End rounds) ∷ []
 
 -- a line of a run before its `end` line
 abbrev pub IsInner : Line → Type 0
-IsInner (line.End rounds) = ⊥
-IsInner (line.Made number flows demanded acknowledged flight pending lost sent missed) = ⊥
-IsInner _ = Unit {0}
+IsInner (line.Batch batch src dst clear add) = Unit {0}
+IsInner (line.Slot slot src dst core) = Unit {0}
+IsInner (line.Sent slot src dst) = Unit {0}
+IsInner (line.Refused round number) = Unit {0}
+IsInner (line.Flow src dst demanded allocated pending) = Unit {0}
+IsInner (line.Count src dst demanded acknowledged flight pending lost sent missed) = Unit {0}
+IsInner _ = ⊥
 
 abbrev pub AreInner : List Line → Type 0
 AreInner [] = Unit {0}

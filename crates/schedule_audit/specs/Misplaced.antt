@@ -49,8 +49,13 @@ is_bad_end all rounds = nat_lt rounds 1 || (nat_lt 100000 rounds || reaches roun
 abbrev pub is_misplaced_line : ℕ → List (Option Line) → List (Option Line) → Line → Bool
 is_misplaced_line endpoints whole before (line.Batch batch src dst clear add) = is_bad_record endpoints (records before) (record { batch = batch; flow = flow_of src dst; clear = clear; add = add })
 is_misplaced_line endpoints whole before (line.End rounds) = is_bad_end (records whole) rounds
-is_misplaced_line endpoints whole before (line.Made number flows demanded acknowledged flight pending lost sent missed) = true
-is_misplaced_line endpoints whole before _ = false
+is_misplaced_line endpoints whole before (line.Slot slot src dst core) = false
+is_misplaced_line endpoints whole before (line.Sent slot src dst) = false
+is_misplaced_line endpoints whole before (line.Refused round number) = false
+is_misplaced_line endpoints whole before (line.Flow src dst demanded allocated pending) = false
+is_misplaced_line endpoints whole before (line.Count src dst demanded acknowledged flight pending lost sent missed) = false
+-- no other line is of a plan or a replay
+is_misplaced_line endpoints whole before _ = true
 
 abbrev pub is_any : List ℕ → Bool
 is_any [] = false

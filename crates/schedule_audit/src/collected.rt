@@ -119,8 +119,7 @@ impl Collected {
                     said: Total::End,
                 })?;
             }
-            Some(Line::Refused { .. }) => {}
-            Some(Line::Made { .. }) => {}
+            Some(_) => {}
             None => {}
         }
         Ok(())

@@ -82,12 +82,12 @@ fn misplaces(standing: &mut Standing, text: &[u8], line: Option<Line>) -> bool
             })
         }
         Some(Line::End { rounds }) => is_bad_end(text, rounds),
-        Some(Line::Made { .. }) => true,
         Some(Line::Slot { .. }) => false,
         Some(Line::Sent { .. }) => false,
         Some(Line::Refused { .. }) => false,
         Some(Line::Flow { .. }) => false,
         Some(Line::Count { .. }) => false,
+        Some(_) => true,
         None => true,
     }
 }

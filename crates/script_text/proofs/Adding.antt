@@ -17,7 +17,7 @@ cons_option-append : (o : Option Event) (xs ys : List Event) → cons_option o (
 cons_option-append None xs ys = refl
 cons_option-append (Some e) xs ys = refl
 
-events-append : (xs ys : List Row) → events_of (xs ++ ys) ≡ events_of xs ++ events_of ys
+pub events-append : (xs ys : List Row) → events_of (xs ++ ys) ≡ events_of xs ++ events_of ys
 events-append [] ys = refl
 events-append (x ∷ xs) ys = ap (cons_option (event_of x)) (events-append xs ys) ∙ cons_option-append (event_of x) (events_of xs) (events_of ys)
 
@@ -37,7 +37,7 @@ no_pair (row.Hear src batch) other = refl
 no_pair (row.Crash node) other = refl
 no_pair row.End other = refl
 
-pair-same : (before : List Row) (this : Row) → is_pair this ≡ false → pair_of (before ++ this ∷ []) ≡ pair_of before
+pub pair-same : (before : List Row) (this : Row) → is_pair this ≡ false → pair_of (before ++ this ∷ []) ≡ pair_of before
 pair-same [] this other = no_pair this other
 pair-same (x ∷ before) this other = refl
 

@@ -1,2 +1,4 @@
 pub mod Adding
 pub mod Telling
+pub mod Allowing
+pub mod Happening

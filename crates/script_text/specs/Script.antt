@@ -1,5 +1,8 @@
 -- A text as a script: its rows, or the first faulty one. This project's own profile.
-use Rattle.std.specs.Prelude.{◌≡◌, ⊤, ℕ, ◌+◌, List, [], ◌∷◌, ◌++◌, length, Bool, true, false, Result, Ok, Err}
+use Rattle.std.specs.Prelude.{◌≡◌, ◌≤◌, ⊤, ℕ, ◌+◌, List, [], ◌∷◌, ◌++◌, length, take, reverse, slice_get, Some, Bool, true, false, Result, Ok, Err}
+use Rattle.takeover_history.specs.declared.event.Event.{Event}
+use Rattle.takeover_core.specs.Outcomes.{MayFollow}
+use Rattle.takeover_core.specs.Standing.{IsSetting}
 use Rattle.trace_text.specs.Fields.{Record}
 use Rattle.trace_text.specs.Trace.{records_of, FaultyRow}
 use Rattle.trace_text.specs.declared.fault.Fault.{Fault}
@@ -38,3 +41,9 @@ script_of text = rows_after (records_of text) []
 abbrev pub IsFaultOf : Result ScriptContent FaultyRow → TraceRefused → Type 0
 IsFaultOf script (refused.Row row fault) = script ≡ Err (record { row = row; fault = fault })
 IsFaultOf script refused.Memory = ⊤
+
+-- a script may happen: its pair is in range, and each event may follow those before it
+pub record IsScript (script : ScriptContent) : Type 0 where
+  pub pair : IsSetting script.pair
+  pub few : length script.events ≤ 10000
+  pub may : (at : ℕ) (event : Event) → slice_get script.events at ≡ Some event → MayFollow script.pair (reverse (take at script.events)) event

@@ -1,19 +1,22 @@
 ghost use Rattle.std.specs.Prelude.{◌≡◌, Ok, IfOk, IfErr};
-ghost use Rattle.script_text.specs.Script.{script_of, IsFaultOf};
+ghost use Rattle.script_text.specs.Script.{script_of, IsFaultOf, IsScript};
 ghost use Rattle.script_text.specs.Standing.{Stands, Finishes};
 
 use crate::Script;
 use crate::rows::Rows;
 use csv::ByteRecord;
 use std::alloc::Global;
+use takeover_history::asks_are_counted;
 use trace_text::{CsvRecords, Fault, TraceRefused, without_mark};
 
 /// The script that a text is, or its first faulty row and that row's fault. The rows and the faults in their order are this project's
 /// own profile.
 pub fn read_script(alloc: Global, bytes: &[u8]) -> Result<Script, TraceRefused>
     ensures accepted { IfOk result (λ script. script_of bytes.now ≡ Ok script) }
+    ensures happens { IfOk result IsScript }
     ensures refused { IfErr result (IsFaultOf (script_of bytes.now)) }
 {
+    asks_are_counted();
     let mut records = CsvRecords::open(alloc, without_mark(bytes))?;
     let mut fields = ByteRecord::new(alloc);
     let mut rows = Rows::open(alloc)?;

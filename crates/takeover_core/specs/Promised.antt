@@ -1,17 +1,18 @@
 -- What is promised of every list of events: no batch twice, slots that are matchings, sends that were asked for, and generations that
 -- are scheduled. From this project's own profile.
-use Rattle.std.specs.Prelude.{◌≡◌, ◌≢◌, ◌<◌, ◌≤◌, ℕ, ◌+◌, true, [], Contains, All, AllPairs}
+use Rattle.std.specs.Prelude.{◌≡◌, ◌≢◌, ◌<◌, ◌≤◌, ℕ, ◌+◌, true, List, [], Contains, All, AllPairs}
 use Rattle.greedy_rules.specs.declared.flows.Flow.{Flow}
 use Rattle.greedy_rules.specs.Batches.{DemandBatch}
 use Rattle.greedy_rules.specs.Slot.{has_flow}
 use Rattle.greedy_rules.specs.Matching.{IsMatching}
 use Rattle.greedy_rules.specs.Schedule.{first_slot, slot_in}
 use Rattle.takeover_history.specs.declared.event.Event.TheVariants.{Hear}
+use Rattle.takeover_history.specs.declared.event.Event.{Event}
 use Rattle.takeover_history.specs.Events.{Setting, Issue, Heard, Log}
 use Rattle.takeover_history.specs.Endpoints.{generation_of, issues, Send, sends_at, sent, sends, asked}
 use Rattle.takeover_history.specs.Batches.{batches_of, slots_by}
 use Rattle.takeover_history.specs.Laws.{sent_in, IsPublished, slots_in}
-use Rattle.takeover_history.specs.Steps.{done}
+use Rattle.takeover_history.specs.Steps.{done, log_of}
 
 pub record IsPromised (setting : Setting) (log : Log) : Type 0 where
   -- no batch is published twice, by either node
@@ -31,3 +32,7 @@ pub record IsPromised (setting : Setting) (log : Log) : Type 0 where
   pub scheduled : (generation : ℕ) → slots_in generation log ≡ slots_by setting.b [] (batches_of generation log)
   pub rise : (generation : ℕ) → AllPairs (λ (x y : ℕ × DemandBatch). x.0 < y.0) (batches_of generation log)
   pub one_node : AllPairs (λ (i j : Issue). i.lease.generation ≡ j.lease.generation → i.lease.holder ≡ j.lease.holder) (issues log)
+
+-- so it is for every list of events
+abbrev pub EveryListIsPromised : Type 0
+EveryListIsPromised = (setting : Setting) (events : List Event) → IsPromised setting (log_of setting events)

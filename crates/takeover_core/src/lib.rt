@@ -5,11 +5,13 @@ mod endpoints;
 mod entries;
 mod flow_table;
 mod keeper;
+mod laws;
 mod node;
 mod outcome;
 mod pair;
 mod published;
 
+pub use laws::what_is_promised;
 pub use no_memory::NoMemory;
 pub use outcome::Outcome;
 pub use pair::Pair;

@@ -10,6 +10,7 @@ ghost use Rattle.takeover_core.specs.Standing.{IsSetting, StandsFor, last_batch}
 
 use crate::endpoints::{Endpoints, tell};
 use crate::keeper::Keeper;
+use crate::laws::what_is_promised;
 use crate::node::Node;
 use crate::outcome::Outcome;
 use crate::published::{Issued, Published};
@@ -17,10 +18,7 @@ use endpoint_agent::Sent;
 use greedy_rules::{Batch, Flow, Limits, SlotTable};
 use no_memory::NoMemory;
 use std::alloc::Global;
-use takeover_history::{
-    Event, Holder, Refusal, a_generation_begins_anew, each_generation_is_scheduled,
-    no_batch_is_published_twice, running_counts_serve, sends_are_asked, slots_are_matchings,
-};
+use takeover_history::{Event, Holder, Refusal, a_generation_begins_anew, running_counts_serve};
 
 /// Two arbiters, 0 and 1, that publish batches under leases, the keeper of the leases, and the endpoints that hear the batches.
 /// What clauses say of a pair holds for every list of events, the latest first, for which it stands.
@@ -81,10 +79,7 @@ impl Pair {
         ensures stands { OnOk result (Stands self.old self.new event) }
         ensures promised { OnOk result (Promises self.old event) }
     {
-        no_batch_is_published_twice();
-        slots_are_matchings();
-        sends_are_asked();
-        each_generation_is_scheduled();
+        what_is_promised();
         self.happen(event)
     }
 

@@ -1,4 +1,3 @@
-pub mod Examples
 pub mod Rows
 pub mod Follow
 pub mod Counts
@@ -11,3 +10,4 @@ pub mod Generations
 pub mod Anew
 pub mod Pairs
 pub mod Fits
+pub mod Asking

@@ -2,19 +2,33 @@
 use Rattle.std.specs.Prelude.{◌≡◌, ◌≢◌, ◌<◌, ◌≤◌, ℕ, ◌+◌, Bool, true, ◌==◌, List, [], ◌∷◌, ◌++◌, map, filter, Contains, All, AllPairs, Option, Some, None, if◌then◌else◌}
 use Rattle.greedy_rules.specs.declared.flows.Flow.{Flow}
 use Rattle.greedy_rules.specs.declared.flows.Item.{Item}
+use Rattle.greedy_rules.specs.Flows.{same_flow}
 use Rattle.greedy_rules.specs.Batches.{DemandBatch}
 use Rattle.greedy_rules.specs.Slot.{has_flow}
 use Rattle.greedy_rules.specs.Matching.{IsMatching}
 use Rattle.greedy_rules.specs.Schedule.{first_slot, slot_in, schedule_from, rest_from}
-use Rattle.takeover_history.specs.Events.{Setting, Event, Take, Hear, Took, Published, Heard, Lease, Issue, Log}
+use Rattle.takeover_history.specs.Events.{Setting, Event, Ask, Take, Publish, Hear, Took, Published, Heard, Lease, Issue, Log}
 use Rattle.takeover_history.specs.Endpoints.{generation_of, issues, issue_at, Send, sends_at, sent, sends, asked, recorded}
 use Rattle.takeover_history.specs.Leases.{lease_of}
-use Rattle.takeover_history.specs.Batches.{batches_of, slots_by, list_by, published}
+use Rattle.takeover_history.specs.Batches.{flow_of, batches_of, slots_by, list_by, published}
 use Rattle.takeover_history.specs.Steps.{done, log_of}
 
 -- no batch is published twice, by either node
 abbrev pub NoBatchIsPublishedTwice : Type 0
 NoBatchIsPublishedTwice = (setting : Setting) (events : List Event) → AllPairs (λ (i j : Issue). i.number ≢ j.number) (issues (log_of setting events))
+
+-- a node publishes under its own lease
+abbrev pub EachBatchIsItsNodes : Type 0
+EachBatchIsItsNodes = (setting : Setting) (log : Log) (node : ℕ) (issue : Issue) → done setting log (Publish node) ≡ Published issue → issue.lease.holder.node ≡ node
+
+-- what an event asks for of a flow
+abbrev pub asked_in : Event → Flow → ℕ
+asked_in (Ask src dst slots) flow = if same_flow (flow_of src dst) flow then slots else 0
+asked_in event flow = 0
+
+-- it comes to what was asked for before
+abbrev pub AsksAreCounted : Type 0
+AsksAreCounted = (setting : Setting) (log : Log) (event : Event) (flow : Flow) → asked (done setting log event ∷ log) flow ≡ asked_in event flow + asked log flow
 
 -- no more is sent than was asked for
 abbrev pub SendsAreAsked : Type 0

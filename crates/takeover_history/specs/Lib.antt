@@ -3,7 +3,5 @@ pub mod Leases
 pub mod Endpoints
 pub mod Batches
 pub mod Steps
-pub mod Lines
 pub mod Laws
 pub mod Fits
-pub mod Examples

@@ -1,19 +1,22 @@
 //! What holds of every list of events that come to two arbiters.
-ghost use Rattle.takeover_history.specs.Examples.{ANodeTakesOver, AGrantOfAnEarlierBootIsRefused};
-ghost use Rattle.takeover_history.specs.Laws.{NoBatchIsPublishedTwice, SendsAreAsked, SlotsAreMatchings, EachSendIsPublished, NoEndpointSendsTwiceInASlot, NoSlotIsPassedOver, ALaterGenerationHasNoSlots, EachGenerationIsScheduled, NumbersRise, EachGenerationIsOneNodes, NumbersInARowAreASchedule, AGenerationBeginsAnew};
+ghost use Rattle.takeover_history.specs.Laws.{NoBatchIsPublishedTwice, EachBatchIsItsNodes, AsksAreCounted, SendsAreAsked, SlotsAreMatchings, EachSendIsPublished, NoEndpointSendsTwiceInASlot, NoSlotIsPassedOver, ALaterGenerationHasNoSlots, EachGenerationIsScheduled, NumbersRise, EachGenerationIsOneNodes, NumbersInARowAreASchedule, AGenerationBeginsAnew};
 ghost use Rattle.takeover_history.specs.Fits.{EveryNextBatchMayBeApplied, NodesHaveOwnGenerations, EveryLogHasFew};
 
 use greedy_rules::every_batch_balances;
 
-/// Worked takeovers, which the definitions compute.
-pub fn small_takeovers()
-    ensures takes_over { ANodeTakesOver }
-    ensures earlier_boot { AGrantOfAnEarlierBootIsRefused }
-{}
-
 /// No batch is published twice, by either node.
 pub fn no_batch_is_published_twice()
     ensures { NoBatchIsPublishedTwice }
+{}
+
+/// A node publishes under its own lease.
+pub fn each_batch_is_its_nodes()
+    ensures { EachBatchIsItsNodes }
+{}
+
+/// What an event asks for comes to what was asked for before.
+pub fn asks_are_counted()
+    ensures { AsksAreCounted }
 {}
 
 /// All sends in a slot, by whichever endpoints and from whichever node's batches, are a matching; each stands in the published batch of

@@ -8,7 +8,8 @@ mod lease;
 
 pub use event::{Event, Refusal};
 pub use laws::{
-    a_generation_begins_anew, each_generation_is_scheduled, no_batch_is_published_twice,
-    running_counts_serve, sends_are_asked, slots_are_matchings, small_takeovers,
+    a_generation_begins_anew, asks_are_counted, each_batch_is_its_nodes,
+    each_generation_is_scheduled, no_batch_is_published_twice, running_counts_serve,
+    sends_are_asked, slots_are_matchings,
 };
 pub use lease::{Holder, Lease};

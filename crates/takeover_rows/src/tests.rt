@@ -8,6 +8,7 @@ use std::alloc::Global;
 use std::process::Abort;
 use std::test::Fail;
 use takeover_core::{Event, NoMemory, Outcome, Pair, Refusal};
+use takeover_history::asks_are_counted;
 
 mod scripts;
 
@@ -36,6 +37,7 @@ impl Caller {
         requires { HasTaken self.old.pair self.old.endpoints self.old.count self.old.asks }
         ensures { OnOk result (HasTaken self.new.pair self.new.endpoints self.new.count self.new.asks) }
     {
+        asks_are_counted();
         let slots = asked(event);
         let may = self.may_take(event);
         assert!(rt; may);

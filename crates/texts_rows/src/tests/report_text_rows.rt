@@ -180,6 +180,73 @@ const LINES: [(Line, &str); 19] = [
     ),
 ];
 
+// Lines that are written and never read.
+const WRITTEN: [(Line, &str); 11] = [
+    (
+        Line::Answer {
+            endpoint: 0,
+            place: 0,
+            number: 0,
+        },
+        "answer,0,0,ok",
+    ),
+    (
+        Line::Answer {
+            endpoint: u16::MAX,
+            place: u32::MAX,
+            number: 26,
+        },
+        "answer,65535,4294967295,otherversion",
+    ),
+    (
+        Line::Answer {
+            endpoint: 1,
+            place: 2,
+            number: 1,
+        },
+        "answer,1,2,short",
+    ),
+    (
+        Line::Answer {
+            endpoint: 1,
+            place: 3,
+            number: 25,
+        },
+        "answer,1,3,notmine",
+    ),
+    (
+        Line::Granted {
+            message: 3,
+            node: 1,
+            generation: 2,
+            first: 4,
+        },
+        "granted,3,1,2,4",
+    ),
+    (
+        Line::Granted {
+            message: u32::MAX,
+            node: u16::MAX,
+            generation: u32::MAX,
+            first: u32::MAX,
+        },
+        "granted,4294967295,65535,4294967295,4294967295",
+    ),
+    (Line::Published { node: 1, batch: 2 }, "published,1,2"),
+    (Line::Declined { row: 14, place: 0 }, "refused,14,nomessage"),
+    (Line::Declined { row: 14, place: 4 }, "refused,14,stale"),
+    (Line::Declined { row: 8, place: 5 }, "refused,8,unpublished"),
+    (
+        Line::Total {
+            src: 0,
+            dst: 1,
+            asked: 3,
+            sent: 2,
+        },
+        "total,0,1,3,2",
+    ),
+];
+
 const NEARLY_LINES: [&str; 37] = [
     "",
     ",",
@@ -230,6 +297,31 @@ fn lines_both_ways(rt: HostRuntime) {
         assert_eq!(rt; buf.get(text.len()), Some(&b'\n'));
         assert_eq!(rt; read_line(text.as_bytes()), Some(line));
     }
+}
+
+#[test]
+fn lines_that_are_only_written(rt: HostRuntime) {
+    for (line, text) in WRITTEN {
+        let mut buf = [7; 192];
+        let length = write_line(&line, &mut buf);
+        assert_eq!(rt; length, text.len() + 1);
+        assert!(rt; buf.starts_with(text.as_bytes()));
+        assert_eq!(rt; buf.get(text.len()), Some(&b'\n'));
+        assert_eq!(rt; read_line(text.as_bytes()), None);
+    }
+    // An event's refusal that has a packet's name is read as that.
+    let mut buf = [7; 192];
+    let length = write_line(&Line::Declined { row: 2, place: 6 }, &mut buf);
+    assert!(rt; buf.starts_with(b"refused,2,repeat\n"));
+    assert_eq!(rt; length, 17);
+    let read = read_line(b"refused,2,repeat");
+    assert_eq!(rt;
+        read,
+        Some(Line::Refused {
+            round: 2,
+            number: 24
+        })
+    );
 }
 
 #[test]

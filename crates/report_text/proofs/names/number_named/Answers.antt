@@ -1,6 +1,6 @@
 use Rattle.std.proofs.Common.{◌≡◌, ℕ, subst, sym, ap, ◌∙◌, Some, inl, inr, arith}
 use Rattle.std.proofs.lemmas.Bool.{cases_lt}
-use Rattle.report_text.specs.Names.{IsRefusal, refusal_name as name_of}
+use Rattle.report_text.specs.Names.{IsRefusal, answer_name as name_of}
 use Rattle.report_text.proofs.RefusalNames.{one_name, refusal_below}
 use Rattle.report_text.proofs.names.number_named.Goals as goal
 

@@ -1,6 +1,6 @@
 use Rattle.std.proofs.Common.{◌≢◌, ◌<◌, ℕ}
 use Rattle.report_text.specs.Names.{IsRefusal}
-use Rattle.report_text.specs.Names.{refusal_name as name_of}
+use Rattle.report_text.specs.Names.{answer_name as name_of}
 use Rattle.report_text.proofs.names.number_named.Given as goal
 
 abbrev pub invariant-loop-number : goal.invariant-loop-number

@@ -4,7 +4,7 @@ use Rattle.clos_topology.specs.Network.{endpoints_of}
 use Rattle.report_text.specs.declared.line.Line.{Line}
 use Rattle.window_engine.specs.Replay.{run_of}
 use Rattle.run_lines.specs.Text.{text_of, count_lines, each_source}
-use Rattle.run_lines.proofs.OutputLemmas.{Passes-after, Passes-broken, Passes-same}
+use Rattle.text_output.proofs.OutputLemmas.{Passes-after, Passes-broken, Passes-same}
 use Rattle.run_lines.proofs.FlowLemmas.{source_more, sources_whole}
 use Rattle.run_lines.proofs.counts.put_counts.Goals as goal
 

@@ -2,7 +2,7 @@ use Rattle.clos_topology.specs.Network.{endpoints_of}
 use Rattle.replay_rounds.specs.Setting.{Cores}
 use Rattle.window_engine.specs.Replay.{StandsForReplay, run_of}
 use Rattle.run_lines.specs.Text.{text_of, count_lines, each_source}
-use Rattle.run_lines.specs.Output.{Passed}
+use Rattle.text_output.specs.Output.{Passed}
 use Rattle.run_lines.proofs.counts.put_counts.Given as goal
 
 abbrev pub invariant-loop-src : goal.invariant-loop-src

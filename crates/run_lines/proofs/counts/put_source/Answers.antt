@@ -5,7 +5,7 @@ use Rattle.report_text.specs.declared.line.Line.{Line}
 use Rattle.window_engine.specs.declared.counts.Counts.{Counts}
 use Rattle.window_engine.specs.Replay.{run_of, replay_counts}
 use Rattle.run_lines.specs.Text.{text_of, count_lines_of, count_lines, each_destination}
-use Rattle.run_lines.proofs.OutputLemmas.{Passes-after, Passes-broken, Passes-same}
+use Rattle.text_output.proofs.OutputLemmas.{Passes-after, Passes-broken, Passes-same}
 use Rattle.run_lines.proofs.FlowLemmas.{flow_of, destination_more, destinations_whole}
 use Rattle.run_lines.proofs.counts.put_source.Goals as goal
 

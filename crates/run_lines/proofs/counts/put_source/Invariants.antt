@@ -1,7 +1,7 @@
 use Rattle.replay_rounds.specs.Setting.{Cores}
 use Rattle.window_engine.specs.Replay.{StandsForReplay, run_of}
 use Rattle.run_lines.specs.Text.{text_of, count_lines, each_destination}
-use Rattle.run_lines.specs.Output.{Passed}
+use Rattle.text_output.specs.Output.{Passed}
 use Rattle.run_lines.proofs.counts.put_source.Given as goal
 
 abbrev pub invariant-loop-dst : goal.invariant-loop-dst

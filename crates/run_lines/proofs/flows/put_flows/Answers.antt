@@ -3,7 +3,7 @@ use Rattle.greedy_rules.specs.declared.flows.Flow.{Flow}
 use Rattle.clos_topology.specs.Network.{endpoints_of}
 use Rattle.report_text.specs.declared.line.Line.{Line}
 use Rattle.run_lines.specs.Text.{flow_lines}
-use Rattle.run_lines.proofs.OutputLemmas.{Passes-after, Passes-broken}
+use Rattle.text_output.proofs.OutputLemmas.{Passes-after, Passes-broken}
 use Rattle.run_lines.proofs.FlowLemmas.{source_more, sources_whole}
 use Rattle.run_lines.proofs.flows.put_flows.Goals as goal
 

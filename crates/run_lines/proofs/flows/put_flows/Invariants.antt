@@ -1,6 +1,6 @@
 use Rattle.clos_topology.specs.Network.{endpoints_of}
 use Rattle.run_lines.specs.Text.{text_of, flow_lines, each_source}
-use Rattle.run_lines.specs.Output.{Passed}
+use Rattle.text_output.specs.Output.{Passed}
 use Rattle.run_lines.proofs.flows.put_flows.Given as goal
 
 abbrev pub invariant-loop-src : goal.invariant-loop-src

@@ -6,7 +6,7 @@ use Rattle.window_engine.specs.declared.counts.Counts.{Counts}
 use Rattle.window_engine.specs.Batches.{plan_batches}
 use Rattle.window_engine.specs.Counts.{counts_of}
 use Rattle.run_lines.specs.Text.{text_of, flow_lines_of, flow_lines, each_destination}
-use Rattle.run_lines.proofs.OutputLemmas.{Passes-after, Passes-broken}
+use Rattle.text_output.proofs.OutputLemmas.{Passes-after, Passes-broken}
 use Rattle.run_lines.proofs.FlowLemmas.{flow_of, destination_more, destinations_whole}
 use Rattle.run_lines.proofs.flows.put_source.Goals as goal
 

@@ -1,5 +1,5 @@
 use Rattle.run_lines.specs.Text.{text_of, flow_lines, each_destination}
-use Rattle.run_lines.specs.Output.{Passed}
+use Rattle.text_output.specs.Output.{Passed}
 use Rattle.run_lines.proofs.flows.put_source.Given as goal
 
 abbrev pub invariant-loop-dst : goal.invariant-loop-dst

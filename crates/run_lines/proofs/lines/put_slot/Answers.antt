@@ -4,7 +4,7 @@ use Rattle.greedy_rules.specs.SlotTable.{flows_from}
 use Rattle.edge_colouring.specs.Cores.{core_in}
 use Rattle.path_workers.specs.CoreTable.{core_of}
 use Rattle.run_lines.specs.Text.{text_of, slot_line}
-use Rattle.run_lines.proofs.OutputLemmas.{Passes-same}
+use Rattle.text_output.proofs.OutputLemmas.{Passes-same}
 use Rattle.run_lines.proofs.lines.put_slot.Goals as goal
 
 pub returns : goal.returns

@@ -7,8 +7,8 @@ use Rattle.path_workers.specs.CoreTable.{core_of}
 use Rattle.replay_rounds.specs.Setting.{Cores}
 use Rattle.window_engine.specs.Scheduled.{cores_from}
 use Rattle.run_lines.specs.Text.{text_of, slots_lines}
-use Rattle.run_lines.proofs.OutputLemmas.{Passes-after, Passes-broken}
-use Rattle.run_lines.proofs.TextLemmas.{slots_step, slots_whole}
+use Rattle.text_output.proofs.OutputLemmas.{Passes-after, Passes-broken}
+use Rattle.text_output.proofs.SlotTexts.{slots_step, slots_whole}
 use Rattle.run_lines.proofs.lines.put_slots.Goals as goal
 
 pub overflow_add-place-end : goal.overflow_add-place-end

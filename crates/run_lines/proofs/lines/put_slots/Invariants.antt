@@ -1,7 +1,7 @@
 use Rattle.std.proofs.Common.{◌+◌, ◌-◌, take, drop}
 use Rattle.window_engine.specs.Scheduled.{cores_from}
 use Rattle.run_lines.specs.Text.{text_of, slots_lines}
-use Rattle.run_lines.specs.Output.{Passed}
+use Rattle.text_output.specs.Output.{Passed}
 use Rattle.run_lines.proofs.lines.put_slots.Given as goal
 
 abbrev pub invariant-loop-place : goal.invariant-loop-place

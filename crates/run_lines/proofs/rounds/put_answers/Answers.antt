@@ -1,7 +1,7 @@
 use Rattle.std.proofs.Common.{arith}
 use Rattle.run_lines.specs.Text.{refused_line}
-use Rattle.run_lines.proofs.OutputLemmas.{Passes-after, Passes-broken}
-use Rattle.run_lines.proofs.ItemTexts.{items_more, items_whole}
+use Rattle.text_output.proofs.OutputLemmas.{Passes-after, Passes-broken}
+use Rattle.text_output.proofs.ItemTexts.{items_more, items_whole}
 use Rattle.run_lines.proofs.rounds.put_answers.Goals as goal
 
 pub loop-at-preserved : goal.loop-at-preserved

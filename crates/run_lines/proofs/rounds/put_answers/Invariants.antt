@@ -1,7 +1,7 @@
 use Rattle.std.proofs.Common.{take}
 use Rattle.std.specs.List.{flat_map}
 use Rattle.run_lines.specs.Text.{text_of, refused_line}
-use Rattle.run_lines.specs.Output.{Passed}
+use Rattle.text_output.specs.Output.{Passed}
 use Rattle.run_lines.proofs.rounds.put_answers.Given as goal
 
 abbrev pub invariant-loop-at : goal.invariant-loop-at

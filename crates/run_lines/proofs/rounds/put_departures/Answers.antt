@@ -1,8 +1,8 @@
 use Rattle.std.proofs.Common.{◌<◌, ◌++◌, ◌+◌, List, ℕ, length, map, drop, ap, ◌∙◌, arith}
 use Rattle.std.proofs.lemmas.Option.{slice_get-get_or}
 use Rattle.run_lines.specs.Text.{text_of, sent_line}
-use Rattle.run_lines.proofs.OutputLemmas.{Passes-after, Passes-broken}
-use Rattle.run_lines.proofs.TextLemmas.{text_more, text_rest}
+use Rattle.text_output.proofs.OutputLemmas.{Passes-after, Passes-broken}
+use Rattle.text_output.proofs.TextLemmas.{text_more, text_rest}
 use Rattle.run_lines.proofs.rounds.put_departures.Goals as goal
 
 pub loop-at-preserved : goal.loop-at-preserved

@@ -1,6 +1,6 @@
 use Rattle.std.proofs.Common.{map, take}
 use Rattle.run_lines.specs.Text.{text_of, sent_line}
-use Rattle.run_lines.specs.Output.{Passed}
+use Rattle.text_output.specs.Output.{Passed}
 use Rattle.run_lines.proofs.rounds.put_departures.Given as goal
 
 abbrev pub invariant-loop-at : goal.invariant-loop-at

@@ -5,7 +5,7 @@ use Rattle.std.proofs.lemmas.Option.{slice_get-get_or}
 use Rattle.greedy_rules.specs.Batches.{DemandBatch}
 use Rattle.replay_rounds.specs.declared.played.Departure.{Departure}
 use Rattle.run_lines.specs.Text.{text_of, no_batch, refused_line, sent_line}
-use Rattle.run_lines.proofs.OutputLemmas.{Passes-after, Passes-stopped}
+use Rattle.text_output.proofs.OutputLemmas.{Passes-after, Passes-stopped}
 use Rattle.run_lines.proofs.RoundTexts.{round_text}
 use Rattle.run_lines.proofs.rounds.put_round.Goals as goal
 

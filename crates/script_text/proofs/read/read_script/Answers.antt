@@ -1,8 +1,12 @@
-use Rattle.std.proofs.Common.{◌∷◌, [], ◌++◌, List, ap, ◌∙◌, sym}
+use Rattle.std.proofs.Common.{◌≡◌, ℕ, ◌∷◌, [], ◌++◌, List, ap, ◌∙◌, sym}
 use Rattle.std.proofs.lemmas.Result.{err_from_is_err_and}
 use Rattle.csv.specs.Records.{fields_of}
 use Rattle.trace_text.specs.Fields.{Record}
-use Rattle.script_text.specs.Script.{rows_after}
+use Rattle.std.specs.Prelude.{Result, Ok, Err, IfOk}
+use Rattle.trace_text.specs.declared.fault.TraceRefused.{TraceRefused}
+use Rattle.script_text.specs.Content.{ScriptContent}
+use Rattle.script_text.specs.Script.{rows_after, script_of, IsScript}
+use Rattle.script_text.proofs.Happening.{every_script_happens}
 use Rattle.script_text.proofs.Telling.{rows_after-none, rows_after-ok, told, finished}
 use Rattle.script_text.proofs.read.read_script.Goals as goal
 
@@ -40,3 +44,10 @@ returns-clause-refused c =
     let none = rw c.if-branch.false at c.in_ok-read.ensures in
     let all = c.loop-rows.invariant.2 ∙ (ap (λ (l : List Record). rows_after l before) (sym c.deref_mut.ensures.value ∙ none) ∙ rows_after-none before) in
     (finished c.args.bytes.now before c.loop-rows.rows c.finish.result all c.loop-rows.invariant.1 c.finish.ensures).1
+
+pub returns-clause-happens : goal.returns-clause-happens
+returns-clause-happens c = happens c.finish.result (returns-clause-accepted c)
+  where
+    happens : (answer : Result ScriptContent TraceRefused) → IfOk answer (λ script. script_of c.args.bytes.now ≡ Ok script) → IfOk answer IsScript
+    happens (Ok script) is = every_script_happens c.args.bytes.now script c.asks_are_counted.ensures is
+    happens (Err why) is = tt

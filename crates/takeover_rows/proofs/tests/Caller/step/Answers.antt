@@ -31,5 +31,5 @@ returns g c =
       stands = stands h.setting h.events h.stands (may h.setting h.events c.args.event c.args.self.now.endpoints c.args.self.now.count c.args.self.now.asks h.same h.counted h.most (c.may_take-may.ensures c.if-assert.false));
       same = h.same;
       counted = omega (arith, h.counted);
-      most = λ flow. omega (arith, asked_more h.setting (log_of h.setting h.events) flow c.args.event, h.most flow, c.asked-slots.ensures);
+      most = λ flow. omega (arith, asked_more h.setting (log_of h.setting h.events) flow c.args.event c.asks_are_counted.ensures, h.most flow, c.asked-slots.ensures);
     })

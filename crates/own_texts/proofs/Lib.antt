@@ -1,0 +1,16 @@
+pub mod Shows
+pub mod Formed
+pub mod Pass
+pub mod PathLemmas
+pub mod PlanAsks
+pub mod EachFlow
+pub mod PlanFigures
+pub mod PlanLines
+pub mod CoreLemmas
+pub mod ReplayRounds
+pub mod ReplaySteps
+pub mod ReplaySends
+pub mod ReplayAsks
+pub mod ReplayCounts
+pub mod ReplayLines
+pub mod SameCores

@@ -1,0 +1,5 @@
+pub mod Passing
+pub mod Plans
+pub mod Replays
+pub mod SameCores
+pub mod Premises

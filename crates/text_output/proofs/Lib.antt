@@ -1,0 +1,5 @@
+pub mod OutputLemmas
+pub mod TextLemmas
+pub mod ItemTexts
+pub mod SlotTexts
+pub mod RowTexts

@@ -1,0 +1,161 @@
+ghost use Rattle.std.specs.Prelude.{◌≡◌, [], OnOk, IfErr};
+ghost use Rattle.report_text.specs.Buffer.{HasRoom};
+ghost use Rattle.report_text.specs.Lines.{HasName};
+ghost use Rattle.text_output.specs.Content.{sink_content};
+ghost use Rattle.text_output.specs.Output.{Passes, Ends};
+ghost use Rattle.text_output.specs.Text.{line_text, entry_line};
+ghost use Rattle.text_output.specs.declared.output.Stop.TheVariants.{Memory, Write};
+
+use crate::transfer::write_all;
+use fp_edge::{Failed, Sink};
+use greedy_rules::Entry;
+use no_memory::NoMemory;
+use report_text::{Line, LineBuffer, Numeral};
+use std::alloc::AllocError;
+use std::marker::Model;
+
+/// Why a text ends early.
+#[derive(Clone, Copy, Debug, PartialEq, Eq)]
+pub enum Stop {
+    Write,
+    Memory,
+}
+
+impl From<AllocError> for Stop {
+    ghost from_gives = { λ _ e. e ≡ Memory };
+
+    fn from(_refused: AllocError) -> Self {
+        Stop::Memory
+    }
+}
+
+impl From<NoMemory> for Stop {
+    ghost from_gives = { λ _ e. e ≡ Memory };
+
+    fn from(_refused: NoMemory) -> Self {
+        Stop::Memory
+    }
+}
+
+/// Lines on their way to a sink: they are gathered, and all are given to it before there would be too many.
+#[derive(Drop)]
+pub struct Output<'a, K: Sink> {
+    sink: &'a mut K,
+    gathered: LineBuffer,
+}
+
+impl<'a, K: Sink> Model for Output<'a, K> {
+    ghost use Rattle.text_output.specs.Content.{OutputContent, sink_content};
+
+    ghost Value = { OutputContent };
+
+    ghost view = { λ o. record {
+      name = o.sink.ghost_name;
+      sink = sink_content K.Sink o.sink.now;
+      gathered = o.gathered;
+    } };
+}
+
+impl<'a, K: Sink> Output<'a, K> {
+    /// An output over this sink, with what is gathered for it.
+    pub fn new(sink: &'a mut K, gathered: LineBuffer) -> Output<'a, K>
+        ensures name { result.name ≡ sink.entry.ghost_name }
+        ensures told { result.sink ≡ sink_content K.Sink sink.old }
+        ensures gathered { result.gathered ≡ gathered }
+    {
+        Output { sink, gathered }
+    }
+
+    /// Its sink, as it was left.
+    pub fn into_sink(self) -> &'a mut K
+        ensures name { result.ghost_name ≡ self.entry.name }
+        ensures told { sink_content K.Sink result.now ≡ self.entry.sink }
+    {
+        self.sink
+    }
+
+    /// Gives what was gathered to the sink.
+    fn flush(&mut self) -> Result<(), Stop>
+        ensures passes { Passes self.old self.new [] result }
+        ensures empty { OnOk result (self.new.gathered ≡ []) }
+        ensures err { IfErr result (λ stop. stop ≡ Write) }
+    {
+        match write_all(self.sink, self.gathered.text()) {
+            Ok(()) => {
+                self.gathered.clear();
+                Ok(())
+            }
+            Err(Failed) => Err(Stop::Write),
+        }
+    }
+
+    /// Gives all to the sink where there may be no room for a line more.
+    fn make_room(&mut self) -> Result<(), Stop>
+        ensures passes { Passes self.old self.new [] result }
+        ensures room { OnOk result (HasRoom self.new.gathered) }
+        ensures err { IfErr result (λ stop. stop ≡ Write) }
+    {
+        if self.gathered.has_room() {
+            return Ok(());
+        }
+        self.flush()
+    }
+
+    /// Any line.
+    pub fn put_line(&mut self, line: &Line) -> Result<(), Stop>
+        requires { HasName line.now }
+        ensures { Passes self.old self.new (line_text line.now) result }
+    {
+        self.make_room()?;
+        self.gathered.put_line(line);
+        Ok(())
+    }
+
+    /// The last line: the sink is given all.
+    pub fn put_last_line(&mut self, line: &Line) -> Result<(), Stop>
+        requires { HasName line.now }
+        ensures { Ends self.old self.new (line_text line.now) result }
+    {
+        self.put_line(line)?;
+        self.flush()
+    }
+
+    /// What a round's batch records of a flow.
+    pub fn put_entry(&mut self, round: &Numeral, entry: Entry) -> Result<(), Stop>
+        ensures { Passes self.old self.new (line_text (entry_line round.now entry)) result }
+    {
+        self.make_room()?;
+        self.gathered.put_batch(
+            round,
+            entry.flow.src,
+            entry.flow.dst,
+            entry.clear,
+            entry.add,
+        );
+        Ok(())
+    }
+
+    /// A packet of the slot of this number, and the core that it takes where it leaves its rack.
+    pub fn put_slot(
+        &mut self,
+        number: &Numeral,
+        src: u16,
+        dst: u16,
+        core: Option<u16>,
+    ) -> Result<(), Stop>
+        ensures { Passes self.old self.new (line_text (Line.Slot number.now src dst core)) result }
+    {
+        self.make_room()?;
+        self.gathered.put_slot(number, src, dst, core);
+        Ok(())
+    }
+
+    /// A packet that its endpoint sent in the slot of this number.
+    pub fn put_sent(&mut self, number: &Numeral, src: u16, dst: u16) -> Result<(), Stop>
+        ensures { Passes self.old self.new (line_text (Line.Sent number.now src dst)) result }
+    {
+        self.make_room()?;
+        self.gathered.put_sent(number, src, dst);
+        Ok(())
+    }
+}

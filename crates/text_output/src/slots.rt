@@ -1,0 +1,54 @@
+// The lines of a slot.
+ghost use Rattle.std.specs.Prelude.{◌≡◌, ◌<◌, ◌^◌, length, map};
+ghost use Rattle.greedy_rules.specs.SlotTable.{flows_from};
+ghost use Rattle.edge_colouring.specs.Cores.{core_in};
+ghost use Rattle.text_output.specs.Output.{Passes};
+ghost use Rattle.text_output.specs.Text.{text_of, slot_line, flow_list};
+
+use crate::output::{Output, Stop};
+use fp_edge::Sink;
+use report_text::Numeral;
+
+/// The packet of a source in the slot of this number, if it sends one.
+fn put_source<K: Sink>(
+    output: &mut Output<'_, K>,
+    number: &Numeral,
+    src: u16,
+    to: Option<u16>,
+    cores: &[Option<u16>],
+) -> Result<(), Stop>
+    ensures { Passes output.old output.new
+        (text_of (map (slot_line number.now (core_in cores.now)) (flow_list src to))) result }
+{
+    match to {
+        Some(dst) => output.put_slot(number, src, dst, core_at(cores, src)),
+        None => Ok(()),
+    }
+}
+
+/// The core of a source in a row of cores, which names none past its end.
+fn core_at(cores: &[Option<u16>], src: u16) -> Option<u16>
+    ensures { result ≡ core_in cores.now src }
+{
+    match cores.get(src as usize) {
+        Some(core) => *core,
+        None => None,
+    }
+}
+
+/// The packets of a row, by source, in the slot of this number; each with its core, where there is a row of cores.
+pub fn put_row<K: Sink>(
+    output: &mut Output<'_, K>,
+    number: &Numeral,
+    row: &[Option<u16>],
+    cores: &[Option<u16>],
+) -> Result<(), Stop>
+    requires { length row.now < 2 ^ 16 }
+    ensures { Passes output.old output.new
+        (text_of (map (slot_line number.now (core_in cores.now)) (flows_from 0 row.now))) result }
+{
+    for at in 0..row.len() {
+        put_source(output, number, at as u16, row[at], cores)?;
+    }
+    Ok(())
+}
