@@ -6,7 +6,7 @@ use Rattle.std.proofs.lemmas.Bool.{and_parts, not-true, eqb-false}
 use Rattle.std.proofs.lemmas.List.Elements.{All-nil, All-cons, All-append}
 use Rattle.report_text.specs.declared.line.Line.{Line}
 use Rattle.report_text.specs.declared.line.Line.TheVariants as line
-use Rattle.report_text.specs.Names.{refusal_names, refusal_name}
+use Rattle.report_text.specs.Names.{answer_names, answer_name}
 use Rattle.report_text.specs.Lines.{fields, numbers, core_field, bit, line_bytes, IsLine}
 use Rattle.report_text.proofs.NumberText.{decimal_digits}
 use Rattle.schedule_audit.specs.Reading.{Reads}
@@ -68,9 +68,9 @@ free-names [] n all = All-nil (λ (byte : ℕ). byte ≢ 10)
 free-names (x ∷ names) zero all = free x (and_parts (is_free x) (list_all is_free names) all).0
 free-names (x ∷ names) (suc n) all = free-names names n (and_parts (is_free x) (list_all is_free names) all).1
 
-free-name : (n : ℕ) → NoFeed (refusal_name n)
-unfolding refusal_name
-free-name n = free-names refusal_names n refl
+free-name : (n : ℕ) → NoFeed (answer_name n)
+unfolding answer_name
+free-name n = free-names answer_names n refl
 
 small-bit : (b : Bool) → bit b < 2 ^ 64
 small-bit true = omega arith
@@ -92,10 +92,10 @@ free-bytes (line.Slot slot src dst core) is =
 free-bytes (line.Sent slot src dst) is =
     free-line (codes "sent") (slot ∷ src ∷ dst ∷ []) refl ((let a = is.0 in omega arith), ((let a = is.1.0 in omega arith), ((let a = is.1.1.0 in omega arith), tt)))
 free-bytes (line.Refused round number) is =
-    All-append (λ (byte : ℕ). byte ≢ 10) (codes "refused") (numbers (round ∷ []) ++ fields (refusal_name number ∷ [])) (free (codes "refused") refl)
-    (All-append (λ (byte : ℕ). byte ≢ 10) (numbers (round ∷ [])) (fields (refusal_name number ∷ []))
+    All-append (λ (byte : ℕ). byte ≢ 10) (codes "refused") (numbers (round ∷ []) ++ fields (answer_name number ∷ [])) (free (codes "refused") refl)
+    (All-append (λ (byte : ℕ). byte ≢ 10) (numbers (round ∷ [])) (fields (answer_name number ∷ []))
     (free-numbers (round ∷ []) ((let a = is.0.0 in omega arith), tt))
-    (free-fields (refusal_name number ∷ []) (free-name number, tt)))
+    (free-fields (answer_name number ∷ []) (free-name number, tt)))
 free-bytes (line.Flow src dst demanded allocated pending) is =
     free-line (codes "flow") (src ∷ dst ∷ demanded ∷ allocated ∷ pending ∷ []) refl (
       (let a = is.0 in omega arith),

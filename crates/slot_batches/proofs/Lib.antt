@@ -25,6 +25,10 @@ pub mod MarkLemmas
 pub mod IdleLemmas
 pub mod WeaveLemmas
 pub mod SetAside
+pub mod Front
+pub mod FrontWindow
+pub mod Ahead
+pub mod AheadWindow
 pub mod RestLemmas
 pub mod DoubtLemmas
 pub mod BusyLemmas

@@ -15,6 +15,7 @@ use Rattle.list_facts.proofs.Pairs.{AllPairs-head, AllPairs-tail}
 use Rattle.slot_batches.specs.FlowByFlow.{slots_with, item_after, slots_after, items_after}
 use Rattle.slot_batches.specs.Feeding.{unserved, newly_served}
 use Rattle.slot_batches.specs.Woven.{picked, stays, weave}
+use Rattle.slot_batches.specs.Beyond.{IsKeptOut, AreKeptOut}
 use Rattle.slot_batches.proofs.SortedRuns.{item_after_low}
 
 -- the item stands nowhere in the list as it stood
@@ -29,23 +30,29 @@ pub data Weaves (aside : Item → Bool) : List Item → List Item → List Item 
       → Weaves aside (item ∷ list) (next ∷ rest) (next ∷ whole)
   gone : (item : Item) (list rest whole : List Item) → aside item ≡ false → IsGoneFrom rest item → Weaves aside list rest whole → Weaves aside (item ∷ list) rest whole
 
--- an item without need takes no slot
+-- an item that is kept out takes no slot
 module _ (bar : Bar) where
-  takes_none : (number : ℕ) (item : Item) (slots : List (List Flow)) → item.need ≡ 0 → slots_with bar number item slots ≡ slots
-  takes_none number item [] none = refl
-  takes_none number item (slot ∷ slots) none =
-      let out : (nat_lt 0 item.need && not (bar slot item.flow)) ≡ false = and_left _ _ (ap (nat_lt 0) none) in
+  pub takes_none : (number : ℕ) (item : Item) (slots : List (List Flow)) → IsKeptOut bar slots item → slots_with bar number item slots ≡ slots
+  takes_none number item [] kept = refl
+  takes_none number item (slot ∷ slots) kept =
+      let Out : List Flow → Type 0 = λ s. (nat_lt 0 item.need && not (bar s item.flow)) ≡ false in
+      let out : (nat_lt 0 item.need && not (bar slot item.flow)) ≡ false = All-head Out slot slots kept in
       ap (λ (s : List Flow). s ∷ slots_with bar (number + 1) (turn bar number slot item) slots) (cond-false (nat_lt 0 item.need && not (bar slot item.flow)) (slot_with item.flow slot) slot out)
       ∙ ap (λ (s : List (List Flow)). slot ∷ s)
       (ap (λ (x : Item). slots_with bar (number + 1) x slots) (cond-false (nat_lt 0 item.need && not (bar slot item.flow)) (record item { need = item.need - 1; last = number }) item out)
-      ∙ takes_none (number + 1) item slots none)
+      ∙ takes_none (number + 1) item slots (All-tail Out slot slots kept))
 
-  is_as_it_was : (number : ℕ) (item : Item) (slots : List (List Flow)) → item.need ≡ 0 → item_after bar number item slots ≡ item
-  is_as_it_was number item [] none = refl
-  is_as_it_was number item (slot ∷ slots) none =
-      let out : (nat_lt 0 item.need && not (bar slot item.flow)) ≡ false = and_left _ _ (ap (nat_lt 0) none) in
+  is_as_it_was : (number : ℕ) (item : Item) (slots : List (List Flow)) → IsKeptOut bar slots item → item_after bar number item slots ≡ item
+  is_as_it_was number item [] kept = refl
+  is_as_it_was number item (slot ∷ slots) kept =
+      let Out : List Flow → Type 0 = λ s. (nat_lt 0 item.need && not (bar s item.flow)) ≡ false in
+      let out : (nat_lt 0 item.need && not (bar slot item.flow)) ≡ false = All-head Out slot slots kept in
       ap (λ (x : Item). item_after bar (number + 1) x slots) (cond-false (nat_lt 0 item.need && not (bar slot item.flow)) (record item { need = item.need - 1; last = number }) item out)
-      ∙ is_as_it_was (number + 1) item slots none
+      ∙ is_as_it_was (number + 1) item slots (All-tail Out slot slots kept)
+
+  -- and who needs nothing is kept out
+  pub idle_is_kept_out : (item : Item) (slots : List (List Flow)) → item.need ≡ 0 → IsKeptOut bar slots item
+  idle_is_kept_out item slots none k d below = and_left _ _ (ap (nat_lt 0) none)
 
   -- what holds of all items holds of those that a batch did not serve
   pub All-unserved : (P : Item → Type 0) (number : ℕ) (list : List Item) (slots : List (List Flow)) → All P list → All P (unserved number (items_after bar number list slots))
@@ -163,60 +170,93 @@ module _ (aside : Item → Bool) where
       (more_behind_both more list rest whole weaves (All-tail (λ x. aside x ≡ false → IsGoneFrom more x) item list others))
 
   module _ (bar : Bar) (number : ℕ) where
-    abbrev NeedsNone : Item → Type 0
-    NeedsNone item = aside item ≡ true → (item.need ≡ 0) × (item.last < number)
+    abbrev Low : Item → Type 0
+    Low item = aside item ≡ true → item.last < number
+
+    kept_aside : (item : Item) (list rest : List Item) (slots : List (List Flow)) → aside item ≡ true → AreKeptOut aside bar number (item ∷ list) rest slots
+        → IsKeptOut bar slots item × AreKeptOut aside bar number list rest slots
+    kept_aside item list [] slots out kept = (kept.0 out, kept.1)
+    kept_aside item list (next ∷ rest) slots out kept = kept.0 out
+
+    kept_stayed : (item next : Item) (list rest : List Item) (slots : List (List Flow)) → aside item ≡ false → stays item next ≡ true → AreKeptOut aside bar number (item ∷ list) (next ∷ rest) slots
+        → AreKeptOut aside bar number list rest (slots_with bar number next slots)
+    kept_stayed item next list rest slots chosen stands kept = kept.1 chosen stands
+
+    kept_gone : (item : Item) (list rest : List Item) (slots : List (List Flow)) → aside item ≡ false → IsGoneFrom rest item → AreKeptOut aside bar number (item ∷ list) rest slots
+        → AreKeptOut aside bar number list rest slots
+    kept_gone item list [] slots chosen none kept = kept.1
+    kept_gone item list (next ∷ rest) slots chosen none kept = kept.2 chosen (All-head (λ later. stays item later ≡ false) next rest none)
+
+    -- where none of them needs a slot
+    pub idle_are_kept_out : (list rest : List Item) (slots : List (List Flow)) → Asides (λ item. item.need ≡ 0) list → AreKeptOut aside bar number list rest slots
+    idle_are_kept_out [] rest slots idle = tt
+    idle_are_kept_out (item ∷ list) [] slots idle =
+        let Idle : Item → Type 0 = λ x. aside x ≡ true → x.need ≡ 0 in
+        (λ out. idle_is_kept_out bar item slots (All-head Idle item list idle out), idle_are_kept_out list [] slots (All-tail Idle item list idle))
+    idle_are_kept_out (item ∷ list) (next ∷ rest) slots idle =
+        let Idle : Item → Type 0 = λ x. aside x ≡ true → x.need ≡ 0 in
+        let others = All-tail Idle item list idle in (
+          λ out. (idle_is_kept_out bar item slots (All-head Idle item list idle out), idle_are_kept_out list (next ∷ rest) slots others),
+          λ _ _. idle_are_kept_out list rest (slots_with bar number next slots) others,
+          λ _ _. idle_are_kept_out list (next ∷ rest) slots others,
+        )
 
     -- the slots are filled by the rest alone
-    pub same_slots : (list rest whole : List Item) (slots : List (List Flow)) → Weaves aside list rest whole → All NeedsNone list → slots_after bar number whole slots ≡ slots_after bar number rest slots
-    same_slots _ _ _ slots (ended rest) idle = refl
-    same_slots _ _ _ slots (set_aside item list rest whole out weaves) idle =
-        ap (slots_after bar number whole) (takes_none bar number item slots (All-head NeedsNone item list idle out).0) ∙ same_slots list rest whole slots weaves (All-tail NeedsNone item list idle)
-    same_slots _ _ _ slots (stayed item next list rest whole chosen stands none weaves) idle =
-        same_slots list rest whole (slots_with bar number next slots) weaves (All-tail NeedsNone item list idle)
-    same_slots _ _ _ slots (gone item list rest whole chosen none weaves) idle = same_slots list rest whole slots weaves (All-tail NeedsNone item list idle)
+    pub same_slots : (list rest whole : List Item) (slots : List (List Flow)) → Weaves aside list rest whole → AreKeptOut aside bar number list rest slots
+        → slots_after bar number whole slots ≡ slots_after bar number rest slots
+    same_slots _ _ _ slots (ended rest) kept = refl
+    same_slots _ _ _ slots (set_aside item list rest whole out weaves) kept =
+        let both = kept_aside item list rest slots out kept in
+        ap (slots_after bar number whole) (takes_none bar number item slots both.0) ∙ same_slots list rest whole slots weaves both.1
+    same_slots _ _ _ slots (stayed item next list rest whole chosen stands none weaves) kept =
+        same_slots list rest whole (slots_with bar number next slots) weaves (kept_stayed item next list rest slots chosen stands kept)
+    same_slots _ _ _ slots (gone item list rest whole chosen none weaves) kept = same_slots list rest whole slots weaves (kept_gone item list rest slots chosen none kept)
 
     -- which alone has items that are served
-    pub same_served : (list rest whole : List Item) (slots : List (List Flow)) → Weaves aside list rest whole → All NeedsNone list
+    pub same_served : (list rest whole : List Item) (slots : List (List Flow)) → Weaves aside list rest whole → All Low list → AreKeptOut aside bar number list rest slots
         → newly_served number (items_after bar number whole slots) ≡ newly_served number (items_after bar number rest slots)
-    same_served _ _ _ slots (ended rest) idle = refl
-    same_served _ _ _ slots (set_aside item list rest whole out weaves) idle =
-        let facts = All-head NeedsNone item list idle out in
+    same_served _ _ _ slots (ended rest) low kept = refl
+    same_served _ _ _ slots (set_aside item list rest whole out weaves) low kept =
+        let both = kept_aside item list rest slots out kept in
         let others : List Item = newly_served number (items_after bar number whole slots) in
-        ap (λ (x : Item). newly_served number (x ∷ items_after bar number whole (slots_with bar number item slots))) (is_as_it_was bar number item slots facts.0)
-        ∙ (ap (λ (s : List (List Flow)). newly_served number (item ∷ items_after bar number whole s)) (takes_none bar number item slots facts.0)
-        ∙ (cond-false (not (nat_lt item.last number)) (item ∷ others) others (not_from_true _ (lt-ltb _ _ facts.1))
-        ∙ same_served list rest whole slots weaves (All-tail NeedsNone item list idle)))
-    same_served _ _ _ slots (stayed item next list rest whole chosen stands none weaves) idle =
+        ap (λ (x : Item). newly_served number (x ∷ items_after bar number whole (slots_with bar number item slots))) (is_as_it_was bar number item slots both.0)
+        ∙ (ap (λ (s : List (List Flow)). newly_served number (item ∷ items_after bar number whole s)) (takes_none bar number item slots both.0)
+        ∙ (cond-false (not (nat_lt item.last number)) (item ∷ others) others (not_from_true _ (lt-ltb _ _ (All-head Low item list low out)))
+        ∙ same_served list rest whole slots weaves (All-tail Low item list low) both.1))
+    same_served _ _ _ slots (stayed item next list rest whole chosen stands none weaves) low kept =
         let now : Item = item_after bar number next slots in
-        ap (λ (xs : List Item). cond (not (nat_lt now.last number)) (now ∷ xs) xs) (same_served list rest whole (slots_with bar number next slots) weaves (All-tail NeedsNone item list idle))
-    same_served _ _ _ slots (gone item list rest whole chosen none weaves) idle = same_served list rest whole slots weaves (All-tail NeedsNone item list idle)
+        ap (λ (xs : List Item). cond (not (nat_lt now.last number)) (now ∷ xs) xs)
+        (same_served list rest whole (slots_with bar number next slots) weaves (All-tail Low item list low) (kept_stayed item next list rest slots chosen stands kept))
+    same_served _ _ _ slots (gone item list rest whole chosen none weaves) low kept =
+        same_served list rest whole slots weaves (All-tail Low item list low) (kept_gone item list rest slots chosen none kept)
 
     -- what is left as it was
-    pub unserved_of_both : (list rest whole : List Item) (slots : List (List Flow)) → Weaves aside list rest whole → All NeedsNone list
+    pub unserved_of_both : (list rest whole : List Item) (slots : List (List Flow)) → Weaves aside list rest whole → All Low list → AreKeptOut aside bar number list rest slots
         → Weaves aside list (unserved number (items_after bar number rest slots)) (unserved number (items_after bar number whole slots))
-    unserved_of_both _ _ _ slots (ended rest) idle = ended (unserved number (items_after bar number rest slots))
-    unserved_of_both _ _ _ slots (set_aside item list rest whole out weaves) idle =
-        let facts = All-head NeedsNone item list idle out in
+    unserved_of_both _ _ _ slots (ended rest) low kept = ended (unserved number (items_after bar number rest slots))
+    unserved_of_both _ _ _ slots (set_aside item list rest whole out weaves) low kept =
+        let both = kept_aside item list rest slots out kept in
         let left : List Item = unserved number (items_after bar number rest slots) in
         let others : List Item = unserved number (items_after bar number whole slots) in
         let is : unserved number (items_after bar number (item ∷ whole) slots) ≡ item ∷ others =
-        ap (λ (x : Item). unserved number (x ∷ items_after bar number whole (slots_with bar number item slots))) (is_as_it_was bar number item slots facts.0)
-        ∙ (ap (λ (s : List (List Flow)). unserved number (item ∷ items_after bar number whole s)) (takes_none bar number item slots facts.0)
-        ∙ cond-true (nat_lt item.last number) (item ∷ others) others (lt-ltb _ _ facts.1)) in
-        subst (Weaves aside (item ∷ list) left) (sym is) (set_aside item list left others out (unserved_of_both list rest whole slots weaves (All-tail NeedsNone item list idle)))
-    unserved_of_both _ _ _ slots (stayed item next list rest whole chosen stands none weaves) idle =
+        ap (λ (x : Item). unserved number (x ∷ items_after bar number whole (slots_with bar number item slots))) (is_as_it_was bar number item slots both.0)
+        ∙ (ap (λ (s : List (List Flow)). unserved number (item ∷ items_after bar number whole s)) (takes_none bar number item slots both.0)
+        ∙ cond-true (nat_lt item.last number) (item ∷ others) others (lt-ltb _ _ (All-head Low item list low out))) in
+        subst (Weaves aside (item ∷ list) left) (sym is) (set_aside item list left others out (unserved_of_both list rest whole slots weaves (All-tail Low item list low) both.1))
+    unserved_of_both _ _ _ slots (stayed item next list rest whole chosen stands none weaves) low kept =
         let now : Item = item_after bar number next slots in
         let later : List (List Flow) = slots_with bar number next slots in
         let left : List Item = unserved number (items_after bar number rest later) in
         let others : List Item = unserved number (items_after bar number whole later) in
         let still_none : IsGoneFrom left item = All-unserved bar (λ x. stays item x ≡ false) number rest later none in
-        let woven = unserved_of_both list rest whole later weaves (All-tail NeedsNone item list idle) in
+        let woven = unserved_of_both list rest whole later weaves (All-tail Low item list low) (kept_stayed item next list rest slots chosen stands kept) in
         let P : Bool → Type 0 = λ b. Weaves aside (item ∷ list) (cond b (now ∷ left) left) (cond b (now ∷ others) others) in
         elim (cases_Bool (nat_lt now.last number)) [
-          | inl low ↦ subst P (sym low)
-              (stayed item now list left others chosen (ap (stays item) (item_after_low bar number next slots low) ∙ stands) still_none woven)
+          | inl below ↦ subst P (sym below)
+              (stayed item now list left others chosen (ap (stays item) (item_after_low bar number next slots below) ∙ stands) still_none woven)
           | inr high ↦ subst P (sym high) (gone item list left others chosen still_none woven)
         ]
-    unserved_of_both _ _ _ slots (gone item list rest whole chosen none weaves) idle =
+    unserved_of_both _ _ _ slots (gone item list rest whole chosen none weaves) low kept =
         gone item list (unserved number (items_after bar number rest slots)) (unserved number (items_after bar number whole slots)) chosen
-        (All-unserved bar (λ x. stays item x ≡ false) number rest slots none) (unserved_of_both list rest whole slots weaves (All-tail NeedsNone item list idle))
+        (All-unserved bar (λ x. stays item x ≡ false) number rest slots none)
+        (unserved_of_both list rest whole slots weaves (All-tail Low item list low) (kept_gone item list rest slots chosen none kept))

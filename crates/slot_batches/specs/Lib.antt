@@ -6,6 +6,7 @@ pub mod Examples
 pub mod Feeding
 pub mod NextList
 pub mod Woven
+pub mod Beyond
 pub mod Progress
 pub mod FeedingExamples
 pub mod Marks

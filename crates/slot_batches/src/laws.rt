@@ -6,6 +6,7 @@ ghost use Rattle.slot_batches.specs.FeedingExamples.{AnOpenedFlowWaitsForAServed
 ghost use Rattle.slot_batches.specs.Feeding.{FeedingAppliesTheBatch, ServedItemsFollow, AnItemIsServedOrAsItWas};
 ghost use Rattle.slot_batches.specs.NextList.{EveryBatchLeavesAList, EveryBatchKeepsItsFlows, AnIdleListStays};
 ghost use Rattle.slot_batches.specs.Woven.{ItemsMayBeSetAside, ListedFlowsAreOpen};
+ghost use Rattle.slot_batches.specs.Beyond.{ItemsBeyondReachMayBeSetAside, ItemsBarredByTheFrontMayBeSetAside, ItemsBarredByThoseAheadMayBeSetAside, ItemsBarredInSlotsMayBeSetAside};
 ghost use Rattle.slot_batches.specs.ArrayStands.{ListsMayBeFed};
 ghost use Rattle.slot_batches.specs.Pieces.{EndedListsGiveTheirPieces};
 ghost use Rattle.slot_batches.specs.Settled.{SettledItemsCountAsFed, SettledItemsStay, EarlyPiecesAreOfTheList};
@@ -62,6 +63,15 @@ pub fn idle_lists_stay()
 pub fn items_may_be_set_aside()
     ensures woven { ItemsMayBeSetAside }
     ensures listed { ListedFlowsAreOpen }
+{}
+
+/// A law over every window of batches: the items of the list that have no entry in it, and that are kept out of each batch
+/// that runs over the others, may be set aside too.
+pub fn items_beyond_reach_may_be_set_aside()
+    ensures beyond { ItemsBeyondReachMayBeSetAside }
+    ensures barred { ItemsBarredByTheFrontMayBeSetAside }
+    ensures ahead { ItemsBarredByThoseAheadMayBeSetAside }
+    ensures in_slots { ItemsBarredInSlotsMayBeSetAside }
 {}
 
 /// A law over every list before a batch whose entries open the flows that are new to it: it may be fed, item by item.

@@ -18,8 +18,9 @@ pub use flow_marks::FlowMarks;
 pub use laws::{
     each_item_takes_its_lowest_free_places, early_pieces_are_of_the_list,
     every_batch_leaves_a_list, feeding_applies_the_batch, feeding_examples,
-    flow_by_flow_is_slot_by_slot, idle_lists_stay, items_may_be_set_aside, lists_may_be_fed,
-    served_fit_places, served_items_follow, settled_items_count_as_fed, small_batches,
+    flow_by_flow_is_slot_by_slot, idle_lists_stay, items_beyond_reach_may_be_set_aside,
+    items_may_be_set_aside, lists_may_be_fed, served_fit_places, served_items_follow,
+    settled_items_count_as_fed, small_batches,
 };
 pub use no_memory::NoMemory;
 pub use piece::Piece;

@@ -2,6 +2,7 @@ pub mod Weaving
 pub mod Places
 pub mod IdleLemmas
 pub mod RunLemmas
+pub mod HandedLemmas
 pub mod PickedLemmas
 pub mod Down
 pub mod CleanSlots

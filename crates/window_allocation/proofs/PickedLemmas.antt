@@ -1,5 +1,5 @@
 -- A window, and what was picked of its list.
-use Rattle.std.proofs.Common.{◌≡◌, ◌<◌, ◌≤◌, ◌+◌, ◌-◌, ◌*◌, ℕ, List, [], ◌∷◌, length, false, true, not, ◌==◌, sym, ap, ◌∙◌, subst, arith}
+use Rattle.std.proofs.Common.{◌≡◌, ◌<◌, ◌≤◌, ◌+◌, ◌-◌, ◌*◌, ℕ, List, [], ◌∷◌, length, All, false, true, not, ◌==◌, sym, ap, ◌∙◌, subst, arith}
 use Rattle.std.proofs.lemmas.Nat.{mul-le}
 use Rattle.std.proofs.lemmas.Bool.{and_parts, eqb-true, not-true}
 use Rattle.std.proofs.lemmas.List.Elements.{All-weaker}
@@ -9,11 +9,14 @@ use Rattle.greedy_rules.specs.Batches.{DemandBatch}
 use Rattle.greedy_rules.specs.Limits.{is_barred}
 use Rattle.greedy_rules.specs.Schedule.{first_slot, list_then, schedule_from, rest_from}
 use Rattle.greedy_rules.specs.Recorded.{MayBeApplied}
+use Rattle.greedy_rules.specs.Allocation.{slots_of}
+use Rattle.greedy_rules.specs.Balance.{EveryBatchBalances}
 use Rattle.greedy_rules.specs.Room.{FlowsFitPairs}
 use Rattle.slot_batches.specs.Marks.{WindowMarks, has_mark}
 use Rattle.slot_batches.specs.Woven.{picked, woven, OnlyOpen, HaveNoEntry, NeedNothing, ItemsMayBeSetAside, ListedFlowsAreOpen}
 use Rattle.window_allocation.specs.Picked.{is_aside}
 use Rattle.slot_batches.specs.NextList.{IsListBefore, EveryBatchKeepsItsFlows}
+use Rattle.window_allocation.proofs.HandedLemmas.{none_named}
 
 -- a list that a batch may be applied to has no more items than there are pairs of endpoints, and so has what batches leave of it
 module _ (endpoints b : ℕ) (fit : FlowsFitPairs) (flows : EveryBatchKeepsItsFlows) where
@@ -44,6 +47,8 @@ pub record IsPicked (endpoints b first : ℕ) (marks : WindowMarks) (list found 
   pub slots : schedule_from b first found batches ≡ schedule_from b first list batches
   pub rest : woven (is_aside marks) list (rest_from b first found batches) ≡ rest_from b first list batches
   pub few_whole : length (rest_from b first list batches) ≤ endpoints * endpoints
+  pub is : found ≡ picked (is_aside marks) list
+  pub named : EveryBatchBalances → All (λ item. is_aside marks item ≡ true → slots_of item.flow (schedule_from b first list batches) ≡ 0) list
 
 need_nothing : (endpoints b first : ℕ) (marks : WindowMarks) (list : List Item) (batches : List DemandBatch) → ListedFlowsAreOpen → MayBeApplied endpoints b first list batches
     → ((flow : Flow) → has_mark marks flow ≡ false → OnlyOpen batches flow) → NeedNothing (is_aside marks) batches list
@@ -56,7 +61,8 @@ pub picked_window : (endpoints b first : ℕ) (marks : WindowMarks) (list items 
     → 0 < length batches → MayBeApplied endpoints b first list batches → IsListBefore (first_slot b first) list → ((flow : Flow) → has_mark marks flow ≡ false → OnlyOpen batches flow)
     → items ≡ list → found ≡ picked (is_aside marks) items → IsPicked endpoints b first marks list found batches
 picked_window endpoints b first marks list items found batches fit flows set_aside listed some may before unmarked items_are found_are =
-    let law = set_aside endpoints b first (is_aside marks) list batches before may (need_nothing endpoints b first marks list batches listed may unmarked) in
+    let nothing = need_nothing endpoints b first marks list batches listed may unmarked in
+    let law = set_aside endpoints b first (is_aside marks) list batches before may nothing in
     let is : found ≡ picked (is_aside marks) list = found_are ∙ ap (picked (is_aside marks)) items_are in
     let may_found : MayBeApplied endpoints b first found batches = subst (λ (xs : List Item). MayBeApplied endpoints b first xs batches) (sym is) law.may in
     record {
@@ -66,4 +72,9 @@ picked_window endpoints b first marks list items found batches fit flows set_asi
       slots = ap (λ (xs : List Item). schedule_from b first xs batches) is ∙ law.slots;
       rest = ap (λ (xs : List Item). woven (is_aside marks) list (rest_from b first xs batches)) is ∙ law.rest;
       few_whole = few_rest endpoints b fit flows first list batches some may;
+      is = is;
+      named = λ balances.
+          subst (λ (slots : List (List Flow)). All (λ item. is_aside marks item ≡ true → slots_of item.flow slots ≡ 0) list) law.slots
+          (none_named (is_aside marks) endpoints b first list batches balances before.once law.may
+          (All-weaker (λ item. is_aside marks item ≡ true → (item.need ≡ 0) × HaveNoEntry batches item.flow) (λ item. is_aside marks item ≡ true → HaveNoEntry batches item.flow) (λ item needs out. (needs out).1) list nothing));
     }

@@ -123,6 +123,12 @@ take_on zero m xs = ap (λ (k : ℕ). take k xs) (let q : 0 + m ≡ m = omega ar
 take_on {X} (suc n) m [] = take_all {A = X} (suc n + m) [] (omega arith) ∙ sym (take_all {A = X} m [] (omega arith))
 take_on (suc n) m (x ∷ xs) = ap (λ (k : ℕ). take k (x ∷ xs)) (let q : suc n + m ≡ suc (n + m) = omega arith in q) ∙ ap (λ ys. x ∷ ys) (take_on n m xs)
 
+-- a run of those behind the first
+pub run_behind : (served n : ℕ) (batches : List DemandBatch) → take (served + n) batches ≡ take served batches ++ take n (take (length batches - served) (drop served batches))
+run_behind served n batches =
+    let later_is : take (length batches - served) (drop served batches) ≡ drop served batches = take_all (length batches - served) (drop served batches) (omega (arith, length-drop served batches)) in
+    take_on served n batches ∙ ap (λ (ds : List DemandBatch). take served batches ++ take n ds) (sym later_is)
+
 -- the others go on where those that were served stop
 pub record GoOn (endpoints b k : ℕ) (found : List Item) (batches later : List DemandBatch) (total served : ℕ) (list : List Item) (slots : List (List Flow)) : Type 0 where
   pub number : served + length later ≡ length batches
@@ -164,7 +170,7 @@ run_served b k found batches total served n list now slots filled on counts plac
     let later : List DemandBatch = take (length batches - served) (drop served batches) in
     let run : List DemandBatch = take n later in
     let later_is : later ≡ drop served batches = take_all (length batches - served) (drop served batches) (omega (arith, length-drop served batches)) in
-    let whole : take (served + n) batches ≡ front ++ run = take_on served n batches ∙ ap (λ (ds : List DemandBatch). front ++ take n ds) (sym later_is) in
+    let whole : take (served + n) batches ≡ front ++ run = run_behind served n batches in
     let long : length front ≡ served = length-take-le served batches are.within in
     let first = stand_first b k found batches total served list slots counts places are in
     let slots_then : schedule_from b k found (take (served + n) batches) ≡ schedule_from b k found front ++ schedule_from b (k + served) list run =

@@ -4,6 +4,7 @@ pub mod Scheduled
 pub mod Windows
 pub mod Standing
 pub mod Ready
+pub mod Handed
 pub mod Giving
 pub mod Idle
 pub mod Picked

@@ -6,7 +6,7 @@ ghost use Rattle.window_allocation.specs.Nets.{AreOfNet};
 ghost use Rattle.window_allocation.specs.Needs.{Needs};
 ghost use Rattle.window_allocation.specs.Standing.{HasAllocated};
 ghost use Rattle.window_allocation.specs.Windows.{IsWindowOf};
-ghost use Rattle.window_allocation.specs.Giving.{MayGive, HasGiven};
+ghost use Rattle.window_allocation.specs.Giving.{MayGive, HandsOn, HasGiven};
 
 use crate::laws::every_window_is_ready;
 use crate::needs::write_needs;
@@ -106,6 +106,7 @@ impl Allocation {
         requires stands { (earlier : List DemandBatch) × HasAllocated self.now.paths.net self.now.ring.batches earlier self.now }
         ensures span { IfOk result (λ window. window.span ≡ record { first = self.now.batches; count = 0 }) }
         ensures window { IfOk result (IsWindowOf self.now.paths.net self.now.b []) }
+        ensures handed { IfOk result (HandsOn self.now [] self.now) }
     {
         Ok(Window {
             span: Span {
@@ -132,9 +133,12 @@ impl Allocation {
         ensures stands { OnOk result ((earlier : List DemandBatch) → HasAllocated self.old.paths.net self.old.ring.batches earlier self.old →
             AreOfNet self.old.paths.net (earlier ++ batches.now) → HasAllocated self.old.paths.net self.old.ring.batches (earlier ++ batches.now) self.new) }
         ensures b { OnOk result (self.new.b ≡ self.old.b) }
+        ensures workers { OnOk result (self.new.ring.workers ≡ self.old.ring.workers) }
+        ensures paths { OnOk result (self.new.paths.paths ≡ self.old.paths.paths) }
         ensures jobs { OnOk result (self.new.paths.jobs ≡ self.old.paths.jobs + length batches.now * self.old.b + self.old.paths.paths) }
         ensures span { IfOk result (λ window. window.span ≡ record { first = self.old.batches; count = length batches.now }) }
         ensures window { IfOk result (IsWindowOf self.old.paths.net self.old.b (schedule_from self.old.b self.old.batches self.old.list.items batches.now)) }
+        ensures handed { IfOk result (HandsOn self.old batches.now self.new) }
     {
         every_window_is_ready();
         let count = batches.len() as u16 * u16::from(self.b);

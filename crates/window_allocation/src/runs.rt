@@ -1,16 +1,20 @@
 //! The ring, which is handed what of a window may change.
 ghost use Rattle.std.specs.Prelude.{◌≡◌, ◌<◌, ◌≤◌, ◌+◌, ◌-◌, ◌*◌, [], ◌++◌, length, take, drop, replicate, IfOk};
 ghost use Rattle.greedy_rules.specs.Schedule.{schedule_from, rest_from};
-ghost use Rattle.alloc_pipeline.specs.Ring.{IsRing as MayBeOpened, IsSameRing, MayAllocate, pairs_of};
+ghost use Rattle.alloc_pipeline.specs.Ring.{IsRing as MayBeOpened, IsSameRing, MayAllocate, moved_by, pairs_of};
 ghost use Rattle.window_allocation.specs.Picked.{HasRoomFor};
-ghost use Rattle.window_allocation.specs.Runs.{HasRunTable, GivesSlots};
+ghost use Rattle.ring_core.specs.Windows.{window_of};
+ghost use Rattle.window_allocation.specs.Handed.{ComeOfRing};
+ghost use Rattle.window_allocation.specs.Runs.{HasRunTable, GivesSlots, IsPlayed, ArePlayed};
 
 use crate::batches::{count_idle, count_run};
 use crate::picked::Picked;
 use crate::table::put_slots;
 use alloc_pipeline::Ring;
 use fp_edge::Gate;
-use greedy_rules::{Batch, DemandList, SlotTable, flows_fit_pairs, schedules_go_on};
+use greedy_rules::{
+    Batch, DemandList, SlotTable, every_batch_balances, flows_fit_pairs, schedules_go_on,
+};
 use no_memory::NoMemory;
 use slot_batches::{every_batch_leaves_a_list, idle_lists_stay, items_may_be_set_aside};
 use std::alloc::Global;
@@ -72,6 +76,7 @@ impl WindowRing {
     )
         requires may { MayAllocate self.old first_batch list.old batches.now out.old }
         ensures allocates { GivesSlots self.old self.new first_batch list.old list.new batches.now out.old out.new }
+        ensures handed { ComeOfRing self.old.b first_batch self.old.workers list.old.items batches.now (schedule_from self.old.b first_batch list.old.items batches.now) self.old.moved self.new.moved }
     {
         self.runs.allocate_window(rt, gate, &mut self.picked, list, first_batch, batches, out);
     }
@@ -103,6 +108,7 @@ impl Runs {
         ensures table { HasRunTable self.new }
         ensures memory { HasRoomFor self.old.ring.endpoints picked.new }
         ensures allocates { GivesSlots self.old.ring self.new.ring first_batch list.old list.new batches.now out.old out.new }
+        ensures handed { ComeOfRing self.old.ring.b first_batch self.old.ring.workers list.old.items batches.now (schedule_from self.old.ring.b first_batch list.old.items batches.now) self.old.ring.moved self.new.ring.moved }
     {
         if batches.is_empty() {
             out.clear();
@@ -115,6 +121,7 @@ impl Runs {
             return;
         }
         items_may_be_set_aside();
+        every_batch_balances();
         self.allocate_runs(rt, gate, &mut picked.items, first_batch, batches, out);
         picked.weave_into(list);
     }
@@ -133,6 +140,7 @@ impl Runs {
         requires may { MayAllocate self.old.ring first_batch list.old batches.now out.old }
         ensures table { HasRunTable self.new }
         ensures allocates { GivesSlots self.old.ring self.new.ring first_batch list.old list.new batches.now out.old out.new }
+        ensures played { ArePlayed self.old.ring.b first_batch self.old.ring.workers list.old.items batches.now self.old.ring.moved self.new.ring.moved }
     {
         every_batch_leaves_a_list();
         schedules_go_on();
@@ -178,6 +186,7 @@ impl Runs {
         ensures spare { length list.new.items + list.new.spare ≡ length list.old.items + list.old.spare }
         ensures slots { out.new.slots ≡ (take (passed * self.old.ring.b) out.old.slots ++ schedule_from self.old.ring.b first_batch list.old.items (take result batches.now)) ++ replicate (length out.old.slots - (passed + result) * self.old.ring.b) [] }
         ensures endpoints { out.new.endpoints ≡ out.old.endpoints }
+        ensures played { IsPlayed self.old.ring.b first_batch self.old.ring.workers list.old.items (take result batches.now) self.old.ring.moved self.new.ring.moved }
     {
         every_batch_leaves_a_list();
         idle_lists_stay();
@@ -213,6 +222,7 @@ impl Runs {
         ensures spare { length list.new.items + list.new.spare ≡ length list.old.items + list.old.spare }
         ensures slots { out.new.slots ≡ (take (passed * self.old.ring.b) out.old.slots ++ schedule_from self.old.ring.b first_batch list.old.items batches.now) ++ replicate (length out.old.slots - (passed + length batches.now) * self.old.ring.b) [] }
         ensures endpoints { out.new.endpoints ≡ out.old.endpoints }
+        ensures moved { self.new.ring.moved ≡ moved_by (window_of list.old.items batches.now first_batch self.old.ring.b self.old.ring.workers) 0 self.old.ring.moved }
     {
         if passed == 0 {
             self.ring

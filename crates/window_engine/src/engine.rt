@@ -8,6 +8,7 @@ ghost use Rattle.window_engine.specs.Counts.{counts_of};
 ghost use Rattle.window_engine.specs.Settings.{IsSetting};
 ghost use Rattle.window_allocation.specs.Needs.{Needs};
 ghost use Rattle.window_allocation.specs.Standing.{HasAllocated};
+ghost use Rattle.window_allocation.specs.Giving.{HandsOn};
 ghost use Rattle.window_engine.specs.Standing.{Stands, window_of};
 ghost use Rattle.window_engine.specs.Step.{IsPlanned};
 
@@ -101,6 +102,10 @@ impl Engine {
         ensures all { OnOk result (self.new.rounds ≡ self.old.rounds) }
         ensures b { OnOk result (self.new.allocation.b ≡ self.old.allocation.b) }
         ensures g { OnOk result (self.new.g ≡ self.old.g) }
+        ensures workers { OnOk result (self.new.allocation.ring.workers ≡ self.old.allocation.ring.workers) }
+        ensures paths { OnOk result (self.new.allocation.paths.paths ≡ self.old.allocation.paths.paths) }
+        // Each slot came out of the ring, whose edges brought all that it was handed.
+        ensures handed { IfOk result (λ step. HandsOn self.old.allocation step.batches self.new.allocation step.window) }
         ensures jobs { OnOk result (self.new.allocation.paths.jobs ≡ self.old.allocation.paths.jobs + window_of self.old * self.old.allocation.b + self.old.allocation.paths.paths) }
         ensures planned { IfOk result (IsPlanned trace.now self.old.allocation.b self.old.collection.rounds (window_of self.old)) }
     {

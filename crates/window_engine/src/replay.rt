@@ -4,7 +4,7 @@ ghost use Rattle.clos_topology.specs.Network.{Network};
 ghost use Rattle.window_allocation.specs.Needs.{Needs};
 ghost use Rattle.window_allocation.specs.Standing.{HasAllocated};
 ghost use Rattle.window_allocation.specs.Windows.{IsWindowOf, jobs_for};
-ghost use Rattle.window_allocation.specs.Giving.{MayGive, HasGiven};
+ghost use Rattle.window_allocation.specs.Giving.{MayGive, HandsOn, HasGiven};
 ghost use Rattle.trace_text.specs.Trace.{TraceContent};
 ghost use Rattle.trace_text.specs.Valid.{IsTrace};
 ghost use Rattle.trace_run.specs.Shown.{IsShown};
@@ -245,6 +245,10 @@ impl Replay {
         ensures rounds { OnOk result (self.new.rounds ≡ self.old.rounds) }
         ensures b { OnOk result (self.new.lanes.b ≡ self.old.lanes.b) }
         ensures g { OnOk result (self.new.lanes.g ≡ self.old.lanes.g) }
+        ensures workers { OnOk result (self.new.allocation.ring.workers ≡ self.old.allocation.ring.workers) }
+        ensures paths { OnOk result (self.new.allocation.paths.paths ≡ self.old.allocation.paths.paths) }
+        // Each slot came out of the ring, whose edges brought all that it was handed.
+        ensures handed { IfOk result (λ step. HandsOn self.old.allocation self.old.waiting self.new.allocation step.window) }
         ensures collected { OnOk result (self.new.lanes.collected ≡ self.old.lanes.collected + min self.old.lanes.g (self.old.rounds - self.old.lanes.collected)) }
         ensures published { OnOk result (self.new.lanes.published ≡ self.old.lanes.collected) }
         ensures first { IfOk result (λ step. step.first ≡ self.old.lanes.collected) }

@@ -1,10 +1,13 @@
 use Rattle.std.proofs.Common.{◌≡◌, ◌≤◌, ◌+◌, ◌*◌, ◌^◌, ℕ, List, length, refl, sym, ap, ◌∙◌, subst, arith}
+use Rattle.greedy_rules.specs.declared.flows.Flow.{Flow}
+use Rattle.greedy_rules.specs.declared.flows.Item.{Item}
 use Rattle.greedy_rules.specs.Batches.{DemandBatch}
 use Rattle.greedy_rules.specs.Schedule.{first_slot, schedule_from, rest_from}
 use Rattle.slot_batches.specs.NextList.{IsListBefore}
 use Rattle.clos_topology.specs.Network.{endpoints_of}
 use Rattle.window_allocation.specs.Standing.{Allocated}
 use Rattle.window_allocation.specs.Windows.{IsWindowOf}
+use Rattle.window_allocation.specs.Handed.{ComeOfRing}
 use Rattle.window_allocation.proofs.WindowLemmas.{HasNext, Goes, ring_size, ring_endpoints, may_allocate, told, few_slots, has_allocated_more, window_of}
 use Rattle.window_allocation.proofs.allocation.Allocation.window_of.Goals as goal
 
@@ -69,3 +72,16 @@ returns-clause-window g c =
     (window_of c.self.inside.paths.net c.self.inside.b c.self.inside.batches (length batches) (schedule_from c.self.inside.b c.self.inside.batches c.self.inside.list.items batches) c.allocate.new.out c.colour_slots.new.out
     it.is it.ready.number (c.allocate.ensures.allocates.endpoints ∙ (c.in_ok-slots.ensures.endpoints ∙ serves)) (c.colour_slots.ensures.out_slots ∙ (c.in_ok-cores.ensures.slots ∙ places)) (c.colour_slots.ensures.out_endpoints ∙ (c.in_ok-cores.ensures.endpoints ∙ serves))
     c.colour_slots.ensures.clean c.colour_slots.ensures.others)
+
+pub returns-clause-handed : goal.returns-clause-handed
+returns-clause-handed g c =
+    let batches : List DemandBatch = c.args.batches.now in
+    let it = told batches _ _ c.in_ok-slots.slots.slots c.allocate.new.out.slots c.from.result c.every_window_is_ready.ensures c.self.view_is c.requires.stands c.from.ensures c.in_ok-slots.ensures.slots c.allocate.ensures.allocates.slots in
+    let k : ℕ = c.self.inside.batches in
+    let list : List Item = c.self.inside.list.items in
+    let old : List ℕ = c.self.inside.ring.moved in
+    let now : List ℕ = c.allocate.new.self.moved in
+    let workers : ℕ = c.self.inside.ring.workers in
+    subst (λ (half : Allocated). ComeOfRing half.b half.batches half.ring.workers half.list.items batches c.allocate.new.out.slots half.ring.moved now) c.self.view_is
+    (subst (λ (slots : List (List Flow)). ComeOfRing c.self.inside.b k workers list batches slots old now) (sym it.is)
+    (subst (λ (n : ℕ). ComeOfRing n k workers list batches (schedule_from n k list batches) old now) (ring_size _ _ it.earlier _ it.has) c.allocate.ensures.handed))

@@ -1,5 +1,6 @@
-use Rattle.std.proofs.Common.{◌≡◌, ◌≤◌, ◌+◌, ◌*◌, ℕ, List, [], length, take, replicate, sym, ap, ◌∙◌, subst, arith}
+use Rattle.std.proofs.Common.{◌≡◌, ◌≤◌, ◌+◌, ◌*◌, ℕ, List, [], length, take, replicate, true, false, refl, sym, ap, ◌∙◌, subst, arith}
 use Rattle.std.proofs.lemmas.Nat.{mul-le}
+use Rattle.std.proofs.lemmas.Bool.{both_ways}
 use Rattle.std.proofs.lemmas.List.{length-take-le}
 use Rattle.greedy_rules.specs.declared.flows.Flow.{Flow}
 use Rattle.greedy_rules.specs.declared.flows.Item.{Item}
@@ -49,3 +50,25 @@ play_behind-requires-clause-may g c κs within =
       serves = may.serves;
       places = omega (arith, mul-le (length (take run batches)) ring.b (length batches) ring.b fewer (omega arith), may.places);
     }
+
+pub returns-then-idle-gt0-clause-played : goal.returns-then-idle-gt0-clause-played
+returns-then-idle-gt0-clause-played g c =
+    let list : List Item = c.args.list.now.items in
+    let front = take c.count_idle-idle.result c.args.batches.now in
+    let idle = subst (λ (xs : List Item). AreIdle xs front) c.items.ensures c.count_idle-idle.ensures.idle in
+    record {
+      part = record { batches = front; to_ring = false };
+      are = refl;
+      passed = λ _. idle.no_entries;
+      given = sym (idle_stay c.args.self.now.ring.b c.args.first_batch list front c.idle_lists_stay.ensures c.requires.may.before.in_order idle).0;
+      moved = refl;
+    }
+
+pub returns-clause-played : goal.returns-clause-played
+returns-clause-played g c = record {
+  part = record { batches = take c.count_run-run.result c.args.batches.now; to_ring = true };
+  are = refl;
+  passed = λ not. absurd (both_ways _ not refl);
+  given = refl;
+  moved = c.play_behind.ensures.moved;
+}

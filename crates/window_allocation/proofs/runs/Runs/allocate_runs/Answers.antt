@@ -7,6 +7,8 @@ use Rattle.greedy_rules.specs.Schedule.{first_slot, schedule_from, rest_from}
 use Rattle.slot_batches.specs.NextList.{IsListBefore}
 use Rattle.alloc_pipeline.specs.Ring.{RingWork}
 use Rattle.window_allocation.proofs.RunLemmas.{few_items, IsWindow, AreServed, none_served, all_served, go_on, run_served, left_before}
+use Rattle.window_allocation.specs.Runs.{IsPlayed}
+use Rattle.window_allocation.proofs.HandedLemmas.{none_played, played_on, all_played}
 use Rattle.window_allocation.proofs.runs.Runs.allocate_runs.Goals as goal
 
 pub loop-served-init : goal.loop-served-init
@@ -19,6 +21,7 @@ loop-served-init g c =
       are = none_served c.args.self.now.ring.b c.args.first_batch c.args.list.now.items c.args.batches.now (length c.args.out.now.slots) c.clear.new.self.slots c.clear.ensures.slots;
       spare = refl;
       endpoints = c.clear.ensures.endpoints;
+      played = none_played c.args.self.now.ring.b c.args.first_batch c.args.self.now.ring.workers c.args.list.now.items c.args.batches.now c.args.self.now.ring.moved;
     }
 
 pub allocate_run-served-requires-clause-some : goal.allocate_run-served-requires-clause-some
@@ -111,6 +114,8 @@ loop-served-preserved g c =
     let now : RingWork = c.allocate_run-served.new.self.ring in
     let count : ℕ = c.allocate_run-served.result in
     let same = told.same in
+    let old : RingWork = c.args.self.now.ring in
+    let run : List DemandBatch = take count (take (length batches - served) (drop served batches)) in
     let window : IsWindow now.endpoints ring.b first found batches total room = subst (λ (n : ℕ). IsWindow n ring.b first found batches total room) (sym same.endpoints) was.window in
     let are = run_served ring.b first found batches total served count c.loop-served.list.items c.allocate_run-served.new.list.items c.loop-served.out.slots c.allocate_run-served.new.out.slots c.schedules_go_on.ensures.more c.schedules_go_on.ensures.count was.window.places was.are told.count told.list told.slots in
     record {
@@ -126,6 +131,10 @@ loop-served-preserved g c =
       are = subst (λ (n : ℕ). AreServed n first found batches total (served + count) c.allocate_run-served.new.list.items c.allocate_run-served.new.out.slots) (sym same.b) are;
       spare = told.spare ∙ was.spare;
       endpoints = told.endpoints ∙ was.endpoints;
+      played = played_on old.b first old.workers found batches served count c.loop-served.list.items old.moved ring.moved now.moved c.schedules_go_on.ensures.more was.are.within
+          (was.are.list_is ∙ ap (λ (n : ℕ). rest_from n first found (take served batches)) was.same.b) was.played
+          (subst (λ (n : ℕ). IsPlayed n (first + served) old.workers c.loop-served.list.items run ring.moved now.moved) was.same.b
+          (subst (λ (n : ℕ). IsPlayed ring.b (first + served) n c.loop-served.list.items run ring.moved now.moved) was.same.workers told.played));
     }
 
 pub returns-clause-allocates : goal.returns-clause-allocates
@@ -150,3 +159,9 @@ returns-clause-allocates g c =
       endpoints = was.endpoints;
       same = was.same;
     }
+
+pub returns-clause-played : goal.returns-clause-played
+returns-clause-played g c =
+    let was = c.loop-served.invariant in
+    let old : RingWork = c.args.self.now.ring in
+    all_played old.b c.args.first_batch old.workers c.args.list.now.items c.args.batches.now c.loop-served.served old.moved c.loop-served.self.ring.moved (omega (arith, c.loop-served-test.false)) was.played

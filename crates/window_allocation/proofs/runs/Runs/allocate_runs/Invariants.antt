@@ -1,6 +1,6 @@
-use Rattle.std.proofs.Common.{◌≡◌, ◌+◌, ◌-◌, length}
+use Rattle.std.proofs.Common.{◌≡◌, ◌+◌, ◌-◌, length, take}
 use Rattle.alloc_pipeline.specs.Ring.{IsSameRing}
-use Rattle.window_allocation.specs.Runs.{HasRunTable}
+use Rattle.window_allocation.specs.Runs.{HasRunTable, ArePlayed}
 use Rattle.window_allocation.proofs.RunLemmas.{IsWindow, AreServed}
 use Rattle.window_allocation.proofs.runs.Runs.allocate_runs.Given as goal
 
@@ -12,6 +12,7 @@ invariant-loop-served g l = record {
   are : AreServed l.self.ring.b l.first_batch l.fn.list.items l.batches (length l.fn.out.slots) l.served l.list.items l.out.slots;
   spare : length l.list.items + l.list.spare ≡ length l.fn.list.items + l.fn.list.spare;
   endpoints : l.out.endpoints ≡ l.fn.out.endpoints;
+  played : ArePlayed l.initial.self.ring.b l.first_batch l.initial.self.ring.workers l.fn.list.items (take l.served l.batches) l.initial.self.ring.moved l.self.ring.moved;
 }
 
 abbrev pub decreases-loop-served : goal.decreases-loop-served

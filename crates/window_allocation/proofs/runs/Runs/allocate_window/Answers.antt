@@ -1,6 +1,6 @@
 use Rattle.std.proofs.Common.{◌≡◌, ◌+◌, ◌-◌, ◌*◌, ◌++◌, ℕ, List, [], length, replicate, sym, ap, ◌∙◌, subst, arith}
 use Rattle.std.specs.Prelude.{vec_capacity}
-use Rattle.std.proofs.lemmas.Bool.{eqb-false}
+use Rattle.std.proofs.lemmas.Bool.{eqb-false, eqb-true}
 use Rattle.greedy_rules.specs.declared.flows.Flow.{Flow}
 use Rattle.greedy_rules.specs.Schedule.{first_slot, rest_from}
 use Rattle.slot_batches.specs.Woven.{woven, places_from}
@@ -8,6 +8,7 @@ use Rattle.slot_batches.specs.NextList.{IsListBefore}
 use Rattle.window_allocation.specs.Picked.{is_aside}
 use Rattle.window_allocation.proofs.RunLemmas.{few_items, left_before}
 use Rattle.window_allocation.proofs.PickedLemmas.{few_found, picked_window}
+use Rattle.window_allocation.proofs.HandedLemmas.{none_played, all_played, come_of_ring, come_of_all}
 use Rattle.window_allocation.proofs.runs.Runs.allocate_window.Goals as goal
 
 pub pick-requires : goal.pick-requires
@@ -82,3 +83,29 @@ returns-clause-allocates g c =
       endpoints = done.endpoints;
       same = done.same;
     }
+
+pub returns-clause-handed : goal.returns-clause-handed
+returns-clause-handed g c =
+    let ring = c.args.self.now.ring in
+    let marks = c.pick.new.self.marks in
+    let list = c.args.list.now.items in
+    let found = c.pick.new.self.items.items in
+    let batches = c.args.batches.now in
+    let first : ℕ = c.args.first_batch in
+    let window =
+    picked_window ring.endpoints ring.b first marks list c.items.result.now found batches c.flows_fit_pairs.ensures c.every_batch_leaves_a_list.ensures.flows c.items_may_be_set_aside.ensures.woven
+    c.items_may_be_set_aside.ensures.listed (omega (arith, eqb-false _ _ (sym c.is_empty.ensures ∙ c.if-is_empty.false))) c.requires.may.may c.requires.may.before c.pick.ensures.unmarked c.items.ensures (c.pick.ensures.items c.if-not-pick.false) in
+    come_of_ring ring.b first ring.workers (is_aside marks) list found batches _ ring.moved c.allocate_runs-2.new.self.ring.moved c.allocate_runs-2.ensures.played window.is window.slots
+    (window.named c.every_batch_balances.ensures)
+
+pub returns-then-not-pick-clause-handed : goal.returns-then-not-pick-clause-handed
+returns-then-not-pick-clause-handed g c =
+    let ring = c.args.self.now.ring in
+    come_of_all ring.b c.args.first_batch ring.workers c.args.list.now.items c.args.batches.now ring.moved c.allocate_runs.new.self.ring.moved c.allocate_runs.ensures.played
+
+pub returns-then-is_empty-clause-handed : goal.returns-then-is_empty-clause-handed
+returns-then-is_empty-clause-handed g c =
+    let ring = c.args.self.now.ring in
+    come_of_all ring.b c.args.first_batch ring.workers c.args.list.now.items c.args.batches.now ring.moved ring.moved
+    (all_played ring.b c.args.first_batch ring.workers c.args.list.now.items c.args.batches.now 0 ring.moved ring.moved (omega (arith, eqb-true _ _ (sym c.is_empty.ensures ∙ c.if-is_empty.true)))
+    (none_played ring.b c.args.first_batch ring.workers c.args.list.now.items c.args.batches.now ring.moved))

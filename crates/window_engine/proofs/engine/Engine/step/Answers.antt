@@ -6,6 +6,7 @@ use Rattle.window_allocation.specs.Standing.{Allocated, HasAllocated}
 use Rattle.plan_rounds.specs.Standing.{Collected, HasCollected}
 use Rattle.window_engine.specs.Standing.{EngineState}
 use Rattle.window_allocation.specs.Windows.{IsWindowOf}
+use Rattle.window_allocation.specs.Giving.{HandsOn}
 use Rattle.window_engine.proofs.EngineLemmas.{stands_too, may_give, next_allocated, pending_room, stands_next, jobs_raised, planned}
 use Rattle.window_engine.proofs.engine.Engine.step.Goals as goal
 
@@ -60,3 +61,19 @@ returns-clause-planned g c =
     c.schedules_go_on.ensures.more c.schedules_go_on.ensures.front c.schedules_go_on.ensures.count c.rounds-first.ensures (omega (arith, c.min-count.ensures, c.from.ensures, c.rounds-first.ensures)) c.in_ok-batches.ensures.batches
     (subst (λ (bs : List DemandBatch). c.in_ok-window.window.span ≡ record { first = c.self.inside.allocation.batches; count = length bs }) c.deref.ensures.value c.in_ok-window.ensures.given.span)
     (subst (λ (bs : List DemandBatch). IsWindowOf c.self.inside.allocation.paths.net c.self.inside.allocation.b (schedule_from c.self.inside.allocation.b c.self.inside.allocation.batches c.self.inside.allocation.list.items bs) c.in_ok-window.window) c.deref.ensures.value c.in_ok-window.ensures.given.window)
+
+pub returns-clause-workers : goal.returns-clause-workers
+returns-clause-workers g c =
+    ap (λ (half : Allocated). half.ring.workers) c.end.ensures.allocation ∙ (c.in_ok-window.ensures.given.workers ∙ ap (λ (e : EngineState). e.allocation.ring.workers) c.self.view_is)
+
+pub returns-clause-paths : goal.returns-clause-paths
+returns-clause-paths g c =
+    ap (λ (half : Allocated). half.paths.paths) c.end.ensures.allocation ∙ (c.in_ok-window.ensures.given.paths ∙ ap (λ (e : EngineState). e.allocation.paths.paths) c.self.view_is)
+
+pub returns-clause-handed : goal.returns-clause-handed
+returns-clause-handed g c =
+    let batches : List DemandBatch = c.in_ok-batches.batches.items in
+    let window = c.in_ok-window.window in
+    subst (λ (e : EngineState). HandsOn e.allocation batches c.end.new.self.allocation window) c.self.view_is
+    (subst (λ (half : Allocated). HandsOn c.self.inside.allocation batches half window) (sym c.end.ensures.allocation)
+    (subst (λ (bs : List DemandBatch). HandsOn c.self.inside.allocation bs c.window-2.new.self window) c.deref.ensures.value c.in_ok-window.ensures.given.handed))

@@ -7,6 +7,7 @@ use Rattle.replay_rounds.specs.Standing.{RoundsContent}
 use Rattle.window_engine.specs.Replay.{ReplayState, run_of}
 use Rattle.window_allocation.specs.Standing.{Allocated, HasAllocated}
 use Rattle.window_allocation.specs.Windows.{WindowContent, jobs_for}
+use Rattle.window_allocation.specs.Giving.{HandsOn}
 use Rattle.window_engine.proofs.ReplaySteps.{are_next, replay_allocated}
 use Rattle.window_engine.proofs.ReplayPublish.{MayPublish, seen_as, publishes_with, publish_next, publish_fits, lanes_after, stands_next}
 use Rattle.window_engine.proofs.ReplayBeside.{may_allocate, collects_beside, next_beside}
@@ -146,3 +147,17 @@ returns-clause-stands g c cores stands named =
     stands_next laws trace cores old c.self-2.inside.lanes c.publish.new.self c.in_ok-played.window c.end.new.self sound stands collects next publishes named c.end.ensures.lanes (c.end.ensures.stands trace cores)
     (c.end.ensures.rounds ∙ rounds) (c.end.ensures.waiting ∙ (c.in_ok-self-inside.ensures ∙ (c.batches.ensures ∙ ap (λ (p : Played). p.batches) (c.in_ok-played.ensures.rounds.played cores stands.lanes))))
     (subst (HasAllocated trace.net old.lanes.g batches) (sym half) has) (ap (λ (a : Allocated). a.b) half ∙ c.in_ok-played.ensures.given.b) (c.end.ensures.pending ∙ pending) c.end.ensures.ended c.end.ensures.counted
+
+pub returns-clause-workers : goal.returns-clause-workers
+returns-clause-workers g c =
+    ap (λ (a : Allocated). a.ring.workers) c.end.ensures.allocation ∙ (ap (λ (e : ReplayState). e.allocation.ring.workers) c.self-2.view_is ∙ c.in_ok-played.ensures.given.workers)
+
+pub returns-clause-paths : goal.returns-clause-paths
+returns-clause-paths g c =
+    ap (λ (a : Allocated). a.paths.paths) c.end.ensures.allocation ∙ (ap (λ (e : ReplayState). e.allocation.paths.paths) c.self-2.view_is ∙ c.in_ok-played.ensures.given.paths)
+
+pub returns-clause-handed : goal.returns-clause-handed
+returns-clause-handed g c =
+    let old = c.args.self.now in
+    let half = c.end.ensures.allocation ∙ ap (λ (e : ReplayState). e.allocation) c.self-2.view_is in
+    subst (λ (a : Allocated). HandsOn old.allocation old.waiting a c.in_ok-played.window) (sym half) c.in_ok-played.ensures.given.handed
