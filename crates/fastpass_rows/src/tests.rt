@@ -8,6 +8,7 @@ use std::sync::Wait;
 use std::test::Fail;
 use std::thread::Threads;
 
+mod audits;
 mod makes;
 mod meeting;
 mod racks;

@@ -1,2 +1,3 @@
 pub mod PlainNumbers
 pub mod RunLemmas
+pub mod AuditLemmas

@@ -13,16 +13,19 @@ use Rattle.trace_run.specs.Run.{replayed}
 use Rattle.trace_run.specs.Shown.{IsShown}
 use Rattle.replay_rounds.specs.Setting.{Cores, setting_of}
 use Rattle.window_engine.specs.Scheduled.{EverySlotIsScheduled}
-use Rattle.run_lines.specs.Content.{SinkContent}
-use Rattle.run_lines.specs.Transfer.{AppendsFront}
+use Rattle.text_output.specs.Content.{SinkContent}
+use Rattle.text_output.specs.Transfer.{AppendsFront}
 use Rattle.run_text.specs.PlanText.{plan_lines, plan_text}
 use Rattle.run_text.specs.ReplayText.{replay_lines, replay_text}
 use Rattle.run_text.specs.Ledger.{IsBalanced, LedgerIsKept}
 use Rattle.run_text.specs.Sends.{SendsAreScheduled}
 use Rattle.run_text.specs.Made.{trace_of_number, made_run, made_sums, made_text, Balances}
-use Rattle.fastpass_run.specs.Outside.{Outside}
+use Rattle.fastpass_run.specs.Audits.{Audits, HasBadLine, AuditEnds}
+use Rattle.fastpass_run.specs.Outside.{Outside, Growth, IsUnread, IsUnwritten}
+use Rattle.fastpass_run.specs.Statuses.{IsAmong}
 use Rattle.fastpass_run.specs.Transfer.{Takes, input_limit}
-use Rattle.fastpass_run.specs.Words.{Asked, asked_of}
+use Rattle.fastpass_run.specs.Words.{Asked, AskedOfTrace, asked_of}
+use Rattle.fastpass_run.specs.Words.Asked.{writes}
 use Rattle.fastpass_run.specs.declared.words.Input.TheVariants.{Read, Made}
 use Rattle.fastpass_run.specs.declared.outcome.Failure.{Failure}
 use Rattle.fastpass_run.specs.declared.outcome.Failure.TheVariants as failure
@@ -33,21 +36,12 @@ use Rattle.fastpass_run.specs.declared.outcome.Failure.TheVariants as failure
 abbrev pub IsRead : Command → Outside → Outside → Result TraceContent FaultyRow → Type 0
 IsRead command old new trace = (bytes : List ℕ) × Consumes old.left new.left bytes × IsAtEnd new.left × (length bytes ≤ input_limit) × (trace_of command bytes ≡ trace)
 
--- nothing was read
-pub record IsUnread (old new : Outside) : Type 0 where
-  pub same_bytes : new.left ≡ old.left
-  pub same_faults : new.faults ≡ old.faults
-
 -- ---- what is written
-
--- how an output grew by a text: by all of it (`Appends`), or by a front of it (`AppendsFront`)
-abbrev pub Growth : Type 1
-Growth = Option (List ℕ) → Option (List ℕ) → List ℕ → Type 0
 
 -- The output grew by the plan of a trace, with cores that make each slot of the schedule clean.
 pub record Plans (grew : Growth) (words : List (List ℕ)) (old new : Outside) : Type 0 where
-  pub asked : Asked
-  pub accepted : asked_of words ≡ Some asked
+  pub asked : AskedOfTrace
+  pub accepted : asked_of words ≡ Some (writes asked)
   pub command : asked.input ≡ Read Plan
   pub trace : TraceContent
   pub read : IsRead Plan old new (Ok trace)
@@ -61,8 +55,8 @@ pub record Plans (grew : Growth) (words : List (List ℕ)) (old new : Outside) :
 
 -- The output grew by the replay of a trace, with cores that make each slot of the schedule clean.
 pub record Replays (grew : Growth) (words : List (List ℕ)) (old new : Outside) : Type 0 where
-  pub asked : Asked
-  pub accepted : asked_of words ≡ Some asked
+  pub asked : AskedOfTrace
+  pub accepted : asked_of words ≡ Some (writes asked)
   pub command : asked.input ≡ Read Replay
   pub trace : TraceContent
   pub read : IsRead Replay old new (Ok trace)
@@ -80,9 +74,9 @@ pub record Replays (grew : Growth) (words : List (List ℕ)) (old new : Outside)
 -- Nothing was read, and the output grew by the sums of the counts of a made trace's replay: they are the same whichever cores are
 -- named, and balance.
 pub record Makes (grew : Growth) (words : List (List ℕ)) (old new : Outside) : Type 0 where
-  pub asked : Asked
+  pub asked : AskedOfTrace
   pub number : ℕ
-  pub accepted : asked_of words ≡ Some asked
+  pub accepted : asked_of words ≡ Some (writes asked)
   pub command : asked.input ≡ Made number
   pub unread : IsUnread old new
   pub written : (cores : Cores) → grew old.sink.held new.sink.held (made_text number asked.b asked.g cores)
@@ -91,12 +85,7 @@ pub record Makes (grew : Growth) (words : List (List ℕ)) (old new : Outside) :
 
 -- the output grew so by the text that the words ask for
 abbrev pub Performs : Growth → List (List ℕ) → Outside → Outside → Type 0
-Performs grew words old new = Plans grew words old new ⊎ (Replays grew words old new ⊎ Makes grew words old new)
-
--- nothing was written
-pub record IsUnwritten (old new : Outside) : Type 0 where
-  pub same_bytes : new.sink.held ≡ old.sink.held
-  pub same_faults : new.sink.faults ≡ old.sink.faults
+Performs grew words old new = Plans grew words old new ⊎ (Replays grew words old new ⊎ (Makes grew words old new ⊎ Audits grew words old new))
 
 -- nothing was written, or a front of the text that the words ask for
 abbrev pub PerformsAtMost : List (List ℕ) → Outside → Outside → Type 0
@@ -110,11 +99,11 @@ HasWords words = (asked : Asked) × (asked_of words ≡ Some asked)
 
 -- the rows of a trace, read for this command
 abbrev pub AsksToRead : List (List ℕ) → Command → Type 0
-AsksToRead words command = (asked : Asked) × (asked_of words ≡ Some asked) × (asked.input ≡ Read command)
+AsksToRead words command = (asked : AskedOfTrace) × (asked_of words ≡ Some (writes asked)) × (asked.input ≡ Read command)
 
 -- or the trace that this number makes
 abbrev pub AsksToMake : List (List ℕ) → ℕ → Type 0
-AsksToMake words number = (asked : Asked) × (asked_of words ≡ Some asked) × (asked.input ≡ Made number)
+AsksToMake words number = (asked : AskedOfTrace) × (asked_of words ≡ Some (writes asked)) × (asked.input ≡ Made number)
 
 -- a row of the trace is faulty for what the words ask for, and the first such row is this one
 pub record HasFaultyRow (words : List (List ℕ)) (old new : Outside) (row : ℕ) (fault : Fault) : Type 0 where
@@ -135,6 +124,7 @@ status_of (Err failure.Read) = 3
 status_of (Err failure.Write) = 4
 status_of (Err failure.Memory) = 5
 status_of (Err failure.Big) = 6
+status_of (Err (failure.Bad line)) = 7
 
 -- the one line of the notes, none where all was done
 abbrev pub note_of : Ending → List ℕ
@@ -145,8 +135,9 @@ note_of (Err failure.Read) = codes "read" ++ 10 ∷ []
 note_of (Err failure.Write) = codes "write" ++ 10 ∷ []
 note_of (Err failure.Memory) = codes "memory" ++ 10 ∷ []
 note_of (Err failure.Big) = codes "big" ++ 10 ∷ []
+note_of (Err (failure.Bad line)) = (codes "bad," ++ decimal line) ++ 10 ∷ []
 
--- What each end tells. Up to 2 and with 3, 5 and 6 no more is taken than the limit, or with 6 one byte more.
+-- What each end tells. Up to 2 and with 3, 5, 6 and 7 no more is taken than the limit, or with 6 one byte more.
 abbrev pub EndsBy : List (List ℕ) → Outside → Outside → Ending → Type 0
 EndsBy words old new (Ok done) = Performs Appends words old new
 EndsBy words old new (Err failure.Words) = (asked_of words ≡ None) × IsUnread old new × IsUnwritten old new
@@ -155,13 +146,9 @@ EndsBy words old new (Err failure.Read) = HasWords words × Rose old.faults new.
 EndsBy words old new (Err failure.Write) = Rose old.sink.faults new.sink.faults × Performs AppendsFront words old new
 EndsBy words old new (Err failure.Memory) = HasWords words × Takes old.left new.left (λ n. n ≤ input_limit) × PerformsAtMost words old new
 EndsBy words old new (Err failure.Big) = HasWords words × Takes old.left new.left (λ n. n ≡ input_limit + 1) × IsUnwritten old new
+EndsBy words old new (Err (failure.Bad line)) = HasBadLine words old new line × IsUnwritten old new
 
 -- ---- when a run may end so
-
--- the status is one of these
-abbrev pub IsAmong : ℕ → List ℕ → Type 0
-IsAmong status [] = ⊥
-IsAmong status (one ∷ others) = (status ≡ one) ⊎ IsAmong status others
 
 -- the words ask for these bytes to be read for this command, and nothing else is in the source
 pub record Gives (words : List (List ℕ)) (old : Outside) (command : Command) (bytes : List ℕ) : Type 0 where
@@ -193,7 +180,7 @@ ReadsNothing words old new status = (number : ℕ) → AsksToMake words number �
 
 -- What a run comes to, by what source and output tell before and after, what the notes tell before and after, and the status.
 pub record Runs (words : List (List ℕ)) (old new : Outside) (notes notes' : SinkContent) (status : ℕ) : Type 0 where
-  -- it ends in one of seven ways, each with a status of its own
+  -- it ends in one of eight ways, each with a status of its own
   pub ending : Ending
   pub status_is : status ≡ status_of ending
   -- what this end tells: of the words, of what was read and written, and why a read or a write failed
@@ -207,3 +194,5 @@ pub record Runs (words : List (List ℕ)) (old new : Outside) (notes notes' : Si
   pub tells_excess : TellsExcess words old status
   -- a made trace is done with nothing read, unless a write failed or memory is wanting
   pub reads_nothing : ReadsNothing words old new status
+  -- where the source tells a text to audit, it is done without a bad line, and else told the first one
+  pub audit_ends : AuditEnds words old status

@@ -1,14 +1,20 @@
 -- Which words are accepted, and what they set (this project's own profile).
-use Rattle.std.specs.Prelude.{◌<◌, ◌≤◌, ℕ, Bool, ◌&&◌, nat_le, List, [], ◌∷◌, Option, Some, None, IfSome, is_none, option_map, unwrap_or, if◌then◌else◌, slice_index, codes, map}
+use Rattle.std.specs.Prelude.{◌<◌, ◌≤◌, ℕ, Bool, ◌&&◌, ◌||◌, nat_le, List, [], ◌∷◌, Option, Some, None, IfSome, is_none, is_some, option_map, unwrap_or, if◌then◌else◌, slice_index, codes, map, Result, Ok, Err}
 use Rattle.std.specs.Borrow.{Bor}
 use Rattle.std.specs.Str.{bytes_eq, all_ascii_digits}
 use Rattle.std.specs.Str.Parse.{digits_value}
+use Rattle.clos_topology.specs.Network.{Network}
+use Rattle.clos_topology.specs.Limits.{network_of}
+use Rattle.clos_topology.specs.declared.net.NetRefused.{NetRefused}
+use Rattle.run_text.specs.Sizes.{AreSizes}
+use Rattle.run_text.specs.declared.sizes.Sizes.{Sizes}
 use Rattle.trace_text.specs.declared.command.Command.{Command}
 use Rattle.trace_text.specs.declared.command.Command.TheVariants.{Plan, Replay}
 use Rattle.fastpass_run.specs.declared.words.Input.{Input}
 use Rattle.fastpass_run.specs.declared.words.Input.TheVariants.{Read, Made}
 use Rattle.fastpass_run.specs.declared.words.Options.{Options}
 use Rattle.fastpass_run.specs.declared.words.Task.{Task}
+use Rattle.fastpass_run.specs.declared.words.Task.TheVariants as task
 
 -- words as lists of bytes
 abbrev pub texts : List (Bor (List ℕ)) → List (List ℕ)
@@ -34,7 +40,10 @@ with_option name value options =
     else (if is_word (codes "--window") name && is_none options.window then option_map (λ n. record options { window = Some n }) (plain_up_to 16 value)
     else (if is_word (codes "--workers") name && is_none options.workers then option_map (λ n. record options { workers = Some n }) (plain_up_to 16 value)
     else (if is_word (codes "--paths") name && is_none options.paths then option_map (λ n. record options { paths = Some n }) (plain_up_to 16 value)
-    else None)))
+    else (if is_word (codes "--racks") name && is_none options.racks then option_map (λ n. record options { racks = Some n }) (plain_up_to 64 value)
+    else (if is_word (codes "--hosts") name && is_none options.hosts then option_map (λ n. record options { hosts = Some n }) (plain_up_to 64 value)
+    else (if is_word (codes "--cores") name && is_none options.cores then option_map (λ n. record options { cores = Some n }) (plain_up_to 64 value)
+    else None))))))
 
 abbrev pub options_then : (Options → Option Options) → Option Options → Option Options
 options_then more None = None
@@ -47,41 +56,80 @@ options_of (name ∷ []) options = None
 options_of (name ∷ (value ∷ words)) options = options_then (options_of words) (with_option name value options)
 
 abbrev pub no_options : Options
-no_options = record { batch = None; window = None; workers = None; paths = None }
+no_options = record { batch = None; window = None; workers = None; paths = None; racks = None; hosts = None; cores = None }
 
 abbrev pub command_of : List ℕ → Option Command
 command_of word = if is_word (codes "plan") word then Some Plan else (if is_word (codes "replay") word then Some Replay else None)
 
--- what the words ask for: where the trace comes from, the slots of a batch, the rounds of a window, and how many workers and path
+-- one is named that tells how a trace is run, or one that tells a network
+abbrev pub names_a_run : Options → Bool
+names_a_run options = is_some options.window || is_some options.workers || is_some options.paths
+
+abbrev pub names_a_net : Options → Bool
+names_a_net options = is_some options.racks || is_some options.hosts || is_some options.cores
+
+-- what is asked of a trace: where it comes from, the slots of a batch, the rounds of a window, and how many workers and path
 -- workers there are
-pub record Asked : Type 0 where
+pub record AskedOfTrace : Type 0 where
   pub input : Input
   pub b : ℕ
   pub g : ℕ
   pub workers : ℕ
   pub paths : ℕ
 
+-- what the words ask for: the text of a trace; or the audit of a text of a network, with so many slots in a batch
+pub data Asked : Type 0 where
+  writes : AskedOfTrace → Asked
+  audits : Network → ℕ → Asked
+
 abbrev pub asked_with : Option Input → Option Options → Option Asked
 asked_with None options = None
 asked_with (Some input) None = None
 asked_with (Some input) (Some options) =
-    Some (record { input = input; b = unwrap_or options.batch 8; g = unwrap_or options.window 8; workers = unwrap_or options.workers 4; paths = unwrap_or options.paths 2 })
+    if names_a_net options then None
+    else Some (writes (record { input = input; b = unwrap_or options.batch 8; g = unwrap_or options.window 8; workers = unwrap_or options.workers 4; paths = unwrap_or options.paths 2 }))
 
 -- a number and then pairs
 abbrev pub asked_to_make : List (List ℕ) → Option Asked
 asked_to_make [] = None
 asked_to_make (number ∷ pairs) = asked_with (option_map Made (any_number number)) (options_of pairs no_options)
 
--- what words ask for, where they are accepted: `plan`, `replay`, or `make` and a number, and then pairs
+-- the network of three numbers that are all named
+abbrev pub net_in : Result Network NetRefused → Option Network
+net_in (Ok net) = Some net
+net_in (Err refused) = None
+
+abbrev pub net_named : Option ℕ → Option ℕ → Option ℕ → Option Network
+net_named (Some racks) (Some hosts) (Some cores) = net_in (network_of racks hosts cores)
+net_named _ _ _ = None
+
+abbrev pub net_of : Options → Option Network
+net_of options = net_named options.racks options.hosts options.cores
+
+abbrev pub asked_to_audit : Option Options → Option Asked
+asked_to_audit None = None
+asked_to_audit (Some options) = if names_a_run options then None else option_map (λ net. audits net (unwrap_or options.batch 8)) (net_of options)
+
+-- what words ask for, where they are accepted: `audit` and then pairs; or `plan`, `replay`, or `make` and a number, and then pairs
 abbrev pub asked_of : List (List ℕ) → Option Asked
 asked_of [] = None
 asked_of (word ∷ words) =
-    if is_word (codes "make") word then asked_to_make words
-    else asked_with (option_map Read (command_of word)) (options_of words no_options)
+    if is_word (codes "audit") word then asked_to_audit (options_of words no_options)
+    else (if is_word (codes "make") word then asked_to_make words
+    else asked_with (option_map Read (command_of word)) (options_of words no_options))
 
 -- the same of a task
+abbrev pub asked_by : Input → Sizes → AskedOfTrace
+asked_by input sizes = record { input = input; b = sizes.b; g = sizes.g; workers = sizes.workers; paths = sizes.paths }
+
 abbrev pub asked_in : Task → Asked
-asked_in task = record { input = task.input; b = task.sizes.b; g = task.sizes.g; workers = task.sizes.workers; paths = task.sizes.paths }
+asked_in (task.Write input sizes) = writes (asked_by input sizes)
+asked_in (task.Audit net b) = audits net b
+
+-- a run has sizes
+abbrev pub HasSizes : Task → Type 0
+HasSizes (task.Write input sizes) = AreSizes sizes
+HasSizes (task.Audit net b) = Unit {0}
 
 -- the options that are named are within their limits
 pub record AreWithin (options : Options) : Type 0 where

@@ -1,35 +1,46 @@
-//! The whole program: words, a trace that is read or made, plan or replay, and text, over any source, sinks and gate.
+//! The whole program: words, a trace that is read or made, plan or replay, and text, or a text that is audited, over any source,
+//! sinks and gate.
 //!
 //! The schedule theorem. For every accepted trace and any number of path workers, what `replay` writes shows a schedule that is
 //! the one-thread greedy allocation of the demand batches that the run of the trace records: every slot a matching that no waiting
 //! demand could join, on paths that share no directed link; endpoints send only in scheduled slots, each at most once; and each
 //! flow's recorded demand is its slots acknowledged, in flight and pending, lost slots pending again. `plan` shows the same of the
 //! asks of each round, where each flow's demand is its slots allocated and pending; `make` writes the sums of the counts of such a
-//! replay. Where a write fails or memory is wanting, a front of such a text is written. It is the contract of `run`
-//! (`Runs`, in specs/Run.antt).
+//! replay; and `audit` tells of any text, whatever trace it was made from, its first bad line, or that it shows such a schedule.
+//! Where a write fails or memory is wanting, a front of such a text is written. It is the contract of `run` (`Runs`, in
+//! specs/Run.antt).
 #![tactic(auto)]
 
-ghost use Rattle.run_lines.specs.Content.{sink_content};
-ghost use Rattle.fastpass_run.specs.Outside.{outside};
-ghost use Rattle.fastpass_run.specs.Words.{texts};
+ghost use Rattle.std.specs.Prelude.{◌≡◌, ℕ, List, [], ◌∷◌, Some};
+ghost use Rattle.text_output.specs.Content.{sink_content};
+ghost use Rattle.run_text.specs.Sizes.{AreSizes};
+ghost use Rattle.fastpass_run.specs.Outside.{outside, IsUnread};
+ghost use Rattle.fastpass_run.specs.Statuses.{IsAmong};
+ghost use Rattle.fastpass_run.specs.Words.{texts, asked_of, asked_by};
+ghost use Rattle.fastpass_run.specs.Words.Asked.{writes};
 ghost use Rattle.fastpass_run.specs.Run.{Runs, EndsBy, ReadsNothing, status_of};
+ghost use Rattle.fastpass_run.specs.declared.words.Input.TheVariants.{Made};
 
+mod audits;
 mod outcome;
 mod transfer;
 mod words;
 
+use crate::audits::audit_text;
 use crate::outcome::Failure;
-use crate::words::Input;
+use crate::words::{Input, Task};
 use fp_edge::{Gate, Sink, Source};
-use run_text::{write_made, write_plan, write_replay};
+use run_text::{Sizes, write_made, write_plan, write_replay};
+use schedule_audit::each_text_has_one_reading;
 use std::alloc::Global;
 use std::sync::Wait;
 use std::thread::Threads;
 use trace_text::{Command, read_trace};
 
-/// Does what the words ask for: reads the whole trace, or makes one, and then writes the text. The status is 0, or 1 where the
-/// words are refused, 2 where a row is faulty, 3 and 4 where a read or a write failed, 5 for want of memory, and 6 where the trace
-/// has more than 67,108,864 bytes; all but 0 write a line to `notes`, whose own faults are passed over. `make` reads nothing.
+/// Does what the words ask for: reads the whole trace, or makes one, and then writes the text; or reads and audits a text. The
+/// status is 0, or 1 where the words are refused, 2 where a row is faulty, 3 and 4 where a read or a write failed, 5 for want of
+/// memory, 6 where the input has more than 67,108,864 bytes, and 7 where a line of an audited text is bad; all but 0 write a line
+/// to `notes`, whose own faults are passed over. `make` reads nothing.
 pub fn run<R: Threads + Wait + Sync, S: Source, O: Sink, N: Sink, G: Gate + Sync>(
     rt: &R,
     alloc: Global,
@@ -42,6 +53,7 @@ pub fn run<R: Threads + Wait + Sync, S: Source, O: Sink, N: Sink, G: Gate + Sync
     ensures { Runs (texts words.now) (outside S.Source O.Sink src.old out.old) (outside S.Source O.Sink src.new out.new)
         (sink_content N.Sink notes.old) (sink_content N.Sink notes.new) result }
 {
+    each_text_has_one_reading();
     let outcome = perform(rt, gate, alloc, words, src, out);
     let _ = outcome::note(notes, outcome);
     outcome::status(outcome)
@@ -63,15 +75,37 @@ fn perform<R: Threads + Wait + Sync, S: Source, O: Sink, G: Gate + Sync>(
     let Some(task) = words::read_task(words) else {
         return Err(Failure::Words);
     };
-    let command = match task.input {
-        Input::Made(number) => return Ok(write_made(rt, gate, alloc, number, task.sizes, out)?),
+    match task {
+        Task::Write { input, sizes } => write_text(rt, gate, alloc, input, sizes, src, out),
+        Task::Audit { net, b } => audit_text(alloc, net, b, src, out),
+    }
+}
+
+/// Writes the text of a trace, which is read or made.
+fn write_text<R: Threads + Wait + Sync, S: Source, O: Sink, G: Gate + Sync>(
+    rt: &R,
+    gate: &G,
+    alloc: Global,
+    input: Input,
+    sizes: Sizes,
+    src: &mut S,
+    out: &mut O,
+) -> Result<(), Failure>
+    requires { AreSizes sizes }
+    ensures ends { (words : List (List ℕ)) → asked_of words ≡ Some (writes (asked_by input sizes)) → EndsBy words
+        (outside S.Source O.Sink src.old out.old) (outside S.Source O.Sink src.new out.new) result }
+    ensures reads_nothing { (number : ℕ) → input ≡ Made number →
+        IsUnread (outside S.Source O.Sink src.old out.old) (outside S.Source O.Sink src.new out.new) × IsAmong (status_of result) (0 ∷ 4 ∷ 5 ∷ []) }
+{
+    let command = match input {
+        Input::Made(number) => return Ok(write_made(rt, gate, alloc, number, sizes, out)?),
         Input::Read(command) => command,
     };
     let text = transfer::read_all(alloc, src)?;
     let trace = read_trace(alloc, &text, command)?;
     drop(text);
     match command {
-        Command::Plan => Ok(write_plan(rt, gate, alloc, &trace, task.sizes, out)?),
-        Command::Replay => Ok(write_replay(rt, gate, alloc, &trace, task.sizes, out)?),
+        Command::Plan => Ok(write_plan(rt, gate, alloc, &trace, sizes, out)?),
+        Command::Replay => Ok(write_replay(rt, gate, alloc, &trace, sizes, out)?),
     }
 }

@@ -1,7 +1,7 @@
 ghost use Rattle.std.specs.Prelude.{◌≡◌, ◌<◌, ◌≤◌, ◌^◌, Some, IfSome, option_map};
-ghost use Rattle.run_text.specs.Sizes.{AreSizes};
-ghost use Rattle.fastpass_run.specs.Words.{texts, asked_of, asked_in, asked_with, command_of, options_of, no_options, with_option, plain_up_to, any_number, AreWithin};
+ghost use Rattle.fastpass_run.specs.Words.{texts, asked_of, asked_in, asked_with, asked_to_audit, command_of, options_of, no_options, with_option, names_a_net, names_a_run, net_of, plain_up_to, any_number, AreWithin, HasSizes};
 
+use clos_topology::Net;
 use run_text::Sizes;
 use trace_text::Command;
 
@@ -29,6 +29,9 @@ const PATHS: u8 = 2;
 /// The most path workers.
 const MOST_PATHS: u32 = 16;
 
+/// The most racks, hosts of a rack, and cores.
+const MOST_OF_NET: u32 = 64;
+
 /// Where the trace comes from: its rows are read for a command, or a number makes it and it is replayed.
 #[derive(Clone, Copy, Debug)]
 pub(crate) enum Input {
@@ -36,11 +39,12 @@ pub(crate) enum Input {
     Made(u32),
 }
 
-/// What the words ask for: an input, and the sizes of the run.
+/// What the words ask for: the text of a trace, in a run of these sizes; or the audit of a text, of a network and batches of `b`
+/// slots.
 #[derive(Clone, Copy, Debug)]
-pub(crate) struct Task {
-    pub(crate) input: Input,
-    pub(crate) sizes: Sizes,
+pub(crate) enum Task {
+    Write { input: Input, sizes: Sizes },
+    Audit { net: Net, b: u8 },
 }
 
 /// The options that were named so far.
@@ -50,17 +54,47 @@ struct Options {
     window: Option<u8>,
     workers: Option<u8>,
     paths: Option<u8>,
+    racks: Option<u16>,
+    hosts: Option<u16>,
+    cores: Option<u16>,
 }
 
-/// What the words ask for: `plan`, `replay`, or `make` and a number, and then `--batch n`, `--window n`, `--workers n` and `--paths n`,
-/// in any order and each at most once. None where they are refused.
+impl Options {
+    /// Whether one is named that tells how a trace is run.
+    fn names_a_run(self) -> bool
+        ensures { result ≡ names_a_run self }
+    {
+        self.window.is_some() || self.workers.is_some() || self.paths.is_some()
+    }
+
+    /// Whether one is named that tells a network.
+    fn names_a_net(self) -> bool
+        ensures { result ≡ names_a_net self }
+    {
+        self.racks.is_some() || self.hosts.is_some() || self.cores.is_some()
+    }
+
+    /// The network whose three numbers are named, if they are and there is one.
+    fn net(self) -> Option<Net>
+        ensures { result ≡ net_of self }
+    {
+        Net::new(self.racks?, self.hosts?, self.cores?).ok()
+    }
+}
+
+/// What the words ask for: `plan`, `replay`, or `make` and a number, and then `--batch n`, `--window n`, `--workers n` and `--paths n`;
+/// or `audit`, and then `--racks n`, `--hosts n`, `--cores n` and, if need be, `--batch n`: in any order and each at most once. None
+/// where they are refused.
 pub(crate) fn read_task(words: &[&str]) -> Option<Task>
     ensures asked { option_map asked_in result ≡ asked_of (texts words.now) }
-    ensures within { IfSome result (λ task. AreSizes task.sizes) }
+    ensures within { IfSome result HasSizes }
 {
     let [word, rest @ ..] = words else {
         return None;
     };
+    if *word == "audit" {
+        return audit(rest);
+    }
     if *word != "make" {
         return with_options(Input::Read(command(word)?), rest);
     }
@@ -73,10 +107,13 @@ pub(crate) fn read_task(words: &[&str]) -> Option<Task>
 /// What is asked of an input by the pairs that follow it.
 fn with_options(input: Input, pairs: &[&str]) -> Option<Task>
     ensures asked { option_map asked_in result ≡ asked_with (Some input) (options_of (texts pairs.now) no_options) }
-    ensures within { IfSome result (λ task. AreSizes task.sizes) }
+    ensures within { IfSome result HasSizes }
 {
     let options = read_options(pairs)?;
-    Some(Task {
+    if options.names_a_net() {
+        return None;
+    }
+    Some(Task::Write {
         input,
         sizes: Sizes {
             b: options.batch.unwrap_or(BATCH),
@@ -84,6 +121,21 @@ fn with_options(input: Input, pairs: &[&str]) -> Option<Task>
             workers: options.workers.unwrap_or(WORKERS),
             paths: options.paths.unwrap_or(PATHS),
         },
+    })
+}
+
+/// The audit that is asked for by the pairs that follow its word.
+fn audit(pairs: &[&str]) -> Option<Task>
+    ensures asked { option_map asked_in result ≡ asked_to_audit (options_of (texts pairs.now) no_options) }
+    ensures within { IfSome result HasSizes }
+{
+    let options = read_options(pairs)?;
+    if options.names_a_run() {
+        return None;
+    }
+    Some(Task::Audit {
+        net: options.net()?,
+        b: options.batch.unwrap_or(BATCH),
     })
 }
 
@@ -106,6 +158,9 @@ fn read_options(pairs: &[&str]) -> Option<Options>
         window: None,
         workers: None,
         paths: None,
+        racks: None,
+        hosts: None,
+        cores: None,
     };
     let mut rest = pairs;
     while !rest.is_empty() {
@@ -149,6 +204,27 @@ fn with_option(name: &str, value: &str, options: Options) -> Option<Options>
         let paths = plain_number(value, MOST_PATHS)? as u8;
         return Some(Options {
             paths: Some(paths),
+            ..options
+        });
+    }
+    if name == "--racks" && options.racks.is_none() {
+        let racks = plain_number(value, MOST_OF_NET)? as u16;
+        return Some(Options {
+            racks: Some(racks),
+            ..options
+        });
+    }
+    if name == "--hosts" && options.hosts.is_none() {
+        let hosts = plain_number(value, MOST_OF_NET)? as u16;
+        return Some(Options {
+            hosts: Some(hosts),
+            ..options
+        });
+    }
+    if name == "--cores" && options.cores.is_none() {
+        let cores = plain_number(value, MOST_OF_NET)? as u16;
+        return Some(Options {
+            cores: Some(cores),
             ..options
         });
     }

@@ -1,8 +1,10 @@
 use Rattle.std.proofs.Common.{ℕ, List, sym, subst}
+use Rattle.fastpass_run.specs.Audits.{AuditEnds}
 use Rattle.fastpass_run.specs.Outside.{Outside, outside}
 use Rattle.fastpass_run.specs.Run.{Completes, TellsFaults, TellsExcess, ReadsNothing, status_of}
 use Rattle.fastpass_run.specs.Words.{texts}
 use Rattle.fastpass_run.proofs.RunLemmas.{noted, completes, tells_faults, tells_excess}
+use Rattle.fastpass_run.proofs.AuditLemmas.{audit_ends}
 use Rattle.fastpass_run.proofs.run.Goals as goal
 
 pub returns : goal.returns
@@ -21,4 +23,5 @@ returns g c =
       tells_faults = told (TellsFaults words old) (tells_faults words old new c.perform-outcome.result ends);
       tells_excess = told (TellsExcess words old) (tells_excess words old new c.perform-outcome.result ends);
       reads_nothing = told (ReadsNothing words old new) c.perform-outcome.ensures.reads_nothing;
+      audit_ends = told (AuditEnds words old) (audit_ends c.each_text_has_one_reading.ensures words old new c.perform-outcome.result ends);
     }

@@ -1,4 +1,5 @@
-use Rattle.std.proofs.Common.{◌≡◌, ◌≤◌, ◌-◌, ℕ, List, [], ◌∷◌, length, get_or, map, take, drop, Bor, Some, ap, ◌∙◌, arith}
+use Rattle.std.proofs.Common.{◌≡◌, ◌≤◌, ◌<◌, ◌-◌, ℕ, ◌==◌, false, List, [], ◌∷◌, length, get_or, map, take, drop, Bor, None, Some, refl, sym, ap, ◌∙◌, arith}
+use Rattle.std.proofs.lemmas.Bool.{false≢true}
 use Rattle.std.proofs.lemmas.List.{take_all}
 use Rattle.fastpass_run.specs.declared.words.Options.{Options}
 use Rattle.fastpass_run.specs.Words.{options_of, options_then, with_option}
@@ -17,3 +18,12 @@ loop-rest-preserved c = record {
   same = one_pair c.loop-rest.rest.now c.loop-rest.options c.in_ok-options.options _ c.in-len2-up.len_at_least c.in_ok-options.ensures.option ∙ c.loop-rest.invariant.same;
   within = c.in_ok-options.ensures.within;
 }
+
+-- a word alone is no pair
+alone : (rest : List (Bor (List ℕ))) (options : Options) → (length rest == 0) ≡ false → length rest < 2 → None ≡ options_of (map (λ (word : Bor (List ℕ)). word.now) rest) options
+alone [] options some few = absurd (false≢true (sym some))
+alone (name ∷ []) options some few = refl
+alone (name ∷ (value ∷ more)) options some few = absurd (omega (arith, few))
+
+pub returns-in_default-clause-options : goal.returns-in_default-clause-options
+returns-in_default-clause-options c = alone c.loop-rest.rest.now c.loop-rest.options (sym c.is_empty.ensures ∙ c.loop-rest-test.true) c.in_default.len_below ∙ c.loop-rest.invariant.same
