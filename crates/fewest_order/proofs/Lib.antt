@@ -2,3 +2,5 @@ mod ServeLemmas
 mod UnservedLemmas
 mod BarLemmas
 mod RowLemmas
+mod PartLemmas
+mod FewestLemmas

@@ -1,2 +1,3 @@
 pub mod Orders
 pub mod KeptOut
+pub mod FewestFirst

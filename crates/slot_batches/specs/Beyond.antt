@@ -69,8 +69,8 @@ abbrev pub IsInFront : (Item → Bool) → List Item → Flow → Type 0
 IsInFront aside list flow =
     (stands_in_front aside list flow ≡ true) ⊎ ((is_listed list flow ≡ false) × All (λ item. aside item ≡ true → was_served item ≡ false → item.need ≡ 0) list)
 
--- in each batch of a window that runs over the rest: (a) and (b), whoever is served in it was served in none of the earlier
--- slots of the window, and stood in front; (c), whoever is set aside needs nothing, or is barred in each slot
+-- in each batch of a window that runs over the rest: whoever is served in it was served in none of the earlier slots of the
+-- window, and stood in front; and whoever is set aside needs nothing, or is barred in each slot
 abbrev pub AreBarredByTheFront : (b k : ℕ) (aside : Item → Bool) (list : List Item) (earlier : List (List Flow)) (rest : List Item) → List DemandBatch → Type 0
 AreBarredByTheFront b k aside list earlier rest [] = Unit {0}
 AreBarredByTheFront b k aside list earlier rest (batch ∷ batches) =

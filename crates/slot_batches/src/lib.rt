@@ -12,6 +12,7 @@ mod piece;
 mod resting;
 mod served;
 mod stage;
+mod turns;
 
 pub use array_stage::give_items;
 pub use flow_marks::FlowMarks;
@@ -22,6 +23,9 @@ pub use laws::{
     items_may_be_set_aside, lists_may_be_fed, served_fit_places, served_items_follow,
     settled_items_count_as_fed, small_batches,
 };
+pub use marks::mark_entries;
 pub use no_memory::NoMemory;
+pub use opening::with_entry;
 pub use piece::Piece;
 pub use stage::Stage;
+pub use turns::Turns;

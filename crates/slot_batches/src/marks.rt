@@ -76,7 +76,7 @@ fn mark(words: &mut [u64], flow: Flow)
 }
 
 /// Marks the flows of the batch's entries, and perhaps others.
-pub(crate) fn mark_entries(words: &mut [u64], batch: &Batch)
+pub fn mark_entries(words: &mut [u64], batch: &Batch)
     ensures marked { AreMarked batch.now.entries words.new }
     ensures count { length words.new ≡ length words.old }
 {

@@ -13,7 +13,7 @@ use batch_lookup::BatchLookup;
 use greedy_rules::{Batch, Entry, Item};
 
 /// The item with the batch's entry of its flow applied, if there is one; only a marked flow is looked up.
-pub(crate) fn with_entry(item: Item, batch: &Batch, marks: &[u64]) -> Item
+pub fn with_entry(item: Item, batch: &Batch, marks: &[u64]) -> Item
     requires marks { AreMarked batch.now.entries marks.now }
     requires need { need_with (entry_of batch.now.entries item.flow) item.need < 2 ^ 32 }
     ensures { result ≡ with_batch batch.now.entries item }

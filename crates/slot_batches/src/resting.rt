@@ -43,7 +43,7 @@ fn wanted(filling: &Filling, item: &Item) -> u64
 }
 
 /// Whether none of four items takes a slot, as far as this is seen at once; what they need is looked at first.
-fn four_take_none(filling: &Filling, four: &[Item]) -> bool
+pub(crate) fn four_take_none(filling: &Filling, four: &[Item]) -> bool
     requires below { AreBelow filling.now.maps.endpoints four.now }
     requires four { length four.now ≡ 4 }
     ensures { result ≡ true → All (TakesNone filling.now.maps) four.now }

@@ -1,0 +1,17 @@
+use Rattle.std.proofs.Common.{◌≡◌, ◌+◌, ◌-◌, ℕ, All, drop, take, subst, arith}
+use Rattle.greedy_rules.specs.declared.flows.Item.{Item}
+use Rattle.slot_batches.specs.Rests.{TakesNone}
+use Rattle.slot_batches.proofs.DoubtLemmas.{front_on}
+use Rattle.slot_batches.proofs.turns.idle_front.Goals as goal
+
+pub loop-at-preserved : goal.loop-at-preserved
+loop-at-preserved c =
+    let items = c.args.items.now in
+    let at : ℕ = c.loop-at.at in
+    let four : at + 4 - at ≡ 4 = omega arith in
+    let P : Item → Type 0 = TakesNone c.args.filling.now.maps in
+    record {
+      within = omega (arith, c.loop-at-test.true);
+      none = front_on P items at 4 c.loop-at.invariant.none
+          (subst (λ (n : ℕ). All P (take n (drop at items))) four (c.four_take_none.ensures c.if-four_take_none.true));
+    }
