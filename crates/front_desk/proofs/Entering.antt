@@ -11,7 +11,7 @@ use Rattle.endpoint_history.specs.Entries.{had, is_reset, added, entry_of}
 use Rattle.front_desk.specs.State.{LineState, recorded_line}
 use Rattle.front_desk.specs.declared.progress.Progress.TheVariants.{Closed}
 use Rattle.front_desk.specs.Answers.{calls_of, entries_of, entries_from}
-use Rattle.front_desk.proofs.Lines.{some_same}
+use Rattle.front_desk.proofs.Polls.{some_same}
 
 -- ---- they lie below the next endpoint
 

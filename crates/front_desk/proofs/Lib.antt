@@ -2,5 +2,7 @@ mod Arriving
 pub mod Crossing
 mod Entering
 mod Lines
+pub mod Polls
 mod Reading
 mod Twos
+mod Windows

@@ -1,16 +1,14 @@
 -- The lines of a desk, by the places of their endpoints.
 use Rattle.std.proofs.Common.{◌≡◌, ℕ, zero, suc, ◌+◌, ◌<◌, ◌⊎◌, List, [], ◌∷◌, ◌++◌, length, map, set, take, drop, get_or, Some, slice_get, option_map, sym, ◌∙◌, ap, subst, refl, inl, inr, arith}
-use Rattle.std.proofs.lemmas.List.{map-set, append-nil, length_push}
+use Rattle.std.proofs.lemmas.List.{map-set, length_push}
 use Rattle.std.proofs.lemmas.Option.{slice_get-map, slice_get_read, slice_get_within}
 use mathlib.Core.List.{IsPrefix}
 use Rattle.rtrb.specs.Ring.{received}
 use Rattle.front_desk.specs.declared.line.Line.{Line}
 use Rattle.front_desk.specs.declared.progress.Progress.TheVariants.{Closed}
-use Rattle.front_desk.specs.State.{RingName, LineState, SeatState, MayTakeMore, HavePolled, opened_line, opened_seat, opened_seats}
+use Rattle.front_desk.specs.State.{RingName, LineState, SeatState, opened_line, opened_seat, opened_seats}
 use Rattle.front_desk.specs.Standing.{IsLine, AreLines, state_of}
-
-pub some_same : {X : Type 0} (x y : X) → Some x ≡ Some y → x ≡ y
-some_same x y is = cc
+use Rattle.front_desk.proofs.Polls.{some_same}
 
 -- ---- one line
 
@@ -84,31 +82,6 @@ pub stand-written : (items new : List Line) (count : ℕ) → count ≡ length i
     → AreLines (length (take count (new ++ drop (length new) items))) (take count (new ++ drop (length new) items))
 stand-written items new count is same stand =
     subst (λ (lines : List Line). AreLines (length lines) lines) (sym (written items new count is same)) (subst (λ n. AreLines n new) (sym same) stand)
-
--- ---- a pass over all
-
-pub polled-same : (states : List LineState) → HavePolled states states
-polled-same [] = tt
-polled-same (s ∷ states) = (record { frame = refl; more = ([], append-nil s.taken); open_only = λ _. refl }, polled-same states)
-
-append_assoc_to : (xs ys zs : List (List ℕ)) → xs ++ (ys ++ zs) ≡ (xs ++ ys) ++ zs
-append_assoc_to [] ys zs = refl
-append_assoc_to (x ∷ xs) ys zs = ap (λ (r : List (List ℕ)). x ∷ r) (append_assoc_to xs ys zs)
-
-pub take_more-then : (a b c : LineState) → MayTakeMore a b → MayTakeMore b c → MayTakeMore a c
-take_more-then a b c first then = record {
-  frame = then.frame ∙ ap (λ (s : LineState). record s { taken = c.taken }) first.frame;
-  more = (first.more.0 ++ then.more.0, append_assoc_to a.taken first.more.0 then.more.0 ∙ (ap (λ (xs : List (List ℕ)). xs ++ then.more.0) first.more.1 ∙ then.more.1));
-  open_only = λ closed. then.open_only (λ is. closed (sym (ap (λ (s : LineState). s.progress) first.frame) ∙ is)) ∙ first.open_only closed;
-}
-
-pub polled-then : (first states : List LineState) (at : ℕ) (old new : LineState) → HavePolled first states → slice_get states at ≡ Some old → MayTakeMore old new → HavePolled first (set states at new)
-polled-then [] [] at old new polled here more = tt
-polled-then [] (s ∷ states) at old new polled here more = absurd polled
-polled-then (f ∷ first) [] at old new polled here more = absurd polled
-polled-then (f ∷ first) (s ∷ states) zero old new polled here more =
-    (take_more-then f s new polled.0 (subst (λ (x : LineState). MayTakeMore x new) (sym (some_same s old here)) more), polled.1)
-polled-then (f ∷ first) (s ∷ states) (suc at) old new polled here more = (polled.0, polled-then first states at old new polled.1 here more)
 
 -- ---- all that are opened
 

@@ -1,11 +1,10 @@
 -- A desk for two endpoints; for tests alone.
-use Rattle.std.proofs.Common.{◌≡◌, ℕ, suc, List, [], ◌∷◌, ◌++◌, length, map, set, Option, Some, slice_get, option_to_list, All, sym, ◌∙◌, ap, subst, refl, arith}
+use Rattle.std.proofs.Common.{◌≡◌, ℕ, List, [], ◌∷◌, ◌++◌, length, map, set, Option, Some, slice_get, option_to_list, All, sym, ◌∙◌, ap, subst, refl, arith}
 use Rattle.std.proofs.lemmas.List.{same_from_push}
 use Rattle.std.proofs.lemmas.List.Elements.{All-nil, All-cons}
 use Rattle.front_desk.specs.declared.progress.Progress.TheVariants.{Closed}
-use Rattle.front_desk.specs.State.{RingName, LineState, SeatState, AreOpened, HavePolled, opened_line, opened_seat, opened_seats}
+use Rattle.front_desk.specs.State.{RingName, LineState, SeatState, AreOpened, opened_line, opened_seat, opened_seats}
 use Rattle.front_desk.specs.Examples.{AreOpenForTwo}
-use Rattle.front_desk.proofs.Lines.{take_more-then}
 
 -- ---- it is opened
 
@@ -38,21 +37,6 @@ pub opened : (desk : List LineState) (seats after rest : List SeatState) (first 
 opened desk seats after rest first second one other are last next is_first is_second =
     opened-two desk seats after rest first second are.rings are.each are.lines are.seats_are
     (last ∙ ap (λ o. after ++ option_to_list o) is_second) (next ∙ ap (λ o. rest ++ option_to_list o) is_first)
-
--- ---- it is polled
-
-pub polled-length : (old new : List LineState) → HavePolled old new → length new ≡ length old
-polled-length [] [] polled = refl
-polled-length [] (b ∷ new) polled = absurd polled
-polled-length (a ∷ old) [] polled = absurd polled
-polled-length (a ∷ old) (b ∷ new) polled = ap suc (polled-length old new polled.1)
-
-pub polled-twice : (a b c : List LineState) → HavePolled a b → HavePolled b c → HavePolled a c
-polled-twice [] [] c first then = then
-polled-twice [] (y ∷ b) c first then = absurd first
-polled-twice (x ∷ a) [] c first then = absurd first
-polled-twice (x ∷ a) (y ∷ b) [] first then = absurd then
-polled-twice (x ∷ a) (y ∷ b) (z ∷ c) first then = (take_more-then x y z first.0 then.0, polled-twice a b c first.1 then.1)
 
 -- ---- it is closed
 

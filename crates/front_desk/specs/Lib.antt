@@ -1,4 +1,5 @@
 pub mod State
 pub mod Answers
 pub mod Standing
+pub mod Laws
 pub mod Examples

@@ -11,10 +11,10 @@ use Rattle.loss_world.specs.declared.fate.Fate.TheVariants.{Lose}
 use Rattle.trace_text.specs.Earlier.{is_same_way}
 use Rattle.trace_text.specs.Faults.{is_fate}
 use Rattle.trace_text.specs.Ranks.{has_rank_in}
-use Rattle.trace_text.specs.Events.{AreAmong, IsBootAmong, IsFateAmong, IsWithin, boot_rank, events_kept, fate_rank, is_boot_of, is_fate_of, is_raw_of, packet_of, raw_rank, way_number, raw_start}
+use Rattle.trace_text.specs.Events.{AreAmong, IsBootAmong, IsFateAmong, IsWithin, boot_rank, events_kept, fate_rank, is_boot_of, is_fate_of, is_packet_of, packet_of, packet_rank, way_number, packet_start}
 use Rattle.trace_text.specs.declared.events.GivenFate.{GivenFate}
 use Rattle.trace_text.specs.declared.events.Boot.{Boot}
-use Rattle.trace_text.specs.declared.events.RawPacket.{RawPacket}
+use Rattle.trace_text.specs.declared.packets.KeptPacket.{KeptPacket}
 use Rattle.trace_text.proofs.RankFacts.{filter-filter}
 use mathlib.Core.Path.{fun_ext}
 
@@ -97,12 +97,12 @@ pub boots-of : (n : ℕ) (boots : List Boot) (round endpoint : ℕ) → n ≤ 25
 boots-of n boots round endpoint few low among =
     filter-same _ (is_boot_of round endpoint) boots (λ k d lt. boot-rank round endpoint (get_or boots k d) (omega arith) (let here = (among k d lt).0 in omega arith))
 
-pub raws-of : (raws : List RawPacket) (round : ℕ) → filter (has_rank_in raw_rank round (round + 1)) raws ≡ filter (is_raw_of round) raws
-raws-of raws round = filter_agree (has_rank_in raw_rank round (round + 1)) (is_raw_of round) (λ raw. grind (arith, nat_tests)) raws
+pub packets-of : (raws : List KeptPacket) (round : ℕ) → filter (has_rank_in packet_rank round (round + 1)) raws ≡ filter (is_packet_of round) raws
+packets-of raws round = filter_agree (has_rank_in packet_rank round (round + 1)) (is_packet_of round) (λ raw. grind (arith, nat_tests)) raws
 
 -- the order in which they are kept changes nothing of what is told
-pub events-ordered : (fates fates2 : List GivenFate) (boots boots2 : List Boot) (raws raws2 : List RawPacket) (bytes : List ℕ)
-    → IsStableByKey fate_rank nat_cmp fates fates2 → IsStableByKey boot_rank nat_cmp boots boots2 → IsStableByKey raw_rank nat_cmp raws raws2
+pub events-ordered : (fates fates2 : List GivenFate) (boots boots2 : List Boot) (raws raws2 : List KeptPacket) (bytes : List ℕ)
+    → IsStableByKey fate_rank nat_cmp fates fates2 → IsStableByKey boot_rank nat_cmp boots boots2 → IsStableByKey packet_rank nat_cmp raws raws2
     → events_kept fates2 boots2 raws2 bytes ≡ events_kept fates boots raws bytes
 events-ordered fates fates2 boots boots2 raws raws2 bytes stable stable2 stable3 =
     ap (λ f. record { fates = f; boots = (events_kept fates2 boots2 raws2 bytes).boots; raw = (events_kept fates2 boots2 raws2 bytes).raw })
@@ -124,8 +124,8 @@ events-ordered fates fates2 boots boots2 raws raws2 bytes stable stable2 stable3
     boot-part : (round endpoint : ℕ) → filter (is_boot_of round endpoint) boots2 ≡ filter (is_boot_of round endpoint) boots
     boot-part round endpoint = stable-part boot_rank (is_boot_of round endpoint) (record { round = round; endpoint = endpoint; version = 0 }) boots boots2 stable2 (λ x e. grind (arith, nat_tests))
 
-    raw-part : (round : ℕ) → filter (is_raw_of round) raws2 ≡ filter (is_raw_of round) raws
-    raw-part round = stable-part raw_rank (is_raw_of round) (record { round = round; low = 0; high = 0; size = 0 }) raws raws2 stable3 (λ x e. grind (arith, nat_tests))
+    raw-part : (round : ℕ) → filter (is_packet_of round) raws2 ≡ filter (is_packet_of round) raws
+    raw-part round = stable-part packet_rank (is_packet_of round) (record { key = round; low = 0; high = 0; size = 0 }) raws raws2 stable3 (λ x e. grind (arith, nat_tests))
 
 -- what holds of each holds of what is told of some
 first-told : {X Y : Type 0} (P : Y → Type 0) (f : X → Y) (p : X → Bool) (xs : List X) → All (λ x. P (f x)) xs → IfSome (slice_get (map f (filter p xs)) 0) P
@@ -150,17 +150,17 @@ holds-told n fates round endpoint up among = first-told (λ (fate : Fate). is_fa
 pub versions-told : (n : ℕ) (boots : List Boot) (round endpoint : ℕ) → All (IsBootAmong n) boots → All (λ version. (1 ≤ version) × (version ≤ 2)) (map (λ boot. boot.version) (filter (is_boot_of round endpoint) boots))
 versions-told n boots round endpoint among = all-told (λ version. (1 ≤ version) × (version ≤ 2)) (λ (boot : Boot). boot.version) (is_boot_of round endpoint) boots (λ k d lt. let here = among k d lt in (here.1, here.2))
 
-pub short-told : (bytes : List ℕ) (raws : List RawPacket) (round : ℕ) → All (IsWithin (length bytes)) raws → All (λ packet. length packet ≤ 2048) (map (packet_of bytes) (filter (is_raw_of round) raws))
+pub short-told : (bytes : List ℕ) (raws : List KeptPacket) (round : ℕ) → All (IsWithin (length bytes)) raws → All (λ packet. length packet ≤ 2048) (map (packet_of bytes) (filter (is_packet_of round) raws))
 short-told bytes raws round among =
-    all-told (λ (packet : List ℕ). length packet ≤ 2048) (packet_of bytes) (is_raw_of round) raws
-    (λ k d lt. let raw = get_or raws k d in let here = (among k d lt).1 in omega (arith, length-take raw.size (drop (raw_start raw) bytes)))
+    all-told (λ (packet : List ℕ). length packet ≤ 2048) (packet_of bytes) (is_packet_of round) raws
+    (λ k d lt. let raw = get_or raws k d in let here = (among k d lt).1 in omega (arith, length-take raw.size (drop (packet_start raw) bytes)))
 
-pub bytes-told : (bytes : List ℕ) (raws : List RawPacket) (round : ℕ) → All (λ byte. byte < 256) bytes → All (All (λ byte. byte < 256)) (map (packet_of bytes) (filter (is_raw_of round) raws))
+pub bytes-told : (bytes : List ℕ) (raws : List KeptPacket) (round : ℕ) → All (λ byte. byte < 256) bytes → All (All (λ byte. byte < 256)) (map (packet_of bytes) (filter (is_packet_of round) raws))
 bytes-told bytes raws round are =
-    all-told (All (λ byte. byte < 256)) (packet_of bytes) (is_raw_of round) raws
-    (λ k d lt. let raw = get_or raws k d in All-take (λ byte. byte < 256) raw.size (drop (raw_start raw) bytes) (All-drop (λ byte. byte < 256) (raw_start raw) bytes are))
+    all-told (All (λ byte. byte < 256)) (packet_of bytes) (is_packet_of round) raws
+    (λ k d lt. let raw = get_or raws k d in All-take (λ byte. byte < 256) raw.size (drop (packet_start raw) bytes) (All-drop (λ byte. byte < 256) (packet_start raw) bytes are))
 
-pub among-permuted : (n : ℕ) (fates fates2 : List GivenFate) (boots boots2 : List Boot) (raws raws2 : List RawPacket) (bytes : List ℕ)
+pub among-permuted : (n : ℕ) (fates fates2 : List GivenFate) (boots boots2 : List Boot) (raws raws2 : List KeptPacket) (bytes : List ℕ)
     → IsPermutation fates fates2 → IsPermutation boots boots2 → IsPermutation raws raws2 → AreAmong n fates boots raws bytes → AreAmong n fates2 boots2 raws2 bytes
 among-permuted n fates fates2 boots boots2 raws raws2 bytes p q r among = record {
   each_fate = All-permutation (IsFateAmong n) fates fates2 p among.each_fate;

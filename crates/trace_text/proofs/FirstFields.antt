@@ -1,6 +1,6 @@
 -- The first fields of a record tell what a row is.
-use Rattle.std.proofs.Common.{◌≡◌, ℕ, ◌+◌, ◌<◌, ◌≤◌, List, [], ◌∷◌, ◌++◌, length, Bool, true, false, cond, Option, Some, None, Result, Ok, Err, refl, sym, ap, ◌∙◌, inl, inr, arith, length-take, length-append}
-use Rattle.std.specs.Prelude.{◌==◌, ◌||◌, ◌&&◌, not, codes}
+use Rattle.std.proofs.Common.{◌≡◌, ℕ, ◌<◌, ◌≤◌, List, [], ◌∷◌, ◌++◌, length, false, cond, Option, Some, None, Result, Ok, Err, refl, sym, ap, ◌∙◌, inl, inr, arith, length-take, length-append}
+use Rattle.std.specs.Prelude.{◌&&◌, not, codes}
 use Rattle.std.specs.Str.{bytes_eq}
 use Rattle.std.proofs.lemmas.Bool.{cases_lt}
 use Rattle.std.proofs.lemmas.Bool.Decides.{nat_tests}
@@ -51,6 +51,7 @@ cut-may_have k whole long =
     none kind.Hold n long = grind (arith, nat_tests)
     none kind.Boot n long = grind (arith, nat_tests)
     none kind.Raw n long = grind (arith, nat_tests)
+    none kind.Put n long = grind (arith, nat_tests)
     none kind.End n long = grind (arith, nat_tests)
 
 cut-kind : (command : Command) (before : List Row) (whole : Record) (k : Kind) → 6 ≤ length whole → read_kind command before (cut whole) k ≡ read_kind command before whole k

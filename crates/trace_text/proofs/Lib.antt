@@ -1,3 +1,4 @@
+pub mod Crossing
 mod Digits
 mod CsvFacts
 mod ReaderFacts
@@ -7,6 +8,7 @@ mod FieldFacts
 mod ReadFacts
 mod RowFacts
 mod EventRowFacts
+mod PutFacts
 mod TableFacts
 mod HexFacts
 mod RankFacts

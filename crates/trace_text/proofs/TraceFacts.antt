@@ -5,7 +5,7 @@ use Rattle.trace_text.specs.Fields.{Record}
 use Rattle.trace_text.specs.Rows.{Row}
 use Rattle.trace_text.specs.Earlier.{net_of, end_of, slots_in_round}
 use Rattle.trace_text.specs.Faults.{read_row}
-use Rattle.trace_text.specs.Trace.{TraceContent, IsFaultOf, content_by, content_or_fault, ended, events_of, records_of, rows_after, trace_of}
+use Rattle.trace_text.specs.Trace.{TraceContent, IsFaultOf, content_by, content_or_fault, ended, events_of, puts_of, with_puts, records_of, rows_after, trace_of}
 use Rattle.trace_text.specs.Standing.{Finishes, TakesRow, StandsFor}
 use Rattle.trace_text.specs.Valid.{IsTrace}
 use Rattle.trace_text.specs.declared.command.Command.{Command}
@@ -16,11 +16,11 @@ use Rattle.trace_text.specs.declared.rows.Rows.{Rows}
 
 -- the rows have ended
 pub ended-some : (before : List Row) (rounds : ℕ) → length before ≢ 0 → end_of before ≡ Some rounds
-    → content_or_fault (ended before (end_of before)) ≡ Ok (content_by (net_of before) rounds (λ round src dst. sum_by (slots_in_round round src dst) before) (events_of before))
+    → content_or_fault (ended before (end_of before)) ≡ Ok (with_puts (puts_of before) (content_by (net_of before) rounds (λ round src dst. sum_by (slots_in_round round src dst) before) (events_of before)))
 ended-some [] rounds some e = absurd (some refl)
 ended-some (row ∷ rows) rounds some e =
     ap content_or_fault (ap (ended (row ∷ rows)) e)
-    ∙ ap (λ o. Ok (content_by (net_of (row ∷ rows)) (unwrap_or o 0) (λ round src dst. sum_by (slots_in_round round src dst) (row ∷ rows)) (events_of (row ∷ rows)))) e
+    ∙ ap (λ o. Ok (with_puts (puts_of (row ∷ rows)) (content_by (net_of (row ∷ rows)) (unwrap_or o 0) (λ round src dst. sum_by (slots_in_round round src dst) (row ∷ rows)) (events_of (row ∷ rows))))) e
 
 -- a row was read
 pub rows_after-ok : (command : Command) (fields : Record) (records : List Record) (before : List Row) (row : Row) → read_row command before fields ≡ Ok row

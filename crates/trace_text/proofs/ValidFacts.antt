@@ -14,14 +14,16 @@ use Rattle.clos_topology.specs.Limits.{IsNetwork}
 use Rattle.trace_text.specs.Asks.{IsAmong, slots_asked, slots_for}
 use Rattle.trace_text.specs.Events.{AreAmong, events_kept, is_boot_of}
 use Rattle.trace_text.specs.Faults.{is_fate}
-use Rattle.trace_text.specs.Trace.{Events, of_way, content_by, each_below, table_of, some_below}
+use Rattle.trace_text.specs.Puts.{AreFew, puts_in}
+use Rattle.trace_text.specs.Trace.{TraceContent, Events, of_way, content_by, with_puts, each_below, table_of, some_below}
 use Rattle.trace_text.proofs.ContentFacts.{below-at, below-cases, table-cases}
 use Rattle.loss_world.specs.declared.fate.Fate.{Fate}
 use Rattle.trace_text.specs.Valid.{IsAskList, IsTrace, amount_for, total_asked}
 use Rattle.trace_text.specs.declared.ask.Ask.{Ask}
 use Rattle.trace_text.specs.declared.events.GivenFate.{GivenFate}
 use Rattle.trace_text.specs.declared.events.Boot.{Boot}
-use Rattle.trace_text.specs.declared.events.RawPacket.{RawPacket}
+use Rattle.trace_text.specs.declared.packets.KeptPacket.{KeptPacket}
+use Rattle.trace_text.specs.declared.puts.PutRows.{PutRows}
 use Rattle.trace_text.proofs.AskFacts.{own-none}
 use Rattle.trace_text.proofs.EventFacts.{holds-told, versions-told, short-told, bytes-told}
 use mathlib.Core.Path.{fun_ext}
@@ -213,7 +215,7 @@ total-le endpoints rounds src dst f =
     rw (sum_by-map (λ (l : List (List (ℕ × ℕ))). amount_for dst (get_or l src [])) (λ r. each_below endpoints (some_asked endpoints f r)) (range_with_len 0 rounds))
     (sum_by-below _ _ (range_with_len 0 rounds) (λ r. below-cases (λ l. amount_for dst l ≤ f r src dst) endpoints (some_asked endpoints f r) [] src (omega arith) (some-amount endpoints 0 (f r src) dst).0))
 
-pub content_by-sound : (net : Network) (rounds : ℕ) (asks : List Ask) (fates : List GivenFate) (boots : List Boot) (raws : List RawPacket) (bytes : List ℕ) → IsNetwork net → 1 ≤ rounds → rounds ≤ 100000 → All (IsAmong (endpoints_of net)) asks
+pub content_by-sound : (net : Network) (rounds : ℕ) (asks : List Ask) (fates : List GivenFate) (boots : List Boot) (raws : List KeptPacket) (bytes : List ℕ) → IsNetwork net → 1 ≤ rounds → rounds ≤ 100000 → All (IsAmong (endpoints_of net)) asks
     → ((src dst : ℕ) → sum_by (slots_for src dst) asks ≤ 100000000) → AreAmong (endpoints_of net) fates boots raws bytes → length boots ≤ 67108864 → All (λ byte. byte < 256) bytes
     → IsTrace (content_by net rounds (λ round src dst. sum_by (slots_asked round src dst) asks) (events_kept fates boots raws bytes))
 content_by-sound net rounds asks fates boots raws bytes limits some few among bounded within few_boots are = record {
@@ -237,6 +239,10 @@ content_by-sound net rounds asks fates boots raws bytes limits some few among bo
   few_boots = λ endpoint. omega (arith, boots-all endpoint, boots-le rounds endpoint boots, few_boots);
   short = λ round. below-cases (All (λ packet. length packet ≤ 2048)) rounds events.raw [] round (λ k d lt. absurd (omega arith)) (short-told bytes raws round within.each_raw);
   bytes = λ round. below-cases (All (All (λ byte. byte < 256))) rounds events.raw [] round (λ k d lt. absurd (omega arith)) (bytes-told bytes raws round are);
+  putters = length-map-range_with_len none_put 0 endpoints;
+  few_puts = λ endpoint. below-cases (λ (l : List (List ℕ)). length l ≤ 1024) endpoints none_put [] endpoint (omega arith) (omega arith);
+  short_puts = λ endpoint. below-cases (All (λ packet. length packet ≤ 2048)) endpoints none_put [] endpoint (λ k d lt. absurd (omega arith)) (λ k d lt. absurd (omega arith));
+  put_bytes = λ endpoint. below-cases (All (All (λ byte. byte < 256))) endpoints none_put [] endpoint (λ k d lt. absurd (omega arith)) (λ k d lt. absurd (omega arith));
 }
   where
     endpoints : ℕ
@@ -244,6 +250,9 @@ content_by-sound net rounds asks fates boots raws bytes limits some few among bo
 
     f : ℕ → ℕ → ℕ → ℕ
     f = λ round src dst. sum_by (slots_asked round src dst) asks
+
+    none_put : ℕ → List (List ℕ)
+    none_put = λ endpoint. []
 
     events : Events
     events = events_kept fates boots raws bytes
@@ -268,3 +277,25 @@ content_by-sound net rounds asks fates boots raws bytes limits some few among bo
 
     boots-all : (endpoint : ℕ) → sum_by (λ r. length (get_or (get_or (table_of rounds endpoints events.boots) r []) endpoint [])) (range_with_len 0 rounds) ≤ sum_by (λ r. length (events.boots r endpoint)) (range_with_len 0 rounds)
     boots-all endpoint = sum_by-below _ _ (range_with_len 0 rounds) (λ r. table-cases (λ (l : List ℕ). length l ≤ length (events.boots r endpoint)) rounds endpoints events.boots [] r endpoint (omega arith) (omega arith))
+
+-- and where packets are put
+pub with_puts-sound : (n : ℕ) (puts : PutRows) (trace : TraceContent) → IsTrace trace → n ≡ endpoints_of trace.net → AreFew puts → All (λ byte. byte < 256) puts.bytes.items → IsTrace (with_puts (each_below n (puts_in puts)) trace)
+with_puts-sound n puts trace is same few are = record {
+  net = is.net;
+  some_round = is.some_round;
+  few_rounds = is.few_rounds;
+  rounds = is.rounds;
+  sources = is.sources;
+  asks = is.asks;
+  apart = is.apart;
+  bounded = is.bounded;
+  holds = is.holds;
+  versions = is.versions;
+  few_boots = is.few_boots;
+  short = is.short;
+  bytes = is.bytes;
+  putters = length-map-range_with_len (puts_in puts) 0 n ∙ same;
+  few_puts = λ endpoint. below-cases (λ (l : List (List ℕ)). length l ≤ 1024) n (puts_in puts) [] endpoint (omega arith) (few.few endpoint);
+  short_puts = λ endpoint. below-cases (All (λ packet. length packet ≤ 2048)) n (puts_in puts) [] endpoint (λ k d lt. absurd (omega arith)) (short-told puts.bytes.items puts.packets.items endpoint few.within);
+  put_bytes = λ endpoint. below-cases (All (All (λ byte. byte < 256))) n (puts_in puts) [] endpoint (λ k d lt. absurd (omega arith)) (bytes-told puts.bytes.items puts.packets.items endpoint are);
+}

@@ -3,7 +3,7 @@ use Rattle.std.specs.Prelude.{ℕ, ◌+◌, ◌==◌, ◌&&◌, max, List, [], �
 use Rattle.std.specs.Option.{option_or}
 use Rattle.clos_topology.specs.Network.{Network}
 use Rattle.loss_world.specs.declared.fate.Fate.{Fate}
-use Rattle.trace_text.specs.Rows.{Row, Net, Ask, Meets, Boot, Raw, End}
+use Rattle.trace_text.specs.Rows.{Row, Net, Ask, Meets, Boot, Raw, Put, End}
 
 -- no racks, no hosts and no cores
 abbrev pub no_net : Network
@@ -71,6 +71,11 @@ boot_in round endpoint row = None
 abbrev pub packet_in : ℕ → Row → Option (List ℕ)
 packet_in round (Raw r packet) = if r == round then Some packet else None
 packet_in round row = None
+
+-- the packet that a row puts, where it is one of this endpoint
+abbrev pub put_in : ℕ → Row → Option (List ℕ)
+put_in endpoint (Put e packet) = if e == endpoint then Some packet else None
+put_in endpoint row = None
 
 -- the round after the latest in which a row gives a fate to a packet of this endpoint and way, 0 for none
 abbrev pub fated_by : ℕ → Bool → Row → ℕ

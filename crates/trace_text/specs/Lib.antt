@@ -7,6 +7,7 @@ pub mod Ranks
 pub mod Asks
 pub mod FlowSums
 pub mod Events
+pub mod Puts
 pub mod Standing
 pub mod Records
 pub mod Lines

@@ -7,13 +7,15 @@ use Rattle.trace_text.specs.Fields.{Field, Record, field, number_at, has_number,
 use Rattle.trace_text.specs.declared.kind.Kind.{Kind}
 use Rattle.trace_text.specs.declared.kind.Kind.TheVariants as kind
 
--- a row, read field by field: what a packet of an endpoint meets on its way up or down, a boot and its version, a raw packet
+-- a row, read field by field: what a packet of an endpoint meets on its way up or down, a boot and its version, a raw packet, a packet
+-- that an endpoint puts
 pub data Row : Type 0 where
   Net : (racks hosts cores : ℕ) → Row
   Ask : (round src dst slots : ℕ) → Row
   Meets : (round endpoint : ℕ) (up : Bool) (fate : Fate) → Row
   Boot : (round endpoint version : ℕ) → Row
   Raw : (round : ℕ) (packet : List ℕ) → Row
+  Put : (endpoint : ℕ) (packet : List ℕ) → Row
   End : (rounds : ℕ) → Row
 
 -- the kind that a row's first field names
@@ -22,7 +24,8 @@ kind_of name =
     if bytes_eq name (codes "net") then Some kind.Net else if bytes_eq name (codes "ask") then Some kind.Ask
     else if bytes_eq name (codes "lose") then Some kind.Lose else if bytes_eq name (codes "twice") then Some kind.Twice
     else if bytes_eq name (codes "hold") then Some kind.Hold else if bytes_eq name (codes "boot") then Some kind.Boot
-    else if bytes_eq name (codes "raw") then Some kind.Raw else if bytes_eq name (codes "end") then Some kind.End else None
+    else if bytes_eq name (codes "raw") then Some kind.Raw else if bytes_eq name (codes "put") then Some kind.Put
+    else if bytes_eq name (codes "end") then Some kind.End else None
 
 -- a row of a kind has so many fields with its first; a boot may leave out its version
 abbrev pub may_have : Kind → ℕ → Bool
@@ -33,6 +36,7 @@ may_have kind.Twice count = count == 4
 may_have kind.Hold count = count == 5
 may_have kind.Boot count = count == 3 || count == 4
 may_have kind.Raw count = count == 3
+may_have kind.Put count = count == 3
 may_have kind.End count = count == 2
 
 -- the version of a boot, which is 1 where it is left out
@@ -51,6 +55,7 @@ is_readable kind.Twice fields = has_number fields 1 && has_number fields 2 && is
 is_readable kind.Hold fields = has_number fields 1 && has_number fields 2 && is_way (field fields 3) && has_number fields 4
 is_readable kind.Boot fields = has_number fields 1 && has_number fields 2 && has_version fields
 is_readable kind.Raw fields = has_number fields 1 && is_hex (field fields 2)
+is_readable kind.Put fields = has_number fields 1 && is_hex (field fields 2)
 is_readable kind.End fields = has_number fields 1
 
 -- what a readable row says
@@ -62,4 +67,5 @@ row_of kind.Twice fields = Meets (number_at fields 1) (number_at fields 2) (is_u
 row_of kind.Hold fields = Meets (number_at fields 1) (number_at fields 2) (is_up (field fields 3)) (Hold (number_at fields 4))
 row_of kind.Boot fields = Boot (number_at fields 1) (number_at fields 2) (version_of fields)
 row_of kind.Raw fields = Raw (number_at fields 1) (bytes_of (field fields 2))
+row_of kind.Put fields = Put (number_at fields 1) (bytes_of (field fields 2))
 row_of kind.End fields = End (number_at fields 1)

@@ -1,17 +1,19 @@
 -- What is kept of the rows so far, and what it stands for.
-use Rattle.std.specs.Prelude.{◌≡◌, ◌≢◌, ℕ, ◌+◌, ◌*◌, ◌<◌, ◌≤◌, List, [], ◌∷◌, ◌++◌, length, Option, Some, None, Bool, true, false, ◌&&◌, IsSome, IfSome, All, sum_by, slice_index, Result, Ok, Err, ⊤}
+use Rattle.std.specs.Prelude.{◌≡◌, ◌≢◌, ◌⊎◌, ℕ, ◌+◌, ◌*◌, ◌<◌, ◌≤◌, List, [], ◌∷◌, ◌++◌, length, Option, Some, None, Bool, true, false, ◌&&◌, IsSome, IfSome, All, sum_by, slice_index, Result, Ok, Err, ⊤}
+use Rattle.std.specs.Borrow.{Bor}
 use Rattle.clos_topology.specs.Network.{Network, endpoints_of}
 use Rattle.clos_topology.specs.Limits.{IsNetwork}
 use Rattle.clos_topology.specs.declared.net.NetRefused.{NetRefused}
 use Rattle.clos_topology.specs.declared.net.NetRefused.TheVariants as net_refused
 use Rattle.loss_world.specs.declared.fate.Fate.{Fate}
-use Rattle.trace_text.specs.Rows.{Row, Net, Ask, Meets, Boot, Raw, End, may_have, is_readable, row_of}
+use Rattle.trace_text.specs.Rows.{Row, Net, Ask, Meets, Boot, Raw, Put, End, may_have, is_readable, row_of}
 use Rattle.trace_text.specs.Fields.{Field, Record, field, has_number, number_at, is_way, is_up, is_hex, bytes_of}
 use Rattle.trace_text.specs.Stage.{takes_kind}
 use Rattle.trace_text.specs.Earlier.{net_of, greatest_round, end_of, slots_of, slots_in_round, latest_fate}
-use Rattle.trace_text.specs.Faults.{read_row, read_kind, is_between, is_fate}
+use Rattle.trace_text.specs.Faults.{read_row, read_kind, is_between, is_fate, has_rounds_for}
 use Rattle.trace_text.specs.Asks.{IsAmong, slots_asked, slots_for}
 use Rattle.trace_text.specs.Events.{AreAmong, AreEventsOf, way_number}
+use Rattle.trace_text.specs.Puts.{ArePutsOf}
 use Rattle.trace_text.specs.Trace.{TraceContent, IsFaultOf, content_or_fault, ended}
 use Rattle.trace_text.specs.Valid.{IsTrace}
 use Rattle.trace_text.specs.declared.command.Command.{Command}
@@ -31,6 +33,7 @@ row_value (taken.Ask round src dst slots) = Ask round src dst slots
 row_value (taken.Meets round endpoint up fate) = Meets round endpoint up fate
 row_value (taken.Boot round endpoint version) = Boot round endpoint version
 row_value (taken.Raw round packet) = Raw round (bytes_of packet.now)
+row_value (taken.Put endpoint packet) = Put endpoint (bytes_of packet.now)
 row_value (taken.End rounds) = End rounds
 
 -- the row or its fault
@@ -51,12 +54,20 @@ net_or_fault (Err net_refused.Range) = Err fault.Range
 abbrev pub IsPacket : Field → Type 0
 IsPacket packet = (is_hex packet ≡ true) × (length packet ≤ 4096)
 
+-- the third field read as a packet in hexadecimal, or why it writes none: it is no hexadecimal text, or too long a one
+abbrev pub ReadsPacket : Record → Result (Bor Field) Fault → Type 0
+ReadsPacket fields (Ok packet) = (packet.now ≡ field fields 2) × IsPacket packet.now
+ReadsPacket fields (Err why) =
+    ((is_hex (field fields 2) ≡ false) × (why ≡ fault.Number))
+    ⊎ ((is_hex (field fields 2) ≡ true) × (4096 < length (field fields 2)) × (why ≡ fault.Range))
+
 -- what is checked where a row is read is within its limits
 abbrev pub IsWhole : TakenRow → Type 0
 IsWhole (taken.Net net) = IsNetwork net
 IsWhole (taken.Meets round endpoint up fate) = is_fate fate ≡ true
 IsWhole (taken.Boot round endpoint version) = is_between 1 2 version ≡ true
 IsWhole (taken.Raw round packet) = IsPacket packet.now
+IsWhole (taken.Put endpoint packet) = IsPacket packet.now
 IsWhole row = ⊤
 
 -- the fields read as a row that gives this fate, where they can be read
@@ -66,7 +77,9 @@ MeetsFate fields fate (Err why) = (has_number fields 1 && has_number fields 2 &&
 
 -- a row that can be read, and is whole; or its fault, whatever stands before it
 abbrev pub ReadsKind : Command → Kind → Record → Result TakenRow Fault → Type 0
-ReadsKind command kind fields (Ok row) = (takes_kind command kind ≡ true) × (may_have kind (length fields) ≡ true) × (is_readable kind fields ≡ true) × (row_of kind fields ≡ row_value row) × IsWhole row
+ReadsKind command kind fields (Ok row) =
+    (takes_kind command kind ≡ true) × (may_have kind (length fields) ≡ true) × (is_readable kind fields ≡ true) × (has_rounds_for command (row_of kind fields) ≡ true)
+    × (row_of kind fields ≡ row_value row) × IsWhole row
 ReadsKind command kind fields (Err fault) = (before : List Row) → read_kind command before fields kind ≡ Err fault
 
 -- the row is a net
@@ -104,6 +117,7 @@ pub record StandsFor (before : List Row) (rows : Rows) : Type 0 where
   pub few_raws : length rows.events.raws.items ≤ length before
   pub few_bytes : length rows.events.bytes.items ≤ 2048 * length before
   pub bounds : AreAmong (endpoints_kept rows.net) rows.events.fates.items rows.events.boots.items rows.events.raws.items rows.events.bytes.items
+  pub puts : ArePutsOf before (endpoints_kept rows.net) rows.puts
 
 -- what is kept stands for some rows
 abbrev pub Stands : Rows → Type 0
@@ -116,6 +130,7 @@ IsAllowed rows (taken.Ask round src dst slots) = (rows.round ≤ round) × (src 
 IsAllowed rows (taken.Meets round endpoint up fate) = (rows.round ≤ round) × (round ≤ 99999) × (endpoint < endpoints_kept rows.net) × (is_fate fate ≡ true)
 IsAllowed rows (taken.Boot round endpoint version) = (rows.round ≤ round) × (endpoint < endpoints_kept rows.net) × (is_between 1 2 version ≡ true)
 IsAllowed rows (taken.Raw round packet) = (rows.round ≤ round) × IsSome rows.net × IsPacket packet.now
+IsAllowed rows (taken.Put endpoint packet) = (endpoint < endpoints_kept rows.net) × (slice_index rows.puts.counts.items endpoint < 1024) × IsPacket packet.now
 IsAllowed rows (taken.End rounds) = IsSome rows.net × (rows.end ≡ None) × (1 ≤ rounds) × (rounds ≤ 100000)
 
 -- a row was taken, or its number and fault are told

@@ -6,7 +6,7 @@ use Rattle.loss_world.specs.declared.fate.Fate.{Fate}
 use Rattle.csv.specs.Reading.{default_config, records, strip_bom}
 use Rattle.trace_text.specs.Fields.{Record}
 use Rattle.trace_text.specs.Rows.{Row}
-use Rattle.trace_text.specs.Earlier.{net_of, end_of, slots_in_round, fate_in, boot_in, packet_in}
+use Rattle.trace_text.specs.Earlier.{net_of, end_of, slots_in_round, fate_in, boot_in, packet_in, put_in}
 use Rattle.trace_text.specs.Faults.{read_row}
 use Rattle.trace_text.specs.declared.command.Command.{Command}
 use Rattle.trace_text.specs.declared.fault.Fault.{Fault}
@@ -50,8 +50,8 @@ some_below bound amount = filter (λ p. nat_lt 0 p.1) (each_below bound (λ dst.
 
 -- what a trace holds: its net, how many rounds it has, and for each round and source the destinations that are asked
 -- for, rising, each with the sum of its asks in the round; for each round and endpoint the fates of its packets up and down,
--- where rows give some, and the versions of its boots; and the raw packets of each round. Boots and raw packets stand in the
--- order of rows
+-- where rows give some, and the versions of its boots; the raw packets of each round; and the packets that each endpoint puts.
+-- Boots and packets stand in the order of rows
 pub record TraceContent : Type 0 where
   pub net : Network
   pub rounds : ℕ
@@ -59,6 +59,7 @@ pub record TraceContent : Type 0 where
   pub fates : List (List (Option Fate × Option Fate))
   pub boots : List (List (List ℕ))
   pub raw : List (List (List ℕ))
+  pub puts : List (List (List ℕ))
 
 -- the last of some, if there is one
 abbrev pub last_of : List ℕ → Option ℕ
@@ -83,17 +84,21 @@ boots_at trace round endpoint = slice_index_or (slice_index_or trace.boots round
 abbrev pub raw_at : TraceContent → ℕ → List (List ℕ)
 raw_at trace round = slice_index_or trace.raw round []
 
+-- the packets that an endpoint puts
+abbrev pub puts_at : TraceContent → ℕ → List (List ℕ)
+puts_at trace endpoint = slice_index_or trace.puts endpoint []
+
 -- what is made of each round and endpoint
 abbrev pub table_of : {A : Type 0} → ℕ → ℕ → (ℕ → ℕ → A) → List (List A)
 table_of rounds endpoints f = each_below rounds (λ round. each_below endpoints (f round))
 
--- what happens in a trace beside its asks
+-- what happens in the rounds of a trace beside its asks
 pub record Events : Type 0 where
   pub fates : ℕ → ℕ → Bool → Option Fate
   pub boots : ℕ → ℕ → List ℕ
   pub raw : ℕ → List (List ℕ)
 
--- a trace in which so much is asked for in a round by a source for a destination, and this happens
+-- a trace in which so much is asked for in a round by a source for a destination, and this happens; no endpoint puts a packet
 abbrev pub content_by : Network → ℕ → (ℕ → ℕ → ℕ → ℕ) → Events → TraceContent
 content_by net rounds amount events = record {
   net = net;
@@ -102,7 +107,12 @@ content_by net rounds amount events = record {
   fates = table_of rounds (endpoints_of net) (λ round endpoint. (events.fates round endpoint true, events.fates round endpoint false));
   boots = table_of rounds (endpoints_of net) events.boots;
   raw = each_below rounds events.raw;
+  puts = each_below (endpoints_of net) (λ endpoint. []);
 }
+
+-- the same in which these packets are put, by endpoint
+abbrev pub with_puts : List (List (List ℕ)) → TraceContent → TraceContent
+with_puts puts trace = record trace { puts = puts }
 
 -- what happens in these rows; no packet has two fates
 abbrev pub events_of : List Row → Events
@@ -112,9 +122,14 @@ events_of rows = record {
   raw = λ round. filter_map (packet_in round) rows;
 }
 
+-- the packets that these rows put
+abbrev pub puts_of : List Row → List (List (List ℕ))
+puts_of rows = each_below (endpoints_of (net_of rows)) (λ endpoint. filter_map (put_in endpoint) rows)
+
 -- what these rows are together
 abbrev pub content_of : List Row → TraceContent
-content_of rows = content_by (net_of rows) (unwrap_or (end_of rows) 0) (λ round src dst. sum_by (slots_in_round round src dst) rows) (events_of rows)
+content_of rows =
+    with_puts (puts_of rows) (content_by (net_of rows) (unwrap_or (end_of rows) 0) (λ round src dst. sum_by (slots_in_round round src dst) rows) (events_of rows))
 
 abbrev pub content_or_fault : Result (List Row) FaultyRow → Result TraceContent FaultyRow
 content_or_fault (Ok rows) = Ok (content_of rows)

@@ -4,7 +4,7 @@ use Rattle.std.specs.List.{slice_index_or, range_with_len}
 use Rattle.clos_topology.specs.Network.{endpoints_of}
 use Rattle.clos_topology.specs.Limits.{IsNetwork}
 use Rattle.trace_text.specs.Faults.{is_fate}
-use Rattle.trace_text.specs.Trace.{TraceContent, asked_at, fate_at, boots_at, raw_at}
+use Rattle.trace_text.specs.Trace.{TraceContent, asked_at, fate_at, boots_at, raw_at, puts_at}
 
 -- how much of what is asked for is for this destination
 abbrev pub amount_for : ℕ → List (ℕ × ℕ) → ℕ
@@ -21,8 +21,8 @@ pub record IsAskList (endpoints : ℕ) (asks : List (ℕ × ℕ)) : Type 0 where
   pub some : All (λ p. 0 < p.1) asks
 
 -- the limits of a trace, with a list for each round and source, and what is asked for within them; a packet is held for 1 to
--- 100 rounds, a version is 1 or 2, an endpoint has no more boots than a text has bytes, a raw packet has at most 2,048 bytes,
--- each below 256
+-- 100 rounds, a version is 1 or 2, an endpoint has no more boots than a text has bytes, an endpoint puts at most 1,024 packets, a
+-- packet has at most 2,048 bytes, each below 256
 pub record IsTrace (trace : TraceContent) : Type 0 where
   pub net : IsNetwork trace.net
   pub some_round : 1 ≤ trace.rounds
@@ -37,3 +37,7 @@ pub record IsTrace (trace : TraceContent) : Type 0 where
   pub few_boots : (endpoint : ℕ) → sum_by (λ round. length (boots_at trace round endpoint)) (range_with_len 0 trace.rounds) ≤ 67108864
   pub short : (round : ℕ) → All (λ packet. length packet ≤ 2048) (raw_at trace round)
   pub bytes : (round : ℕ) → All (All (λ byte. byte < 256)) (raw_at trace round)
+  pub putters : length trace.puts ≡ endpoints_of trace.net
+  pub few_puts : (endpoint : ℕ) → length (puts_at trace endpoint) ≤ 1024
+  pub short_puts : (endpoint : ℕ) → All (λ packet. length packet ≤ 2048) (puts_at trace endpoint)
+  pub put_bytes : (endpoint : ℕ) → All (All (λ byte. byte < 256)) (puts_at trace endpoint)

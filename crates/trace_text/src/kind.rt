@@ -12,6 +12,7 @@ pub enum Kind {
     Hold,
     Boot,
     Raw,
+    Put,
     End,
 }
 
@@ -33,6 +34,8 @@ impl Kind {
             Some(Kind::Boot)
         } else if name == b"raw".as_slice() {
             Some(Kind::Raw)
+        } else if name == b"put".as_slice() {
+            Some(Kind::Put)
         } else if name == b"end".as_slice() {
             Some(Kind::End)
         } else {
@@ -46,7 +49,7 @@ impl Kind {
     {
         match self {
             Kind::End => fields == 2,
-            Kind::Raw => fields == 3,
+            Kind::Raw | Kind::Put => fields == 3,
             Kind::Boot => fields == 3 || fields == 4,
             Kind::Net | Kind::Lose | Kind::Twice => fields == 4,
             Kind::Ask | Kind::Hold => fields == 5,

@@ -1,4 +1,15 @@
 //! Traces: what was asked for in each round, read from a text of rows, or the first faulty row.
+//!
+//! `trace_text` turns text into a trace in one forward pass. `records.rt` gives one record at a time: an ask of four plain
+//! numbers is read where it stands (`plain_ask.rt`), another line of plain fields is cut at its commas (`line.rt`), and from the
+//! first line on that is blank, or has a quote or a carriage return, the kit's `csv` reads the rest (`csv_records.rt`). Of a
+//! plain line the first six fields are kept: they tell what a row is as all do. `taken_row.rt` reads the fields (a net at once as
+//! `clos_topology`'s `Net`, which has the limits; a raw packet stays in hexadecimal until it is kept), `rows.rt` judges the row
+//! against the rows so far and keeps it, `events.rt` has fates, boots and raw packets, `order.rt` sorts by rank and finds a part
+//! of what is sorted, for any type with a rank, `flow_sums.rt` makes one ask a flow of the asks of a round, in order and without
+//! a sort, `trace.rt` answers. `make.rt` draws a trace. `packets.rt` keeps packets one behind the other, each under a number: raw
+//! packets under their round, packets that are put under their endpoint (`puts.rt`). `proofs/Crossing.antt`: a trace may be read
+//! in several threads.
 #![tactic(auto)]
 
 mod ask;
@@ -13,7 +24,9 @@ mod line;
 mod make;
 mod number;
 mod order;
+mod packets;
 mod plain_ask;
+mod puts;
 mod read;
 mod records;
 mod rows;

@@ -7,6 +7,7 @@ ghost use Rattle.trace_text.specs.Made.{next_state, state_after, drawn, made_ask
 use crate::Trace;
 use crate::ask::Ask;
 use crate::events::{EventRows, GivenFate};
+use crate::puts::PutRows;
 use clos_topology::Net;
 use loss_world::Fate;
 use no_memory::NoMemory;
@@ -36,7 +37,7 @@ pub fn make_trace(alloc: Global, number: u32, net: Net, rounds: u32) -> Result<T
         add_asks(&mut draws, endpoints, round, &mut asks)?;
         add_losses(&mut draws, endpoints, round, &mut events.fates)?;
     }
-    Trace::of(alloc, net, rounds, asks, events)
+    Trace::of(alloc, net, rounds, asks, events, PutRows::new(alloc))
 }
 
 /// A linear congruential generator.

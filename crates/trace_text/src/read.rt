@@ -24,7 +24,7 @@ pub fn read_trace(alloc: Global, bytes: &[u8], command: Command) -> Result<Trace
     loop {
         let found = records.read(&mut fields)?;
         match found {
-            Found::Ask(ask) => rows.take_ask(&ask)?,
+            Found::Ask(ask) => rows.take_ask(command, &ask)?,
             Found::Fields => rows.take(command, &fields)?,
             Found::End => return finish(rows),
         }
@@ -49,5 +49,5 @@ fn finish(rows: Rows) -> Result<Trace, TraceRefused>
             fault: Fault::NoEnd,
         });
     };
-    Ok(Trace::of(rows.alloc, net, rounds, rows.asks, rows.events)?)
+    Ok(Trace::of(rows.alloc, net, rounds, rows.asks, rows.events, rows.puts)?)
 }

@@ -7,8 +7,8 @@ ghost use Rattle.trace_text.specs.Lines.{IsAskRow};
 ghost use Rattle.trace_text.specs.Rows.{Row};
 ghost use Rattle.trace_text.specs.Rows as row;
 ghost use Rattle.trace_text.specs.Faults.{read_row, checked, is_in_range, is_between, is_fate};
-ghost use Rattle.std.specs.List.{list_any};
-ghost use Rattle.trace_text.specs.Earlier.{fate_in};
+ghost use Rattle.std.specs.List.{list_any, filter_map};
+ghost use Rattle.trace_text.specs.Earlier.{fate_in, put_in};
 ghost use Rattle.trace_text.specs.Events.{way_number};
 ghost use Rattle.trace_text.specs.Standing.{StandsFor, Stands, IsAllowed, IsWhole, IsPacket, is_net, endpoints_kept, row_value, as_rows, row_unless, TakesRow};
 ghost use Rattle.trace_text.specs.declared.fault.TraceRefused.TheVariants as refused;
@@ -19,6 +19,7 @@ use crate::events::{Boot, EventRows, GivenFate};
 use crate::fields::field;
 use crate::kind::Kind;
 use crate::plain_ask::PlainAsk;
+use crate::puts::PutRows;
 use crate::taken_row::TakenRow;
 use crate::{Command, Fault, TraceRefused};
 use clos_topology::Net;
@@ -32,6 +33,8 @@ const LAST_ROUND: u32 = 99_999;
 const MOST_ROUNDS: u32 = 100_000;
 
 const MOST_ASKED: u32 = 100_000_000;
+
+const MOST_PUT: u16 = 1_024;
 
 /// What the rows so far say together.
 #[derive(Drop)]
@@ -47,6 +50,7 @@ pub struct Rows {
     // The round after the latest in which a packet was given a fate, by endpoint and way; 0 for none.
     pub fated: Vec<u32>,
     pub events: EventRows,
+    pub puts: PutRows,
 }
 
 impl Rows {
@@ -63,6 +67,7 @@ impl Rows {
             asks: Vec::new(alloc),
             fated: Vec::new(alloc),
             events: EventRows::new(alloc),
+            puts: PutRows::new(alloc),
         }
     }
 
@@ -102,12 +107,12 @@ impl Rows {
     }
 
     /// Takes an ask that is the next row, or tells the row's number and fault.
-    pub fn take_ask(&mut self, ask: &PlainAsk) -> Result<(), TraceRefused>
+    pub fn take_ask(&mut self, command: Command, ask: &PlainAsk) -> Result<(), TraceRefused>
         requires stands { Stands self.old }
         requires room { self.old.count < 4294967295 }
-        ensures { (command : Command) (before : List Row) (fields : Record) → StandsFor before self.old → IsAskRow ask.now fields → TakesRow command before fields self.new result }
+        ensures { (before : List Row) (fields : Record) → StandsFor before self.old → IsAskRow ask.now fields → TakesRow command before fields self.new result }
     {
-        match self.judge_ask(ask) {
+        match self.judge_ask(command, ask) {
             None => Ok(self.push_ask(ask.round, ask.src, ask.dst, ask.slots)?),
             Some(fault) => Err(self.refused(fault)),
         }
@@ -126,13 +131,16 @@ impl Rows {
 
     // What is wrong with an ask that is the next row.
     #[tactic(auto, unfolding(crate::specs::Faults::read_row, crate::specs::Faults::read_kind))]
-    fn judge_ask(&self, ask: &PlainAsk) -> Option<Fault>
+    fn judge_ask(&self, command: Command, ask: &PlainAsk) -> Option<Fault>
         requires { Stands self.now }
-        ensures row { (command : Command) (before : List Row) (fields : Record) → StandsFor before self.now → IsAskRow ask.now fields → read_row command before fields ≡ row_unless (row.Ask ask.now.round ask.now.src ask.now.dst ask.now.slots) result }
+        ensures row { (before : List Row) (fields : Record) → StandsFor before self.now → IsAskRow ask.now fields → read_row command before fields ≡ row_unless (row.Ask ask.now.round ask.now.src ask.now.dst ask.now.slots) result }
         ensures allowed { IfNone result (IsAllowed self.now (taken.Ask ask.now.round ask.now.src ask.now.dst ask.now.slots)) }
     {
         if self.count == 0 {
             return Some(Fault::NoNet);
+        }
+        if !command.takes(Kind::Ask) {
+            return Some(Fault::NotHere);
         }
         self.ask_fault(ask.round, ask.src, ask.dst, ask.slots)
     }
@@ -165,6 +173,7 @@ impl Rows {
                 version,
             } => self.boot_fault(*round, *endpoint, *version),
             TakenRow::Raw { round, packet } => self.raw_fault(*round, packet),
+            TakenRow::Put { endpoint, packet } => self.put_fault(*endpoint, packet),
             TakenRow::End { rounds } => self.end_fault(*rounds),
         }
     }
@@ -253,6 +262,25 @@ impl Rows {
     }
 
     #[tactic(auto, unfolding(crate::specs::Faults::checked))]
+    fn put_fault(&self, endpoint: u32, packet: &[u8]) -> Option<Fault>
+        requires stands { Stands self.now }
+        requires packet { IsPacket packet.now }
+        ensures fault { (before : List Row) → StandsFor before self.now → checked before (row.Put endpoint (bytes_of packet.now)) ≡ row_unless (row.Put endpoint (bytes_of packet.now)) result }
+        ensures allowed { IfNone result (IsAllowed self.now (taken.Put endpoint packet.entry)) }
+    {
+        if endpoint >= self.endpoints() {
+            return Some(Fault::Range);
+        }
+        if self.end.is_some() {
+            return Some(Fault::Order);
+        }
+        if self.put_count(endpoint) >= MOST_PUT {
+            return Some(Fault::Sum);
+        }
+        None
+    }
+
+    #[tactic(auto, unfolding(crate::specs::Faults::checked))]
     fn end_fault(&self, rounds: u32) -> Option<Fault>
         requires { IsSome self.now.net }
         ensures allowed { IfNone result (IsAllowed self.now (taken.End rounds)) }
@@ -294,6 +322,7 @@ impl Rows {
                 version,
             } => self.push_boot(round, endpoint, version),
             TakenRow::Raw { round, packet } => self.push_raw(round, packet),
+            TakenRow::Put { endpoint, packet } => self.push_put(endpoint, packet),
             TakenRow::End { rounds } => {
                 self.end = Some(rounds);
                 self.count += 1;
@@ -309,6 +338,7 @@ impl Rows {
         let endpoints = usize::from(net.endpoints());
         self.totals = vec![in self.alloc; 0; endpoints * endpoints]?;
         self.fated = vec![in self.alloc; 0; endpoints * 2]?;
+        self.puts.open(self.alloc, net.endpoints())?;
         self.net = Some(net);
         self.count = 1;
         Ok(())
@@ -380,6 +410,17 @@ impl Rows {
         Ok(())
     }
 
+    fn push_put(&mut self, endpoint: u32, packet: &[u8]) -> Result<(), NoMemory>
+        requires stands { Stands self.old }
+        requires allowed { IsAllowed self.old (taken.Put endpoint packet) }
+        requires room { self.old.count < 4294967295 }
+        ensures { (before : List Row) → StandsFor before self.old → OnOk result (StandsFor (before ++ row.Put endpoint (bytes_of packet.now) ∷ []) self.new) }
+    {
+        self.puts.push(endpoint, packet)?;
+        self.count += 1;
+        Ok(())
+    }
+
     fn is_ask(&self, round: u32, src: u32, dst: u32, slots: u32) -> bool
         ensures { result ≡ is_in_range (endpoints_kept self.now.net) (row.Ask round src dst slots) }
     {
@@ -407,6 +448,16 @@ impl Rows {
         ensures bounded { result ≤ 100000000 }
     {
         self.totals[self.place_of(src, dst)]
+    }
+
+    // How many packets the endpoint put so far.
+    fn put_count(&self, endpoint: u32) -> u16
+        requires stands { Stands self.now }
+        requires endpoint { endpoint < endpoints_kept self.now.net }
+        ensures count { result ≡ slice_index self.now.puts.counts.items endpoint }
+        ensures rows { (before : List Row) → StandsFor before self.now → result ≡ length (filter_map (put_in endpoint) before) }
+    {
+        self.puts.count(endpoint)
     }
 
     // Whether an earlier row gave a fate to the packet of this round, endpoint and way.

@@ -2,10 +2,10 @@
 ghost use Rattle.std.specs.Prelude.{◌≡◌, true, false, length, MatchOption};
 ghost use Rattle.csv.specs.Records.{fields_of};
 ghost use Rattle.clos_topology.specs.Limits.{network_of};
-ghost use Rattle.trace_text.specs.Standing.{MeetsFate, ReadsKind, net_or_fault};
+ghost use Rattle.trace_text.specs.Standing.{MeetsFate, ReadsKind, ReadsPacket, net_or_fault};
 ghost use Rattle.trace_text.specs.Faults.{is_fate};
 ghost use Rattle.trace_text.specs.Rows.{may_have, has_version, version_of};
-ghost use Rattle.trace_text.specs.Stage.{takes_kind};
+ghost use Rattle.trace_text.specs.Stage.{takes_kind, takes_rounds};
 ghost use Rattle.trace_text.specs.declared.kind.Kind.TheVariants as kind;
 
 use crate::fields::{field, is_hex, number_at, way_at};
@@ -21,7 +21,7 @@ const MOST_HELD: u32 = 100;
 /// The versions of the protocol are 1 to this.
 const MOST_VERSION: u32 = 2;
 
-/// A raw packet has at most 2,048 bytes, each of two digits.
+/// A packet has at most 2,048 bytes, each of two digits.
 const MOST_DIGITS: usize = 4_096;
 
 /// A row of a kind that is taken.
@@ -50,6 +50,11 @@ pub enum TakenRow<'a> {
         round: u32,
         packet: &'a [u8],
     },
+    // So is this.
+    Put {
+        endpoint: u32,
+        packet: &'a [u8],
+    },
     End {
         rounds: u32,
     },
@@ -57,7 +62,7 @@ pub enum TakenRow<'a> {
 
 impl<'a> TakenRow<'a> {
     /// The row of this kind, or why its fields tell none: NotHere, Fields or Number, and Range for a net, a hold, a
-    /// version and a packet.
+    /// version, a packet and rounds that the command does not take.
     #[tactic(auto, unfolding(crate::specs::Faults::read_kind))]
     pub fn read(command: Command, kind: Kind, fields: &'a ByteRecord) -> Result<TakenRow<'a>, Fault>
         ensures { ReadsKind command kind (fields_of fields.now) result }
@@ -76,7 +81,8 @@ impl<'a> TakenRow<'a> {
             Kind::Hold => read_hold(fields),
             Kind::Boot => read_boot(fields),
             Kind::Raw => read_raw(fields),
-            Kind::End => read_end(fields),
+            Kind::Put => read_put(fields),
+            Kind::End => read_end(command, fields),
         }
     }
 }
@@ -127,11 +133,14 @@ fn read_ask<'a>(fields: &'a ByteRecord) -> Result<TakenRow<'a>, Fault>
 }
 
 #[tactic(auto, unfolding(crate::specs::Faults::read_kind))]
-fn read_end<'a>(fields: &'a ByteRecord) -> Result<TakenRow<'a>, Fault>
+fn read_end<'a>(command: Command, fields: &'a ByteRecord) -> Result<TakenRow<'a>, Fault>
     requires { length (fields_of fields.now) ≡ 2 }
-    ensures { (command : Command) → takes_kind command kind.End ≡ true → ReadsKind command kind.End (fields_of fields.now) result }
+    ensures { takes_kind command kind.End ≡ true → ReadsKind command kind.End (fields_of fields.now) result }
 {
     let rounds = number_at(fields, 1).ok_or(Fault::Number)?;
+    if !command.takes_rounds(rounds) {
+        return Err(Fault::Range);
+    }
     Ok(TakenRow::End { rounds })
 }
 
@@ -205,6 +214,24 @@ fn read_raw<'a>(fields: &'a ByteRecord) -> Result<TakenRow<'a>, Fault>
     ensures { (command : Command) → takes_kind command kind.Raw ≡ true → ReadsKind command kind.Raw (fields_of fields.now) result }
 {
     let round = number_at(fields, 1).ok_or(Fault::Number)?;
+    let packet = packet_in(fields)?;
+    Ok(TakenRow::Raw { round, packet })
+}
+
+#[tactic(auto, unfolding(crate::specs::Faults::read_kind, crate::specs::Faults::checked))]
+fn read_put<'a>(fields: &'a ByteRecord) -> Result<TakenRow<'a>, Fault>
+    requires { length (fields_of fields.now) ≡ 3 }
+    ensures { (command : Command) → takes_kind command kind.Put ≡ true → ReadsKind command kind.Put (fields_of fields.now) result }
+{
+    let endpoint = number_at(fields, 1).ok_or(Fault::Number)?;
+    let packet = packet_in(fields)?;
+    Ok(TakenRow::Put { endpoint, packet })
+}
+
+// The packet that the third field writes in hexadecimal, or why there is none.
+fn packet_in(fields: &ByteRecord) -> Result<&[u8], Fault>
+    ensures { ReadsPacket (fields_of fields.now) result }
+{
     let packet = field(fields, 2);
     if !is_hex(packet) {
         return Err(Fault::Number);
@@ -212,5 +239,5 @@ fn read_raw<'a>(fields: &'a ByteRecord) -> Result<TakenRow<'a>, Fault>
     if packet.len() > MOST_DIGITS {
         return Err(Fault::Range);
     }
-    Ok(TakenRow::Raw { round, packet })
+    Ok(packet)
 }

@@ -4,17 +4,17 @@ ghost use Rattle.clos_topology.specs.Network.{endpoints_of};
 ghost use Rattle.clos_topology.specs.Limits.{IsNetwork};
 ghost use Rattle.trace_text.specs.Asks.{slots_asked, slots_for, ask_for, asks_in, IsAmong};
 ghost use Rattle.trace_text.specs.Events.{AreAmong, events_kept};
-ghost use Rattle.trace_text.specs.Trace.{asked_at, fate_at, boots_at, raw_at, content_by, last_of};
+ghost use Rattle.trace_text.specs.Puts.{AreFew, puts_in};
+ghost use Rattle.trace_text.specs.Trace.{asked_at, fate_at, boots_at, raw_at, puts_at, content_by, with_puts, each_below, last_of};
 ghost use Rattle.trace_text.specs.Valid.{IsTrace};
 
 use crate::ask::Ask;
-use crate::events::{
-    Boot, EventRows, GivenFate, RawPacket, boot_rank, bytes_are_below_256, fate_rank, packet_of,
-    raws_of,
-};
+use crate::events::{Boot, EventRows, GivenFate, boot_rank, fate_rank};
 use crate::order::{
     between, between_near, first_near, is_gap, of_round, settle, sort, start_near, starts_of,
 };
+use crate::packets::{KeptPacket, bytes_are_below_256, packet_of, packets_of};
+use crate::puts::{PutRows, Puts};
 use clos_topology::Net;
 use loss_world::Fate;
 use no_memory::NoMemory;
@@ -48,39 +48,41 @@ pub struct Trace {
     // And of boots.
     boot_starts: Vec<usize>,
     // By round; those of one in the order of rows.
-    raws: Vec<RawPacket>,
+    raws: Vec<KeptPacket>,
     // And of raw packets.
     raw_starts: Vec<usize>,
     // The bytes of all raw packets.
     bytes: Vec<u8>,
+    puts: Puts,
 }
 
 impl Model for Trace {
     ghost use Rattle.std.specs.Prelude.{sum_by};
     ghost use Rattle.clos_topology.specs.Network.{endpoints_of};
-    ghost use Rattle.trace_text.specs.Trace.{TraceContent, content_by};
+    ghost use Rattle.trace_text.specs.Trace.{TraceContent, content_by, with_puts};
     ghost use Rattle.trace_text.specs.Asks.{IsKept, slots_asked};
     ghost use Rattle.trace_text.specs.Events.{AreKept, events_kept};
     ghost use Rattle.trace_text.specs.Valid.{IsTrace};
 
     ghost Value = { TraceContent };
 
-    ghost view = { λ t. content_by t.net t.rounds (λ round src dst. sum_by (slots_asked round src dst) t.asks.items) (events_kept t.fates.items t.boots.items t.raws.items t.bytes.items) };
+    ghost view = { λ t. with_puts t.puts (content_by t.net t.rounds (λ round src dst. sum_by (slots_asked round src dst) t.asks.items) (events_kept t.fates.items t.boots.items t.raws.items t.bytes.items)) };
 
     ghost invariant = { λ t.
         IsKept (endpoints_of t.net) t.rounds t.asks.items t.ask_starts.items
         × AreKept (endpoints_of t.net) t.rounds t.fates.items t.fate_starts.items t.boots.items t.boot_starts.items t.raws.items t.raw_starts.items t.bytes.items
-        × IsTrace (content_by t.net t.rounds (λ round src dst. sum_by (slots_asked round src dst) t.asks.items) (events_kept t.fates.items t.boots.items t.raws.items t.bytes.items)) };
+        × IsTrace (with_puts t.puts (content_by t.net t.rounds (λ round src dst. sum_by (slots_asked round src dst) t.asks.items) (events_kept t.fates.items t.boots.items t.raws.items t.bytes.items))) };
 }
 
 impl Trace {
-    /// A trace of these asks, in any order, and these events.
+    /// A trace of these asks, in any order, these events, and the packets that are put.
     pub(crate) fn of(
         alloc: Global,
         net: Net,
         rounds: u32,
         asks: Vec<Ask>,
         events: EventRows,
+        puts: PutRows,
     ) -> Result<Trace, NoMemory>
         requires net { IsNetwork net }
         requires some { 1 ≤ rounds }
@@ -90,7 +92,8 @@ impl Trace {
         requires events { AreAmong (endpoints_of net) events.fates.items events.boots.items events.raws.items events.bytes.items }
         requires boots { length events.boots.items ≤ 67108864 }
         requires raws { length events.raws.items ≤ 67108864 }
-        ensures content { IfOk result (λ trace. trace ≡ content_by net rounds (λ round src dst. sum_by (slots_asked round src dst) asks.items) (events_kept events.fates.items events.boots.items events.raws.items events.bytes.items)) }
+        requires puts { AreFew puts }
+        ensures content { IfOk result (λ trace. trace ≡ with_puts (each_below (endpoints_of net) (puts_in puts)) (content_by net rounds (λ round src dst. sum_by (slots_asked round src dst) asks.items) (events_kept events.fates.items events.boots.items events.raws.items events.bytes.items))) }
         ensures sound { IfOk result IsTrace }
     {
         let EventRows {
@@ -108,6 +111,8 @@ impl Trace {
         sort(&mut raws)?;
         let raw_starts = starts_of(alloc, rounds, RAW_RANKS, &raws)?;
         bytes_are_below_256(&bytes);
+        bytes_are_below_256(&puts.bytes);
+        let puts = Puts::of(alloc, net.endpoints(), puts)?;
         Ok(Trace {
             net,
             rounds,
@@ -120,6 +125,7 @@ impl Trace {
             raws,
             raw_starts,
             bytes,
+            puts,
         })
     }
 
@@ -306,7 +312,7 @@ impl Trace {
         ensures number { result ≡ length (raw_at self.now round) }
         ensures few { result ≤ 67108864 }
     {
-        raws_of(&self.raws, &self.raw_starts, round).len()
+        packets_of(&self.raws, &self.raw_starts, round).len()
     }
 
     /// One of these packets, counted from 0 in the order of rows.
@@ -317,7 +323,25 @@ impl Trace {
     {
         packet_of(
             &self.bytes,
-            &raws_of(&self.raws, &self.raw_starts, round)[at],
+            &packets_of(&self.raws, &self.raw_starts, round)[at],
         )
+    }
+
+    /// How many packets the endpoint puts.
+    pub fn put_count(&self, endpoint: u16) -> usize
+        requires { endpoint < endpoints_of self.now.net }
+        ensures number { result ≡ length (puts_at self.now endpoint) }
+        ensures few { result ≤ 1024 }
+    {
+        self.puts.count(endpoint)
+    }
+
+    /// One of these packets, counted from 0 in the order of rows.
+    pub fn put(&self, endpoint: u16, at: usize) -> &[u8]
+        requires endpoint { endpoint < endpoints_of self.now.net }
+        requires at { at < length (puts_at self.now endpoint) }
+        ensures { slice_get (puts_at self.now endpoint) at ≡ Some result.now }
+    {
+        self.puts.packet(endpoint, at)
     }
 }

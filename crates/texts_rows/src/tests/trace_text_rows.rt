@@ -1,12 +1,13 @@
 use clos_topology::Net;
 use loss_world::Fate;
 use std::alloc::Global;
+use std::process::Abort;
 use std::test::Fail;
 use trace_text::{Ask, Command, Trace, TraceRefused, make_trace, read_trace};
 
 // What a text is read as: the row and the number of the fault, or row 0 and fault 0 for a trace.
 fn fault_of(alloc: Global, text: &[u8], command: Command) -> Option<(u32, u8)> {
-    if text.len() > 10_000 {
+    if text.len() > 100_000 {
         return None;
     }
     match read_trace(alloc, text, command) {
@@ -243,6 +244,144 @@ fn fates_boots_and_raw_packets_are_found(rt: HostRuntime) -> Result<(), Fail> {
             }
         }
     }
+    Ok(())
+}
+
+#[test]
+fn each_faulty_row_of_receive_tells_its_row_and_fault(rt: HostRuntime) {
+    let cases: [(&[u8], u32, u8); 40] = [
+        (b"", 1, 1),
+        (b"put,0,00\n", 1, 1),
+        (b"net,1,2,1\nend,1\n", 0, 0),
+        (b"net,1,2,1\nput,1,0aF0\nput,0,\nend,1\n", 0, 0),
+        (b"net,1,2,1\n\"put\",\"1\",00\nend,\"1\"\n", 0, 0),
+        (b"net,1,2,1\nputs,0,00\n", 2, 2),
+        (b"net,1,2,1\n\n\nPut,0,00\n", 2, 2),
+        (b"net,1,2,1\nask,0,0,1,1\nend,1\n", 2, 10),
+        (b"net,1,2,1\nput,0,00\nask,0,0,1,1\n", 3, 10),
+        (b"net,1,2,1\n\"ask\",0,0,1,1\n", 2, 10),
+        (b"net,1,2,1\nask\n", 2, 10),
+        (b"net,1,2,1\nlose,0,0,up\n", 2, 10),
+        (b"net,1,2,1\ntwice,0,0,up\n", 2, 10),
+        (b"net,1,2,1\nhold,0,0,up,1\n", 2, 10),
+        (b"net,1,2,1\nboot,0,0\n", 2, 10),
+        (b"net,1,2,1\nraw,0,00\n", 2, 10),
+        (b"net,1,2\n", 1, 3),
+        (b"net,1,2,1\nput,0\n", 2, 3),
+        (b"net,1,2,1\nput,0,00,\n", 2, 3),
+        (b"net,1,2,1\nput,9,0,0\n", 2, 3),
+        (b"net,1,2,1\nend,1,1\n", 2, 3),
+        (b"net,1,2,1\nput,x,00\n", 2, 4),
+        (b"net,1,2,1\nput,00,00\n", 2, 4),
+        (b"net,1,2,1\nput,,00\n", 2, 4),
+        (b"net,1,2,1\nput,0,0\n", 2, 4),
+        (b"net,1,2,1\nput,0,0g\n", 2, 4),
+        (b"net,1,2,1\nput,2,0g\n", 2, 4),
+        (b"net,1,2,1\nend,one\n", 2, 4),
+        (b"net,1,65,1\n", 1, 5),
+        (b"net,1,2,1\nput,2,00\n", 2, 5),
+        (b"net,1,2,1\nput,4294967295,\n", 2, 5),
+        (b"net,1,2,1\nend,0\n", 2, 5),
+        (b"net,1,2,1\nend,2\n", 2, 5),
+        (b"net,1,2,1\nend,100000\n", 2, 5),
+        (b"net,1,2,1\nnet,1,2,1\n", 2, 7),
+        (b"net,1,2,1\nend,1\nput,0,00\n", 3, 7),
+        // It stands after the end, and its endpoint is out of range.
+        (b"net,1,2,1\nend,1\nput,2,00\n", 3, 5),
+        (b"net,1,2,1\nend,1\nend,1\n", 3, 7),
+        (b"net,1,2,1\nend,1\nend,2\n", 3, 5),
+        (b"net,1,2,1\nput,0,00\n", 3, 9),
+    ];
+    for (text, row, number) in cases {
+        assert_eq!(rt;
+            fault_of(rt.alloc(), text, Command::Receive),
+            Some((row, number))
+        );
+    }
+}
+
+#[test]
+fn packets_are_put_where_they_are_received_alone(rt: HostRuntime) {
+    let cases: [&[u8]; 2] = [b"net,1,2,1\nput,0,00\nend,1\n", b"net,1,2,1\nput\nend,1\n"];
+    for text in cases {
+        for command in [Command::Plan, Command::Replay] {
+            assert_eq!(rt; fault_of(rt.alloc(), text, command), Some((2, 10)));
+        }
+    }
+}
+
+// A packet of so many bytes.
+fn put_row(alloc: Global, bytes: usize) -> Result<Vec<u8>, Fail> {
+    let mut text = Vec::new(alloc);
+    text.extend_from_slice(b"net,1,2,1\nput,1,")?;
+    for _ in 0..bytes {
+        text.extend_from_slice(b"7E")?;
+    }
+    text.extend_from_slice(b"\nend,1\n")?;
+    Ok(text)
+}
+
+#[test]
+fn a_packet_that_is_put_has_at_most_2048_bytes(rt: HostRuntime) -> Result<(), Fail> {
+    let alloc = rt.alloc();
+    for (bytes, row, number) in [(0, 0, 0), (1, 0, 0), (2_048, 0, 0), (2_049, 2, 5)] {
+        let text = put_row(alloc, bytes)?;
+        assert_eq!(rt;
+            fault_of(alloc, &text, Command::Receive),
+            Some((row, number))
+        );
+    }
+    Ok(())
+}
+
+// So many packets of endpoint 1 after 1,024 of endpoint 0.
+fn put_rows(alloc: Global, count: usize) -> Result<Vec<u8>, Fail> {
+    let mut text = Vec::new(alloc);
+    text.extend_from_slice(b"net,1,2,1\n")?;
+    for _ in 0..1_024 {
+        text.extend_from_slice(b"put,0,00\n")?;
+    }
+    for _ in 0..count {
+        text.extend_from_slice(b"put,1,01\n")?;
+    }
+    text.extend_from_slice(b"end,1\n")?;
+    Ok(text)
+}
+
+#[test]
+fn an_endpoint_puts_at_most_1024_packets(rt: HostRuntime) -> Result<(), Fail> {
+    let alloc = rt.alloc();
+    for (count, row, number) in [(0, 0, 0), (1_024, 0, 0), (1_025, 2_050, 8)] {
+        let text = put_rows(alloc, count)?;
+        assert_eq!(rt;
+            fault_of(alloc, &text, Command::Receive),
+            Some((row, number))
+        );
+    }
+    Ok(())
+}
+
+// The packets that an endpoint puts are these.
+fn check_puts(rt: &impl Abort, trace: &Trace, endpoint: u16, packets: &[&[u8]]) {
+    if endpoint >= trace.endpoints() {
+        return;
+    }
+    assert_eq!(rt; trace.put_count(endpoint), packets.len());
+    for at in 0..trace.put_count(endpoint) {
+        if at < packets.len() {
+            assert_eq!(rt; trace.put(endpoint, at), packets[at]);
+        }
+    }
+}
+
+#[test]
+fn the_packets_of_an_endpoint_are_found(rt: HostRuntime) -> Result<(), Fail> {
+    let text = b"net,3,1,1\nput,2,07\nput,0,\nput,2,aBcD\nput,0,00ff00\nput,2,\nend,1\n";
+    let trace = read_trace(rt.alloc(), text, Command::Receive)?;
+    assert_eq!(rt; (trace.endpoints(), trace.rounds()), (3, 1));
+    check_puts(&rt, &trace, 0, &[b"", b"\x00\xff\x00"]);
+    check_puts(&rt, &trace, 1, &[]);
+    check_puts(&rt, &trace, 2, &[b"\x07", b"\xab\xcd", b""]);
     Ok(())
 }
 

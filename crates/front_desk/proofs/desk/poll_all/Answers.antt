@@ -3,7 +3,8 @@ use Rattle.std.proofs.lemmas.List.{length-set, map-set}
 use Rattle.std.proofs.lemmas.Option.{slice_get-get_or}
 use Rattle.front_desk.specs.State.{HavePolled}
 use Rattle.front_desk.specs.Standing.{state_of}
-use Rattle.front_desk.proofs.Lines.{lines-set, polled-same, polled-then, state_at}
+use Rattle.front_desk.proofs.Lines.{lines-set, state_at}
+use Rattle.front_desk.proofs.Polls.{polled-same, polled-then}
 use Rattle.front_desk.proofs.desk.poll_all.Goals as goal
 
 pub loop-line-init : goal.loop-line-init

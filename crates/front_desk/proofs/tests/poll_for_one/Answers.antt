@@ -1,6 +1,5 @@
 use Rattle.std.proofs.Common.{◌∙◌, arith}
-use Rattle.front_desk.proofs.Lines.{polled-same}
-use Rattle.front_desk.proofs.Twos.{polled-length, polled-twice}
+use Rattle.front_desk.proofs.Polls.{polled-same, polled-length, polled-twice}
 use Rattle.front_desk.proofs.tests.poll_for_one.Goals as goal
 
 pub loop-init : goal.loop-init

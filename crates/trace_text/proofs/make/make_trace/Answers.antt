@@ -1,7 +1,9 @@
-use Rattle.std.proofs.Common.{◌≡◌, ◌≤◌, sym, arith}
+use Rattle.std.proofs.Common.{◌≡◌, ◌≤◌, ℕ, List, IfOk, sym, subst, arith}
 use Rattle.clos_topology.specs.Network.{endpoints_of}
-use Rattle.trace_text.specs.Made.{asks_of_round, losses_of_round, state_after, state_before}
+use Rattle.trace_text.specs.Made.{asks_of_round, losses_of_round, made_trace, state_after, state_before}
+use Rattle.trace_text.specs.Trace.{with_puts}
 use Rattle.trace_text.proofs.MadeFacts.{asks-among, asks-bounded, losses-among, flat_map-more, round-next}
+use Rattle.trace_text.proofs.PutFacts.{none_few, none_kept}
 use Rattle.trace_text.proofs.make.make_trace.Goals as goal
 
 pub loop-round-preserved : goal.loop-round-preserved
@@ -37,8 +39,12 @@ of-requires-clause-events c = record {
   each_raw = rw c.loop-round.invariant.raws (λ k d lt. absurd (omega arith));
 }
 
+pub of-requires-clause-puts : goal.of-requires-clause-puts
+of-requires-clause-puts c = none_few c.new.result c.new.ensures.packets
+
 pub returns : goal.returns
 returns c =
     let so_far = c.loop-round.invariant in
     let all : c.loop-round.round ≡ c.args.rounds = omega (arith, c.loop-round.auto.round-end, c.loop-round-test.false) in
-    rw (so_far.asks, so_far.fates, so_far.boots, so_far.raws, so_far.bytes, all) at c.of.ensures.content
+    let content = rw (so_far.asks, so_far.fates, so_far.boots, so_far.raws, so_far.bytes, all) at c.of.ensures.content in
+    subst (λ (puts : List (List (List ℕ))). IfOk c.of.result (λ trace. trace ≡ with_puts puts (made_trace c.args.number c.args.net c.args.rounds))) (none_kept (endpoints_of c.args.net) c.new.result c.new.ensures.packets) content

@@ -1,13 +1,15 @@
-use Rattle.std.proofs.Common.{◌≡◌, ◌≢◌, length, ℕ, sum_by, sym, ap, ◌∙◌, Some, Ok, arith}
-use Rattle.clos_topology.specs.Network.{Network}
+use Rattle.std.proofs.Common.{◌≡◌, ◌≢◌, length, ℕ, List, sum_by, sym, ap, ◌∙◌, Some, Ok, arith}
+use Rattle.clos_topology.specs.Network.{Network, endpoints_of}
 use Rattle.trace_text.specs.Asks.{slots_asked}
 use Rattle.trace_text.specs.Earlier.{end_of, net_of}
 use Rattle.trace_text.specs.Events.{events_kept}
-use Rattle.trace_text.specs.Trace.{content_by}
+use Rattle.trace_text.specs.Puts.{puts_in}
+use Rattle.trace_text.specs.Trace.{content_by, each_below, puts_of, with_puts}
 use Rattle.trace_text.proofs.ContentFacts.{content_by-same}
 use Rattle.trace_text.proofs.EventRowFacts.{events-same}
 use Rattle.trace_text.proofs.TraceFacts.{ended-some}
 use Rattle.trace_text.proofs.read.finish.Goals as goal
+use mathlib.Core.Path.{fun_ext}
 
 pub of-requires-clause-bounded : goal.of-requires-clause-bounded
 of-requires-clause-bounded c = λ src dst.
@@ -21,6 +23,9 @@ of-requires-clause-boots c = let stands = c.requires.stands.1 in omega (arith, s
 pub of-requires-clause-raws : goal.of-requires-clause-raws
 of-requires-clause-raws c = let stands = c.requires.stands.1 in omega (arith, stands.few_raws, stands.count, c.requires.room)
 
+pub of-requires-clause-puts : goal.of-requires-clause-puts
+of-requires-clause-puts c = c.requires.stands.1.puts.are_few
+
 pub returns : goal.returns
 returns c = λ before stands.
     let is = rw c.in-Some.is at stands.net in
@@ -31,7 +36,8 @@ returns c = λ before stands.
     let events = c.args.rows.events in
     let kept = events_kept events.fates.items events.boots.items events.raws.items events.bytes.items in (
       ended-some before rounds some end
-          ∙ ap Ok (sym (c.in_ok-of.ensures.content ∙ ap (λ (n : Network). content_by n rounds amount kept) (sym is.1)
-          ∙ content_by-same (net_of before) rounds _ _ _ _ stands.asks (events-same before events.fates.items events.boots.items events.raws.items events.bytes.items stands.events))),
+          ∙ ap Ok (sym (c.in_ok-of.ensures.content ∙ ap (λ (n : Network). with_puts (each_below (endpoints_of n) (puts_in c.args.rows.puts)) (content_by n rounds amount kept)) (sym is.1)
+          ∙ (ap (λ (puts : ℕ → List (List ℕ)). with_puts (each_below (endpoints_of (net_of before)) puts) (content_by (net_of before) rounds amount kept)) (fun_ext stands.puts.each)
+          ∙ ap (with_puts (puts_of before)) (content_by-same (net_of before) rounds _ _ _ _ stands.asks (events-same before events.fates.items events.boots.items events.raws.items events.bytes.items stands.events))))),
       c.in_ok-of.ensures.sound,
     )

@@ -14,7 +14,7 @@ loop-rows-preserved-in-Continue-branch-2 c =
     let stands = c.loop-rows.invariant.stands.1 in
     let same = c.loop-rows.invariant.stands.2 in
     let found = rw c.in-Ask.is at c.in_ok-found.ensures in
-    let taken = c.in_ok-take_ask-in-Ask.ensures c.args.command before found.0 stands found.1 in
+    let taken = c.in_ok-take_ask-in-Ask.ensures before found.0 stands found.1 in
     record {
       stands = (before ++ taken.0 ∷ [], taken.2, same ∙ ap (λ l. rows_after c.args.command l before) found.2 ∙ rows_after-ok c.args.command found.0 c.read.new.self before taken.0 taken.1);
       room = omega (arith, c.loop-rows.invariant.room, taken.2.count, stands.count, length-more before taken.0, ap length found.2);
@@ -47,7 +47,7 @@ returns-in_err-take_ask-in-Ask-clause-refused c =
     let p = err_from_is_err_and c.from_residual-in_err-take_ask-in-Ask.result c.from_residual-in_err-take_ask-in-Ask.ensures.1 in
     rw (p.1, p.2)
     (told c.args.command c.args.bytes.now found.0 c.read.new.self before c.take_ask.new.self c.in_err-take_ask-in-Ask.field-0.0 same
-    (c.in_err-take_ask-in-Ask.ensures c.args.command before found.0 stands found.1))
+    (c.in_err-take_ask-in-Ask.ensures before found.0 stands found.1))
 
 pub returns-in_err-take-in-Fields-clause-refused :
     goal.returns-in_err-take-in-Fields-clause-refused

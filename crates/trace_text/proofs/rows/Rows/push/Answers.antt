@@ -4,6 +4,7 @@ use Rattle.trace_text.specs.Rows.{End}
 use Rattle.trace_text.specs.Earlier.{slots_of, slots_in_round}
 use Rattle.trace_text.proofs.RowFacts.{length-more, net-more, greatest_round-more, end_of-more}
 use Rattle.trace_text.proofs.EventRowFacts.{no_event, latest_fate-more}
+use Rattle.trace_text.proofs.PutFacts.{no_put}
 use Rattle.trace_text.proofs.rows.Rows.push.Goals as goal
 
 pub returns-in-End : goal.returns-in-End
@@ -29,4 +30,5 @@ returns-in-End c = λ before s.
       few_raws = omega (arith, length-more before row, s.few_raws);
       few_bytes = omega (arith, length-more before row, s.few_bytes);
       bounds = s.bounds;
+      puts = no_put before row _ _ (λ endpoint. refl) s.puts;
     })

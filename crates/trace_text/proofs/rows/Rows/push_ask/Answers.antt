@@ -9,6 +9,7 @@ use Rattle.trace_text.specs.Standing.{endpoints_kept}
 use Rattle.trace_text.proofs.RowFacts.{length-more, net-more, net-some, greatest_round-more, end_of-more, option_or-none, slots_of-bounded}
 use Rattle.trace_text.proofs.EventRowFacts.{no_event, latest_fate-more}
 use Rattle.trace_text.proofs.TableFacts.{table-more}
+use Rattle.trace_text.proofs.PutFacts.{no_put}
 use Rattle.trace_text.proofs.rows.Rows.push_ask.Goals as goal
 
 pub returns : goal.returns
@@ -46,4 +47,5 @@ returns c = λ before s.
       few_raws = omega (arith, length-more before row, s.few_raws);
       few_bytes = omega (arith, length-more before row, s.few_bytes);
       bounds = s.bounds;
+      puts = no_put before row _ _ (λ endpoint. refl) s.puts;
     }

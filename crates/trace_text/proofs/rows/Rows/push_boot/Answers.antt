@@ -1,4 +1,4 @@
-use Rattle.std.proofs.Common.{◌≡◌, ◌≤◌, ◌∷◌, [], true, sym, ◌∙◌, arith, length-append}
+use Rattle.std.proofs.Common.{◌≡◌, ◌≤◌, ◌∷◌, [], true, refl, sym, ◌∙◌, arith, length-append}
 use Rattle.std.proofs.lemmas.Bool.Decides.{nat_tests}
 use Rattle.std.proofs.lemmas.List.Sums.{sum_by_push}
 use Rattle.std.proofs.lemmas.List.Elements.{All-push}
@@ -9,6 +9,7 @@ use Rattle.trace_text.specs.Faults.{is_between}
 use Rattle.trace_text.specs.Standing.{endpoints_kept}
 use Rattle.trace_text.proofs.RowFacts.{length-more, net-more, net-some, greatest_round-more, end_of-more, option_or-none}
 use Rattle.trace_text.proofs.EventRowFacts.{boot-event, latest_fate-more}
+use Rattle.trace_text.proofs.PutFacts.{no_put}
 use Rattle.trace_text.proofs.rows.Rows.push_boot.Goals as goal
 
 pub returns : goal.returns
@@ -42,4 +43,5 @@ returns c = λ before s.
         each_boot = rw items (All-push (IsBootAmong n) c.args.self.now.events.boots.items _ s.bounds.each_boot (c.requires.allowed.1, low, high));
         each_raw = s.bounds.each_raw;
       };
+      puts = no_put before row _ _ (λ endpoint. refl) s.puts;
     }

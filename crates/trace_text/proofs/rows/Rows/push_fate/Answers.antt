@@ -1,4 +1,4 @@
-use Rattle.std.proofs.Common.{◌≡◌, ◌≤◌, ◌+◌, ◌*◌, sym, ◌∙◌, arith, length-set}
+use Rattle.std.proofs.Common.{◌≡◌, ◌≤◌, ◌+◌, ◌*◌, refl, sym, ◌∙◌, arith, length-set}
 use Rattle.std.proofs.lemmas.List.Sums.{sum_by_push}
 use Rattle.std.proofs.lemmas.List.Elements.{All-push}
 use Rattle.trace_text.specs.Rows.{Meets}
@@ -7,6 +7,7 @@ use Rattle.trace_text.specs.Events.{IsFateAmong, way_number}
 use Rattle.trace_text.specs.Standing.{endpoints_kept}
 use Rattle.trace_text.proofs.RowFacts.{length-more, net-more, net-some, greatest_round-more, end_of-more, option_or-none}
 use Rattle.trace_text.proofs.EventRowFacts.{fate-event, fated-more}
+use Rattle.trace_text.proofs.PutFacts.{no_put}
 use Rattle.trace_text.proofs.rows.Rows.push_fate.Goals as goal
 
 pub returns : goal.returns
@@ -39,4 +40,5 @@ returns c = λ before s.
         each_boot = s.bounds.each_boot;
         each_raw = s.bounds.each_raw;
       };
+      puts = no_put before row _ _ (λ endpoint. refl) s.puts;
     }

@@ -1,13 +1,14 @@
-use Rattle.std.proofs.Common.{[], ◌∷◌, ◌++◌, length, sym, ◌∙◌, arith, length-append}
+use Rattle.std.proofs.Common.{[], ◌∷◌, ◌++◌, length, refl, sym, ◌∙◌, arith, length-append}
 use Rattle.std.proofs.lemmas.List.Sums.{sum_by_push}
 use Rattle.std.proofs.lemmas.List.Elements.{All-push}
 use Rattle.trace_text.specs.Rows.{Raw}
 use Rattle.trace_text.specs.Earlier.{slots_of, slots_in_round, end_of}
-use Rattle.trace_text.specs.Events.{IsWithin, raw_from}
+use Rattle.trace_text.specs.Events.{IsWithin, packet_from}
 use Rattle.trace_text.specs.Fields.{bytes_of}
 use Rattle.trace_text.proofs.HexFacts.{hex-bytes}
 use Rattle.trace_text.proofs.RowFacts.{length-more, net-more, greatest_round-more, end_of-more, option_or-none}
 use Rattle.trace_text.proofs.EventRowFacts.{raw-event, start-from, latest_fate-more}
+use Rattle.trace_text.proofs.PutFacts.{no_put}
 use Rattle.trace_text.proofs.rows.Rows.push_raw.Goals as goal
 
 pub push_raw-requires-clause-room : goal.push_raw-requires-clause-room
@@ -37,7 +38,7 @@ returns c = λ before s.
       events = rw (told.fates, told.boots, told.raws, told.bytes)
           (raw-event before c.args.round packet events.fates.items events.boots.items events.raws.items events.bytes.items s.bounds.each_raw s.events);
       few = rw told.boots (omega (arith, length-more before row, s.few));
-      few_raws = rw told.raws (omega (arith, length-more before row, length-append events.raws.items (raw_from c.args.round (length events.bytes.items) (length packet) ∷ []), s.few_raws));
+      few_raws = rw told.raws (omega (arith, length-more before row, length-append events.raws.items (packet_from c.args.round (length events.bytes.items) (length packet) ∷ []), s.few_raws));
       few_bytes = rw told.bytes (omega (arith, length-more before row, length-append events.bytes.items packet, hex, c.requires.allowed.2.1, s.few_bytes));
       bounds = rw (told.fates, told.boots, told.raws, told.bytes) (record {
         each_fate = s.bounds.each_fate;
@@ -46,4 +47,5 @@ returns c = λ before s.
             (λ k d lt. let here = s.bounds.each_raw k d lt in (omega (arith, here.0, length-append events.bytes.items packet), here.1))
             (omega (arith, start-from c.args.round (length events.bytes.items) (length packet), length-append events.bytes.items packet), omega (arith, hex, c.requires.allowed.2.1));
       });
+      puts = no_put before row _ _ (λ endpoint. refl) s.puts;
     }

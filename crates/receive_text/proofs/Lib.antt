@@ -1,0 +1,5 @@
+mod Closing
+mod Opening
+mod Filled
+mod Recording
+mod Texts

@@ -1,0 +1,3 @@
+pub mod ReceiveText
+pub mod Putting
+pub mod Received
