@@ -11,6 +11,7 @@ use takeover_core::{Event, NoMemory, Outcome, Pair, Refusal};
 use takeover_history::asks_are_counted;
 
 mod scripts;
+mod texts;
 
 /// A pair with what its caller keeps: how many events came, and how many slots they asked for.
 #[derive(Drop)]

@@ -1,2 +1,4 @@
 pub mod Lines
+pub mod Progress
+pub mod Kept
 pub mod Examples

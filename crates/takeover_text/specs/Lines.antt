@@ -52,7 +52,7 @@ total_line setting log src dst =
     if nat_lt 0 (asked log (flow_of src dst)) then line.Total src dst (asked log (flow_of src dst)) (sends setting log (flow_of src dst)) ∷ [] else []
 
 abbrev pub totals_of : Setting → Log → ℕ → List Line
-totals_of setting log src = flat_map (λ dst. total_line setting log src dst) (range_with_len 0 setting.endpoints)
+totals_of setting log src = flat_map (total_line setting log src) (range_with_len 0 setting.endpoints)
 
 abbrev pub total_lines : Setting → Log → List Line
 total_lines setting log = flat_map (totals_of setting log) (range_with_len 0 setting.endpoints)
