@@ -1,4 +1,10 @@
 //! Greedy allocation by an order of the caller's, such as the flow that needs least first.
+//!
+//! `fewest_order` gives one batch its slots by an order of the caller's: `orders.rt` has the orders, `allocation.rt` the batch.
+//! Its slots are filled by the plain allocator, which is shown the list in the order and as never served. `fewest.rt` has
+//! `FewestFirst`, which keeps one list by need from batch to batch: its items take their slots flow by flow (`Turns` of
+//! `slot_batches`), and before each sort the items that go first among equals are put in front, so that the sort meets long runs
+//! (`proofs/PartLemmas.antt` says why that is the same list).
 #![tactic(auto)]
 
 mod allocation;

@@ -47,7 +47,7 @@ take-plus m n xs =
 places : (k n b : ℕ) → (k + n) * b ≡ k * b + n * b
 places k n b = grind arith
 
-front_more : (cores : Cores) (b j k n : ℕ) (batches : List DemandBatch) (slots : List (List Flow)) → k + n ≤ length batches
+pub front_more : (cores : Cores) (b j k n : ℕ) (batches : List DemandBatch) (slots : List (List Flow)) → k + n ≤ length batches
     → batches_lines cores b j (take (k + n) batches) (take ((k + n) * b) slots)
     ≡ batches_lines cores b j (take k batches) (take (k * b) slots) ++ batches_lines cores b (j + k) (take n (drop k batches)) (take (n * b) (drop (k * b) slots))
 front_more cores b j k n batches slots within =

@@ -23,10 +23,10 @@ abbrev pub all_slots : ℕ → TraceContent → List (List Flow)
 all_slots b trace = schedule b (plan_batches trace)
 
 -- the slots of a window by their numbers
-within_window : (low count at : ℕ) (slots : List (List Flow)) → at < length (take count (drop low slots)) → (at < count) × (low + 1 + at ≤ length slots)
+pub within_window : (low count at : ℕ) (slots : List (List Flow)) → at < length (take count (drop low slots)) → (at < count) × (low + 1 + at ≤ length slots)
 within_window low count at slots below = (omega (arith, length-take count (drop low slots)), omega (arith, length-take count (drop low slots), length-drop low slots))
 
-in_window : (low count at : ℕ) (slots : List (List Flow)) → at < length (take count (drop low slots)) → slot_in (take count (drop low slots)) at ≡ slot_at slots (low + 1 + at)
+pub in_window : (low count at : ℕ) (slots : List (List Flow)) → at < length (take count (drop low slots)) → slot_in (take count (drop low slots)) at ≡ slot_at slots (low + 1 + at)
 in_window low count at slots below =
     let place : low + at ≡ low + 1 + at - 1 = omega arith in
     get_or-take count (drop low slots) at [] (within_window low count at slots below).0 ∙ (get_or-drop low slots at [] ∙ ap (λ (m : ℕ). get_or slots m []) place)
@@ -102,7 +102,7 @@ slots_lines-same f h number (slot ∷ slots) same =
 next_first : (b k : ℕ) → first_slot b (k + 1) ≡ first_slot b k + b
 next_first b k = grind arith
 
-batches_lines-same : (f g : Cores) (b k : ℕ) (batches : List DemandBatch) (slots : List (List Flow)) → ((number : ℕ) → first_slot b k ≤ number → number < first_slot b k + length slots → f number ≡ g number)
+pub batches_lines-same : (f g : Cores) (b k : ℕ) (batches : List DemandBatch) (slots : List (List Flow)) → ((number : ℕ) → first_slot b k ≤ number → number < first_slot b k + length slots → f number ≡ g number)
     → batches_lines f b k batches slots ≡ batches_lines g b k batches slots
 batches_lines-same f g b k [] slots same = refl
 batches_lines-same f g b k (batch ∷ batches) slots same =

@@ -43,12 +43,12 @@ use Rattle.run_text.proofs.LineSums.{sum-none, sum-of_map, sum-last, refusals_al
 -- ---- lines that name no counts
 
 -- such a line says nothing of a flow's demand
-abbrev NamesNoCounts : Line → Type 0
+abbrev pub NamesNoCounts : Line → Type 0
 NamesNoCounts (line.Flow src dst demanded allocated pending) = ⊥
 NamesNoCounts (line.Count src dst demanded acknowledged flight pending lost sent missed) = ⊥
 NamesNoCounts _ = ⊤
 
-balanced_without : (l : Line) → NamesNoCounts l → IsBalanced l
+pub balanced_without : (l : Line) → NamesNoCounts l → IsBalanced l
 balanced_without (line.Flow src dst demanded allocated pending) is = absurd is
 balanced_without (line.Count src dst demanded acknowledged flight pending lost sent missed) is = absurd is
 balanced_without l is = tt
@@ -84,7 +84,7 @@ steps_without cores setting trace steps = All-flat NamesNoCounts (step_lines cor
 
 -- ---- a plan
 
-batches_without : (cores : Cores) (b k : ℕ) (batches : List DemandBatch) (slots : List (List Flow)) → All NamesNoCounts (batches_lines cores b k batches slots)
+pub batches_without : (cores : Cores) (b k : ℕ) (batches : List DemandBatch) (slots : List (List Flow)) → All NamesNoCounts (batches_lines cores b k batches slots)
 batches_without cores b k [] slots = All-nil NamesNoCounts
 batches_without cores b k (batch ∷ batches) slots =
     let own : List (List Flow) = take b slots in

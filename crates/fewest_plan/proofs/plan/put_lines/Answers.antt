@@ -1,0 +1,56 @@
+use Rattle.std.proofs.Common.{◌≡◌, ◌++◌, sym, ap, ◌∙◌, ℕ, List}
+use Rattle.greedy_rules.specs.Examples.{remaining}
+use Rattle.report_text.specs.declared.line.Line.TheVariants as line
+use Rattle.run_lines.specs.Text.{line_text, text_of}
+use Rattle.run_text.proofs.OutputLemmas.{Ends-stopped}
+use Rattle.run_text.proofs.PlanLemmas.{end_text}
+use Rattle.fewest_plan.specs.Text.{flows_lines_by, fewest_text}
+use Rattle.fewest_plan.proofs.TextLemmas.{plan_parts}
+use Rattle.fewest_plan.proofs.plan.put_lines.Goals as goal
+
+pub returns-in_err-put_rounds : goal.returns-in_err-put_rounds
+returns-in_err-put_rounds g c =
+    let trace = c.args.trace.now in
+    let b : ℕ = c.args.sizes.b in
+    let (cores, scheduled, passes) = c.in_err-put_rounds.ensures.passes in (
+      cores,
+      scheduled,
+      Ends-stopped _ (c.texts_follow.ensures.stopped _ passes c.from_residual-in_err-put_rounds.ensures.1 (sym (plan_parts cores trace b c.requires.accepted (c.every_plan_has_its_slots.ensures remaining))))
+          c.from_residual-in_err-put_rounds.ensures.1,
+    )
+
+pub returns-in_err-put_flows : goal.returns-in_err-put_flows
+returns-in_err-put_flows g c =
+    let trace = c.args.trace.now in
+    let b : ℕ = c.args.sizes.b in
+    let told : List ℕ = text_of (flows_lines_by remaining c.put_rounds.new.planner.b trace) in
+    let same : told ≡ text_of (flows_lines_by remaining b trace) = ap (λ (n : ℕ). text_of (flows_lines_by remaining n trace)) c.in_ok-put_rounds.ensures.b in
+    let later : List ℕ = text_of (flows_lines_by remaining b trace) ++ end_text trace in
+    let (cores, scheduled, passes) = c.in_ok-put_rounds.ensures.passes in (
+      cores,
+      scheduled,
+      Ends-stopped _ (c.texts_follow.ensures.after {z = fewest_text cores b trace} passes
+          (c.texts_follow.ensures.stopped {z = later} (end_text trace) c.in_err-put_flows.ensures c.from_residual-in_err-put_flows.ensures.1 (sym (ap (λ (t : List ℕ). t ++ end_text trace) same)))
+          (sym (plan_parts cores trace b c.requires.accepted (c.every_plan_has_its_slots.ensures remaining))))
+          c.from_residual-in_err-put_flows.ensures.1,
+    )
+
+pub returns : goal.returns
+returns g c =
+    let trace = c.args.trace.now in
+    let b : ℕ = c.args.sizes.b in
+    let told : List ℕ = text_of (flows_lines_by remaining c.put_rounds.new.planner.b trace) in
+    let same : told ≡ text_of (flows_lines_by remaining b trace) = ap (λ (n : ℕ). text_of (flows_lines_by remaining n trace)) c.in_ok-put_rounds.ensures.b in
+    let ended : List ℕ = line_text (line.End c.rounds.result) in
+    let last : ended ≡ end_text trace = ap (λ (n : ℕ). line_text (line.End n)) c.rounds.ensures.number in
+    let later : List ℕ = text_of (flows_lines_by remaining b trace) ++ end_text trace in
+    let (cores, scheduled, passes) = c.in_ok-put_rounds.ensures.passes in (
+      cores,
+      scheduled,
+      record {
+        passes = c.texts_follow.ensures.after passes
+            (c.texts_follow.ensures.after {z = later} c.in_ok-put_flows.ensures c.put_last_line.ensures.passes (sym (ap (λ (t : List ℕ). t ++ ended) same ∙ ap (λ (t : List ℕ). text_of (flows_lines_by remaining b trace) ++ t) last)))
+            (sym (plan_parts cores trace b c.requires.accepted (c.every_plan_has_its_slots.ensures remaining)));
+        empty = c.put_last_line.ensures.empty;
+      },
+    )
