@@ -105,7 +105,7 @@ come_of_ring b k workers aside list found batches slots old new are picked_is sl
 }
 
 -- no item is set aside
-all_picked : (list : List Item) → list ≡ picked (λ item. false) list
+pub all_picked : (list : List Item) → list ≡ picked (λ item. false) list
 all_picked [] = refl
 all_picked (item ∷ list) = ap (λ (xs : List Item). item ∷ xs) (all_picked list)
 
@@ -137,7 +137,7 @@ module _ (endpoints b : ℕ) (flow : Flow) (balances : EveryBatchBalances) where
       omega (arith, kept, same, needs, later, sum_by-append (λ (slot : List Flow). cond (has_flow slot flow) 1 0) (slots_then b k batch list) (schedule_from b (k + 1) then batches))
 
 -- no item of another flow is the flow's
-none_of : (list : List Item) (flow : Flow) → All (λ x. flow ≢ x.flow) list → item_of list flow ≡ None
+pub none_of : (list : List Item) (flow : Flow) → All (λ x. flow ≢ x.flow) list → item_of list flow ≡ None
 none_of [] flow others = refl
 none_of (item ∷ list) flow others =
     let Other : Item → Type 0 = λ x. flow ≢ x.flow in

@@ -1,8 +1,13 @@
 pub mod Weaving
 pub mod Places
+pub mod SlotWords
+pub mod ReachLemmas
+pub mod Choice
+pub mod ReachedLemmas
 pub mod IdleLemmas
 pub mod RunLemmas
 pub mod HandedLemmas
+pub mod PartLemmas
 pub mod PickedLemmas
 pub mod Down
 pub mod CleanSlots

@@ -107,7 +107,7 @@ within_cons : (from n : ℕ) (ps : List ℕ) (i d value : ℕ) → value ≡ get
 within_cons from n ps zero d value is inside more = (omega (arith, is), omega (arith, is))
 within_cons from n ps (suc k) d value is inside more = let one = more k (omega (arith, inside)) in (omega (arith, is, one.0), omega (arith, is, one.1))
 
-within_list : (aside : Item → Bool) (from : ℕ) (list : List Item) (i d : ℕ) → i < length (places_from aside from list)
+pub within_list : (aside : Item → Bool) (from : ℕ) (list : List Item) (i d : ℕ) → i < length (places_from aside from list)
     → (from ≤ get_or (places_from aside from list) i d) × (get_or (places_from aside from list) i d < from + length list)
 within_list aside from [] i d inside = absurd (omega arith)
 within_list aside from (item ∷ list) i d inside = elim (cases_Bool (aside item)) [

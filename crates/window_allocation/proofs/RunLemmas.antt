@@ -118,7 +118,7 @@ stand_first b k found batches total served list slots counts places are =
       empty = ap (drop (served * b)) are.slots_are ∙ (drop_at first rest (served * b) long ∙ ap (λ (n : ℕ). replicate (n - served * b) none) (sym total_is));
     }
 
-take_on : {X : Type 0} (n m : ℕ) (xs : List X) → take (n + m) xs ≡ take n xs ++ take m (drop n xs)
+pub take_on : {X : Type 0} (n m : ℕ) (xs : List X) → take (n + m) xs ≡ take n xs ++ take m (drop n xs)
 take_on zero m xs = ap (λ (k : ℕ). take k xs) (let q : 0 + m ≡ m = omega arith in q)
 take_on {X} (suc n) m [] = take_all {A = X} (suc n + m) [] (omega arith) ∙ sym (take_all {A = X} m [] (omega arith))
 take_on (suc n) m (x ∷ xs) = ap (λ (k : ℕ). take k (x ∷ xs)) (let q : suc n + m ≡ suc (n + m) = omega arith in q) ∙ ap (λ ys. x ∷ ys) (take_on n m xs)

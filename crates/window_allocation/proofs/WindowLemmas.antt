@@ -10,6 +10,7 @@ use Rattle.greedy_rules.specs.Schedule.{first_slot, schedule, schedule_from, slo
 use Rattle.greedy_rules.specs.Fronts.{FrontsAreFronts, EveryBatchHasItsSlots}
 use Rattle.greedy_rules.specs.Recorded.{MayBeApplied, IsLeftBy, RecordedBatchesMayBeApplied, LaterBatchesMayBeApplied, EveryRecordedSlot}
 use Rattle.greedy_rules.specs.Room.{FlowsFitPairs}
+use Rattle.greedy_rules.specs.Balance.{EveryBatchBalances}
 use Rattle.greedy_rules.specs.SlotTable.{Slots}
 use Rattle.slot_batches.specs.NextList.{IsListBefore}
 use Rattle.alloc_pipeline.specs.Ring.{RingWork, IsSameRing, MayAllocate, pairs_of}
@@ -20,7 +21,8 @@ use Rattle.path_workers.specs.CoreTable.{CoreSlots, core_of}
 use Rattle.window_allocation.specs.Nets.{limits_of, AreOfNet}
 use Rattle.window_allocation.specs.Standing.{Allocated, HasAllocated}
 use Rattle.window_allocation.specs.Windows.{IsWindowOf}
-use Rattle.window_allocation.specs.Ready.{IsFit, IsReady, EveryWindowIsReady}
+use Rattle.window_allocation.proofs.PartLemmas.{parts_may}
+use Rattle.window_allocation.specs.Ready.{AnyPartMayBeApplied, IsFit, IsReady, EveryWindowIsReady}
 
 -- the list that recorded batches leave fits where all flows do
 fits : (endpoints : ℕ) (batches : List DemandBatch) (list : List Item) → FlowsFitPairs → IsLeftBy endpoints batches list → length list ≤ pairs_of endpoints
@@ -53,8 +55,8 @@ fit_slot net b earlier batches window recorded slots count whole at d below =
     subst (IsFit net) here (record { matching = slot.matching; flows = slot.in_range.in_range; degrees = slot.keeps })
 
 pub ready : (net : Network) (most : ℕ) (earlier batches : List DemandBatch) (half : Allocated) → HasAllocated net most earlier half → AreOfNet net (earlier ++ batches)
-    → RecordedBatchesMayBeApplied → LaterBatchesMayBeApplied → EveryRecordedSlot → FrontsAreFronts → EveryBatchHasItsSlots → FlowsFitPairs → IsReady net earlier batches half
-ready net most earlier batches half has recorded all later slots fronts count fit =
+    → RecordedBatchesMayBeApplied → LaterBatchesMayBeApplied → EveryRecordedSlot → FrontsAreFronts → EveryBatchHasItsSlots → FlowsFitPairs → EveryBatchBalances → IsReady net earlier batches half
+ready net most earlier batches half has recorded all later slots fronts count fit balances =
     let b : ℕ = half.b in
     let n : ℕ = endpoints_of net in
     let list : List Item = half.list.items in
@@ -69,6 +71,7 @@ ready net most earlier batches half has recorded all later slots fronts count fi
     (sym (ap (λ (k : ℕ). schedule_from b k list batches) has.number ∙ ap (λ (l : List Item). schedule_from b (length earlier) l batches) has.left)) in
     record {
       may = subst (λ (k : ℕ). From k list) (sym has.number) (subst (From (length earlier)) (sym has.left) may);
+      parts = parts_may n b half.batches (limits_of net) earlier batches list balances recorded (subst (IsLeftBy n earlier) (sym has.left) (all n b (limits_of net) earlier has.recorded).left);
       then = then;
       few = omega (arith, ap length has.left, fits n earlier (rest b earlier) fit (all n b (limits_of net) earlier has.recorded).left);
       room = omega (arith, has.room, ap length then, fits n (earlier ++ batches) (rest b (earlier ++ batches)) fit (all n b (limits_of net) (earlier ++ batches) recorded).left, fewer_pairs n);
@@ -129,8 +132,8 @@ window_of net b first n window slots cores is number endpoints core_slots core_e
 abbrev pub HasNext : List DemandBatch → Allocated → Type 0
 HasNext batches half = (earlier : List DemandBatch) × HasAllocated half.paths.net half.ring.batches earlier half × AreOfNet half.paths.net (earlier ++ batches)
 
-pub every_window : RecordedBatchesMayBeApplied → LaterBatchesMayBeApplied → EveryRecordedSlot → FrontsAreFronts → EveryBatchHasItsSlots → FlowsFitPairs → EveryWindowIsReady
-every_window all later slots fronts count fit net most earlier batches half has recorded = ready net most earlier batches half has recorded all later slots fronts count fit
+pub every_window : RecordedBatchesMayBeApplied → LaterBatchesMayBeApplied → EveryRecordedSlot → FrontsAreFronts → EveryBatchHasItsSlots → FlowsFitPairs → EveryBatchBalances → EveryWindowIsReady
+every_window all later slots fronts count fit balances net most earlier batches half has recorded = ready net most earlier batches half has recorded all later slots fronts count fit balances
 
 pub ring_size : (net : Network) (most : ℕ) (earlier : List DemandBatch) (half : Allocated) → HasAllocated net most earlier half → half.ring.b ≡ half.b
 ring_size net most earlier half has = ap (λ (r : RingWork). r.b) has.ring
@@ -157,6 +160,13 @@ may_allocate net earlier batches half table size has is_ready count numbers same
       serves = omega (arith, serves);
       places = omega (arith, long);
     }
+
+-- and any part of its list
+pub parts_may_be : (net : Network) (earlier batches : List DemandBatch) (half : Allocated) → HasAllocated net half.ring.batches earlier half → IsReady net earlier batches half
+    → AnyPartMayBeApplied half.ring.endpoints half.ring.b half.batches half.list.items batches
+parts_may_be net earlier batches half has is_ready =
+    subst (λ (n : ℕ). AnyPartMayBeApplied n half.ring.b half.batches half.list.items batches) (sym (ring_endpoints net half.ring.batches earlier half has))
+    (subst (λ (m : ℕ). AnyPartMayBeApplied (endpoints_of net) m half.batches half.list.items batches) (sym (ring_size net half.ring.batches earlier half has)) is_ready.parts)
 
 -- the table of a window, by the numbers that the code has
 pub table_is : (earlier batches : List DemandBatch) (half : Allocated) (opened slots : List (List Flow)) (size : ℕ) → HasAllocated half.paths.net half.ring.batches earlier half → size ≡ half.b

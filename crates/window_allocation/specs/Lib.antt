@@ -9,3 +9,4 @@ pub mod Giving
 pub mod Idle
 pub mod Picked
 pub mod Runs
+pub mod Reach

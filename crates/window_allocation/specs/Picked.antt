@@ -1,8 +1,8 @@
 -- What of a window's demand list is set aside, and the memory for the rest (this project's own profile).
-use Rattle.std.specs.Prelude.{◌≤◌, ℕ, ◌+◌, ◌*◌, List, [], ◌∷◌, length, Bool, ◌==◌, ◌&&◌, not, if◌then◌else◌, vec_capacity}
+use Rattle.std.specs.Prelude.{◌≡◌, ◌≤◌, ℕ, ◌+◌, ◌*◌, List, [], ◌∷◌, length, Bool, true, false, All, ◌==◌, ◌&&◌, not, if◌then◌else◌, vec_capacity}
 use Rattle.greedy_rules.specs.declared.flows.Item.{Item}
 use Rattle.slot_batches.specs.Marks.{WindowMarks, has_mark}
-use Rattle.slot_batches.specs.Woven.{stays}
+use Rattle.slot_batches.specs.Woven.{picked, stays, places_from}
 use Rattle.window_allocation.specs.declared.picked.Picked.{Picked}
 
 -- an item is set aside that needs no slot and whose flow has no mark
@@ -15,8 +15,16 @@ staying [] rest = []
 staying (item ∷ list) [] = []
 staying (item ∷ list) (next ∷ rest) = if stays item next then next ∷ [] else []
 
--- there is room for an item of each pair of endpoints, twice, and for the places of as many
+-- there is room for an item of each pair of endpoints, twice, and for the places of as many, and words for the flows between them
 pub record HasRoomFor (endpoints : ℕ) (picked : Picked) : Type 0 where
   pub items : endpoints * endpoints ≤ length picked.items.items + picked.items.spare
   pub places : endpoints * endpoints ≤ vec_capacity picked.places
   pub whole : endpoints * endpoints ≤ vec_capacity picked.whole
+  pub slots : picked.slots.endpoints ≡ endpoints
+
+-- items of the list, and their places, where all that may have an entry are among them
+pub record IsReached (marks : WindowMarks) (list found : List Item) (places : List ℕ) : Type 0 where
+  pub aside : Item → Bool
+  pub at : places ≡ places_from aside 0 list
+  pub are : found ≡ picked aside list
+  pub unmarked : All (λ item. aside item ≡ true → has_mark marks item.flow ≡ false) list

@@ -57,7 +57,7 @@ fn count_empty(batches: &[Batch]) -> usize
 }
 
 /// Whether the list has at most `SHORT` items, with all that the batches may open.
-fn stays_short(items: &[Item], batches: &[Batch]) -> bool {
+pub(crate) fn stays_short(items: &[Item], batches: &[Batch]) -> bool {
     let mut most = items.len();
     for batch in batches {
         most = most.saturating_add(batch.len());

@@ -3,7 +3,8 @@ ghost use Rattle.window_allocation.specs.Scheduled.{EveryRecordHasCores};
 
 use edge_colouring::{every_matching_has_clean_cores, limits_are_degrees};
 use greedy_rules::{
-    every_recorded_slot, flows_fit_pairs, recorded_batches_may_be_applied, schedules_go_on,
+    every_batch_balances, every_recorded_slot, flows_fit_pairs, recorded_batches_may_be_applied,
+    schedules_go_on,
 };
 
 /// A law over recorded batches (the SIGCOMM 2014 Fastpass paper, König's theorem): each slot of their schedule is a matching
@@ -25,4 +26,5 @@ pub(crate) fn every_window_is_ready()
     every_recorded_slot();
     schedules_go_on();
     flows_fit_pairs();
+    every_batch_balances();
 }

@@ -1,16 +1,22 @@
 //! What of a window's demand list its batches run over, while the rest is set aside.
-ghost use Rattle.std.specs.Prelude.{◌≡◌, ◌<◌, ◌≤◌, ◌+◌, ◌^◌, [], ◌++◌, Bool, length, true, false, IfOk, All, vec_len, vec_capacity};
+ghost use Rattle.std.specs.Prelude.{◌≡◌, ◌<◌, ◌≤◌, ◌+◌, ◌*◌, ◌^◌, [], ◌++◌, Bool, length, true, false, IfOk, All, vec_len, vec_capacity};
 ghost use Rattle.greedy_rules.specs.declared.flows.Flow.{Flow};
 ghost use Rattle.greedy_rules.specs.declared.flows.Item.{Item};
 ghost use Rattle.slot_batches.specs.Feeding.{IsInOrder};
 ghost use Rattle.slot_batches.specs.Marks.{has_mark};
 ghost use Rattle.slot_batches.specs.Woven.{picked as picked_of, woven, OnlyOpen, places_from};
-ghost use Rattle.window_allocation.specs.Picked.{is_aside as is_aside_in, HasRoomFor};
+ghost use Rattle.greedy_rules.specs.Demands.{HasEachFlowOnce};
+ghost use Rattle.window_allocation.specs.Picked.{is_aside as is_aside_in, HasRoomFor, IsReached};
+ghost use Rattle.window_allocation.specs.Reach.{OpenNew, AreOut};
 
-use crate::batches::needs_of;
+use crate::batches::{needs_of, stays_short};
+use crate::end_words::EndWords;
+use crate::flow_slots::FlowSlots;
+use crate::guess::{EntryBits, pick_reached};
 use crate::in_place::weave_in_place;
+use crate::reach::are_out;
 use crate::weave::{first_served, weave_lists};
-use greedy_rules::{Batch, DemandList, Item};
+use greedy_rules::{Batch, DemandList, Item, SlotTable};
 use no_memory::NoMemory;
 use slot_batches::{FlowMarks, give_items};
 use std::alloc::Global;
@@ -108,6 +114,20 @@ fn pick_items(
     true
 }
 
+/// Whether a guess of what the batches can choose is made: their slots fit a word, no rack has more hosts than cores, and the list
+/// is not short, and has twice as many items as a batch has places for sources, or more.
+fn pays(list: &[Item], batches: &[Batch], b: u8, endpoints: u16) -> bool
+    requires some { 0 < length batches.now }
+    requires count { length batches.now ≤ 16 }
+    ensures { result ≡ true → length batches.now * b ≤ 64 }
+{
+    let limits = batches[0].limits();
+    if batches.len() * b as usize > 64 || limits.hosts > limits.cores {
+        return false;
+    }
+    !stays_short(list, batches) && list.len() / 2 > endpoints as usize * b as usize
+}
+
 /// The items of a window's list that need a slot or may have an entry in its batches, and the memory in which they and the
 /// others come together again.
 #[derive(Drop)]
@@ -122,6 +142,12 @@ pub(crate) struct Picked {
     list: Vec<Item>,
     // So many windows pass before it is tried again to pick few.
     pause: u8,
+    // For the guess and the test of what a window's batches can choose.
+    words: EndWords,
+    entries: EntryBits,
+    pub(crate) slots: FlowSlots,
+    // So many windows pass before that is guessed again.
+    wait: u8,
 }
 
 impl Picked {
@@ -137,6 +163,10 @@ impl Picked {
             whole: Vec::with_capacity(alloc, pairs)?,
             list: Vec::with_capacity(alloc, pairs)?,
             pause: 0,
+            words: EndWords::open(alloc, endpoints)?,
+            entries: EntryBits::open(alloc, endpoints)?,
+            slots: FlowSlots::open(alloc, endpoints)?,
+            wait: 0,
         })
     }
 
@@ -151,6 +181,7 @@ impl Picked {
         ensures room { length self.new.items.items + self.new.items.spare ≡ length self.old.items.items + self.old.items.spare }
         ensures places_room { vec_capacity self.new.places ≡ vec_capacity self.old.places }
         ensures whole { self.new.whole ≡ self.old.whole }
+        ensures slots { self.new.slots ≡ self.old.slots }
     {
         self.marks.mark(batches);
         if self.pause > 0 {
@@ -170,18 +201,83 @@ impl Picked {
         picked
     }
 
+    /// Picks the items of the list that the batches may reach by a guess, and all that may have an entry in one of them, unless
+    /// these are more than half of it, or the guess would cost more than it saves; where they were more, some windows pass before
+    /// that is looked at again.
+    pub(crate) fn reach(&mut self, list: &[Item], batches: &[Batch], b: u8) -> bool
+        requires some { 0 < length batches.now }
+        requires count { length batches.now ≤ 16 }
+        requires order { IsInOrder list.now }
+        requires once { HasEachFlowOnce list.now }
+        requires room { length list.now ≤ length self.old.items.items + self.old.items.spare }
+        requires places_room { length list.now ≤ vec_capacity self.old.places }
+        ensures reached { result ≡ true → IsReached self.new.marks list.now self.new.items.items self.new.places.items }
+        ensures few { result ≡ true → length batches.now * b ≤ 64 }
+        ensures marks { self.new.marks ≡ self.old.marks }
+        ensures room { length self.new.items.items + self.new.items.spare ≡ length self.old.items.items + self.old.items.spare }
+        ensures places_room { vec_capacity self.new.places ≡ vec_capacity self.old.places }
+        ensures whole { self.new.whole ≡ self.old.whole }
+        ensures slots { self.new.slots ≡ self.old.slots }
+    {
+        if self.wait > 0 {
+            self.wait -= 1;
+            return false;
+        }
+        if !pays(list, batches, b, self.slots.endpoints()) {
+            return false;
+        }
+        let reached = pick_reached(
+            &mut self.words,
+            &mut self.entries,
+            list,
+            &self.marks,
+            batches,
+            u16::from(b),
+            list.len() / 2,
+            &mut self.items,
+            &mut self.places,
+        );
+        if !reached {
+            self.wait = PAUSE;
+        }
+        reached
+    }
+
+    /// Whether none of the other items would be chosen in these slots, which the batches gave to those that were picked.
+    pub(crate) fn keeps_out(
+        &mut self,
+        list: &[Item],
+        batches: &[Batch],
+        b: u8,
+        out: &SlotTable,
+    ) -> bool
+        requires order { IsInOrder list.now }
+        requires count { length batches.now ≤ 16 }
+        requires few { length batches.now * b ≤ 64 }
+        requires slots { length batches.now * b ≤ length out.now.slots }
+        requires endpoints { self.old.slots.endpoints ≤ out.now.endpoints }
+        ensures out { result ≡ true → (aside : Item → Bool) → self.old.places.items ≡ places_from aside 0 list.now → OpenNew list.now batches.now → AreOut b (length batches.now * b) out.now.slots list.now aside (λ flow. false) list.now }
+        ensures items { self.new.items ≡ self.old.items }
+        ensures places { self.new.places ≡ self.old.places }
+        ensures whole { self.new.whole ≡ self.old.whole }
+        ensures endpoints { self.new.slots.endpoints ≡ self.old.slots.endpoints }
+    {
+        let b = u16::from(b);
+        self.slots.note(out, batches.len() as u16 * b);
+        are_out(&mut self.words, &self.slots, list, &self.places, batches, b)
+    }
+
     /// Puts the list together again by a copy of all its items.
     fn weave_anew(&mut self, list: &mut DemandList)
         requires list_order { IsInOrder list.old.items }
         requires order { IsInOrder self.old.items.items }
-        requires places { self.old.places.items ≡ places_from (is_aside_in self.old.marks) 0 list.old.items }
-        requires room { length (woven (is_aside_in self.old.marks) list.old.items self.old.items.items) ≤ length list.old.items + list.old.spare }
-        requires whole_room { length (woven (is_aside_in self.old.marks) list.old.items self.old.items.items) ≤ vec_capacity self.old.whole }
-        ensures items { list.new.items ≡ woven (is_aside_in self.old.marks) list.old.items self.old.items.items }
+        requires room { (aside : Item → Bool) × (self.old.places.items ≡ places_from aside 0 list.old.items) × (length (woven aside list.old.items self.old.items.items) ≤ length list.old.items + list.old.spare) × (length (woven aside list.old.items self.old.items.items) ≤ vec_capacity self.old.whole) }
+        ensures items { (aside : Item → Bool) → self.old.places.items ≡ places_from aside 0 list.old.items → list.new.items ≡ woven aside list.old.items self.old.items.items }
         ensures spare { length list.new.items + list.new.spare ≡ length list.old.items + list.old.spare }
         ensures rest { self.new.items ≡ self.old.items }
         ensures places { self.new.places ≡ self.old.places }
         ensures whole { vec_capacity self.old.whole ≤ vec_capacity self.new.whole }
+        ensures slots { self.new.slots ≡ self.old.slots }
     {
         weave_lists(
             list.items(),
@@ -198,14 +294,13 @@ impl Picked {
     pub(crate) fn weave_into(&mut self, list: &mut DemandList)
         requires list_order { IsInOrder list.old.items }
         requires order { IsInOrder self.old.items.items }
-        requires places { self.old.places.items ≡ places_from (is_aside_in self.old.marks) 0 list.old.items }
-        requires room { length (woven (is_aside_in self.old.marks) list.old.items self.old.items.items) ≤ length list.old.items + list.old.spare }
-        requires whole_room { length (woven (is_aside_in self.old.marks) list.old.items self.old.items.items) ≤ vec_capacity self.old.whole }
-        ensures items { list.new.items ≡ woven (is_aside_in self.old.marks) list.old.items self.old.items.items }
+        requires room { (aside : Item → Bool) × (self.old.places.items ≡ places_from aside 0 list.old.items) × (length (woven aside list.old.items self.old.items.items) ≤ length list.old.items + list.old.spare) × (length (woven aside list.old.items self.old.items.items) ≤ vec_capacity self.old.whole) }
+        ensures items { (aside : Item → Bool) → self.old.places.items ≡ places_from aside 0 list.old.items → list.new.items ≡ woven aside list.old.items self.old.items.items }
         ensures spare { length list.new.items + list.new.spare ≡ length list.old.items + list.old.spare }
         ensures room { length self.new.items.items + self.new.items.spare ≡ length self.old.items.items + self.old.items.spare }
         ensures places { vec_capacity self.new.places ≡ vec_capacity self.old.places }
         ensures whole { vec_capacity self.old.whole ≤ vec_capacity self.new.whole }
+        ensures slots { self.new.slots ≡ self.old.slots }
     {
         if self.places.is_empty() && first_served(self.items.items()) == 0 {
             list.append(self.items.items());

@@ -2,7 +2,8 @@
 ghost use Rattle.std.specs.Prelude.{◌≡◌, ◌<◌, ◌≤◌, ◌+◌, ◌-◌, ◌*◌, [], ◌++◌, length, take, drop, replicate, IfOk};
 ghost use Rattle.greedy_rules.specs.Schedule.{schedule_from, rest_from};
 ghost use Rattle.alloc_pipeline.specs.Ring.{IsRing as MayBeOpened, IsSameRing, MayAllocate, moved_by, pairs_of};
-ghost use Rattle.window_allocation.specs.Picked.{HasRoomFor};
+ghost use Rattle.window_allocation.specs.Picked.{HasRoomFor, IsReached};
+ghost use Rattle.window_allocation.specs.Ready.{AnyPartMayBeApplied, MaySetAside};
 ghost use Rattle.ring_core.specs.Windows.{window_of};
 ghost use Rattle.window_allocation.specs.Handed.{ComeOfRing};
 ghost use Rattle.window_allocation.specs.Runs.{HasRunTable, GivesSlots, IsPlayed, ArePlayed};
@@ -16,7 +17,10 @@ use greedy_rules::{
     Batch, DemandList, SlotTable, every_batch_balances, flows_fit_pairs, schedules_go_on,
 };
 use no_memory::NoMemory;
-use slot_batches::{every_batch_leaves_a_list, idle_lists_stay, items_may_be_set_aside};
+use slot_batches::{
+    every_batch_leaves_a_list, idle_lists_stay, items_beyond_reach_may_be_set_aside,
+    items_may_be_set_aside,
+};
 use std::alloc::Global;
 use std::marker::Model;
 use std::sync::Wait;
@@ -75,6 +79,7 @@ impl WindowRing {
         out: &mut SlotTable,
     )
         requires may { MayAllocate self.old first_batch list.old batches.now out.old }
+        requires parts { AnyPartMayBeApplied self.old.endpoints self.old.b first_batch list.old.items batches.now }
         ensures allocates { GivesSlots self.old self.new first_batch list.old list.new batches.now out.old out.new }
         ensures handed { ComeOfRing self.old.b first_batch self.old.workers list.old.items batches.now (schedule_from self.old.b first_batch list.old.items batches.now) self.old.moved self.new.moved }
     {
@@ -91,7 +96,8 @@ pub(crate) struct Runs {
 }
 
 impl Runs {
-    /// The batches over what of the list may change, where that is little of it, and else over the whole list.
+    /// The batches over what of the list may change, where that is little of it, and else over what of it they can choose, or over
+    /// the whole list.
     fn allocate_window<R: Threads + Wait + Sync, G: Gate + Sync>(
         &mut self,
         rt: &R,
@@ -105,6 +111,7 @@ impl Runs {
         requires table { HasRunTable self.old }
         requires memory { HasRoomFor self.old.ring.endpoints picked.old }
         requires may { MayAllocate self.old.ring first_batch list.old batches.now out.old }
+        requires parts { AnyPartMayBeApplied self.old.ring.endpoints self.old.ring.b first_batch list.old.items batches.now }
         ensures table { HasRunTable self.new }
         ensures memory { HasRoomFor self.old.ring.endpoints picked.new }
         ensures allocates { GivesSlots self.old.ring self.new.ring first_batch list.old list.new batches.now out.old out.new }
@@ -117,13 +124,80 @@ impl Runs {
         every_batch_leaves_a_list();
         flows_fit_pairs();
         if !picked.pick(list.items(), batches) {
-            self.allocate_runs(rt, gate, list, first_batch, batches, out);
+            self.allocate_unpicked(rt, gate, picked, list, first_batch, batches, out);
             return;
         }
         items_may_be_set_aside();
         every_batch_balances();
         self.allocate_runs(rt, gate, &mut picked.items, first_batch, batches, out);
         picked.weave_into(list);
+    }
+
+    /// The batches over what of the list they can choose, where that is not much of it and a guess finds it, and else over the
+    /// whole list.
+    fn allocate_unpicked<R: Threads + Wait + Sync, G: Gate + Sync>(
+        &mut self,
+        rt: &R,
+        gate: &G,
+        picked: &mut Picked,
+        list: &mut DemandList,
+        first_batch: u32,
+        batches: &[Batch],
+        out: &mut SlotTable,
+    )
+        requires table { HasRunTable self.old }
+        requires memory { HasRoomFor self.old.ring.endpoints picked.old }
+        requires may { MayAllocate self.old.ring first_batch list.old batches.now out.old }
+        requires aside { MaySetAside self.old.ring.endpoints self.old.ring.b first_batch picked.old.marks list.old.items batches.now }
+        ensures table { HasRunTable self.new }
+        ensures memory { HasRoomFor self.old.ring.endpoints picked.new }
+        ensures allocates { GivesSlots self.old.ring self.new.ring first_batch list.old list.new batches.now out.old out.new }
+        ensures handed { ComeOfRing self.old.ring.b first_batch self.old.ring.workers list.old.items batches.now (schedule_from self.old.ring.b first_batch list.old.items batches.now) self.old.ring.moved self.new.ring.moved }
+    {
+        every_batch_leaves_a_list();
+        flows_fit_pairs();
+        if picked.reach(list.items(), batches, self.b) {
+            self.allocate_reached(rt, gate, picked, list, first_batch, batches, out);
+            return;
+        }
+        self.allocate_runs(rt, gate, list, first_batch, batches, out);
+    }
+
+    /// The batches over the items that were picked by a guess; where the slots say that they could choose another, over the whole
+    /// list after all.
+    fn allocate_reached<R: Threads + Wait + Sync, G: Gate + Sync>(
+        &mut self,
+        rt: &R,
+        gate: &G,
+        picked: &mut Picked,
+        list: &mut DemandList,
+        first_batch: u32,
+        batches: &[Batch],
+        out: &mut SlotTable,
+    )
+        requires table { HasRunTable self.old }
+        requires memory { HasRoomFor self.old.ring.endpoints picked.old }
+        requires few { length batches.now * self.old.b ≤ 64 }
+        requires may { MayAllocate self.old.ring first_batch list.old batches.now out.old }
+        requires aside { MaySetAside self.old.ring.endpoints self.old.ring.b first_batch picked.old.marks list.old.items batches.now }
+        requires reached { IsReached picked.old.marks list.old.items picked.old.items.items picked.old.places.items }
+        ensures table { HasRunTable self.new }
+        ensures memory { HasRoomFor self.old.ring.endpoints picked.new }
+        ensures allocates { GivesSlots self.old.ring self.new.ring first_batch list.old list.new batches.now out.old out.new }
+        ensures handed { ComeOfRing self.old.ring.b first_batch self.old.ring.workers list.old.items batches.now (schedule_from self.old.ring.b first_batch list.old.items batches.now) self.old.ring.moved self.new.ring.moved }
+    {
+        every_batch_leaves_a_list();
+        flows_fit_pairs();
+        schedules_go_on();
+        every_batch_balances();
+        items_may_be_set_aside();
+        items_beyond_reach_may_be_set_aside();
+        self.allocate_runs(rt, gate, &mut picked.items, first_batch, batches, out);
+        if picked.keeps_out(list.items(), batches, self.b, out) {
+            picked.weave_into(list);
+            return;
+        }
+        self.allocate_runs(rt, gate, list, first_batch, batches, out);
     }
 
     /// Gives the batches of a window their slots, run by run.

@@ -8,7 +8,7 @@ use Rattle.clos_topology.specs.Network.{endpoints_of}
 use Rattle.window_allocation.specs.Standing.{Allocated}
 use Rattle.window_allocation.specs.Windows.{IsWindowOf}
 use Rattle.window_allocation.specs.Handed.{ComeOfRing}
-use Rattle.window_allocation.proofs.WindowLemmas.{HasNext, Goes, ring_size, ring_endpoints, may_allocate, told, few_slots, has_allocated_more, window_of}
+use Rattle.window_allocation.proofs.WindowLemmas.{HasNext, Goes, ring_size, ring_endpoints, may_allocate, parts_may_be, told, few_slots, has_allocated_more, window_of}
 use Rattle.window_allocation.proofs.allocation.Allocation.window_of.Goals as goal
 
 pub allocate-requires-clause-may : goal.allocate-requires-clause-may
@@ -18,6 +18,12 @@ allocate-requires-clause-may g c κs within =
     let is_ready = c.every_window_is_ready.ensures _ _ earlier batches _ has recorded in
     may_allocate _ earlier batches _ c.in_ok-slots.slots c.from.result has is_ready (subst (λ (it : Allocated). length batches ≤ it.ring.batches) (sym c.self.view_is) c.requires.count)
     (subst (λ (it : Allocated). first_slot it.b (it.batches + length batches) ≤ 2 ^ 32) (sym c.self.view_is) c.requires.numbers) c.from.ensures (c.in_ok-slots.ensures.endpoints ∙ sym c.self.invariant) c.in_ok-slots.ensures.slots
+
+pub allocate-requires-clause-parts : goal.allocate-requires-clause-parts
+allocate-requires-clause-parts g c κs within =
+    let batches : List DemandBatch = c.args.batches.now in
+    let (earlier, has, recorded) = subst (HasNext batches) (sym c.self.view_is) c.requires.stands in
+    parts_may_be _ earlier batches _ has (c.every_window_is_ready.ensures _ _ earlier batches _ has recorded)
 
 pub colour_slots-requires-clause-count : goal.colour_slots-requires-clause-count
 colour_slots-requires-clause-count g c κs within =

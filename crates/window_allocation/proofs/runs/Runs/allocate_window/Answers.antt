@@ -20,8 +20,8 @@ pick-requires g c =
       places_room = omega (arith, few, ap length c.items.ensures, c.requires.memory.places);
     }
 
-pub allocate_runs-requires-2-clause-may : goal.allocate_runs-requires-2-clause-may
-allocate_runs-requires-2-clause-may g c κs within =
+pub allocate_runs-requires-clause-may : goal.allocate_runs-requires-clause-may
+allocate_runs-requires-clause-may g c κs within =
     let ring = c.args.self.now.ring in
     let marks = c.pick.new.self.marks in
     let list = c.args.list.now.items in
@@ -51,13 +51,16 @@ weave_into-requires g c =
     let window =
     picked_window ring.endpoints ring.b c.args.first_batch marks list c.items.result.now found batches c.flows_fit_pairs.ensures c.every_batch_leaves_a_list.ensures.flows c.items_may_be_set_aside.ensures.woven
     c.items_may_be_set_aside.ensures.listed (omega (arith, eqb-false _ _ (sym c.is_empty.ensures ∙ c.if-is_empty.false))) c.requires.may.may c.requires.may.before c.pick.ensures.unmarked c.items.ensures (c.pick.ensures.items c.if-not-pick.false) in
-    let left = c.allocate_runs-2.ensures.allocates in
+    let left = c.allocate_runs.ensures.allocates in
     record {
       list_order = c.requires.may.before.in_order;
       order = left.next.in_order;
-      places = c.pick.ensures.places c.if-not-pick.false ∙ ap (places_from (is_aside marks) 0) c.items.ensures;
-      room = omega (arith, ap length (ap (woven (is_aside marks) list) left.list), ap length window.rest, c.requires.may.room);
-      whole_room = omega (arith, ap length (ap (woven (is_aside marks) list) left.list), ap length window.rest, window.few_whole, ap vec_capacity c.pick.ensures.whole, c.requires.memory.whole);
+      room = (
+        is_aside marks,
+        c.pick.ensures.places c.if-not-pick.false ∙ ap (places_from (is_aside marks) 0) c.items.ensures,
+        omega (arith, ap length (ap (woven (is_aside marks) list) left.list), ap length window.rest, c.requires.may.room),
+        omega (arith, ap length (ap (woven (is_aside marks) list) left.list), ap length window.rest, window.few_whole, ap vec_capacity c.pick.ensures.whole, c.requires.memory.whole),
+      );
     }
 
 pub returns-clause-allocates : goal.returns-clause-allocates
@@ -73,8 +76,9 @@ returns-clause-allocates g c =
     let window =
     picked_window ring.endpoints b first marks list c.items.result.now found batches c.flows_fit_pairs.ensures c.every_batch_leaves_a_list.ensures.flows c.items_may_be_set_aside.ensures.woven
     c.items_may_be_set_aside.ensures.listed (omega (arith, eqb-false _ _ (sym c.is_empty.ensures ∙ c.if-is_empty.false))) c.requires.may.may c.requires.may.before c.pick.ensures.unmarked c.items.ensures (c.pick.ensures.items c.if-not-pick.false) in
-    let done = c.allocate_runs-2.ensures.allocates in
-    let left : c.weave_into.new.list.items ≡ rest_from b first list batches = c.weave_into.ensures.items ∙ (ap (woven (is_aside marks) list) done.list ∙ window.rest) in
+    let done = c.allocate_runs.ensures.allocates in
+    let left : c.weave_into.new.list.items ≡ rest_from b first list batches =
+    c.weave_into.ensures.items (is_aside marks) (c.pick.ensures.places c.if-not-pick.false ∙ ap (places_from (is_aside marks) 0) c.items.ensures) ∙ (ap (woven (is_aside marks) list) done.list ∙ window.rest) in
     record {
       list = left;
       spare = c.weave_into.ensures.spare;
@@ -95,13 +99,8 @@ returns-clause-handed g c =
     let window =
     picked_window ring.endpoints ring.b first marks list c.items.result.now found batches c.flows_fit_pairs.ensures c.every_batch_leaves_a_list.ensures.flows c.items_may_be_set_aside.ensures.woven
     c.items_may_be_set_aside.ensures.listed (omega (arith, eqb-false _ _ (sym c.is_empty.ensures ∙ c.if-is_empty.false))) c.requires.may.may c.requires.may.before c.pick.ensures.unmarked c.items.ensures (c.pick.ensures.items c.if-not-pick.false) in
-    come_of_ring ring.b first ring.workers (is_aside marks) list found batches _ ring.moved c.allocate_runs-2.new.self.ring.moved c.allocate_runs-2.ensures.played window.is window.slots
+    come_of_ring ring.b first ring.workers (is_aside marks) list found batches _ ring.moved c.allocate_runs.new.self.ring.moved c.allocate_runs.ensures.played window.is window.slots
     (window.named c.every_batch_balances.ensures)
-
-pub returns-then-not-pick-clause-handed : goal.returns-then-not-pick-clause-handed
-returns-then-not-pick-clause-handed g c =
-    let ring = c.args.self.now.ring in
-    come_of_all ring.b c.args.first_batch ring.workers c.args.list.now.items c.args.batches.now ring.moved c.allocate_runs.new.self.ring.moved c.allocate_runs.ensures.played
 
 pub returns-then-is_empty-clause-handed : goal.returns-then-is_empty-clause-handed
 returns-then-is_empty-clause-handed g c =

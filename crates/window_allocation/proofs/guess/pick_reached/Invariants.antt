@@ -1,0 +1,12 @@
+use Rattle.std.proofs.Common.{◌≡◌, ◌+◌, length}
+use Rattle.std.specs.Prelude.{vec_capacity}
+use Rattle.window_allocation.proofs.Choice.{AreChosen}
+use Rattle.window_allocation.proofs.guess.pick_reached.Given as goal
+
+abbrev pub invariant-loop-at : goal.invariant-loop-at
+invariant-loop-at l = record {
+  chosen : AreChosen l.marks l.list l.at l.found.items l.places.items;
+  same : length l.found.items ≡ length l.places.items;
+  room : length l.found.items + l.found.spare ≡ length l.fn.found.items + l.fn.found.spare;
+  capacity : vec_capacity l.places ≡ vec_capacity l.fn.places;
+}

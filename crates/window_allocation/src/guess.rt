@@ -1,0 +1,333 @@
+//! A guess of the items of a window's list that its batches can choose. Nothing rests on it but speed: all items are picked that
+//! may have an entry in the window, and any of the others may be.
+ghost use Rattle.std.specs.Prelude.{◌≡◌, ◌<◌, ◌≤◌, ◌+◌, ◌*◌, ◌^◌, List, [], ◌∷◌, ◌++◌, length, true, false, if◌then◌else◌, vec_len, vec_capacity};
+ghost use Rattle.greedy_rules.specs.Demands.{HasEachFlowOnce};
+ghost use Rattle.slot_batches.specs.Feeding.{IsInOrder};
+ghost use Rattle.slot_batches.specs.Marks.{has_mark as has_mark_in};
+ghost use Rattle.window_allocation.specs.Picked.{IsReached};
+
+use crate::end_words::EndWords;
+use crate::flow_slots::{first_slots, of_first_batch};
+use crate::weave::first_served;
+use greedy_rules::{Batch, DemandList, Entry, Flow, Item};
+use no_memory::NoMemory;
+use slot_batches::FlowMarks;
+use std::alloc::Global;
+
+/// For each flow a bit for each batch of a window: whether it has an entry of the flow.
+#[derive(Drop)]
+pub(crate) struct EntryBits {
+    endpoints: u16,
+    words: Vec<u16>,
+}
+
+impl EntryBits {
+    /// For so many endpoints. No later call takes memory.
+    pub(crate) fn open(alloc: Global, endpoints: u16) -> Result<EntryBits, NoMemory> {
+        Ok(EntryBits {
+            endpoints,
+            words: vec![in alloc; 0; endpoints as usize * endpoints as usize]?,
+        })
+    }
+
+    fn place(&self, flow: Flow) -> usize {
+        flow.src as usize * self.endpoints as usize + flow.dst as usize
+    }
+
+    fn of(&self, flow: Flow) -> u16 {
+        match self.words.get(self.place(flow)) {
+            Some(word) => *word,
+            None => 0,
+        }
+    }
+
+    fn set(&mut self, flow: Flow, word: u16) {
+        let at = self.place(flow);
+        if at < self.words.len() {
+            self.words[at] = word;
+        }
+    }
+
+    fn note_batch(&mut self, batch: &Batch, bit: u16) {
+        for at in 0..batch.len() {
+            let flow = batch.entry(at).flow;
+            let word = self.of(flow) | bit;
+            self.set(flow, word);
+        }
+    }
+
+    /// Notes the entries of the batches, where none is noted.
+    fn note(&mut self, batches: &[Batch]) {
+        let mut bit: u16 = 1;
+        for batch in batches {
+            self.note_batch(batch, bit);
+            bit = bit.wrapping_add(bit);
+        }
+    }
+
+    /// Forgets those entries.
+    fn forget(&mut self, batches: &[Batch]) {
+        for batch in batches {
+            for at in 0..batch.len() {
+                self.set(batch.entry(at).flow, 0);
+            }
+        }
+    }
+}
+
+/// Whether the flow may have an entry in the window.
+fn has_mark(marks: &FlowMarks, flow: Flow) -> bool
+    ensures { result ≡ false → has_mark_in marks.now flow ≡ false }
+{
+    if marks.is_empty() {
+        return false;
+    }
+    let item = Item {
+        flow,
+        need: 0,
+        last: 0,
+    };
+    let mut places = [0; 1];
+    marks.note_busy(&[item], &mut places) > 0
+}
+
+/// The lowest `need` of the slots.
+fn lowest(slots: u64, need: u32) -> u64 {
+    let mut rest = slots;
+    for _ in 0..need {
+        if rest == 0 {
+            break;
+        }
+        rest &= rest - 1;
+    }
+    slots & !rest
+}
+
+/// Takes of these slots those of the first batch that has one, as many as the flow needs. Most items take none: it stays out of
+/// their loop.
+#[inline(never)]
+fn take_some(words: &mut EndWords, flow: Flow, need: u32, free: u64, count: u16, b: u16)
+    requires { count * b ≤ 64 }
+{
+    words.add(flow, lowest(of_first_batch(free, count, b), need));
+}
+
+/// Takes of these slots for the flow, and answers whether it took one.
+fn take(words: &mut EndWords, flow: Flow, need: u32, free: u64, count: u16, b: u16) -> bool
+    requires { count * b ≤ 64 }
+{
+    if free == 0 || need == 0 {
+        return false;
+    }
+    take_some(words, flow, need, free, count, b);
+    true
+}
+
+/// The need once the batch's entry of the flow is applied.
+fn need_with(need: u32, entry: Option<Entry>) -> u32 {
+    match entry {
+        Some(entry) => {
+            let kept = if entry.clear { 0 } else { need };
+            kept.saturating_add(entry.add)
+        }
+        None => need,
+    }
+}
+
+/// Takes slots for a flow that has entries in these batches, as the bits say: its need changes from batch to batch.
+#[inline(never)]
+fn take_changed(
+    words: &mut EndWords,
+    entries: u16,
+    flow: Flow,
+    need: u32,
+    batches: &[Batch],
+    count: u16,
+    b: u16,
+)
+    requires { count * b ≤ 64 }
+{
+    let mut need = need;
+    let mut entries = entries;
+    let mut from: u16 = 0;
+    for batch in batches {
+        if entries & 1 == 1 {
+            need = need_with(need, batch.find(flow));
+        }
+        entries >>= 1;
+        let end = from.wrapping_add(b);
+        let free = first_slots(end) & !first_slots(from) & !words.either(flow);
+        if take(words, flow, need, free, count, b) {
+            return;
+        }
+        from = end;
+    }
+}
+
+/// Takes slots for the flows that the batch opens.
+fn take_opened(
+    words: &mut EndWords,
+    entries: &EntryBits,
+    batch: &Batch,
+    batches: &[Batch],
+    count: u16,
+    b: u16,
+)
+    requires { count * b ≤ 64 }
+{
+    for at in 0..batch.len() {
+        let entry = batch.entry(at);
+        if entry.opens {
+            take_changed(
+                words,
+                entries.of(entry.flow),
+                entry.flow,
+                0,
+                batches,
+                count,
+                b,
+            );
+        }
+    }
+}
+
+/// Takes slots for the flows that the batches open.
+#[inline(never)]
+fn take_all_opened(words: &mut EndWords, entries: &EntryBits, batches: &[Batch], count: u16, b: u16)
+    requires { count * b ≤ 64 }
+{
+    for batch in batches {
+        take_opened(words, entries, batch, batches, count, b);
+    }
+}
+
+/// Takes slots for the flows that the batches open, where this is so.
+fn take_opened_if(
+    here: bool,
+    words: &mut EndWords,
+    entries: &EntryBits,
+    batches: &[Batch],
+    count: u16,
+    b: u16,
+)
+    requires { count * b ≤ 64 }
+{
+    if here {
+        take_all_opened(words, entries, batches, count, b);
+    }
+}
+
+/// Takes slots for the item, and answers whether it takes one or may have an entry.
+fn reaches(
+    words: &mut EndWords,
+    entries: &EntryBits,
+    item: &Item,
+    marks: &FlowMarks,
+    batches: &[Batch],
+    count: u16,
+    b: u16,
+    slots: u64,
+) -> bool
+    requires { count * b ≤ 64 }
+    ensures { result ≡ false → has_mark_in marks.now item.now.flow ≡ false }
+{
+    if has_mark(marks, item.flow) {
+        let of_item = entries.of(item.flow);
+        take_changed(words, of_item, item.flow, item.need, batches, count, b);
+        return true;
+    }
+    let free = slots & !words.either(item.flow);
+    take(words, item.flow, item.need, free, count, b)
+}
+
+/// Appends the item and its place, unless there are `most` by then.
+#[inline(never)]
+fn append(
+    item: Item,
+    at: usize,
+    most: usize,
+    found: &mut DemandList,
+    places: &mut Vec<usize>,
+) -> bool
+    requires room { most ≤ length found.old.items + found.old.spare }
+    requires places_room { most ≤ vec_capacity places.old }
+    requires same { length found.old.items ≡ length places.old.items }
+    ensures items { result ≡ true → found.new.items ≡ found.old.items ++ item ∷ [] }
+    ensures places { result ≡ true → places.new.items ≡ places.old.items ++ at ∷ [] }
+    ensures same { length found.new.items ≡ length places.new.items }
+    ensures room { length found.new.items + found.new.spare ≡ length found.old.items + found.old.spare }
+    ensures capacity { vec_capacity places.new ≡ vec_capacity places.old }
+{
+    if found.len() >= most {
+        return false;
+    }
+    found.push(item);
+    places.push_reserved(at);
+    true
+}
+
+/// Appends the item and its place, where it is reached, unless there are `most` by then.
+fn choose(
+    reached: bool,
+    item: Item,
+    at: usize,
+    most: usize,
+    found: &mut DemandList,
+    places: &mut Vec<usize>,
+) -> bool
+    requires room { most ≤ length found.old.items + found.old.spare }
+    requires places_room { most ≤ vec_capacity places.old }
+    requires same { length found.old.items ≡ length places.old.items }
+    ensures items { result ≡ true → found.new.items ≡ found.old.items ++ (if reached then item ∷ [] else []) }
+    ensures places { result ≡ true → places.new.items ≡ places.old.items ++ (if reached then at ∷ [] else []) }
+    ensures same { length found.new.items ≡ length places.new.items }
+    ensures room { length found.new.items + found.new.spare ≡ length found.old.items + found.old.spare }
+    ensures capacity { vec_capacity places.new ≡ vec_capacity places.old }
+{
+    if !reached {
+        return true;
+    }
+    append(item, at, most, found, places)
+}
+
+/// Picks the items of the list that the batches may reach by the guess, and their places, where they are no more than `most`.
+#[inline(never)]
+pub(crate) fn pick_reached(
+    words: &mut EndWords,
+    entries: &mut EntryBits,
+    list: &[Item],
+    marks: &FlowMarks,
+    batches: &[Batch],
+    b: u16,
+    most: usize,
+    found: &mut DemandList,
+    places: &mut Vec<usize>,
+) -> bool
+    requires order { IsInOrder list.now }
+    requires once { HasEachFlowOnce list.now }
+    requires count { length batches.now ≤ 16 }
+    requires few { length batches.now * b ≤ 64 }
+    requires room { most ≤ length found.old.items + found.old.spare }
+    requires places_room { most ≤ vec_capacity places.old }
+    ensures reached { result ≡ true → IsReached marks.now list.now found.new.items places.new.items }
+    ensures room { length found.new.items + found.new.spare ≡ length found.old.items + found.old.spare }
+    ensures capacity { vec_capacity places.new ≡ vec_capacity places.old }
+{
+    words.clear();
+    found.clear();
+    places.clear();
+    let count = batches.len() as u16;
+    let slots = first_slots(count * b);
+    let served = first_served(list);
+    entries.note(batches);
+    for at in 0..list.len() {
+        take_opened_if(at == served, words, entries, batches, count, b);
+        let reached = reaches(words, entries, &list[at], marks, batches, count, b, slots);
+        if !choose(reached, list[at], at, most, found, places) {
+            entries.forget(batches);
+            return false;
+        }
+    }
+    entries.forget(batches);
+    true
+}
