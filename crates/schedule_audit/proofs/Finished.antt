@@ -91,7 +91,7 @@ module _ (net : Network) (b : ℕ) (lines : List (Option Line)) (off : ReadOff n
   -- ---- what sums the text up
 
   pub figures-are : FrontsAreFronts → EverySlotIsInRange → EverySlotsFlowsAreOfEntries → (rounds : Rounds) (judges : Judges) (left : Numbers) → ArePlayed net b off.batches [] rounds judges
-      → ((flow : Flow) → number_of left flow ≡ need_in (item_of rounds.list.items flow)) → AreFigures b told rounds.ledger.added judges.slots rounds.ledger.cleared left
+      → ((flow : Flow) → number_of left flow ≡ need_in (item_of rounds.demand.items flow)) → AreFigures b told rounds.ledger.added judges.slots rounds.ledger.cleared left
   figures-are fronts ranged flows rounds judges left played needs = record {
     all = λ flow. played.played.ledger.added flow ∙ ap (λ rs. added_in_all flow rs) off.is;
     allocated = allocated;

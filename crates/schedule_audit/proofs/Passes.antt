@@ -56,7 +56,7 @@ pub record Reached (endpoints : ℕ) (lines : List (Option Line)) (rest : List �
   pub has : has_end lines ≡ (has_end before || has_end after)
   pub count : number + length after ≡ length lines + 1
 
-pub at_first : (endpoints : ℕ) (lines : List (Option Line)) (text : List ℕ) (last : Option Recorded) (sums : Sums) → AreLines text lines → Stands last sums [] → Reached endpoints lines text 1 false last sums
+unfoldable pub at_first : (endpoints : ℕ) (lines : List (Option Line)) (text : List ℕ) (last : Option Recorded) (sums : Sums) → AreLines text lines → Stands last sums [] → Reached endpoints lines text 1 false last sums
 at_first endpoints lines text last sums are stands = record { before = []; after = lines; are = are; same = refl; stands = stands; ended_is = refl; has = refl; count = omega arith }
 
 module _ (endpoints : ℕ) (lines : List (Option Line)) (rest later : List ℕ) (number : ℕ) (ended : Bool) (last : Option Recorded) (sums : Sums) (line : Option Line)
@@ -80,25 +80,27 @@ module _ (endpoints : ℕ) (lines : List (Option Line)) (rest later : List ℕ) 
       is_found (misplaced-is endpoints lines reached.before line ∙ (ap (λ b. b || cannot_stand endpoints lines reached.before line) (sym reached.ended_is ∙ going) ∙ bad))
 
   pub one_more : (next : ℕ) (new_last : Option Recorded) (new : Sums) → next ≡ number + 1 → ended ≡ false → cannot_stand endpoints lines reached.before line ≡ false → Stands new_last new (records (line ∷ reached.before))
-      → Reached endpoints lines later next (has_end (line ∷ [])) new_last new
+      → (more : Reached endpoints lines later next (has_end (line ∷ [])) new_last new) × (reached.after ≡ line ∷ more.after)
   one_more next new_last new is going good stands =
       let fine : is_misplaced endpoints lines reached.before line ≡ false =
       misplaced-is endpoints lines reached.before line ∙ (ap (λ b. b || cannot_stand endpoints lines reached.before line) (sym reached.ended_is ∙ going) ∙ good) in
-      let none : has_end reached.before ≡ false = sym reached.ended_is ∙ going in
-      record {
-        before = line ∷ reached.before;
-        after = first.0;
-        are = first.2;
-        same = from ∙ (cond-false (is_misplaced endpoints lines reached.before line) (Some number) (first_from (is_misplaced endpoints lines) (number + 1) (line ∷ reached.before) first.0) fine
-            ∙ ap (λ n. first_from (is_misplaced endpoints lines) n (line ∷ reached.before) first.0) (sym is));
-        stands = stands;
-        ended_is = sym (end-more line reached.before ∙ (ap (λ b. has_end (line ∷ []) || b) none ∙ or_false (has_end (line ∷ []))));
-        has = reached.has ∙ (ap (λ xs. has_end reached.before || has_end xs) first.1
-            ∙ (ap (λ b. has_end reached.before || b) (end-more line first.0)
-            ∙ (swap (has_end reached.before) (has_end (line ∷ [])) (has_end first.0)
-            ∙ ap (λ b. b || has_end first.0) (sym (end-more line reached.before)))));
-        count = omega (arith, is, reached.count, ap (λ xs. length xs) first.1);
-      }
+      let none : has_end reached.before ≡ false = sym reached.ended_is ∙ going in (
+        record {
+          before = line ∷ reached.before;
+          after = first.0;
+          are = first.2;
+          same = from ∙ (cond-false (is_misplaced endpoints lines reached.before line) (Some number) (first_from (is_misplaced endpoints lines) (number + 1) (line ∷ reached.before) first.0) fine
+              ∙ ap (λ n. first_from (is_misplaced endpoints lines) n (line ∷ reached.before) first.0) (sym is));
+          stands = stands;
+          ended_is = sym (end-more line reached.before ∙ (ap (λ b. has_end (line ∷ []) || b) none ∙ or_false (has_end (line ∷ []))));
+          has = reached.has ∙ (ap (λ xs. has_end reached.before || has_end xs) first.1
+              ∙ (ap (λ b. has_end reached.before || b) (end-more line first.0)
+              ∙ (swap (has_end reached.before) (has_end (line ∷ [])) (has_end first.0)
+              ∙ ap (λ b. b || has_end first.0) (sym (end-more line reached.before)))));
+          count = omega (arith, is, reached.count, ap (λ xs. length xs) first.1);
+        },
+        first.1,
+      )
     where
       or_false : (b : Bool) → (b || false) ≡ b
       or_false true = refl

@@ -1,17 +1,17 @@
 -- One round more is played: what the calls ask, and what they come to.
-use Rattle.std.proofs.Common.{◌≡◌, ◌<◌, ◌≤◌, ◌+◌, ◌-◌, ◌*◌, ◌^◌, ◌==◌, not, ℕ, zero, suc, List, [], ◌∷◌, ◌++◌, map, length, drop, replicate, All, refl, sym, ap, ◌∙◌, subst, arith, append_assoc, append-nil, length-append}
+use Rattle.std.proofs.Common.{◌≡◌, ◌≤◌, ◌+◌, ◌*◌, ◌==◌, not, ℕ, zero, suc, List, [], ◌∷◌, ◌++◌, map, length, drop, All, refl, sym, ap, ◌∙◌, subst, arith, append_assoc, append-nil, length-append}
 use Rattle.std.proofs.lemmas.List.{length-map, length-drop}
 use Rattle.std.proofs.lemmas.List.Elements.{All-nil, All-cons, All-weaker}
 use Rattle.greedy_rules.specs.declared.flows.Flow.{Flow}
 use Rattle.greedy_rules.specs.declared.flows.Entry.{Entry}
 use Rattle.greedy_rules.specs.declared.flows.Item.{Item}
 use Rattle.greedy_rules.specs.declared.limits.Limits.{Limits}
-use Rattle.greedy_rules.specs.Batches.{DemandBatch, IsBatch, entry_of}
-use Rattle.greedy_rules.specs.Demands.{Demands, HasEachFlowOnce, AreBelow, OpensNewFlows, need_with, opened, after_batch}
+use Rattle.greedy_rules.specs.Batches.{DemandBatch, IsBatch}
+use Rattle.greedy_rules.specs.Demands.{after_batch}
 use Rattle.greedy_rules.specs.Limits.{is_barred}
 use Rattle.greedy_rules.specs.SlotTable.{IsSlotOf}
 use Rattle.greedy_rules.specs.Matching.{AreAmong, EverySlotIsInRange}
-use Rattle.greedy_rules.specs.Room.{FlowsFitPairs}
+use Rattle.slot_batches.specs.NextList.{IsListBefore, EveryBatchLeavesAList}
 use Rattle.greedy_rules.specs.Allocation.{batch_slots, list_after_slots, slots_of}
 use Rattle.greedy_rules.specs.Schedule.{schedule, rest, slots_then}
 use Rattle.greedy_rules.specs.Fronts.{FrontsAreFronts, EveryBatchHasItsSlots}
@@ -61,21 +61,6 @@ drop-more (suc m) n (x ∷ xs) = ap (λ k. drop k (x ∷ xs)) (next m n) ∙ dro
     next : (m n : ℕ) → suc m + n ≡ suc (m + n)
     next m n = omega arith
 
-none-behind : {X : Type 0} (xs : List X) (n b : ℕ) (x : X) → n ≡ b → xs ++ replicate (n - b) x ≡ xs
-none-behind xs n b x is = ap (λ k. xs ++ replicate k x) (zero-left n b is) ∙ append-nil xs
-  where
-    zero-left : (n b : ℕ) → n ≡ b → n - b ≡ 0
-    zero-left n b is = omega (arith, is)
-
--- ---- what a batch asks of the list
-
-pub record Asks (endpoints : ℕ) (batch : DemandBatch) (list : Demands) : Type 0 where
-  pub once : HasEachFlowOnce list.items
-  pub opens : OpensNewFlows batch.entries list.items
-  pub room : length (opened batch.entries) ≤ list.spare
-  pub needs : All (λ item. need_with (entry_of batch.entries item.flow) item.need < 2 ^ 32) list.items
-  pub below : AreBelow endpoints (list.items ++ opened batch.entries)
-
 module _ (net : Network) (b : ℕ) (front : List DemandBatch) (batch : DemandBatch) (later : List DemandBatch) (rounds : Rounds) (stands : RoundsStand net b front (batch ∷ later) rounds) where
   abbrev N : ℕ
   N = endpoints_of net
@@ -108,15 +93,11 @@ module _ (net : Network) (b : ℕ) (front : List DemandBatch) (batch : DemandBat
     opens = All-weaker (λ (e : Entry). e.opens ≡ not (is_recorded front e.flow)) (λ (e : Entry). e.opens ≡ (number_of rounds.ledger.seen e.flow == 0)) (λ e opens. opens ∙ sym (stands.ledger.seen e.flow)) batch.entries here.opens;
   }
 
-  pub applied : LaterBatchesMayBeApplied → (given : DemandBatch) → given ≡ batch → Applies N given rounds.list.items
-  applied may given is =
-      subst (λ x. Applies N x rounds.list.items) (sym is) (subst (λ xs. Applies N batch xs) (sym stands.list) (may N b limits front (batch ∷ later) stands.recorded).0)
+  -- ---- what a batch asks of the list
 
-  pub asks : LaterBatchesMayBeApplied → FlowsFitPairs → (given : DemandBatch) → given ≡ batch → Asks N given rounds.list
-  asks may fit given is =
-      let one = applied may given is in
-      let few = fit N given.entries rounds.list.items one.rises one.opens one.once one.below one.apart in
-      record { once = one.once; opens = one.opens; room = (let room = stands.room in omega (arith, few, room)); needs = one.needs; below = one.below }
+  pub applied : LaterBatchesMayBeApplied → (given : DemandBatch) → given ≡ batch → Applies N given rounds.demand.items
+  applied may given is =
+      subst (λ x. Applies N x rounds.demand.items) (sym is) (subst (λ xs. Applies N batch xs) (sym stands.list) (may N b limits front (batch ∷ later) stands.recorded).0)
 
   -- ---- the slots so far
 
@@ -133,12 +114,12 @@ module _ (net : Network) (b : ℕ) (front : List DemandBatch) (batch : DemandBat
 
   -- ---- what the batch comes to
 
-  slots-now : (first : ℕ) (given : DemandBatch) (slots : List (List Flow)) (n : ℕ) → given ≡ batch → first ≡ length front * b + 1 → n ≡ b
-      → slots ≡ batch_slots (is_barred given.limits) first b (after_batch given.entries rounds.list.items) ++ replicate (n - b) [] → slots ≡ slots_then b (length front) batch (rest b front)
-  slots-now first given slots n is at all so =
-      so ∙ (none-behind (batch_slots (is_barred given.limits) first b (after_batch given.entries rounds.list.items)) n b [] all
-      ∙ (ap (λ (x : DemandBatch). batch_slots (is_barred x.limits) first b (after_batch x.entries rounds.list.items)) is
-      ∙ (ap (λ m. batch_slots (is_barred batch.limits) m b (after_batch batch.entries rounds.list.items)) at
+  slots-now : (first : ℕ) (given : DemandBatch) (slots : List (List Flow)) → given ≡ batch → first ≡ length front * b + 1
+      → slots ≡ batch_slots (is_barred given.limits) first rounds.demand.b (after_batch given.entries rounds.demand.items) → slots ≡ slots_then b (length front) batch (rest b front)
+  slots-now first given slots is at so =
+      so ∙ (ap (λ m. batch_slots (is_barred given.limits) first m (after_batch given.entries rounds.demand.items)) stands.slots
+      ∙ (ap (λ (x : DemandBatch). batch_slots (is_barred x.limits) first b (after_batch x.entries rounds.demand.items)) is
+      ∙ (ap (λ m. batch_slots (is_barred batch.limits) m b (after_batch batch.entries rounds.demand.items)) at
       ∙ ap (λ xs. batch_slots (is_barred batch.limits) (length front * b + 1) b (after_batch batch.entries xs)) stands.list)))
 
   slots-long : EveryBatchHasItsSlots → length (slots_then b (length front) batch (rest b front)) ≡ b
@@ -146,39 +127,54 @@ module _ (net : Network) (b : ℕ) (front : List DemandBatch) (batch : DemandBat
       let long : length (slots_then b (length front) batch (rest b front) ++ []) ≡ 1 * b = counts b (length front) (rest b front) (batch ∷ []) in
       ap (λ xs. length xs) (sym (append-nil (slots_then b (length front) batch (rest b front)))) ∙ (long ∙ omega arith)
 
-  pub slots-count : EveryBatchHasItsSlots → (first : ℕ) (given : DemandBatch) (slots : List (List Flow)) (n : ℕ) → given ≡ batch → first ≡ length front * b + 1 → n ≡ b
-      → slots ≡ batch_slots (is_barred given.limits) first b (after_batch given.entries rounds.list.items) ++ replicate (n - b) [] → length slots ≡ b
-  slots-count counts first given slots n is at all so = ap (λ xs. length xs) (slots-now first given slots n is at all so) ∙ slots-long counts
+  pub slots-count : EveryBatchHasItsSlots → (first : ℕ) (given : DemandBatch) (slots : List (List Flow)) → given ≡ batch → first ≡ length front * b + 1
+      → slots ≡ batch_slots (is_barred given.limits) first rounds.demand.b (after_batch given.entries rounds.demand.items) → length slots ≡ b
+  slots-count counts first given slots is at so = ap (λ xs. length xs) (slots-now first given slots is at so) ∙ slots-long counts
 
   schedule-more : FrontsAreFronts → schedule b (front ++ batch ∷ []) ≡ schedule b front ++ slots_then b (length front) batch (rest b front)
   schedule-more fronts = (fronts b front (batch ∷ [])).0 ∙ ap (λ xs. schedule b front ++ xs) (append-nil (slots_then b (length front) batch (rest b front)))
 
-  pub places-more : FrontsAreFronts → EveryBatchHasItsSlots → (first : ℕ) (given : DemandBatch) (slots : List (List Flow)) (n : ℕ) → given ≡ batch → first ≡ length front * b + 1 → n ≡ b
-      → slots ≡ batch_slots (is_barred given.limits) first b (after_batch given.entries rounds.list.items) ++ replicate (n - b) [] → places_from 1 (schedule b front) ++ places_from first slots ≡ places_from 1 (schedule b (front ++ batch ∷ []))
-  places-more fronts counts first given slots n is at all so =
+  pub places-more : FrontsAreFronts → EveryBatchHasItsSlots → (first : ℕ) (given : DemandBatch) (slots : List (List Flow)) → given ≡ batch → first ≡ length front * b + 1
+      → slots ≡ batch_slots (is_barred given.limits) first rounds.demand.b (after_batch given.entries rounds.demand.items) → places_from 1 (schedule b front) ++ places_from first slots ≡ places_from 1 (schedule b (front ++ batch ∷ []))
+  places-more fronts counts first given slots is at so =
       let long = schedule-long counts in
       let next : first ≡ 1 + length (schedule b front) = omega (arith, at, long) in
       ap (λ m. places_from 1 (schedule b front) ++ places_from m slots) next
-      ∙ (ap (λ xs. places_from 1 (schedule b front) ++ places_from (1 + length (schedule b front)) xs) (slots-now first given slots n is at all so)
+      ∙ (ap (λ xs. places_from 1 (schedule b front) ++ places_from (1 + length (schedule b front)) xs) (slots-now first given slots is at so)
       ∙ (sym (places-append 1 (schedule b front) (slots_then b (length front) batch (rest b front))) ∙ ap (λ xs. places_from 1 xs) (sym (schedule-more fronts))))
 
   list-now : FrontsAreFronts → (first : ℕ) (given : DemandBatch) (items : List Item) → given ≡ batch → first ≡ length front * b + 1
-      → items ≡ list_after_slots (is_barred given.limits) first b (after_batch given.entries rounds.list.items) → items ≡ rest b (front ++ batch ∷ [])
+      → items ≡ list_after_slots (is_barred given.limits) first rounds.demand.b (after_batch given.entries rounds.demand.items) → items ≡ rest b (front ++ batch ∷ [])
   list-now fronts first given items is at so =
-      so ∙ (ap (λ (x : DemandBatch). list_after_slots (is_barred x.limits) first b (after_batch x.entries rounds.list.items)) is
-      ∙ (ap (λ m. list_after_slots (is_barred batch.limits) m b (after_batch batch.entries rounds.list.items)) at
+      so ∙ (ap (λ m. list_after_slots (is_barred given.limits) first m (after_batch given.entries rounds.demand.items)) stands.slots
+      ∙ (ap (λ (x : DemandBatch). list_after_slots (is_barred x.limits) first b (after_batch x.entries rounds.demand.items)) is
+      ∙ (ap (λ m. list_after_slots (is_barred batch.limits) m b (after_batch batch.entries rounds.demand.items)) at
       ∙ (ap (λ xs. list_after_slots (is_barred batch.limits) (length front * b + 1) b (after_batch batch.entries xs)) stands.list
-      ∙ sym (fronts b front (batch ∷ [])).1)))
+      ∙ sym (fronts b front (batch ∷ [])).1))))
+
+  -- the list before the next round's slots
+  before-next : EveryBatchLeavesAList → LaterBatchesMayBeApplied → (first : ℕ) (given : DemandBatch) (items : List Item) → given ≡ batch → first ≡ length front * b + 1
+      → items ≡ list_after_slots (is_barred given.limits) first rounds.demand.b (after_batch given.entries rounds.demand.items) → IsListBefore (length (front ++ batch ∷ []) * b + 1) items
+  before-next leaves may first given items is at so =
+      let one = applied may given is in
+      let next : first + rounds.demand.b ≡ length (front ++ batch ∷ []) * b + 1 =
+      (let all = length-append front (batch ∷ []) in let size = stands.slots in ap (λ m. m + rounds.demand.b) at ∙ (ap (λ m. (length front * b + 1) + m) size ∙ (more (length front) ∙ ap (λ m. m * b + 1) (sym all)))) in
+      subst (λ xs. IsListBefore (length (front ++ batch ∷ []) * b + 1) xs) (sym so)
+      (subst (λ m. IsListBefore m (list_after_slots (is_barred given.limits) first rounds.demand.b (after_batch given.entries rounds.demand.items))) next
+      (leaves (is_barred given.limits) first rounds.demand.b given.entries rounds.demand.items (omega (arith, at)) one.rises one.opens (subst (λ m. IsListBefore m rounds.demand.items) (sym at) stands.before)))
+    where
+      more : (k : ℕ) → (k * b + 1) + b ≡ (k + 1) * b + 1
+      more k = omega arith
 
   pub counted-so-far : EverySlotIsInRange → (judges : Judges) → JudgesStand (places_from 1 (schedule b front)) judges → (flow : Flow) → number_of judges.slots flow ≡ slots_of flow (schedule b front)
   counted-so-far ranged judges judged flow = judged.slots flow ∙ counted-places N 1 flow (schedule b front) (so_far ranged)
 
   -- the rounds, with this one
-  pub played-more : FrontsAreFronts → EveryBatchHasItsSlots → EverySlotIsInRange → (judges : Judges) → JudgesStand (places_from 1 (schedule b front)) judges → (given : DemandBatch) (first n : ℕ) (new : Rounds) → given ≡ batch
-      → first ≡ length front * b + 1 → n ≡ b → new.records ≡ rounds.records → new.next ≡ rounds.next + length given.entries → Enters given.entries judges.slots rounds.ledger new.ledger → AreSized rounds.ledger.seen.endpoints new.ledger
-      → new.list.items ≡ list_after_slots (is_barred given.limits) first b (after_batch given.entries rounds.list.items) → length new.list.items + new.list.spare ≡ length rounds.list.items + rounds.list.spare
-      → new.table.slots ≡ batch_slots (is_barred given.limits) first b (after_batch given.entries rounds.list.items) ++ replicate (n - b) [] → new.table.endpoints ≡ rounds.table.endpoints → RoundsStand net b (front ++ batch ∷ []) later new
-  played-more fronts counts ranged judges judged given first n new is at all kept next enters sized items room slots ends =
+  pub played-more : FrontsAreFronts → EveryBatchHasItsSlots → EverySlotIsInRange → EveryBatchLeavesAList → LaterBatchesMayBeApplied → (judges : Judges) → JudgesStand (places_from 1 (schedule b front)) judges
+      → (given : DemandBatch) (first : ℕ) (new : Rounds) → given ≡ batch → first ≡ length front * b + 1 → new.records ≡ rounds.records → new.next ≡ rounds.next + length given.entries → Enters given.entries judges.slots rounds.ledger new.ledger → AreSized rounds.ledger.seen.endpoints new.ledger
+      → new.demand.items ≡ list_after_slots (is_barred given.limits) first rounds.demand.b (after_batch given.entries rounds.demand.items) → new.demand.b ≡ rounds.demand.b
+      → new.demand.endpoints ≡ rounds.demand.endpoints → RoundsStand net b (front ++ batch ∷ []) later new
+  played-more fronts counts ranged leaves may judges judged given first new is at kept next enters sized items size ends =
       let entries : given.entries ≡ batch.entries = ap (λ (x : DemandBatch). x.entries) is in
       let many : length given.entries ≡ length (map (record_of (length front)) batch.entries) = ap (λ xs. length xs) entries ∙ sym (length-map batch.entries (record_of (length front))) in
       let left = ap (λ xs. length xs) stands.todo in
@@ -195,8 +191,8 @@ module _ (net : Network) (b : ℕ) (front : List DemandBatch) (batch : DemandBat
             ∙ (drop-all (map (record_of (length front)) batch.entries) (records_of (length front + 1) later) ∙ ap (λ m. records_of m later) (sym (length-append front (batch ∷ []))))))));
         ledger = ledger-more b front batch judges.slots rounds.ledger new.ledger fronts counts here.rises (counted-so-far ranged judges judged) stands.ledger (subst (λ xs. Enters xs judges.slots rounds.ledger new.ledger) entries enters);
         sized = subst (λ m. AreSized m new.ledger) stands.sized.seen sized;
-        list = list-now fronts first given new.list.items is at items;
-        room = (let was = stands.room in omega (arith, was, room));
-        slots = slots-count counts first given new.table.slots n is at all slots;
+        list = list-now fronts first given new.demand.items is at items;
+        before = before-next leaves may first given new.demand.items is at items;
+        slots = size ∙ stands.slots;
         endpoints = ends ∙ stands.endpoints;
       }

@@ -17,6 +17,7 @@ pub mod FlowNumbers
 pub mod Marks
 pub mod Judged
 pub mod Walked
+pub mod Demanded
 pub mod Entered
 pub mod Played
 pub mod Summed

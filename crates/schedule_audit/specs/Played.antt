@@ -1,9 +1,10 @@
 -- The rounds of a text, played one after the other (this project's own profile).
-use Rattle.std.specs.Prelude.{◌≡◌, ◌≤◌, ℕ, ◌+◌, ◌-◌, ◌*◌, ◌==◌, List, ◌++◌, length, drop, map, All}
+use Rattle.std.specs.Prelude.{◌≡◌, ◌≤◌, ℕ, ◌+◌, ◌*◌, ◌==◌, List, ◌++◌, length, drop, map, All}
 use Rattle.greedy_rules.specs.declared.flows.Entry.{Entry}
 use Rattle.greedy_rules.specs.Batches.{DemandBatch, IsBatch}
 use Rattle.greedy_rules.specs.Recorded.{AreRecorded}
 use Rattle.greedy_rules.specs.Schedule.{schedule, rest}
+use Rattle.slot_batches.specs.NextList.{IsListBefore}
 use Rattle.clos_topology.specs.Network.{Network, endpoints_of}
 use Rattle.schedule_audit.specs.declared.rounds.Rounds.{Rounds}
 use Rattle.schedule_audit.specs.declared.judges.Judges.{Judges}
@@ -27,10 +28,10 @@ pub record RoundsStand (net : Network) (b : ℕ) (front later : List DemandBatch
   pub todo : drop rounds.next rounds.records.items ≡ records_of (length front) later
   pub ledger : LedgerStands b front rounds.ledger
   pub sized : AreSized (endpoints_of net) rounds.ledger
-  pub list : rounds.list.items ≡ rest b front
-  pub room : endpoints_of net * (endpoints_of net - 1) ≤ length rounds.list.items + rounds.list.spare
-  pub slots : length rounds.table.slots ≡ b
-  pub endpoints : rounds.table.endpoints ≡ endpoints_of net
+  pub list : rounds.demand.items ≡ rest b front
+  pub before : IsListBefore (length front * b + 1) rounds.demand.items
+  pub slots : rounds.demand.b ≡ b
+  pub endpoints : rounds.demand.endpoints ≡ endpoints_of net
 
 -- and their schedule
 pub record ArePlayed (net : Network) (b : ℕ) (front later : List DemandBatch) (rounds : Rounds) (judges : Judges) : Type 0 where

@@ -12,8 +12,8 @@ use crate::collected::Collected;
 use crate::figures::{Figures, needs_of};
 use crate::judges::Judges;
 use crate::laws::no_misplaced_line_is_recorded;
-use crate::misplaced::first_misplaced;
 use crate::rounds::Rounds;
+use crate::scanned::scan_text;
 use crate::send_lines::earlier;
 use crate::text::count_lines;
 use clos_topology::Net;
@@ -38,7 +38,8 @@ fn first_wrong(
     net: Net,
     b: u8,
 ) -> Result<Option<u32>, NoMemory>
-    requires { (lines : List (Option Line)) × Collects lines collected × AreSmall lines × (first_misplaced (endpoints_of net) lines ≡ None) }
+    requires b { b ≤ 64 }
+    requires collected { (lines : List (Option Line)) × Collects lines collected × AreSmall lines × (first_misplaced (endpoints_of net) lines ≡ None) }
     ensures { IfOk result (λ found. (lines : List (Option Line)) → Collects lines collected → AreSmall lines → first_misplaced (endpoints_of net) lines ≡ None → found ≡ first_wrong net b lines) }
 {
     recorded_batches_may_be_applied();
@@ -52,7 +53,7 @@ fn first_wrong(
     for round in 0..rounds {
         played.play(alloc, round, b, &mut judges)?;
     }
-    let left = needs_of(alloc, &played.list, net.endpoints())?;
+    let left = needs_of(alloc, played.demand.list(), net.endpoints())?;
     let figures = Figures {
         added: &played.ledger.added,
         slots: &judges.slots,
@@ -66,26 +67,26 @@ fn first_wrong(
     Ok(earlier(path, earlier(send, total)))
 }
 
-/// Audits a text of a plan or a replay, whatever trace it was made from, of a network and batches of `b` slots: how many lines
-/// it has. Bad exactly where a line is bad, with the first one.
+/// Audits a text of a plan or a replay, whatever trace it was made from, of a network and batches of `b` slots, at most 64: how many
+/// lines it has. Bad exactly where a line is bad, with the first one.
 pub fn audit(alloc: Global, bytes: &[u8], net: Net, b: u8) -> Result<u32, AuditRefused>
-    requires { length bytes.now ≤ 67108864 }
+    requires bytes { length bytes.now ≤ 67108864 }
+    requires b { b ≤ 64 }
     ensures verdict { (lines : List (Option Line)) × AreLines bytes.now lines × IsVerdict net b lines result }
     ensures shows { IfOk result (λ _. (lines : List (Option Line)) × AreLines bytes.now lines × ShowsACleanSchedule net b lines) }
 {
     no_misplaced_line_is_recorded();
-    let count = count_lines(bytes);
-    let Ok(misplaced) = first_misplaced(alloc, bytes, &net) else {
+    let Ok(scanned) = scan_text(alloc, bytes, &net) else {
+        // Each answer speaks of the text's lines, which their reading gives.
+        let _lines = count_lines(bytes);
         return Err(AuditRefused::Memory);
     };
-    match misplaced {
+    match scanned.misplaced {
         Some(line) => return Err(AuditRefused::Bad { line }),
         None => {}
     }
-    let Ok(collected) = Collected::of(alloc, bytes) else {
-        return Err(AuditRefused::Memory);
-    };
-    let Ok(wrong) = first_wrong(alloc, collected, net, b) else {
+    let count = scanned.collected.lines;
+    let Ok(wrong) = first_wrong(alloc, scanned.collected, net, b) else {
         return Err(AuditRefused::Memory);
     };
     match wrong {

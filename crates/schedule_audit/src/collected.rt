@@ -2,15 +2,13 @@
 ghost use Rattle.std.specs.Prelude.{◌≡◌, ◌<◌, ◌≤◌, ◌+◌, List, [], ◌∷◌, ◌++◌, length, Option, IfOk, OnOk, Some, None};
 ghost use Rattle.std.specs.List.{cons_option};
 ghost use Rattle.report_text.specs.declared.line.Line.{Line};
-ghost use Rattle.schedule_audit.specs.Reading.{AreLines};
 ghost use Rattle.schedule_audit.specs.Lines.{records, path_of, sent_by, ends, first_or_0};
 ghost use Rattle.schedule_audit.specs.Totals.{total_of};
 ghost use Rattle.schedule_audit.specs.Numbered.{numbered};
-ghost use Rattle.schedule_audit.specs.Collecting.{Collects, Adds};
+ghost use Rattle.schedule_audit.specs.Collecting.{CollectsUpTo, Adds};
 
 use crate::packets::{Numbered, Path, Place};
 use crate::recorded::Recorded;
-use crate::text::first_line;
 use crate::totals::Total;
 use greedy_rules::Flow;
 use no_memory::NoMemory;
@@ -29,8 +27,23 @@ pub(crate) struct Collected {
 }
 
 impl Collected {
+    /// What no line says.
+    pub(crate) fn new(alloc: Global) -> Collected
+        ensures collects { (lines : List (Option Line)) → CollectsUpTo lines lines result }
+        ensures lines { result.lines ≡ 0 }
+    {
+        Collected {
+            records: Vec::new(alloc),
+            paths: Vec::new(alloc),
+            sends: Vec::new(alloc),
+            totals: Vec::new(alloc),
+            rounds: None,
+            lines: 0,
+        }
+    }
+
     /// Takes the next line.
-    fn take(&mut self, line: Option<Line>) -> Result<(), NoMemory>
+    pub(crate) fn take(&mut self, line: Option<Line>) -> Result<(), NoMemory>
         requires { self.old.lines + 1 < 4294967296 }
         ensures { OnOk result (Adds line self.old self.new) }
     {
@@ -123,27 +136,5 @@ impl Collected {
             None => {}
         }
         Ok(())
-    }
-
-    /// What the lines of a text say.
-    pub(crate) fn of(alloc: Global, text: &[u8]) -> Result<Collected, NoMemory>
-        requires { length text.now < 4294967296 }
-        ensures { IfOk result (λ collected. (lines : List (Option Line)) → AreLines text.now lines → Collects lines collected) }
-    {
-        let mut collected = Collected {
-            records: Vec::new(alloc),
-            paths: Vec::new(alloc),
-            sends: Vec::new(alloc),
-            totals: Vec::new(alloc),
-            rounds: None,
-            lines: 0,
-        };
-        let mut rest = text;
-        while !rest.is_empty() {
-            let (line, later) = first_line(rest);
-            collected.take(line)?;
-            rest = later;
-        }
-        Ok(collected)
     }
 }

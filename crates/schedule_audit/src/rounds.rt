@@ -9,6 +9,7 @@ ghost use Rattle.schedule_audit.specs.Texts.{records_of};
 ghost use Rattle.schedule_audit.specs.Played.{BeginWith, RoundsStand, ArePlayed};
 ghost use Rattle.schedule_audit.specs.Walked.{IsSameText};
 
+use crate::demand::Demand;
 use crate::flow_numbers::FlowNumbers;
 use crate::judges::Judges;
 use crate::ledger::Ledger;
@@ -16,21 +17,20 @@ use crate::passing::walk;
 use crate::recorded::Recorded;
 use clos_topology::Net;
 use greedy_rules::{
-    Batch, DemandList, Entry, Limits, SlotTable, every_slot_is_in_range, flows_fit_pairs,
-    plain_batch, recorded_batches_may_be_applied, schedules_go_on,
+    Batch, Entry, Limits, every_slot_is_in_range, recorded_batches_may_be_applied, schedules_go_on,
 };
 use no_memory::NoMemory;
+use slot_batches::every_batch_leaves_a_list;
 use std::alloc::Global;
 
-/// The records of a text, of which those before `next` went by, what is kept of each flow, the demand that is left, and the
+/// The records of a text, of which those before `next` went by, what is kept of each flow, and the demand that is left with the
 /// slots of the last round.
 #[derive(Drop)]
 pub(crate) struct Rounds {
     records: Vec<Recorded>,
     next: usize,
     pub(crate) ledger: Ledger,
-    pub(crate) list: DemandList,
-    table: SlotTable,
+    pub(crate) demand: Demand,
 }
 
 /// The batch of a round, whose records come first.
@@ -67,16 +67,15 @@ impl Rounds {
         records: Vec<Recorded>,
         b: u8,
     ) -> Result<Rounds, NoMemory>
+        requires { b ≤ 64 }
         ensures { IfOk result (λ rounds. (later : List DemandBatch) → AreRecorded (endpoints_of net.now) (record { hosts = net.now.hosts; cores = net.now.cores }) later → records.items ≡ records_of 0 later → RoundsStand net.now b [] later rounds) }
     {
         let endpoints = net.endpoints();
-        let pairs = endpoints as usize * (endpoints as usize - 1);
         Ok(Rounds {
             records,
             next: 0,
             ledger: Ledger::open(alloc, endpoints)?,
-            list: DemandList::open(alloc, pairs)?,
-            table: SlotTable::open(alloc, u16::from(b), endpoints)?,
+            demand: Demand::open(alloc, endpoints, b)?,
         })
     }
 
@@ -95,7 +94,7 @@ impl Rounds {
         ensures text { OnOk result (IsSameText judges.old judges.new) }
     {
         recorded_batches_may_be_applied();
-        flows_fit_pairs();
+        every_batch_leaves_a_list();
         schedules_go_on();
         every_slot_is_in_range();
         let limits = Limits {
@@ -107,15 +106,8 @@ impl Rounds {
         self.next += batch.len();
         self.ledger.enter(&batch, &judges.slots);
         let first_slot = round * u32::from(b) + 1;
-        plain_batch(
-            alloc,
-            &mut self.list,
-            &batch,
-            first_slot,
-            b,
-            &mut self.table,
-        )?;
-        walk(judges, &self.table, first_slot, b);
+        self.demand.serve(&batch, first_slot);
+        walk(judges, self.demand.slots(), first_slot, b);
         Ok(())
     }
 }

@@ -1,4 +1,5 @@
-use crate::{AuditRefused, audit, count_lines, first_misplaced};
+use crate::scanned::scan_text;
+use crate::{AuditRefused, audit, count_lines};
 use clos_topology::Net;
 use std::alloc::Global;
 use std::test::Fail;
@@ -33,8 +34,8 @@ fn misplaced_lines(rt: HostRuntime) -> Result<(), Fail> {
     let net = Net::new(1, 4, 1)?;
     for (text, lines, misplaced) in TEXTS {
         assert_eq!(rt; count_lines(text.as_bytes()), lines);
-        let found = first_misplaced(rt.alloc(), text.as_bytes(), &net)?;
-        assert_eq!(rt; found, misplaced);
+        let scanned = scan_text(rt.alloc(), text.as_bytes(), &net)?;
+        assert_eq!(rt; scanned.misplaced, misplaced);
     }
     Ok(())
 }
@@ -299,9 +300,9 @@ const PLAN_CHANGES: [(usize, usize, &[&str], u32); 116] = [
     (15, 1, &["end,3"], 0),
 ];
 
-/// The audit of a text, which is short.
+/// The audit of a text, which is short, with batches of at most 64 slots.
 fn audited(alloc: Global, text: &[u8], net: Net, b: u8) -> Result<u32, AuditRefused> {
-    if text.len() > 67_108_864 {
+    if text.len() > 67_108_864 || b > 64 {
         return Err(AuditRefused::Memory);
     }
     audit(alloc, text, net, b)

@@ -2,7 +2,7 @@ use Rattle.std.proofs.Common.{◌≡◌, ◌<◌, ◌+◌, ℕ, List, [], ◌∷
 use Rattle.list_facts.specs.Order.{sort_by}
 use Rattle.greedy_rules.specs.declared.flows.Item.{Item}
 use Rattle.greedy_rules.specs.Batches.{DemandBatch}
-use Rattle.greedy_rules.specs.Demands.{HasEachFlowOnce, AreBelow}
+use Rattle.greedy_rules.specs.Demands.{HasEachFlowOnce, AreBelow, item_of, need_in}
 use Rattle.greedy_rules.specs.Schedule.{schedule}
 use Rattle.clos_topology.specs.Network.{Network, endpoints_of}
 use Rattle.schedule_audit.specs.Lines.{Path, Place, paths}
@@ -21,7 +21,7 @@ no_batch = record { entries = []; limits = record { hosts = 0; cores = 0 } }
 
 pub play-requires-clause-numbers : goal.play-requires-clause-numbers
 play-requires-clause-numbers c =
-    let x = c.requires in
+    let x = c.requires.collected in
     let lines = x.0 in
     let net = c.args.net in
     let b = c.args.b in
@@ -32,7 +32,7 @@ play-requires-clause-numbers c =
 
 pub play-requires-clause-few : goal.play-requires-clause-few
 play-requires-clause-few c =
-    let x = c.requires in
+    let x = c.requires.collected in
     let lines = x.0 in
     let net = c.args.net in
     let b = c.args.b in
@@ -43,7 +43,7 @@ play-requires-clause-few c =
 
 pub play-requires-clause-played : goal.play-requires-clause-played
 play-requires-clause-played c =
-    let x = c.requires in
+    let x = c.requires.collected in
     let lines = x.0 in
     let net = c.args.net in
     let b = c.args.b in
@@ -80,7 +80,7 @@ loop-round-preserved c =
 
 pub needs_of-requires-clause-once : goal.needs_of-requires-clause-once
 needs_of-requires-clause-once c =
-    let x = c.requires in
+    let x = c.requires.collected in
     let lines = x.0 in
     let net = c.args.net in
     let b = c.args.b in
@@ -88,11 +88,11 @@ needs_of-requires-clause-once c =
     let round = c.loop-round.round in
     let many : length off.batches ≡ round = (let last = c.loop-round-test.false in let end = c.loop-round.auto.round-end in let all = c.unwrap_or-rounds.ensures ∙ x.1.rounds in omega (arith, last, end, all, off.many)) in
     let played = all-played net b round off.batches c.loop-round.played c.loop-round.judges many (c.loop-round.invariant.played lines x.1 off) in
-    subst (λ (items : List Item). HasEachFlowOnce items) (sym played.played.list) (c.recorded_batches_may_be_applied.ensures.all (endpoints_of net) b (record { hosts = net.hosts; cores = net.cores }) off.batches off.are).left.once
+    subst (λ (items : List Item). HasEachFlowOnce items) (sym (c.list.ensures ∙ played.played.list)) (c.recorded_batches_may_be_applied.ensures.all (endpoints_of net) b (record { hosts = net.hosts; cores = net.cores }) off.batches off.are).left.once
 
 pub needs_of-requires-clause-below : goal.needs_of-requires-clause-below
 needs_of-requires-clause-below c =
-    let x = c.requires in
+    let x = c.requires.collected in
     let lines = x.0 in
     let net = c.args.net in
     let b = c.args.b in
@@ -100,12 +100,12 @@ needs_of-requires-clause-below c =
     let round = c.loop-round.round in
     let many : length off.batches ≡ round = (let last = c.loop-round-test.false in let end = c.loop-round.auto.round-end in let all = c.unwrap_or-rounds.ensures ∙ x.1.rounds in omega (arith, last, end, all, off.many)) in
     let played = all-played net b round off.batches c.loop-round.played c.loop-round.judges many (c.loop-round.invariant.played lines x.1 off) in
-    subst (λ (n : ℕ). AreBelow n c.loop-round.played.list.items) (sym c.endpoints.ensures.number)
-    (subst (λ (items : List Item). AreBelow (endpoints_of net) items) (sym played.played.list) (c.recorded_batches_may_be_applied.ensures.all (endpoints_of net) b (record { hosts = net.hosts; cores = net.cores }) off.batches off.are).left.below)
+    subst (λ (n : ℕ). AreBelow n c.list.result.now.items) (sym c.endpoints.ensures.number)
+    (subst (λ (items : List Item). AreBelow (endpoints_of net) items) (sym (c.list.ensures ∙ played.played.list)) (c.recorded_batches_may_be_applied.ensures.all (endpoints_of net) b (record { hosts = net.hosts; cores = net.cores }) off.batches off.are).left.below)
 
 pub first_wrong-total-requires : goal.first_wrong-total-requires
 first_wrong-total-requires c =
-    let x = c.requires in
+    let x = c.requires.collected in
     let lines = x.0 in
     let net = c.args.net in
     let b = c.args.b in
@@ -113,12 +113,12 @@ first_wrong-total-requires c =
     let round = c.loop-round.round in
     let many : length off.batches ≡ round = (let last = c.loop-round-test.false in let end = c.loop-round.auto.round-end in let all = c.unwrap_or-rounds.ensures ∙ x.1.rounds in omega (arith, last, end, all, off.many)) in
     let played = all-played net b round off.batches c.loop-round.played c.loop-round.judges many (c.loop-round.invariant.played lines x.1 off) in
-    let figures = figures-are net b lines off c.schedules_go_on.ensures.front c.every_slot_is_in_range.ensures c.every_slots_flows_are_of_entries.ensures.slots c.loop-round.played c.loop-round.judges c.in_ok-left.left played c.in_ok-left.ensures in
+    let figures = figures-are net b lines off c.schedules_go_on.ensures.front c.every_slot_is_in_range.ensures c.every_slots_flows_are_of_entries.ensures.slots c.loop-round.played c.loop-round.judges c.in_ok-left.left played (λ flow. c.in_ok-left.ensures flow ∙ ap (λ (items : List Item). need_in (item_of items flow)) c.list.ensures) in
     (b, told net b lines off, figures)
 
 pub first_missed-send-requires : goal.first_missed-send-requires
 first_missed-send-requires c =
-    let x = c.requires in
+    let x = c.requires.collected in
     let lines = x.0 in
     let net = c.args.net in
     let b = c.args.b in
@@ -137,7 +137,7 @@ returns c = λ lines collects small none.
     let judges = c.loop-round.judges in
     let many : length off.batches ≡ round = (let last = c.loop-round-test.false in let end = c.loop-round.auto.round-end in let all = c.unwrap_or-rounds.ensures ∙ collects.rounds in omega (arith, last, end, all, off.many)) in
     let played = all-played net b round off.batches c.loop-round.played judges many (c.loop-round.invariant.played lines collects off) in
-    let figures = figures-are net b lines off c.schedules_go_on.ensures.front c.every_slot_is_in_range.ensures c.every_slots_flows_are_of_entries.ensures.slots c.loop-round.played c.loop-round.judges c.in_ok-left.left played c.in_ok-left.ensures in
+    let figures = figures-are net b lines off c.schedules_go_on.ensures.front c.every_slot_is_in_range.ensures c.every_slots_flows_are_of_entries.ensures.slots c.loop-round.played c.loop-round.judges c.in_ok-left.left played (λ flow. c.in_ok-left.ensures flow ∙ ap (λ (items : List Item). need_in (item_of items flow)) c.list.ensures) in
     let places = places_from 1 (schedule b off.batches) in
     let short = short-is net b lines off c.loop-round.played judges _ c.len-paths.result played (let same = ap (λ (ps : List (Numbered Path)). length ps) collects.paths in omega (arith, c.len-paths.ensures, same)) refl in
     c.earlier-2.ensures

@@ -1,6 +1,6 @@
-use Rattle.std.proofs.Common.{◌≤◌, ◌+◌, ◌-◌, ◌*◌, ℕ, List, [], length, ap, ◌∙◌, subst, arith}
-use Rattle.std.proofs.lemmas.List.{length-replicate}
-use Rattle.greedy_rules.specs.declared.flows.Flow.{Flow}
+use Rattle.std.proofs.Common.{◌+◌, ◌*◌, ◌∙◌, ℕ, sym, subst, arith}
+use Rattle.slot_batches.specs.NextList.{IsListBefore}
+use Rattle.slot_batches.proofs.ReadLemmas.{empty_before}
 use Rattle.schedule_audit.specs.Entered.{AreSized}
 use Rattle.schedule_audit.proofs.rounds.Rounds.open.Goals as goal
 
@@ -14,7 +14,7 @@ returns c = λ later recorded are.
       ledger = c.in_ok-open.ensures.stands c.args.b;
       sized = subst (λ (n : ℕ). AreSized n c.in_ok-open.field-0) number c.in_ok-open.ensures.sized;
       list = c.in_ok-open-2.ensures.empty;
-      room = subst (λ (n : ℕ). n * (n - 1) ≤ length c.in_ok-open-2.field-0.items + c.in_ok-open-2.field-0.spare) number (let spare = c.in_ok-open-2.ensures.spare in omega (arith, spare));
-      slots = ap (λ (ss : List (List Flow)). length ss) c.in_ok-open-3.ensures.slots ∙ (length-replicate c.from.result [] ∙ c.from.ensures);
-      endpoints = c.in_ok-open-3.ensures.endpoints ∙ number;
+      before = subst (IsListBefore (0 * c.args.b + 1)) (sym c.in_ok-open-2.ensures.empty) (empty_before (0 * c.args.b + 1));
+      slots = c.in_ok-open-2.ensures.b;
+      endpoints = c.in_ok-open-2.ensures.endpoints ∙ number;
     }
