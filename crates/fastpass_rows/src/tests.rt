@@ -9,6 +9,7 @@ use std::test::Fail;
 use std::thread::Threads;
 
 mod audits;
+mod commands;
 mod makes;
 mod meeting;
 mod racks;

@@ -10,15 +10,42 @@ use Rattle.schedule_audit.specs.Reading.{AreLines}
 use Rattle.schedule_audit.specs.ReadLaws.{EachTextHasOneReading}
 use Rattle.schedule_audit.specs.BadLines.{first_bad_line}
 use Rattle.schedule_audit.specs.Audited.{IsVerdict, ShowsACleanSchedule}
-use Rattle.fastpass_run.specs.Audits.{Audits, count_text, AreReadLines, HasBadLine, GivesText, AuditEnds}
+use Rattle.fastpass_run.specs.Audits.{Audits, count_text, HasBadLine, GivesText, AuditEnds}
 use Rattle.fastpass_run.specs.Outside.{Outside, Growth}
+use Rattle.fastpass_run.specs.Rows.{Rows, AsksToRead, IsReadAs}
 use Rattle.fastpass_run.specs.Run.{Ending, EndsBy, Performs, AsksToMake, status_of}
 use Rattle.fastpass_run.specs.Statuses.{IsAmong}
 use Rattle.fastpass_run.specs.Transfer.{input_limit}
-use Rattle.fastpass_run.specs.Words.{asked_of}
-use Rattle.fastpass_run.specs.Words.Asked.{audits}
+use Rattle.fastpass_run.specs.Words.{Asked, AskedOfTrace, asked_of}
+use Rattle.fastpass_run.specs.Words.Asked.{writes, plans_by_need, audits, takes_over}
 use Rattle.fastpass_run.specs.declared.outcome.Failure.TheVariants as failure
-use Rattle.fastpass_run.proofs.RunLemmas.{refused_or_asked, writes_or_audits, reads_or_audits, same_audit, whole, too_many}
+use Rattle.fastpass_run.proofs.RunLemmas.{same_asked, refused_or_asked, reads_none, whole, too_many}
+
+-- ---- what words ask for that ask for an audit
+
+abbrev is_audit : Asked → Bool
+is_audit (writes asked) = false
+is_audit (plans_by_need sizes) = false
+is_audit (audits net b) = true
+is_audit takes_over = false
+
+audits_alone : (words : List (List ℕ)) (asked : Asked) (net : Network) (b : ℕ) → is_audit asked ≡ false → asked_of words ≡ Some asked → asked_of words ≡ Some (audits net b) → ⊥
+audits_alone words asked net b other is so = false≢true (sym other ∙ ap is_audit (same_asked words asked (audits net b) is so))
+
+writes_or_audits : (words : List (List ℕ)) (asked : AskedOfTrace) (net : Network) (b : ℕ) → asked_of words ≡ Some (writes asked) → asked_of words ≡ Some (audits net b) → ⊥
+writes_or_audits words asked net b is so = audits_alone words (writes asked) net b refl is so
+
+reads_or_audits : (words : List (List ℕ)) (rows : Rows) (net : Network) (b : ℕ) → AsksToRead words rows → asked_of words ≡ Some (audits net b) → ⊥
+reads_or_audits words rows net b reads so = reads_none words (audits net b) rows so refl reads
+
+abbrev audit_in : Network → ℕ → Asked → Network × ℕ
+audit_in net b (audits other c) = (other, c)
+audit_in net b (_) = (net, b)
+
+same_audit : (words : List (List ℕ)) (net other : Network) (b c : ℕ) → asked_of words ≡ Some (audits net b) → asked_of words ≡ Some (audits other c) → (net ≡ other) × (b ≡ c)
+same_audit words net other b c is so =
+    let same = ap (audit_in net b) (same_asked words (audits net b) (audits other c) is so) in
+    (ap (λ (p : Network × ℕ). p.0) same, ap (λ (p : Network × ℕ). p.1) same)
 
 -- the bytes that an audit read, all that the source had
 record WasAudited (net : Network) (b : ℕ) (bytes : List ℕ) (bad : Option ℕ) : Type 0 where
@@ -27,7 +54,7 @@ record WasAudited (net : Network) (b : ℕ) (bytes : List ℕ) (bad : Option ℕ
   read : AreLines bytes lines
   found : first_bad_line net b lines ≡ bad
 
-was_audited : (old new : Outside) (net : Network) (b : ℕ) (bytes : List ℕ) (lines : List (Option Line)) (bad : Option ℕ) → old.left ≡ Some bytes → AreReadLines old new lines → first_bad_line net b lines ≡ bad
+was_audited : (old new : Outside) (net : Network) (b : ℕ) (bytes : List ℕ) (lines : List (Option Line)) (bad : Option ℕ) → old.left ≡ Some bytes → IsReadAs (λ taken. AreLines taken lines) old new → first_bad_line net b lines ≡ bad
     → WasAudited net b bytes bad
 was_audited old new net b bytes lines bad told (taken, took, ended, few, are) found =
     let all : bytes ≡ taken = whole new.left bytes taken (subst (λ (l : Option (List ℕ)). Consumes l new.left taken) told took) ended in
@@ -36,12 +63,15 @@ was_audited old new net b bytes lines bad told (taken, took, ended, few, are) fo
 -- the same for any words that ask for it
 good_lines : (grew : Growth) (words : List (List ℕ)) (old new : Outside) (net : Network) (b : ℕ) (bytes : List ℕ) → Performs grew words old new → GivesText words old net b bytes → WasAudited net b bytes None
 good_lines grew words old new net b bytes (inl plans) gives = absurd (writes_or_audits words plans.asked net b plans.accepted gives.accepted)
-good_lines grew words old new net b bytes (inr (inl replays)) gives = absurd (writes_or_audits words replays.asked net b replays.accepted gives.accepted)
-good_lines grew words old new net b bytes (inr (inr (inl makes))) gives = absurd (writes_or_audits words makes.asked net b makes.accepted gives.accepted)
-good_lines grew words old new net b bytes (inr (inr (inr audit))) gives =
+good_lines grew words old new net b bytes (inr (inl plans)) gives = absurd (audits_alone words (plans_by_need plans.sizes) net b refl plans.accepted gives.accepted)
+good_lines grew words old new net b bytes (inr (inr (inl replays))) gives = absurd (writes_or_audits words replays.asked net b replays.accepted gives.accepted)
+good_lines grew words old new net b bytes (inr (inr (inr (inl makes)))) gives = absurd (writes_or_audits words makes.asked net b makes.accepted gives.accepted)
+good_lines grew words old new net b bytes (inr (inr (inr (inr (inl audit))))) gives =
     let (net_is, b_is) = same_audit words audit.net net audit.b b audit.accepted gives.accepted in
     was_audited old new net b bytes audit.lines None gives.told audit.read
     (subst (λ (n : Network). first_bad_line n b audit.lines ≡ None) net_is (subst (λ (c : ℕ). first_bad_line audit.net c audit.lines ≡ None) b_is audit.good))
+good_lines grew words old new net b bytes (inr (inr (inr (inr (inr (inl receives)))))) gives = absurd (writes_or_audits words receives.asked net b receives.accepted gives.accepted)
+good_lines grew words old new net b bytes (inr (inr (inr (inr (inr (inr takeover)))))) gives = absurd (audits_alone words takes_over net b refl takeover.accepted gives.accepted)
 
 bad_lines : (words : List (List ℕ)) (old new : Outside) (line : ℕ) (net : Network) (b : ℕ) (bytes : List ℕ) → HasBadLine words old new line → GivesText words old net b bytes → WasAudited net b bytes (Some line)
 bad_lines words old new line net b bytes has gives =
@@ -87,7 +117,7 @@ completes : EachTextHasOneReading → (words : List (List ℕ)) (old new : Outsi
     → IsAmong (status_of ending) (0 ∷ 3 ∷ 4 ∷ 5 ∷ [])
 completes once words old new (Ok done) ends net b bytes lines gives few are good = inl refl
 completes once words old new (Err failure.Words) ends net b bytes lines gives few are good = absurd (refused_or_asked words (audits net b) ends.0 gives.accepted)
-completes once words old new (Err (failure.Row row fault)) ends net b bytes lines gives few are good = absurd (reads_or_audits words ends.0.command net b ends.0.accepted gives.accepted)
+completes once words old new (Err (failure.Row row fault)) ends net b bytes lines gives few are good = absurd (reads_or_audits words ends.0.rows net b ends.0.accepted gives.accepted)
 completes once words old new (Err failure.Read) ends net b bytes lines gives few are good = inr (inl refl)
 completes once words old new (Err failure.Write) ends net b bytes lines gives few are good = inr (inr (inl refl))
 completes once words old new (Err failure.Memory) ends net b bytes lines gives few are good = inr (inr (inr (inl refl)))
@@ -101,7 +131,7 @@ tells_bad : EachTextHasOneReading → (words : List (List ℕ)) (old new : Outsi
 tells_bad once words old new (Ok done) ends net b line bytes lines gives few are bad =
     absurd (some_or_none line (verdict once net b bytes lines (Some line) None are bad (good_lines Appends words old new net b bytes ends gives)))
 tells_bad once words old new (Err failure.Words) ends net b line bytes lines gives few are bad = absurd (refused_or_asked words (audits net b) ends.0 gives.accepted)
-tells_bad once words old new (Err (failure.Row row fault)) ends net b line bytes lines gives few are bad = absurd (reads_or_audits words ends.0.command net b ends.0.accepted gives.accepted)
+tells_bad once words old new (Err (failure.Row row fault)) ends net b line bytes lines gives few are bad = absurd (reads_or_audits words ends.0.rows net b ends.0.accepted gives.accepted)
 tells_bad once words old new (Err failure.Read) ends net b line bytes lines gives few are bad = inr (inl refl)
 tells_bad once words old new (Err failure.Write) ends net b line bytes lines gives few are bad =
     absurd (some_or_none line (verdict once net b bytes lines (Some line) None are bad (good_lines AppendsFront words old new net b bytes ends.1 gives)))
@@ -113,7 +143,7 @@ tells_excess : (words : List (List ℕ)) (old new : Outside) (ending : Ending) �
     → (net : Network) (b : ℕ) (bytes : List ℕ) → GivesText words old net b bytes → input_limit < length bytes → IsAmong (status_of ending) (6 ∷ 3 ∷ 5 ∷ [])
 tells_excess words old new (Ok done) ends net b bytes gives many = let few = (good_lines Appends words old new net b bytes ends gives).few in absurd (omega (arith, many, few))
 tells_excess words old new (Err failure.Words) ends net b bytes gives many = absurd (refused_or_asked words (audits net b) ends.0 gives.accepted)
-tells_excess words old new (Err (failure.Row row fault)) ends net b bytes gives many = absurd (reads_or_audits words ends.0.command net b ends.0.accepted gives.accepted)
+tells_excess words old new (Err (failure.Row row fault)) ends net b bytes gives many = absurd (reads_or_audits words ends.0.rows net b ends.0.accepted gives.accepted)
 tells_excess words old new (Err failure.Read) ends net b bytes gives many = inr (inl refl)
 tells_excess words old new (Err failure.Write) ends net b bytes gives many = let few = (good_lines AppendsFront words old new net b bytes ends.1 gives).few in absurd (omega (arith, many, few))
 tells_excess words old new (Err failure.Memory) ends net b bytes gives many = inr (inr (inl refl))

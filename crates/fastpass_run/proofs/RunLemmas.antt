@@ -1,29 +1,33 @@
 -- What a run tells by the way it ends.
 use Rattle.std.proofs.Common.{◌≡◌, ◌≤◌, ◌<◌, ◌+◌, ℕ, List, [], ◌++◌, length, length-append, Bool, true, false, Option, Some, None, Result, Ok, Err, IsErrAnd, OnOk, OnErr, refl, sym, ap, ◌∙◌, subst, arith, inl, inr}
+use Rattle.std.specs.Prelude.{⊤}
 use Rattle.std.specs.Option.{is_some, unwrap_or}
 use Rattle.std.specs.Io.KnownBytes.{Appends, Consumes, IsAtEnd}
 use Rattle.std.proofs.KnownBytes.{Consumes-nil}
 use Rattle.std.proofs.lemmas.Bool.{false≢true}
 use Rattle.std.proofs.lemmas.List.{append-nil}
 use Rattle.clos_topology.specs.Network.{Network}
-use Rattle.trace_text.specs.declared.command.Command.{Command}
+use Rattle.trace_text.specs.declared.command.Command.TheVariants.{Plan, Replay, Receive}
 use Rattle.trace_text.specs.declared.fault.Fault.{Fault}
-use Rattle.trace_text.specs.Trace.{TraceContent, FaultyRow, trace_of}
+use Rattle.trace_text.specs.declared.fault.TraceRefused.{TraceRefused}
+use Rattle.trace_text.specs.declared.fault.TraceRefused.TheVariants as trace
+use Rattle.trace_text.specs.declared.command.Command.{Command}
+use Rattle.trace_text.specs.Trace.{FaultyRow, trace_of, IsFaultOf}
 use Rattle.fp_edge.specs.declared.source.Failed.{Failed}
+use Rattle.script_text.specs.Script.{script_of}
 use Rattle.text_output.specs.Output.{IsCaused}
 use Rattle.text_output.specs.Transfer.{AppendsFront}
 use Rattle.text_output.specs.declared.output.Stop.{Stop}
 use Rattle.text_output.specs.declared.output.Stop.TheVariants.{Write, Memory}
-use Rattle.fastpass_run.specs.Failures.{failure_of_stop}
-use Rattle.fastpass_run.specs.Outside.{Outside, Growth}
-use Rattle.fastpass_run.specs.Run.{Ending, EndsBy, Performs, HasWords, IsRead, HasFaultyRow, AsksToRead, Gives, Completes, TellsFaults, TellsExcess, status_of}
+use Rattle.fastpass_run.specs.Failures.{failure_of_stop, failure_of_trace}
+use Rattle.fastpass_run.specs.Outside.{Outside, Growth, IsUnwritten}
+use Rattle.fastpass_run.specs.Rows.{Rows, of_trace, of_script, fault_in, first_faulty, rows_of_input, rows_of, AsksToRead, IsReadAs}
+use Rattle.fastpass_run.specs.Run.{Ending, EndsBy, Performs, HasWords, HasFaultyRow, Gives, Completes, TellsFaults, TellsExcess, status_of}
 use Rattle.fastpass_run.specs.Transfer.{Takes, input_limit}
-use Rattle.fastpass_run.specs.Words.{Asked, AskedOfTrace, asked_of}
-use Rattle.fastpass_run.specs.Words.Asked.{writes, audits}
+use Rattle.fastpass_run.specs.Words.{Asked, asked_of}
+use Rattle.fastpass_run.specs.Words.Asked.{writes, plans_by_need, audits, takes_over}
 use Rattle.fastpass_run.specs.declared.outcome.Failure.{Failure}
 use Rattle.fastpass_run.specs.declared.outcome.Failure.TheVariants as failure
-use Rattle.fastpass_run.specs.declared.words.Input.{Input}
-use Rattle.fastpass_run.specs.declared.words.Input.TheVariants.{Read, Made}
 
 -- ---- where a text stops, and the note
 
@@ -41,6 +45,27 @@ pub stopped : (words : List (List ℕ)) (old new : Outside) (stop : Stop) (r : E
     → IsCaused old.sink.faults new.sink.faults stop → EndsBy words old new r
 stopped words old new stop r is performs asked took cause = by_failure (EndsBy words old new) (failure_of_stop stop) r is (front_ends words old new stop performs asked took cause)
 
+-- a refusal of rows tells the first faulty one, or want of memory
+abbrev TellsFault : Option FaultyRow → TraceRefused → Type 0
+TellsFault faulty (trace.Row row fault) = faulty ≡ Some (record { row = row; fault = fault })
+TellsFault faulty trace.Memory = ⊤
+
+trace_fault : (command : Command) (bytes : List ℕ) (refused : TraceRefused) → IsFaultOf (trace_of command bytes) refused → TellsFault (first_faulty (of_trace command) bytes) refused
+trace_fault command bytes (trace.Row row fault) is = ap fault_in is
+trace_fault command bytes trace.Memory is = tt
+
+refused_ends : (words : List (List ℕ)) (old new : Outside) (rows : Rows) (bytes : List ℕ) (refused : TraceRefused) → AsksToRead words rows → Consumes old.left new.left bytes → IsAtEnd new.left → length bytes ≤ input_limit
+    → IsUnwritten old new → TellsFault (first_faulty rows bytes) refused → EndsBy words old new (Err (failure_of_trace refused))
+refused_ends words old new rows bytes (trace.Row row fault) asks took ended few unwritten told = (record { rows = rows; accepted = asks; read = (bytes, took, ended, few, told) }, unwritten)
+refused_ends words old new rows bytes trace.Memory asks took ended few unwritten told = ((asks.0, asks.1), (bytes, took, few), inl unwritten)
+
+-- what a refused trace comes to
+pub trace_refused : (words : List (List ℕ)) (old new : Outside) (command : Command) (bytes text : List ℕ) (refused : TraceRefused) (r : Ending) → AsksToRead words (of_trace command) → Consumes old.left new.left bytes
+    → IsAtEnd new.left → length bytes ≤ input_limit → IsUnwritten old new → text ≡ bytes → IsFaultOf (trace_of command text) refused → IsErrAnd r (λ e. e ≡ failure_of_trace refused) → EndsBy words old new r
+trace_refused words old new command bytes text refused r asks took ended few unwritten same told is =
+    by_failure (EndsBy words old new) (failure_of_trace refused) r is
+    (refused_ends words old new (of_trace command) bytes refused asks took ended few unwritten (trace_fault command bytes refused (subst (λ (bs : List ℕ). IsFaultOf (trace_of command bs) refused) same told)))
+
 -- where nothing is read
 pub takes_none : (left left' : Option (List ℕ)) → left' ≡ left → Takes left left' (λ n. n ≤ input_limit)
 takes_none left left' same = subst (λ (l : Option (List ℕ)). Takes left l (λ n. n ≤ input_limit)) (sym same) ([], Consumes-nil left, omega arith)
@@ -52,54 +77,22 @@ noted (Err e) told failed quiet = absurd (quiet failed)
 
 -- ---- what the words ask for
 
-same_asked : (words : List (List ℕ)) (one other : Asked) → asked_of words ≡ Some one → asked_of words ≡ Some other → one ≡ other
+pub same_asked : (words : List (List ℕ)) (one other : Asked) → asked_of words ≡ Some one → asked_of words ≡ Some other → one ≡ other
 same_asked words one other is so = ap (λ (o : Option Asked). unwrap_or o one) (sym is ∙ so)
 
 pub refused_or_asked : (words : List (List ℕ)) (asked : Asked) → asked_of words ≡ None → asked_of words ≡ Some asked → ⊥
 refused_or_asked words asked refused accepted = false≢true (ap (λ (o : Option Asked). is_some o) (sym refused ∙ accepted))
 
-abbrev input_in : Input → Asked → Input
-input_in other (writes asked) = asked.input
-input_in other (audits net b) = other
+-- what asks for rows asks for these alone
+same_rows : (words : List (List ℕ)) (asked : Asked) (rows : Rows) → asked_of words ≡ Some asked → AsksToRead words rows → rows_of asked ≡ Some rows
+same_rows words asked rows accepted (other, is, reads) = ap rows_of (same_asked words asked other accepted is) ∙ reads
 
-same_input : (words : List (List ℕ)) (one other : AskedOfTrace) → asked_of words ≡ Some (writes one) → asked_of words ≡ Some (writes other) → one.input ≡ other.input
-same_input words one other is so = ap (input_in one.input) (same_asked words (writes one) (writes other) is so)
+-- and what asks for none reads none
+pub reads_none : (words : List (List ℕ)) (asked : Asked) (rows : Rows) → asked_of words ≡ Some asked → rows_of asked ≡ None → AsksToRead words rows → ⊥
+reads_none words asked rows accepted none reads = false≢true (ap (λ (o : Option Rows). is_some o) (sym none ∙ same_rows words asked rows accepted reads))
 
-abbrev is_audit : Asked → Bool
-is_audit (writes asked) = false
-is_audit (audits net b) = true
-
--- words ask for the text of a trace or for an audit
-pub writes_or_audits : (words : List (List ℕ)) (asked : AskedOfTrace) (net : Network) (b : ℕ) → asked_of words ≡ Some (writes asked) → asked_of words ≡ Some (audits net b) → ⊥
-writes_or_audits words asked net b is so = false≢true (ap is_audit (same_asked words (writes asked) (audits net b) is so))
-
-abbrev audit_in : Network → ℕ → Asked → Network × ℕ
-audit_in net b (writes asked) = (net, b)
-audit_in net b (audits other c) = (other, c)
-
-pub same_audit : (words : List (List ℕ)) (net other : Network) (b c : ℕ) → asked_of words ≡ Some (audits net b) → asked_of words ≡ Some (audits other c) → (net ≡ other) × (b ≡ c)
-same_audit words net other b c is so =
-    let same = ap (audit_in net b) (same_asked words (audits net b) (audits other c) is so) in
-    (ap (λ (p : Network × ℕ). p.0) same, ap (λ (p : Network × ℕ). p.1) same)
-
-abbrev command_in : Command → Input → Command
-command_in other (Read command) = command
-command_in other (Made number) = other
-
-abbrev is_made : Input → Bool
-is_made (Read command) = false
-is_made (Made number) = true
-
-same_command : (words : List (List ℕ)) (asked : AskedOfTrace) (one other : Command) → asked_of words ≡ Some (writes asked) → asked.input ≡ Read one → AsksToRead words other → one ≡ other
-same_command words asked one other accepted input (same, is, reads) =
-    ap (command_in one) (sym input ∙ (same_input words asked same accepted is ∙ reads))
-
-made_or_read : (words : List (List ℕ)) (asked : AskedOfTrace) (number : ℕ) (command : Command) → asked_of words ≡ Some (writes asked) → asked.input ≡ Made number → AsksToRead words command → ⊥
-made_or_read words asked number command accepted input (same, is, reads) =
-    false≢true (ap is_made (sym reads ∙ (sym (same_input words asked same accepted is) ∙ input)))
-
-pub reads_or_audits : (words : List (List ℕ)) (command : Command) (net : Network) (b : ℕ) → AsksToRead words command → asked_of words ≡ Some (audits net b) → ⊥
-reads_or_audits words command net b (asked, is, reads) so = writes_or_audits words asked net b is so
+the_rows : (words : List (List ℕ)) (asked : Asked) (one other : Rows) → asked_of words ≡ Some asked → rows_of asked ≡ Some one → AsksToRead words other → one ≡ other
+the_rows words asked one other accepted is reads = ap (λ (o : Option Rows). unwrap_or o one) (sym is ∙ same_rows words asked other accepted reads)
 
 -- ---- what was read
 
@@ -108,32 +101,44 @@ whole None bytes taken took ended = absurd took
 whole (Some rest) bytes taken took ended = took ∙ (ap (λ (r : List ℕ). taken ++ r) ended ∙ append-nil taken)
 
 -- bytes that were read to their end
-record WasRead (command : Command) (bytes : List ℕ) (trace : Result TraceContent FaultyRow) : Type 0 where
+record WasRead (rows : Rows) (bytes : List ℕ) (faulty : Option FaultyRow) : Type 0 where
   pub few : length bytes ≤ input_limit
-  pub read : trace_of command bytes ≡ trace
+  pub read : first_faulty rows bytes ≡ faulty
 
-was_read : (command : Command) (old new : Outside) (bytes : List ℕ) (trace : Result TraceContent FaultyRow) → old.left ≡ Some bytes → IsRead command old new trace → WasRead command bytes trace
-was_read command old new bytes trace told (taken, took, ended, few, is) =
+was_read : (one rows : Rows) (old new : Outside) (bytes : List ℕ) (faulty : Option FaultyRow) → one ≡ rows → old.left ≡ Some bytes → IsReadAs (λ taken. first_faulty one taken ≡ faulty) old new → WasRead rows bytes faulty
+was_read one rows old new bytes faulty same told (taken, took, ended, few, is) =
     let all : bytes ≡ taken = whole new.left bytes taken (subst (λ (l : Option (List ℕ)). Consumes l new.left taken) told took) ended in
-    record { few = omega (arith, ap (λ (bs : List ℕ). length bs) all, few); read = ap (trace_of command) all ∙ is }
+    record {
+      few = omega (arith, ap (λ (bs : List ℕ). length bs) all, few);
+      read = ap (λ (r : Rows). first_faulty r bytes) (sym same) ∙ (ap (first_faulty one) all ∙ is);
+    }
 
-performed : (grew : Growth) (words : List (List ℕ)) (old new : Outside) (command : Command) (bytes : List ℕ) → Performs grew words old new → Gives words old command bytes → (trace : TraceContent) × WasRead command bytes (Ok trace)
-performed grew words old new command bytes (inl plans) gives =
-    let same = same_command words plans.asked _ command plans.accepted plans.command gives.accepted in
-    (plans.trace, was_read command old new bytes (Ok plans.trace) gives.told (subst (λ (c : Command). IsRead c old new (Ok plans.trace)) same plans.read))
-performed grew words old new command bytes (inr (inl replays)) gives =
-    let same = same_command words replays.asked _ command replays.accepted replays.command gives.accepted in
-    (replays.trace, was_read command old new bytes (Ok replays.trace) gives.told (subst (λ (c : Command). IsRead c old new (Ok replays.trace)) same replays.read))
-performed grew words old new command bytes (inr (inr (inl makes))) gives = absurd (made_or_read words makes.asked makes.number command makes.accepted makes.command gives.accepted)
-performed grew words old new command bytes (inr (inr (inr audit))) gives = absurd (reads_or_audits words command audit.net audit.b gives.accepted audit.accepted)
+performed : (grew : Growth) (words : List (List ℕ)) (old new : Outside) (rows : Rows) (bytes : List ℕ) → Performs grew words old new → Gives words old rows bytes → WasRead rows bytes None
+performed grew words old new rows bytes (inl plans) gives =
+    let (taken, took, ended, few, is) = plans.read in
+    was_read (of_trace Plan) rows old new bytes None (the_rows words (writes plans.asked) (of_trace Plan) rows plans.accepted (ap rows_of_input plans.command) gives.accepted) gives.told (taken, took, ended, few, ap fault_in is)
+performed grew words old new rows bytes (inr (inl plans)) gives =
+    let (taken, took, ended, few, is) = plans.read in
+    was_read (of_trace Plan) rows old new bytes None (the_rows words (plans_by_need plans.sizes) (of_trace Plan) rows plans.accepted refl gives.accepted) gives.told (taken, took, ended, few, ap fault_in is)
+performed grew words old new rows bytes (inr (inr (inl replays))) gives =
+    let (taken, took, ended, few, is) = replays.read in
+    was_read (of_trace Replay) rows old new bytes None (the_rows words (writes replays.asked) (of_trace Replay) rows replays.accepted (ap rows_of_input replays.command) gives.accepted) gives.told
+    (taken, took, ended, few, ap fault_in is)
+performed grew words old new rows bytes (inr (inr (inr (inl makes)))) gives = absurd (reads_none words (writes makes.asked) rows makes.accepted (ap rows_of_input makes.command) gives.accepted)
+performed grew words old new rows bytes (inr (inr (inr (inr (inl audit))))) gives = absurd (reads_none words (audits audit.net audit.b) rows audit.accepted refl gives.accepted)
+performed grew words old new rows bytes (inr (inr (inr (inr (inr (inl receives)))))) gives =
+    let (taken, took, ended, few, is) = receives.read in
+    was_read (of_trace Receive) rows old new bytes None (the_rows words (writes receives.asked) (of_trace Receive) rows receives.accepted (ap rows_of_input receives.command) gives.accepted) gives.told
+    (taken, took, ended, few, ap fault_in is)
+performed grew words old new rows bytes (inr (inr (inr (inr (inr (inr takeover)))))) gives =
+    let (taken, took, ended, few, is) = takeover.read in
+    was_read of_script rows old new bytes None (the_rows words takes_over of_script rows takeover.accepted refl gives.accepted) gives.told (taken, took, ended, few, ap fault_in is)
 
-faulty : (words : List (List ℕ)) (old new : Outside) (row : ℕ) (fault : Fault) (command : Command) (bytes : List ℕ) → HasFaultyRow words old new row fault → Gives words old command bytes
-    → WasRead command bytes (Err (record { row = row; fault = fault }))
-faulty words old new row fault command bytes has gives =
+faulty : (words : List (List ℕ)) (old new : Outside) (row : ℕ) (fault : Fault) (rows : Rows) (bytes : List ℕ) → HasFaultyRow words old new row fault → Gives words old rows bytes
+    → WasRead rows bytes (Some (record { row = row; fault = fault }))
+faulty words old new row fault rows bytes has gives =
     let (asked, accepted, reads) = has.accepted in
-    let same = same_command words asked has.command command accepted reads gives.accepted in
-    let at : FaultyRow = record { row = row; fault = fault } in
-    was_read command old new bytes (Err at) gives.told (subst (λ (c : Command). IsRead c old new (Err at)) same has.read)
+    was_read has.rows rows old new bytes (Some (record { row = row; fault = fault })) (the_rows words asked has.rows rows accepted reads gives.accepted) gives.told has.read
 
 pub too_many : (old new : Outside) (bytes : List ℕ) → old.left ≡ Some bytes → Takes old.left new.left (λ n. n ≡ input_limit + 1) → input_limit < length bytes
 too_many old new bytes told (taken, took, many) = omega (arith, fits new.left (subst (λ (l : Option (List ℕ)). Consumes l new.left taken) told took), many)
@@ -142,54 +147,44 @@ too_many old new bytes told (taken, took, many) = omega (arith, fits new.left (s
     fits None took = absurd took
     fits (Some rest) took = omega (arith, ap (λ (bs : List ℕ). length bs) took, length-append taken rest)
 
-abbrev is_ok : Result TraceContent FaultyRow → Bool
-is_ok (Ok trace) = true
-is_ok (Err at) = false
-
-ok_or_err : (r : Result TraceContent FaultyRow) (trace : TraceContent) (at : FaultyRow) → r ≡ Ok trace → r ≡ Err at → ⊥
-ok_or_err r trace at ok err = false≢true (ap is_ok (sym err ∙ ok))
+none_or_some : (r : Option FaultyRow) (at : FaultyRow) → r ≡ None → r ≡ Some at → ⊥
+none_or_some r at none some = false≢true (ap (λ (o : Option FaultyRow). is_some o) (sym none ∙ some))
 
 -- ---- which ends there may be
 
 pub completes : (words : List (List ℕ)) (old new : Outside) (ending : Ending) → EndsBy words old new ending → Completes words old (status_of ending)
-completes words old new (Ok done) ends command bytes trace gives few is = inl refl
-completes words old new (Err failure.Words) ends command bytes trace gives few is = absurd (refused_or_asked words (writes gives.accepted.0) ends.0 gives.accepted.1)
-completes words old new (Err (failure.Row row fault)) ends command bytes trace gives few is =
-    absurd (ok_or_err (trace_of command bytes) trace (record { row = row; fault = fault }) is (faulty words old new row fault command bytes ends.0 gives).read)
-completes words old new (Err failure.Read) ends command bytes trace gives few is = inr (inl refl)
-completes words old new (Err failure.Write) ends command bytes trace gives few is = inr (inr (inl refl))
-completes words old new (Err failure.Memory) ends command bytes trace gives few is = inr (inr (inr (inl refl)))
-completes words old new (Err failure.Big) ends command bytes trace gives few is = let many = too_many old new bytes gives.told ends.1 in absurd (omega (arith, many, few))
-completes words old new (Err (failure.Bad line)) ends command bytes trace gives few is = absurd (reads_or_audits words command ends.0.net ends.0.b gives.accepted ends.0.accepted)
+completes words old new (Ok done) ends rows bytes gives few is = inl refl
+completes words old new (Err failure.Words) ends rows bytes gives few is = absurd (refused_or_asked words gives.accepted.0 ends.0 gives.accepted.1)
+completes words old new (Err (failure.Row row fault)) ends rows bytes gives few is =
+    absurd (none_or_some (first_faulty rows bytes) (record { row = row; fault = fault }) is (faulty words old new row fault rows bytes ends.0 gives).read)
+completes words old new (Err failure.Read) ends rows bytes gives few is = inr (inl refl)
+completes words old new (Err failure.Write) ends rows bytes gives few is = inr (inr (inl refl))
+completes words old new (Err failure.Memory) ends rows bytes gives few is = inr (inr (inr (inl refl)))
+completes words old new (Err failure.Big) ends rows bytes gives few is = let many = too_many old new bytes gives.told ends.1 in absurd (omega (arith, many, few))
+completes words old new (Err (failure.Bad line)) ends rows bytes gives few is = absurd (reads_none words (audits ends.0.net ends.0.b) rows ends.0.accepted refl gives.accepted)
 
 pub tells_faults : (words : List (List ℕ)) (old new : Outside) (ending : Ending) → EndsBy words old new ending → TellsFaults words old (status_of ending)
-tells_faults words old new (Ok done) ends command bytes at gives few is =
-    let (trace, read) = performed Appends words old new command bytes ends gives in
-    absurd (ok_or_err (trace_of command bytes) trace at read.read is)
-tells_faults words old new (Err failure.Words) ends command bytes at gives few is = absurd (refused_or_asked words (writes gives.accepted.0) ends.0 gives.accepted.1)
-tells_faults words old new (Err (failure.Row row fault)) ends command bytes at gives few is = inl refl
-tells_faults words old new (Err failure.Read) ends command bytes at gives few is = inr (inl refl)
-tells_faults words old new (Err failure.Write) ends command bytes at gives few is =
-    let (trace, read) = performed AppendsFront words old new command bytes ends.1 gives in
-    absurd (ok_or_err (trace_of command bytes) trace at read.read is)
-tells_faults words old new (Err failure.Memory) ends command bytes at gives few is = inr (inr (inl refl))
-tells_faults words old new (Err failure.Big) ends command bytes at gives few is = let many = too_many old new bytes gives.told ends.1 in absurd (omega (arith, many, few))
-tells_faults words old new (Err (failure.Bad line)) ends command bytes at gives few is = absurd (reads_or_audits words command ends.0.net ends.0.b gives.accepted ends.0.accepted)
+tells_faults words old new (Ok done) ends rows bytes at gives few is = absurd (none_or_some (first_faulty rows bytes) at (performed Appends words old new rows bytes ends gives).read is)
+tells_faults words old new (Err failure.Words) ends rows bytes at gives few is = absurd (refused_or_asked words gives.accepted.0 ends.0 gives.accepted.1)
+tells_faults words old new (Err (failure.Row row fault)) ends rows bytes at gives few is = inl refl
+tells_faults words old new (Err failure.Read) ends rows bytes at gives few is = inr (inl refl)
+tells_faults words old new (Err failure.Write) ends rows bytes at gives few is = absurd (none_or_some (first_faulty rows bytes) at (performed AppendsFront words old new rows bytes ends.1 gives).read is)
+tells_faults words old new (Err failure.Memory) ends rows bytes at gives few is = inr (inr (inl refl))
+tells_faults words old new (Err failure.Big) ends rows bytes at gives few is = let many = too_many old new bytes gives.told ends.1 in absurd (omega (arith, many, few))
+tells_faults words old new (Err (failure.Bad line)) ends rows bytes at gives few is = absurd (reads_none words (audits ends.0.net ends.0.b) rows ends.0.accepted refl gives.accepted)
 
 pub tells_excess : (words : List (List ℕ)) (old new : Outside) (ending : Ending) → EndsBy words old new ending → TellsExcess words old (status_of ending)
-tells_excess words old new (Ok done) ends command bytes gives many =
-    let (trace, read) = performed Appends words old new command bytes ends gives in
-    let few = read.few in
+tells_excess words old new (Ok done) ends rows bytes gives many =
+    let few = (performed Appends words old new rows bytes ends gives).few in
     absurd (omega (arith, many, few))
-tells_excess words old new (Err failure.Words) ends command bytes gives many = absurd (refused_or_asked words (writes gives.accepted.0) ends.0 gives.accepted.1)
-tells_excess words old new (Err (failure.Row row fault)) ends command bytes gives many =
-    let few = (faulty words old new row fault command bytes ends.0 gives).few in
+tells_excess words old new (Err failure.Words) ends rows bytes gives many = absurd (refused_or_asked words gives.accepted.0 ends.0 gives.accepted.1)
+tells_excess words old new (Err (failure.Row row fault)) ends rows bytes gives many =
+    let few = (faulty words old new row fault rows bytes ends.0 gives).few in
     absurd (omega (arith, many, few))
-tells_excess words old new (Err failure.Read) ends command bytes gives many = inr (inl refl)
-tells_excess words old new (Err failure.Write) ends command bytes gives many =
-    let (trace, read) = performed AppendsFront words old new command bytes ends.1 gives in
-    let few = read.few in
+tells_excess words old new (Err failure.Read) ends rows bytes gives many = inr (inl refl)
+tells_excess words old new (Err failure.Write) ends rows bytes gives many =
+    let few = (performed AppendsFront words old new rows bytes ends.1 gives).few in
     absurd (omega (arith, many, few))
-tells_excess words old new (Err failure.Memory) ends command bytes gives many = inr (inr (inl refl))
-tells_excess words old new (Err failure.Big) ends command bytes gives many = inl refl
-tells_excess words old new (Err (failure.Bad line)) ends command bytes gives many = absurd (reads_or_audits words command ends.0.net ends.0.b gives.accepted ends.0.accepted)
+tells_excess words old new (Err failure.Memory) ends rows bytes gives many = inr (inr (inl refl))
+tells_excess words old new (Err failure.Big) ends rows bytes gives many = inl refl
+tells_excess words old new (Err (failure.Bad line)) ends rows bytes gives many = absurd (reads_none words (audits ends.0.net ends.0.b) rows ends.0.accepted refl gives.accepted)

@@ -7,6 +7,7 @@ use Rattle.schedule_audit.specs.Reading.{AreLines}
 use Rattle.schedule_audit.specs.BadLines.{first_bad_line}
 use Rattle.schedule_audit.specs.Audited.{ShowsACleanSchedule}
 use Rattle.fastpass_run.specs.Outside.{Outside, Growth}
+use Rattle.fastpass_run.specs.Rows.{IsReadAs}
 use Rattle.fastpass_run.specs.Statuses.{IsAmong}
 use Rattle.fastpass_run.specs.Transfer.{input_limit}
 use Rattle.fastpass_run.specs.Words.{asked_of}
@@ -16,17 +17,13 @@ use Rattle.fastpass_run.specs.Words.Asked.{audits}
 abbrev pub count_text : ℕ → List ℕ
 count_text lines = (codes "ok," ++ decimal lines) ++ 10 ∷ []
 
--- the source was read to its end, and its bytes, at most the limit, are these lines
-abbrev pub AreReadLines : Outside → Outside → List (Option Line) → Type 0
-AreReadLines old new lines = (bytes : List ℕ) × Consumes old.left new.left bytes × IsAtEnd new.left × (length bytes ≤ input_limit) × AreLines bytes lines
-
 -- The output grew by the number of the lines, none of which is bad.
 pub record Audits (grew : Growth) (words : List (List ℕ)) (old new : Outside) : Type 0 where
   pub net : Network
   pub b : ℕ
   pub accepted : asked_of words ≡ Some (audits net b)
   pub lines : List (Option Line)
-  pub read : AreReadLines old new lines
+  pub read : IsReadAs (λ bytes. AreLines bytes lines) old new
   pub good : first_bad_line net b lines ≡ None
   pub written : grew old.sink.held new.sink.held (count_text (length lines))
   -- the `slot` lines are the schedule of the `batch` lines: each slot is a matching that no waiting demand could join, on paths that
@@ -39,7 +36,7 @@ pub record HasBadLine (words : List (List ℕ)) (old new : Outside) (line : ℕ)
   pub b : ℕ
   pub accepted : asked_of words ≡ Some (audits net b)
   pub lines : List (Option Line)
-  pub read : AreReadLines old new lines
+  pub read : IsReadAs (λ bytes. AreLines bytes lines) old new
   pub bad : first_bad_line net b lines ≡ Some line
 
 -- the words ask for an audit of these bytes, and nothing else is in the source

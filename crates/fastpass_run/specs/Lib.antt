@@ -2,6 +2,10 @@ pub mod Outside
 pub mod Transfer
 pub mod Words
 pub mod Statuses
+pub mod Rows
 pub mod Audits
+pub mod ByNeed
+pub mod Receives
+pub mod Takeovers
 pub mod Run
 pub mod Failures

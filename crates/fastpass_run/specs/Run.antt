@@ -21,6 +21,10 @@ use Rattle.run_text.specs.Ledger.{IsBalanced, LedgerIsKept}
 use Rattle.run_text.specs.Sends.{SendsAreScheduled}
 use Rattle.run_text.specs.Made.{trace_of_number, made_run, made_sums, made_text, Balances}
 use Rattle.fastpass_run.specs.Audits.{Audits, HasBadLine, AuditEnds}
+use Rattle.fastpass_run.specs.ByNeed.{PlansByNeed}
+use Rattle.fastpass_run.specs.Receives.{Receives}
+use Rattle.fastpass_run.specs.Takeovers.{TakesOver}
+use Rattle.fastpass_run.specs.Rows.{Rows, IsReadAs, AsksToRead, first_faulty}
 use Rattle.fastpass_run.specs.Outside.{Outside, Growth, IsUnread, IsUnwritten}
 use Rattle.fastpass_run.specs.Statuses.{IsAmong}
 use Rattle.fastpass_run.specs.Transfer.{Takes, input_limit}
@@ -30,12 +34,6 @@ use Rattle.fastpass_run.specs.declared.words.Input.TheVariants.{Read, Made}
 use Rattle.fastpass_run.specs.declared.outcome.Failure.{Failure}
 use Rattle.fastpass_run.specs.declared.outcome.Failure.TheVariants as failure
 
--- ---- what is read
-
--- the source was read to its end, and its bytes, at most the limit, are so read as a trace for the command
-abbrev pub IsRead : Command → Outside → Outside → Result TraceContent FaultyRow → Type 0
-IsRead command old new trace = (bytes : List ℕ) × Consumes old.left new.left bytes × IsAtEnd new.left × (length bytes ≤ input_limit) × (trace_of command bytes ≡ trace)
-
 -- ---- what is written
 
 -- The output grew by the plan of a trace, with cores that make each slot of the schedule clean.
@@ -44,7 +42,7 @@ pub record Plans (grew : Growth) (words : List (List ℕ)) (old new : Outside) :
   pub accepted : asked_of words ≡ Some (writes asked)
   pub command : asked.input ≡ Read Plan
   pub trace : TraceContent
-  pub read : IsRead Plan old new (Ok trace)
+  pub read : IsReadAs (λ bytes. trace_of Plan bytes ≡ Ok trace) old new
   pub cores : Cores
   pub written : grew old.sink.held new.sink.held (plan_text cores asked.b trace)
   -- each slot is a matching that no waiting demand could join, on paths that share no link
@@ -59,7 +57,7 @@ pub record Replays (grew : Growth) (words : List (List ℕ)) (old new : Outside)
   pub accepted : asked_of words ≡ Some (writes asked)
   pub command : asked.input ≡ Read Replay
   pub trace : TraceContent
-  pub read : IsRead Replay old new (Ok trace)
+  pub read : IsReadAs (λ bytes. trace_of Replay bytes ≡ Ok trace) old new
   pub cores : Cores
   pub written : grew old.sink.held new.sink.held (replay_text cores asked.b asked.g trace)
   -- each slot is a matching that no waiting demand could join, on paths that share no link
@@ -85,7 +83,9 @@ pub record Makes (grew : Growth) (words : List (List ℕ)) (old new : Outside) :
 
 -- the output grew so by the text that the words ask for
 abbrev pub Performs : Growth → List (List ℕ) → Outside → Outside → Type 0
-Performs grew words old new = Plans grew words old new ⊎ (Replays grew words old new ⊎ (Makes grew words old new ⊎ Audits grew words old new))
+Performs grew words old new =
+    Plans grew words old new ⊎ (PlansByNeed grew words old new ⊎ (Replays grew words old new ⊎ (Makes grew words old new
+    ⊎ (Audits grew words old new ⊎ (Receives grew words old new ⊎ TakesOver grew words old new)))))
 
 -- nothing was written, or a front of the text that the words ask for
 abbrev pub PerformsAtMost : List (List ℕ) → Outside → Outside → Type 0
@@ -97,19 +97,15 @@ PerformsAtMost words old new = IsUnwritten old new ⊎ Performs AppendsFront wor
 abbrev pub HasWords : List (List ℕ) → Type 0
 HasWords words = (asked : Asked) × (asked_of words ≡ Some asked)
 
--- the rows of a trace, read for this command
-abbrev pub AsksToRead : List (List ℕ) → Command → Type 0
-AsksToRead words command = (asked : AskedOfTrace) × (asked_of words ≡ Some (writes asked)) × (asked.input ≡ Read command)
-
--- or the trace that this number makes
+-- the replay of the trace that this number makes
 abbrev pub AsksToMake : List (List ℕ) → ℕ → Type 0
 AsksToMake words number = (asked : AskedOfTrace) × (asked_of words ≡ Some (writes asked)) × (asked.input ≡ Made number)
 
--- a row of the trace is faulty for what the words ask for, and the first such row is this one
+-- a row of the text is faulty for what the words ask for, and the first such row is this one
 pub record HasFaultyRow (words : List (List ℕ)) (old new : Outside) (row : ℕ) (fault : Fault) : Type 0 where
-  pub command : Command
-  pub accepted : AsksToRead words command
-  pub read : IsRead command old new (Err (record { row = row; fault = fault }))
+  pub rows : Rows
+  pub accepted : AsksToRead words rows
+  pub read : IsReadAs (λ bytes. first_faulty rows bytes ≡ Some (record { row = row; fault = fault })) old new
 
 -- ---- how a run ends
 
@@ -150,27 +146,26 @@ EndsBy words old new (Err (failure.Bad line)) = HasBadLine words old new line ×
 
 -- ---- when a run may end so
 
--- the words ask for these bytes to be read for this command, and nothing else is in the source
-pub record Gives (words : List (List ℕ)) (old : Outside) (command : Command) (bytes : List ℕ) : Type 0 where
-  pub accepted : AsksToRead words command
+-- the words ask for these bytes to be read as such rows, and nothing else is in the source
+pub record Gives (words : List (List ℕ)) (old : Outside) (rows : Rows) (bytes : List ℕ) : Type 0 where
+  pub accepted : AsksToRead words rows
   pub told : old.left ≡ Some bytes
 
--- an accepted trace within the limit: it is done, or a read or a write failed, or memory is wanting
+-- an accepted text within the limit: it is done, or a read or a write failed, or memory is wanting
 abbrev pub Completes : List (List ℕ) → Outside → ℕ → Type 0
 Completes words old status =
-    (command : Command) (bytes : List ℕ) (trace : TraceContent) → Gives words old command bytes → length bytes ≤ input_limit → trace_of command bytes ≡ Ok trace
+    (rows : Rows) (bytes : List ℕ) → Gives words old rows bytes → length bytes ≤ input_limit → first_faulty rows bytes ≡ None
     → IsAmong status (0 ∷ 3 ∷ 4 ∷ 5 ∷ [])
 
--- a trace within the limit that has a faulty row: so says the status, or a read failed, or memory is wanting
+-- a text within the limit that has a faulty row: so says the status, or a read failed, or memory is wanting
 abbrev pub TellsFaults : List (List ℕ) → Outside → ℕ → Type 0
 TellsFaults words old status =
-    (command : Command) (bytes : List ℕ) (faulty : FaultyRow) → Gives words old command bytes → length bytes ≤ input_limit → trace_of command bytes ≡ Err faulty
+    (rows : Rows) (bytes : List ℕ) (faulty : FaultyRow) → Gives words old rows bytes → length bytes ≤ input_limit → first_faulty rows bytes ≡ Some faulty
     → IsAmong status (2 ∷ 3 ∷ 5 ∷ [])
 
 -- more bytes than the limit: the same
 abbrev pub TellsExcess : List (List ℕ) → Outside → ℕ → Type 0
-TellsExcess words old status =
-    (command : Command) (bytes : List ℕ) → Gives words old command bytes → input_limit < length bytes → IsAmong status (6 ∷ 3 ∷ 5 ∷ [])
+TellsExcess words old status = (rows : Rows) (bytes : List ℕ) → Gives words old rows bytes → input_limit < length bytes → IsAmong status (6 ∷ 3 ∷ 5 ∷ [])
 
 -- a number makes the trace: nothing is read, and it is done, or a write failed, or memory is wanting
 abbrev pub ReadsNothing : List (List ℕ) → Outside → Outside → ℕ → Type 0
@@ -187,9 +182,9 @@ pub record Runs (words : List (List ℕ)) (old new : Outside) (notes notes' : Si
   pub tells : EndsBy words old new ending
   -- where the notes have no fault, they got its one line
   pub noted : ¬ Rose notes.faults notes'.faults → Appends notes.held notes'.held (note_of ending)
-  -- where the source tells its bytes, an accepted trace is done, unless a fault rose or memory is wanting
+  -- where the source tells its bytes, an accepted trace or script is done, unless a fault rose or memory is wanting
   pub completes : Completes words old status
-  -- a faulty trace is told, and so are too many bytes, unless a read failed or memory is wanting
+  -- a faulty one is told, and so are too many bytes, unless a read failed or memory is wanting
   pub tells_faults : TellsFaults words old status
   pub tells_excess : TellsExcess words old status
   -- a made trace is done with nothing read, unless a write failed or memory is wanting

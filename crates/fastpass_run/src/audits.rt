@@ -1,5 +1,5 @@
 //! The audit of a text.
-ghost use Rattle.std.specs.Prelude.{◌≡◌, ℕ, List, Some, IfOk};
+ghost use Rattle.std.specs.Prelude.{◌≡◌, ◌≤◌, ℕ, List, Some, IfOk};
 ghost use Rattle.fastpass_run.specs.Audits.{count_text};
 ghost use Rattle.fastpass_run.specs.Outside.{outside};
 ghost use Rattle.fastpass_run.specs.Run.{EndsBy};
@@ -34,6 +34,7 @@ pub(crate) fn audit_text<S: Source, O: Sink>(
     src: &mut S,
     out: &mut O,
 ) -> Result<(), Failure>
+    requires { b ≤ 64 }
     ensures { (words : List (List ℕ)) → asked_of words ≡ Some (audits net b) → EndsBy words
         (outside S.Source O.Sink src.old out.old) (outside S.Source O.Sink src.new out.new) result }
 {

@@ -1,14 +1,20 @@
-//! The whole program: words, a trace that is read or made, plan or replay, and text, or a text that is audited, over any source,
-//! sinks and gate.
+//! The whole program, over any source, sinks and gate: words; a trace that is read or made, planned or replayed; a text that is
+//! audited; packets that a desk receives; a script that two arbiters take over by.
 //!
-//! The schedule theorem. For every accepted trace and any number of path workers, what `replay` writes shows a schedule that is
-//! the one-thread greedy allocation of the demand batches that the run of the trace records: every slot a matching that no waiting
-//! demand could join, on paths that share no directed link; endpoints send only in scheduled slots, each at most once; and each
-//! flow's recorded demand is its slots acknowledged, in flight and pending, lost slots pending again. `plan` shows the same of the
-//! asks of each round, where each flow's demand is its slots allocated and pending; `make` writes the sums of the counts of such a
-//! replay; and `audit` tells of any text, whatever trace it was made from, its first bad line, or that it shows such a schedule.
-//! Where a write fails or memory is wanting, a front of such a text is written. It is the contract of `run` (`Runs`, in
-//! specs/Run.antt).
+//! The schedule theorem. For every accepted trace and any number of workers, what `replay` writes shows a schedule that is the
+//! one-thread greedy allocation of the demand batches that the run of the trace records: every slot a matching that no waiting
+//! demand could join, on paths that share no directed link; endpoints send only in scheduled slots, each at most once; each flow's
+//! recorded demand is its slots acknowledged, in flight and pending, lost slots pending again; and over every loss, delay, repeat and
+//! boot no slot found lost was or will be sent in. `plan` shows the same of the asks of each round, by the flow served least recently
+//! or by need; `make` writes the sums of the counts of such a replay; `audit` tells of any text, whatever trace it was made from, its
+//! first bad line, or that it shows such a schedule; what `receive` writes is a function of its rows alone; and `takeover` keeps its
+//! promises after every event. Where a write fails or memory is wanting, a front of such a text is written. It is the contract of
+//! `run` (`Runs`, in specs/Run.antt).
+//!
+//! `fastpass_run` is the whole program over any source, sinks and gate. `lib.rt` has `run` and its contract, `words.rt` the
+//! words, `audits.rt` the audit of a text, `by_need.rt` the plan by need, `takeovers.rt` a takeover, `transfer.rt` reads to the
+//! end, `outcome.rt` has the statuses and the notes. What `run` says is one record of the words, of what source, sink and notes
+//! tell before and after, and of the status (`Runs` in `specs/Run.antt`).
 #![tactic(auto)]
 
 ghost use Rattle.std.specs.Prelude.{◌≡◌, ℕ, List, [], ◌∷◌, Some};
@@ -22,14 +28,19 @@ ghost use Rattle.fastpass_run.specs.Run.{Runs, EndsBy, ReadsNothing, status_of};
 ghost use Rattle.fastpass_run.specs.declared.words.Input.TheVariants.{Made};
 
 mod audits;
+mod by_need;
 mod outcome;
+mod takeovers;
 mod transfer;
 mod words;
 
 use crate::audits::audit_text;
+use crate::by_need::plan_by_need;
 use crate::outcome::Failure;
+use crate::takeovers::take_over;
 use crate::words::{Input, Task};
 use fp_edge::{Gate, Sink, Source};
+use receive_text::write_receive;
 use run_text::{Sizes, write_made, write_plan, write_replay};
 use schedule_audit::each_text_has_one_reading;
 use std::alloc::Global;
@@ -37,8 +48,8 @@ use std::sync::Wait;
 use std::thread::Threads;
 use trace_text::{Command, read_trace};
 
-/// Does what the words ask for: reads the whole trace, or makes one, and then writes the text; or reads and audits a text. The
-/// status is 0, or 1 where the words are refused, 2 where a row is faulty, 3 and 4 where a read or a write failed, 5 for want of
+/// Does what the words ask for: reads the whole trace or script, or makes a trace, and then writes the text; or reads and audits a
+/// text. The status is 0, or 1 where the words are refused, 2 where a row is faulty, 3 and 4 where a read or a write failed, 5 for want of
 /// memory, 6 where the input has more than 67,108,864 bytes, and 7 where a line of an audited text is bad; all but 0 write a line
 /// to `notes`, whose own faults are passed over. `make` reads nothing.
 pub fn run<R: Threads + Wait + Sync, S: Source, O: Sink, N: Sink, G: Gate + Sync>(
@@ -77,7 +88,9 @@ fn perform<R: Threads + Wait + Sync, S: Source, O: Sink, G: Gate + Sync>(
     };
     match task {
         Task::Write { input, sizes } => write_text(rt, gate, alloc, input, sizes, src, out),
+        Task::PlanByNeed { sizes } => plan_by_need(rt, gate, alloc, sizes, src, out),
         Task::Audit { net, b } => audit_text(alloc, net, b, src, out),
+        Task::TakeOver => take_over(alloc, src, out),
     }
 }
 
@@ -107,5 +120,6 @@ fn write_text<R: Threads + Wait + Sync, S: Source, O: Sink, G: Gate + Sync>(
     match command {
         Command::Plan => Ok(write_plan(rt, gate, alloc, &trace, sizes, out)?),
         Command::Replay => Ok(write_replay(rt, gate, alloc, &trace, sizes, out)?),
+        Command::Receive => Ok(write_receive(rt, alloc, &trace, out)?),
     }
 }

@@ -1,5 +1,6 @@
 ghost use Rattle.std.specs.Prelude.{◌≡◌, ◌<◌, ◌≤◌, ◌^◌, Some, IfSome, option_map};
-ghost use Rattle.fastpass_run.specs.Words.{texts, asked_of, asked_in, asked_with, asked_to_audit, command_of, options_of, no_options, with_option, names_a_net, names_a_run, net_of, plain_up_to, any_number, AreWithin, HasSizes};
+ghost use Rattle.run_text.specs.Sizes.{AreSizes};
+ghost use Rattle.fastpass_run.specs.Words.{texts, asked_of, asked_in, asked_with, asked_to_plan, asked_to_make, asked_to_audit, asked_to_receive, asked_alone, options_of, no_options, with_option, names_a_net, names_a_run, net_of, sizes_of, policy_of, plain_up_to, any_number, AreWithin, HasSizes};
 
 use clos_topology::Net;
 use run_text::Sizes;
@@ -39,12 +40,21 @@ pub(crate) enum Input {
     Made(u32),
 }
 
-/// What the words ask for: the text of a trace, in a run of these sizes; or the audit of a text, of a network and batches of `b`
-/// slots.
+/// Which flow goes first in a plan: the one that was served least recently, or the one that needs the fewest slots.
+#[derive(Clone, Copy, Debug)]
+pub(crate) enum Policy {
+    Last,
+    Fewest,
+}
+
+/// What the words ask for: the text of a trace, or its plan by need, in a run of these sizes; the audit of a text, of a network and
+/// batches of `b` slots; or the text of a script's takeover.
 #[derive(Clone, Copy, Debug)]
 pub(crate) enum Task {
     Write { input: Input, sizes: Sizes },
+    PlanByNeed { sizes: Sizes },
     Audit { net: Net, b: u8 },
+    TakeOver,
 }
 
 /// The options that were named so far.
@@ -54,17 +64,48 @@ struct Options {
     window: Option<u8>,
     workers: Option<u8>,
     paths: Option<u8>,
+    policy: Option<Policy>,
     racks: Option<u16>,
     hosts: Option<u16>,
     cores: Option<u16>,
 }
 
 impl Options {
+    /// None named.
+    fn none() -> Options
+        ensures { result ≡ no_options }
+    {
+        Options {
+            batch: None,
+            window: None,
+            workers: None,
+            paths: None,
+            policy: None,
+            racks: None,
+            hosts: None,
+            cores: None,
+        }
+    }
+
     /// Whether one is named that tells how a trace is run.
     fn names_a_run(self) -> bool
         ensures { result ≡ names_a_run self }
     {
         self.window.is_some() || self.workers.is_some() || self.paths.is_some()
+    }
+
+    /// The sizes of a run: those that are named, and else those that stand where nothing is said.
+    fn sizes(self) -> Sizes
+        requires { AreWithin self }
+        ensures sizes { result ≡ sizes_of self }
+        ensures within { AreSizes result }
+    {
+        Sizes {
+            b: self.batch.unwrap_or(BATCH),
+            g: self.window.unwrap_or(WINDOW),
+            workers: self.workers.unwrap_or(WORKERS),
+            paths: self.paths.unwrap_or(PATHS),
+        }
     }
 
     /// Whether one is named that tells a network.
@@ -82,9 +123,9 @@ impl Options {
     }
 }
 
-/// What the words ask for: `plan`, `replay`, or `make` and a number, and then `--batch n`, `--window n`, `--workers n` and `--paths n`;
-/// or `audit`, and then `--racks n`, `--hosts n`, `--cores n` and, if need be, `--batch n`: in any order and each at most once. None
-/// where they are refused.
+/// What the words ask for: `plan`, `replay`, or `make` and a number, and then `--batch n`, `--window n`, `--workers n` and `--paths n`,
+/// for `plan` also `--policy last` or `--policy fewest`; or `audit`, and then `--racks n`, `--hosts n`, `--cores n` and, if need be,
+/// `--batch n`: in any order and each at most once; or `receive` or `takeover` alone. None where they are refused.
 pub(crate) fn read_task(words: &[&str]) -> Option<Task>
     ensures asked { option_map asked_in result ≡ asked_of (texts words.now) }
     ensures within { IfSome result HasSizes }
@@ -92,13 +133,42 @@ pub(crate) fn read_task(words: &[&str]) -> Option<Task>
     let [word, rest @ ..] = words else {
         return None;
     };
-    if *word == "audit" {
-        return audit(rest);
+    match *word {
+        "plan" => plan(rest),
+        "replay" => with_options(Input::Read(Command::Replay), rest),
+        "make" => make(rest),
+        "audit" => audit(rest),
+        "receive" => alone(receive(), rest),
+        "takeover" => alone(Task::TakeOver, rest),
+        _ => None,
     }
-    if *word != "make" {
-        return with_options(Input::Read(command(word)?), rest);
+}
+
+/// The plan that is asked for by the pairs that follow its word.
+fn plan(pairs: &[&str]) -> Option<Task>
+    ensures asked { option_map asked_in result ≡ asked_to_plan (options_of (texts pairs.now) no_options) }
+    ensures within { IfSome result HasSizes }
+{
+    let options = read_options(pairs)?;
+    if options.names_a_net() {
+        return None;
     }
-    let [number, pairs @ ..] = rest else {
+    let sizes = options.sizes();
+    match options.policy {
+        Some(Policy::Fewest) => Some(Task::PlanByNeed { sizes }),
+        _ => Some(Task::Write {
+            input: Input::Read(Command::Plan),
+            sizes,
+        }),
+    }
+}
+
+/// What is asked of the trace that a number makes, by the number and the pairs that follow it.
+fn make(words: &[&str]) -> Option<Task>
+    ensures asked { option_map asked_in result ≡ asked_to_make (texts words.now) }
+    ensures within { IfSome result HasSizes }
+{
+    let [number, pairs @ ..] = words else {
         return None;
     };
     with_options(Input::Made(any_number(number)?), pairs)
@@ -110,17 +180,12 @@ fn with_options(input: Input, pairs: &[&str]) -> Option<Task>
     ensures within { IfSome result HasSizes }
 {
     let options = read_options(pairs)?;
-    if options.names_a_net() {
+    if options.names_a_net() || options.policy.is_some() {
         return None;
     }
     Some(Task::Write {
         input,
-        sizes: Sizes {
-            b: options.batch.unwrap_or(BATCH),
-            g: options.window.unwrap_or(WINDOW),
-            workers: options.workers.unwrap_or(WORKERS),
-            paths: options.paths.unwrap_or(PATHS),
-        },
+        sizes: options.sizes(),
     })
 }
 
@@ -130,7 +195,7 @@ fn audit(pairs: &[&str]) -> Option<Task>
     ensures within { IfSome result HasSizes }
 {
     let options = read_options(pairs)?;
-    if options.names_a_run() {
+    if options.names_a_run() || options.policy.is_some() {
         return None;
     }
     Some(Task::Audit {
@@ -139,12 +204,25 @@ fn audit(pairs: &[&str]) -> Option<Task>
     })
 }
 
-fn command(word: &str) -> Option<Command>
-    ensures { result ≡ command_of word.now }
+/// A trace of packets that a desk receives.
+fn receive() -> Task
+    ensures asked { asked_in result ≡ asked_to_receive }
+    ensures within { HasSizes result }
 {
-    match word {
-        "plan" => Some(Command::Plan),
-        "replay" => Some(Command::Replay),
+    Task::Write {
+        input: Input::Read(Command::Receive),
+        sizes: Options::none().sizes(),
+    }
+}
+
+/// What a word asks for that no other follows.
+fn alone(task: Task, rest: &[&str]) -> Option<Task>
+    requires { HasSizes task }
+    ensures asked { option_map asked_in result ≡ asked_alone (asked_in task) (texts rest.now) }
+    ensures within { IfSome result HasSizes }
+{
+    match rest {
+        [] => Some(task),
         _ => None,
     }
 }
@@ -153,15 +231,7 @@ fn read_options(pairs: &[&str]) -> Option<Options>
     ensures options { result ≡ options_of (texts pairs.now) no_options }
     ensures within { IfSome result AreWithin }
 {
-    let mut options = Options {
-        batch: None,
-        window: None,
-        workers: None,
-        paths: None,
-        racks: None,
-        hosts: None,
-        cores: None,
-    };
+    let mut options = Options::none();
     let mut rest = pairs;
     while !rest.is_empty() {
         let [name, value, more @ ..] = rest else {
@@ -207,6 +277,13 @@ fn with_option(name: &str, value: &str, options: Options) -> Option<Options>
             ..options
         });
     }
+    if name == "--policy" && options.policy.is_none() {
+        let policy = policy_named(value)?;
+        return Some(Options {
+            policy: Some(policy),
+            ..options
+        });
+    }
     if name == "--racks" && options.racks.is_none() {
         let racks = plain_number(value, MOST_OF_NET)? as u16;
         return Some(Options {
@@ -229,6 +306,17 @@ fn with_option(name: &str, value: &str, options: Options) -> Option<Options>
         });
     }
     None
+}
+
+/// The policy of this name.
+fn policy_named(word: &str) -> Option<Policy>
+    ensures { result ≡ policy_of word.now }
+{
+    match word {
+        "last" => Some(Policy::Last),
+        "fewest" => Some(Policy::Fewest),
+        _ => None,
+    }
 }
 
 /// A number from 1 to `most`, in plain decimal without a leading zero.
