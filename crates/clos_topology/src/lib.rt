@@ -1,4 +1,8 @@
 //! The two-tier Clos network: racks of endpoints, core switches between them, and the packets of a slot that cross racks.
+//!
+//! `clos_topology` has the network's three numbers, the links of a packet, and the bipartite graph of a slot. `Net` is plain
+//! data; `RackGraph` is opened once and loaded slot after slot, where a packet's racks are found by a factor (`rack_factor`,
+//! `rack_by` of `net.rt`) and not by division.
 #![tactic(auto)]
 
 mod graph;

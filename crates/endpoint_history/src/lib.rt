@@ -1,4 +1,13 @@
 //! Both ends of an endpoint's connection, its agent and the arbiter's lane, over whole histories of calls.
+//!
+//! `endpoint_history` has no code that runs: it is the model of both ends of a connection and what holds of it.
+//! `specs/Agent.antt`, `Sending.antt`, `Lane.antt`, `Counts.antt` and `Entries.antt` say what an agent and a lane are after any
+//! calls; `Rounds.antt` puts them together with the lossy world between them. Crates above cite these words in their contracts,
+//! and the laws as calls of the functions of `laws.rt`. The main argument is one invariant over the calls of both ends (`Joined`,
+//! proved in `proofs/BothEnds.antt`); it rests on the laws of `ack_window` about one direction. `contents.rt` has two types
+//! without values of their own, at which those laws are called for what a request and an allocation hold. To change what an
+//! endpoint or the arbiter does, begin with the definition here: the row of `Examples.antt` that shows it, then the laws that no
+//! longer prove, then the code of `endpoint_agent` or `arbiter_lane`.
 #![tactic(auto)]
 
 mod contents;

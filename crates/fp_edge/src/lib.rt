@@ -1,6 +1,10 @@
 //! The outside of the arbiter: where bytes come from, where they go, and the gate at which workers report.
 //!
 //! A source and a sink count their faults, so a caller can promise that it answers a fault only where one happened.
+//!
+//! `fp_edge` is the outside: `source.rt`, `sink.rt` and `gate.rt` are the traits, `memory.rt` has a source and a sink in memory
+//! that fail where they are told to, `standard.rt` adapts std's readers and writers. To change what a fault is, begin in
+//! `specs/Faults.antt`.
 #![tactic(auto)]
 
 mod gate;

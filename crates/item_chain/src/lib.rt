@@ -1,4 +1,7 @@
 //! Lists of nodes, which go from one list to another without a copy or an allocation.
+//!
+//! `item_chain` has `Chain`, a list whose nodes go from one chain to another without a copy. `parts.rt` and `nodes.rt` have the
+//! six small functions over raw pointers, proved by hand; `lib.rt` the calls.
 #![tactic(auto)]
 
 ghost use Rattle.std.specs.Prelude.{◌≡◌, ◌+◌, ◌^◌, ◌<◌, [], ◌∷◌, ◌++◌, length, take, drop, replicate, slice_index_or, OnOk, OnErr};

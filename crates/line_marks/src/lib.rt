@@ -1,4 +1,8 @@
 //! Marks for the lines of a table: which of them are to be looked at.
+//!
+//! `line_marks` has a mark for each of 256 lines, as four words, and the call that finds the next marked one. Both ends of a
+//! connection keep a line for each endpoint and mark those that have something to tell, so that a round costs what has changed
+//! and not what there is. `trace_text` marks the flows that a round asks for.
 #![tactic(auto)]
 
 ghost use Rattle.std.specs.Prelude.{◌≡◌, ◌≤◌, ◌<◌, ◌==◌, ◌&&◌, ◌||◌, ℕ, true, false, not};

@@ -1,4 +1,10 @@
 //! Output lines, written into a buffer and read back.
+//!
+//! `report_text` writes a line into a buffer of 192 bytes and reads it back, without memory. `names.rt` has the names of
+//! refusals. `buffer.rt` has `LineBuffer`, 64 KiB of lines taken once: the frequent lines are spelled where they will lie, the
+//! others by `write_line`. `numeral.rt` is a number spelled once for the lines that share it, `short_fields.rt` the table of the
+//! numbers below 1,000, whose `put` is inlined: a load of eight bytes and a store of four; a longer number is spelled by a
+//! function that is not.
 #![tactic(auto)]
 
 mod buffer;

@@ -1,4 +1,7 @@
 //! The lines of what a run gives.
+//!
+//! `run_lines` gives the lines of each part of a run to an output: `lines.rt` those of batches and slots, `flows.rt` those of a
+//! plan's flows, `rounds.rt` and `counts.rt` what a replay has besides.
 #![tactic(auto)]
 
 mod counts;

@@ -1,4 +1,14 @@
 //! The rounds of a trace, window after window: what they record is collected into batches, and these get their slots and cores.
+//!
+//! `window_engine` plays a trace for `plan`, a window of rounds at each step, by two halves that share nothing: `plan_rounds`
+//! makes the batch of each round, with the limits of the trace's net, and tallies what was asked for; `window_allocation` gives
+//! batches their slots and cores. `engine.rt` holds both, `step.rt` is what a step gives: two ranges of rounds, the batches of
+//! the one, the tables of the other. What an engine stands for is the record `Stands` (`specs/Standing.antt`), made of one record
+//! a half: `HasCollected` speaks of the trace, `HasAllocated` of the batches that were allocated. `laws.rt` has the laws that the
+//! program cites. `replay.rt` is the engine of `replay`: in each step `window_allocation` gives the batches of the window before
+//! their slots in a thread of its own, beside it `replay_rounds` plays a window, and then the slots are published. Both engines
+//! share that half and nothing else. `replay_laws.rt` has the laws on replays: how many steps there are, and that cores can be
+//! found for slots that were not reached.
 #![tactic(auto)]
 
 mod counts;
