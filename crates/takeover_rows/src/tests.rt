@@ -10,6 +10,7 @@ use std::test::Fail;
 use takeover_core::{Event, NoMemory, Outcome, Pair, Refusal};
 use takeover_history::asks_are_counted;
 
+mod drawn;
 mod scripts;
 mod texts;
 

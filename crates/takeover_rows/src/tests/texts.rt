@@ -9,7 +9,7 @@ use takeover_text::write_takeover;
 use text_output::Stop;
 
 /// What is written of a script's takeover, to a sink whose calls with these numbers fail, and how it ended.
-fn written(
+pub(super) fn written(
     rt: &impl Abort,
     alloc: Global,
     script: &[u8],
