@@ -4,3 +4,4 @@ mod BarLemmas
 mod RowLemmas
 mod PartLemmas
 mod FewestLemmas
+mod TurnLemmas

@@ -1,13 +1,15 @@
 //! Greedy allocation by an order of the caller's, such as the flow that needs least first.
 //!
 //! `fewest_order` gives one batch its slots by an order of the caller's: `orders.rt` has the orders, `allocation.rt` the batch.
-//! Its slots are filled by the plain allocator, which is shown the list in the order and as never served. `fewest.rt` has
+//! Its slots are filled by the plain allocator, which is shown the list in the order and as never served. `by_turns.rt` gives a
+//! batch its slots by the standing order, flow by flow. `fewest.rt` has
 //! `FewestFirst`, which keeps one list by need from batch to batch: its items take their slots flow by flow (`Turns` of
 //! `slot_batches`), and before each sort the items that go first among equals are put in front, so that the sort meets long runs
 //! (`proofs/PartLemmas.antt` says why that is the same list).
 #![tactic(auto)]
 
 mod allocation;
+mod by_turns;
 mod fewest;
 mod laws;
 mod orders;
@@ -15,6 +17,7 @@ mod orders;
 mod tests;
 
 pub use allocation::order_batch;
+pub use by_turns::batch_by_turns;
 pub use fewest::FewestFirst;
 pub use laws::{
     every_ordered_slot_is_a_maximal_matching, flows_before_it_bar, none_that_needs_more_bars,

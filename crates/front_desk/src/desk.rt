@@ -123,8 +123,8 @@ fn poll_all(lines: &mut [Line], round: u32)
     ensures as_many { length lines.new ≡ length lines.old }
     ensures polled { HavePolled (map state_of lines.old) (map state_of lines.new) }
 {
-    for line in lines.iter_mut() {
-        line.poll(round);
+    for endpoint in 0..lines.len() {
+        lines[endpoint].poll(round);
     }
 }
 

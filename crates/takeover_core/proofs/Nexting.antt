@@ -11,7 +11,7 @@ use Rattle.greedy_rules.specs.declared.flows.Entry.{Entry}
 use Rattle.greedy_rules.specs.Batches.{DemandBatch, entry_of}
 use Rattle.greedy_rules.specs.Demands.{HasEachFlowOnce, AreBelow, OpensNewFlows, need_with, opened}
 use Rattle.greedy_rules.specs.Balance.{is_recorded}
-use Rattle.greedy_rules.specs.Schedule.{list_then}
+use Rattle.greedy_rules.specs.Schedule.{first_slot, list_then}
 use Rattle.takeover_history.specs.declared.lease.Lease.{Lease}
 use Rattle.takeover_history.specs.Events.{Setting, Issue, Published, Log}
 use Rattle.takeover_history.specs.Leases.{lease_of, used_of}
@@ -102,9 +102,10 @@ may_publish setting number k log node held fits asks n is next =
 -- a node published
 pub own_published : (setting : Setting) (log : Log) (number at : ℕ) (node now : Node) (lease : Lease) → lease_of log number ≡ Some lease → lease.holder.node ≡ number → at ≡ (issue_for setting log lease).number → MayBeNext setting lease.generation log
     → now.list.items ≡ list_then setting.b at (next_of setting.endpoints node) node.list.items → length now.list.items + now.list.spare ≡ length node.list.items + node.list.spare
+    → All (λ item. item.last < first_slot setting.b (at + 1)) now.list.items
     → now.published ≡ node.told → now.used ≡ node.used + 1 → now.told ≡ node.told → now.boot ≡ node.boot → now.lease ≡ node.lease
     → IsNodeOf setting log number node → IsNodeOf setting (Published (issue_for setting log lease) ∷ log) number now
-own_published setting log number at node now lease of_number own numbers next lists rooms pubs useds tolds boots leases n =
+own_published setting log number at node now lease of_number own numbers next lists rooms befores pubs useds tolds boots leases n =
     let issue : Issue = issue_for setting log lease in
     let then : Log = Published issue ∷ log in
     let here = eq-eqb lease.holder.node number own in
@@ -130,4 +131,9 @@ own_published setting log number at node now lease of_number own numbers next li
                 ∙ (sym (list_by-append setting.b [] (batches_of g log) ((issue.number, issue.batch) ∷ []))
                 ∙ ap (λ (ys : List (ℕ × DemandBatch)). list_by setting.b [] (batches_of g log ++ ys)) (sym (cond-true (g == g) ((issue.number, issue.batch) ∷ []) [] of_g))))));
           });
+      before = λ held is.
+          let same : lease ≡ held = same_Some lease held (sym of_number ∙ is) in
+          let used : used_of then number ≡ 1 + used_of log number = ap (λ (m : ℕ). m + used_of log number) (cond-true (lease.holder.node == number) 1 0 here) in
+          let next_number : at + 1 ≡ held.first + used_of then number = omega (arith, numbers, ap (λ (k : ℕ). used_of log k) own, used, ap (λ (l : Lease). l.first) same) in
+          subst (λ (m : ℕ). All (λ item. item.last < first_slot setting.b m) now.list.items) next_number befores;
     }

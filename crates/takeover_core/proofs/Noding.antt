@@ -1,11 +1,14 @@
 -- What nodes keep, fact by fact.
-use Rattle.std.proofs.Common.{◌≡◌, ◌≢◌, ◌<◌, ◌≤◌, ◌+◌, ◌-◌, ◌==◌, ◌&&◌, nat_lt, not, ℕ, List, [], ◌∷◌, ◌++◌, length, cond, Bool, true, false, Option, Some, None, inl, inr, refl, sym, ap, ◌∙◌, subst, arith}
+use Rattle.std.proofs.Common.{◌≡◌, ◌≢◌, ◌<◌, ◌≤◌, ◌+◌, ◌-◌, ◌*◌, ◌==◌, ◌&&◌, All, nat_lt, not, ℕ, List, [], ◌∷◌, ◌++◌, length, cond, Bool, true, false, Option, Some, None, inl, inr, refl, sym, ap, ◌∙◌, subst, arith}
 use Rattle.std.proofs.lemmas.Bool.{cases_Bool, cases_eq, cases_lt, cond-true, cond-false, eq-eqb, ne_eqb, and_left, eqb-true, lt-ltb, le-ltb}
 use Rattle.std.proofs.lemmas.Option.{same_Some}
+use Rattle.std.proofs.Math.Nat.{mul-le-mul_right}
 use Rattle.std.proofs.lemmas.List.{append-nil}
+use Rattle.std.proofs.lemmas.List.Elements.{All-nil, All-weaker}
 use Rattle.greedy_rules.specs.declared.flows.Flow.{Flow}
 use Rattle.greedy_rules.specs.declared.flows.Item.{Item}
 use Rattle.greedy_rules.specs.Batches.{DemandBatch}
+use Rattle.greedy_rules.specs.Schedule.{first_slot}
 use Rattle.takeover_history.specs.declared.lease.Lease.{Lease}
 use Rattle.takeover_history.specs.declared.event.Refusal.{Refusal}
 use Rattle.takeover_history.specs.declared.event.Refusal.TheVariants.{NoMessage, OldBoot, OldLease, Stale}
@@ -24,11 +27,11 @@ use Rattle.takeover_core.specs.Node.{begins_below, refusal_of, IsOfNewGeneration
 use Rattle.takeover_core.specs.Standing.{KeepsGeneration, IsNode, IsNodeOf}
 
 -- a node of which nothing changed
-pub same_node : (endpoints : ℕ) (node : Node) (boot boot' : ℕ) (lease lease' : Option Lease) (used used' : ℕ) (totals totals' done done' : ℕ → Flow → ℕ) (list list' : ℕ → List Item)
-    → IsNode endpoints node boot lease used totals done list → boot' ≡ boot → lease' ≡ lease → used' ≡ used
+pub same_node : (endpoints b : ℕ) (node : Node) (boot boot' : ℕ) (lease lease' : Option Lease) (used used' : ℕ) (totals totals' done done' : ℕ → Flow → ℕ) (list list' : ℕ → List Item)
+    → IsNode endpoints b node boot lease used totals done list → boot' ≡ boot → lease' ≡ lease → used' ≡ used
     → ((held : Lease) → lease ≡ Some held → ((flow : Flow) → totals' held.generation flow ≡ totals held.generation flow) × ((flow : Flow) → done' held.generation flow ≡ done held.generation flow) × (list' held.generation ≡ list held.generation))
-    → IsNode endpoints node boot' lease' used' totals' done' list'
-same_node endpoints node boot boot' lease lease' used used' totals totals' done done' list list' n boots leases useds kept = record {
+    → IsNode endpoints b node boot' lease' used' totals' done' list'
+same_node endpoints b node boot boot' lease lease' used used' totals totals' done done' list list' n boots leases useds kept = record {
   boot_is = n.boot_is ∙ sym boots;
   lease_is = n.lease_is ∙ sym leases;
   used_is = n.used_is ∙ sym useds;
@@ -44,11 +47,12 @@ same_node endpoints node boot boot' lease lease' used used' totals totals' done 
         published_is = λ src dst in_src in_dst. k.published_is src dst in_src in_dst ∙ sym (e.1 (record { src = src; dst = dst }));
         list_is = k.list_is ∙ sym e.2;
       };
+  before = λ held is. subst (λ (u : ℕ). All (λ item. item.last < first_slot b (held.first + u)) node.list.items) (sym useds) (n.before held (sym leases ∙ is));
 }
 
 pub other_took : (setting : Setting) (log : Log) (number : ℕ) (node : Node) (lease : Lease) → lease.holder.node ≢ number → IsNodeOf setting log number node → IsNodeOf setting (Took lease ∷ log) number node
 other_took setting log number node lease other n =
-    same_node setting.endpoints node (boot_of log number) (boot_of log number) (lease_of log number) (lease_of (Took lease ∷ log) number) (used_of log number) (used_of (Took lease ∷ log) number)
+    same_node setting.endpoints setting.b node (boot_of log number) (boot_of log number) (lease_of log number) (lease_of (Took lease ∷ log) number) (used_of log number) (used_of (Took lease ∷ log) number)
     (λ k. recorded setting k log) (λ k. recorded setting k log) (λ k. published setting k log) (λ k. published setting k log) (λ k. list_of setting k log) (λ k. list_of setting k log) n refl
     (cond-false (lease.holder.node == number) (Some lease) (lease_of log number) (ne_eqb lease.holder.node number other))
     (cond-false (lease.holder.node == number) 0 (used_of log number) (ne_eqb lease.holder.node number other))
@@ -56,7 +60,7 @@ other_took setting log number node lease other n =
 
 pub other_crashed : (setting : Setting) (log : Log) (number : ℕ) (node : Node) (gone : ℕ) → gone ≢ number → IsNodeOf setting log number node → IsNodeOf setting (Crashed gone ∷ log) number node
 other_crashed setting log number node gone other n =
-    same_node setting.endpoints node (boot_of log number) (boot_of (Crashed gone ∷ log) number) (lease_of log number) (lease_of (Crashed gone ∷ log) number) (used_of log number) (used_of (Crashed gone ∷ log) number)
+    same_node setting.endpoints setting.b node (boot_of log number) (boot_of (Crashed gone ∷ log) number) (lease_of log number) (lease_of (Crashed gone ∷ log) number) (used_of log number) (used_of (Crashed gone ∷ log) number)
     (λ k. recorded setting k log) (λ k. recorded setting k log) (λ k. published setting k log) (λ k. published setting k log) (λ k. list_of setting k log) (λ k. list_of setting k log) n
     (ap (λ (n : ℕ). n + boot_of log number) (cond-false (gone == number) 1 0 (ne_eqb gone number other)) ∙ omega arith)
     (cond-false (gone == number) None (lease_of log number) (ne_eqb gone number other))
@@ -76,12 +80,13 @@ own_crashed setting log number node now boots leases useds tolds pubs lists n =
       published = ap (λ t. t.endpoints) pubs ∙ n.published;
       room = omega (arith, n.room, ap (λ l. length l.items + l.spare) lists);
       keeps = λ held is. let no : None ≡ Some held = sym none ∙ is in absurd (cc);
+      before = λ held is. let no : None ≡ Some held = sym none ∙ is in absurd (cc);
     }
 
 pub other_told : (setting : Setting) (log : Log) (number : ℕ) (node : Node) (src generation : ℕ) → ((held : Lease) → lease_of log number ≡ Some held → held.generation ≢ generation)
     → IsNodeOf setting log number node → IsNodeOf setting (Told src generation ∷ log) number node
 other_told setting log number node src generation other n =
-    same_node setting.endpoints node (boot_of log number) (boot_of log number) (lease_of log number) (lease_of log number) (used_of log number) (used_of log number)
+    same_node setting.endpoints setting.b node (boot_of log number) (boot_of log number) (lease_of log number) (lease_of log number) (used_of log number) (used_of log number)
     (λ k. recorded setting k log) (λ k. recorded setting k (Told src generation ∷ log)) (λ k. published setting k log) (λ k. published setting k log) (λ k. list_of setting k log) (λ k. list_of setting k log) n refl refl refl
     (λ held is. (
       λ flow. cond-false ((generation == held.generation) && (src == flow.src)) (total_of setting (Told src generation ∷ log) flow) (recorded setting held.generation log flow)
@@ -93,7 +98,7 @@ other_told setting log number node src generation other n =
 pub other_published : (setting : Setting) (log : Log) (number : ℕ) (node : Node) (issue : Issue) → issue.lease.holder.node ≢ number → ((held : Lease) → lease_of log number ≡ Some held → held.generation ≢ issue.lease.generation)
     → IsNodeOf setting log number node → IsNodeOf setting (Published issue ∷ log) number node
 other_published setting log number node issue apart other n =
-    same_node setting.endpoints node (boot_of log number) (boot_of log number) (lease_of log number) (lease_of log number) (used_of log number) (used_of (Published issue ∷ log) number)
+    same_node setting.endpoints setting.b node (boot_of log number) (boot_of log number) (lease_of log number) (lease_of log number) (used_of log number) (used_of (Published issue ∷ log) number)
     (λ k. recorded setting k log) (λ k. recorded setting k log) (λ k. published setting k log) (λ k. published setting k (Published issue ∷ log)) (λ k. list_of setting k log) (λ k. list_of setting k (Published issue ∷ log)) n refl refl
     (ap (λ (n : ℕ). n + used_of log number) (cond-false (issue.lease.holder.node == number) 1 0 (ne_eqb issue.lease.holder.node number apart)) ∙ omega arith)
     (λ held is.
@@ -149,6 +154,36 @@ takes_own number boot span last lease none = elim (cases_Bool (lease.holder.node
       absurd (cc)
 ]
 
+not_below : (span : ℕ) (last lease : Lease) → begins_below span (Some last) lease ≡ false → last.first + span ≤ lease.first
+not_below span last lease is = elim (cases_lt lease.first (last.first + span)) [
+  | inl low ↦ let yes : nat_lt lease.first (last.first + span) ≡ true = lt-ltb lease.first (last.first + span) low in absurd (cc)
+  | inr high ↦ omega (arith, high)
+]
+
+-- and only such as begin where the last one ends, or later
+pub takes_later : (number boot span : ℕ) (last : Option Lease) (lease : Lease) → refusal_of number boot last lease span ≡ None → begins_below span last lease ≡ false
+takes_later number boot span last lease none =
+    let late : cond (begins_below span last lease) (Some OldLease) None ≡ None = elim (cases_Bool (lease.holder.node == number)) [
+      | inl own ↦ elim (cases_Bool (lease.holder.boot == boot)) [
+        | inl same ↦
+            sym (cond-false (not (lease.holder.boot == boot)) (Some OldBoot) (cond (begins_below span last lease) (Some OldLease) None) (ap not same))
+            ∙ (sym (cond-false (not (lease.holder.node == number)) (Some NoMessage) (cond (not (lease.holder.boot == boot)) (Some OldBoot) (cond (begins_below span last lease) (Some OldLease) None)) (ap not own)) ∙ none)
+        | inr other ↦
+            let some : Some OldBoot ≡ None =
+            sym (cond-true (not (lease.holder.boot == boot)) (Some OldBoot) (cond (begins_below span last lease) (Some OldLease) None) (ap not other))
+            ∙ (sym (cond-false (not (lease.holder.node == number)) (Some NoMessage) (cond (not (lease.holder.boot == boot)) (Some OldBoot) (cond (begins_below span last lease) (Some OldLease) None)) (ap not own)) ∙ none) in
+            absurd (cc)
+      ]
+      | inr other ↦
+          let some : Some NoMessage ≡ None =
+          sym (cond-true (not (lease.holder.node == number)) (Some NoMessage) (cond (not (lease.holder.boot == boot)) (Some OldBoot) (cond (begins_below span last lease) (Some OldLease) None)) (ap not other)) ∙ none in
+          absurd (cc)
+    ] in
+    elim (cases_Bool (begins_below span last lease)) [
+      | inl low ↦ let some : Some OldLease ≡ None = sym (cond-true (begins_below span last lease) (Some OldLease) None low) ∙ late in absurd (cc)
+      | inr high ↦ high
+    ]
+
 by_last : (setting : Setting) (log : Log) (number : ℕ) (node now : Node) (lease : Lease) → IsNodeOf setting log number node
     → ((last : Lease) → node.lease ≡ Some last → last.generation ≡ lease.generation → (now.list ≡ node.list) × (now.told ≡ node.told) × (now.published ≡ node.published))
     → (o : Option Lease) → lease_of log number ≡ o
@@ -168,13 +203,39 @@ by_last setting log number node now lease n goes_on (Some last) is fresh = elim 
   | inr other ↦ fresh (λ it some same. other (ap (λ (l : Lease). l.generation) (same_Some last it (sym is ∙ some)) ∙ same))
 ]
 
-pub own_took : (setting : Setting) (events : List Event) (number m : ℕ) (node now : Node) (lease : Lease) → AGenerationBeginsAnew → 0 < setting.span → done setting (log_of setting events) (Take number m) ≡ Took lease → lease.holder.node ≡ number
+earlier : (b m n : ℕ) (list : List Item) → m ≤ n → All (λ item. item.last < first_slot b m) list → All (λ item. item.last < first_slot b n) list
+earlier b m n list le before =
+    let less : m * b ≤ n * b = mul-le-mul_right b le in
+    All-weaker (λ (item : Item). item.last < first_slot b m) (λ item. item.last < first_slot b n) (λ item is. omega (arith, is, less)) list before
+
+-- whatever the last lease was, the list was last served before the first batch of the new one
+before_lease : (setting : Setting) (log : Log) (number : ℕ) (node now : Node) (lease : Lease) → used_of log number ≤ setting.span → begins_below setting.span (lease_of log number) lease ≡ false → IsNodeOf setting log number node
+    → (IsOfNewGeneration node.lease lease → (now.list.items ≡ []) × ((src dst : ℕ) → cell now.told src dst ≡ 0) × ((src dst : ℕ) → cell now.published src dst ≡ 0))
+    → ((last : Lease) → node.lease ≡ Some last → last.generation ≡ lease.generation → (now.list ≡ node.list) × (now.told ≡ node.told) × (now.published ≡ node.published))
+    → (o : Option Lease) → lease_of log number ≡ o → All (λ item. item.last < first_slot setting.b (lease.first + 0)) now.list.items
+before_lease setting log number node now lease few above n new goes_on None is =
+    subst (λ (items : List Item). All (λ item. item.last < first_slot setting.b (lease.first + 0)) items)
+    (sym (new (λ last some. let no : None ≡ Some last = sym is ∙ (sym n.lease_is ∙ some) in absurd (cc))).0) (All-nil (λ (item : Item). item.last < first_slot setting.b (lease.first + 0)))
+before_lease setting log number node now lease few above n new goes_on (Some last) is =
+    let Before : List Item → Type 0 = λ items. All (λ item. item.last < first_slot setting.b (lease.first + 0)) items in
+    elim (cases_eq last.generation lease.generation) [
+      | inl same ↦
+          let high : last.first + setting.span ≤ lease.first = not_below setting.span last lease (subst (λ (p : Option Lease). begins_below setting.span p lease ≡ false) is above) in
+          subst (λ (l : Demands). Before l.items) (sym (goes_on last (n.lease_is ∙ is) same).0)
+          (earlier setting.b (last.first + used_of log number) (lease.first + 0) node.list.items (omega (arith, high, few)) (n.before last is))
+      | inr apart ↦
+          subst Before (sym (new (λ it some same. apart (ap (λ (l : Lease). l.generation) (same_Some last it (sym is ∙ (sym n.lease_is ∙ some))) ∙ same))).0)
+          (All-nil (λ (item : Item). item.last < first_slot setting.b (lease.first + 0)))
+    ]
+
+pub own_took : (setting : Setting) (events : List Event) (number m : ℕ) (node now : Node) (lease : Lease) → AGenerationBeginsAnew → 0 < setting.span
+    → used_of (log_of setting events) number ≤ setting.span → begins_below setting.span (lease_of (log_of setting events) number) lease ≡ false → done setting (log_of setting events) (Take number m) ≡ Took lease → lease.holder.node ≡ number
     → now.lease ≡ Some lease → now.used ≡ 0 → now.boot ≡ node.boot → now.told.endpoints ≡ node.told.endpoints → now.published.endpoints ≡ node.published.endpoints
     → length now.list.items + now.list.spare ≡ length node.list.items + node.list.spare
     → (IsOfNewGeneration node.lease lease → (now.list.items ≡ []) × ((src dst : ℕ) → cell now.told src dst ≡ 0) × ((src dst : ℕ) → cell now.published src dst ≡ 0))
     → ((last : Lease) → node.lease ≡ Some last → last.generation ≡ lease.generation → (now.list ≡ node.list) × (now.told ≡ node.told) × (now.published ≡ node.published))
     → IsNodeOf setting (log_of setting events) number node → IsNodeOf setting (Took lease ∷ log_of setting events) number now
-own_took setting events number m node now lease anew some takes of_number leases useds boots tolds pubs rooms new goes_on n =
+own_took setting events number m node now lease anew some few above takes of_number leases useds boots tolds pubs rooms new goes_on n =
     let log : Log = log_of setting events in
     let here = eq-eqb lease.holder.node number of_number in
     let mine : lease_of (Took lease ∷ log) number ≡ Some lease = cond-true (lease.holder.node == number) (Some lease) (lease_of log number) here in
@@ -197,6 +258,12 @@ own_took setting events number m node now lease anew some takes of_number leases
       keeps = λ held is.
           let same : lease ≡ held = same_Some lease held (sym mine ∙ is) in
           subst (λ (l : Lease). KeepsGeneration setting.endpoints l.generation now (λ k. recorded setting k log) (λ k. published setting k log) (λ k. list_of setting k log)) same (kept (lease_of log number) refl);
+      before = λ held is.
+          let same : lease ≡ held = same_Some lease held (sym mine ∙ is) in
+          let none_used = cond-true (lease.holder.node == number) 0 (used_of log number) here in
+          subst (λ (u : ℕ). All (λ item. item.last < first_slot setting.b (held.first + u)) now.list.items) (sym none_used)
+          (subst (λ (l : Lease). All (λ item. item.last < first_slot setting.b (l.first + 0)) now.list.items) same
+          (before_lease setting log number node now lease few above n new goes_on (lease_of log number) refl));
     }
 
 -- ---- telling
@@ -235,4 +302,5 @@ own_told setting log number node now lease src asks bases of_number are_asks are
         published_is = λ s d in_s in_d. ap (λ (t : Cells). cell t s d) pubs ∙ k.published_is s d in_s in_d;
         list_is = ap (λ (l : Demands). l.items) lists ∙ k.list_is;
       };
+  before = λ held is. subst (λ (l : Demands). All (λ item. item.last < first_slot setting.b (held.first + used_of log number)) l.items) (sym lists) (n.before held is);
 }

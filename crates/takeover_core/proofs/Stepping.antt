@@ -28,6 +28,7 @@ refused setting pair log why s = record {
   endpoints_are = s.endpoints_are;
   b_is = s.b_is;
   keeper_is = s.keeper_is;
+  turns_are = s.turns_are;
   two = s.two;
   nodes_are = s.nodes_are;
   ends_are = s.ends_are;

@@ -1,8 +1,9 @@
 -- A pair stands for a list of events, the latest first: what it keeps is what their log counts. From this project's own profile.
-use Rattle.std.specs.Prelude.{◌≡◌, ◌<◌, ◌≤◌, ℕ, ◌+◌, ◌*◌, Bool, List, [], ◌∷◌, length, Option, Some, None, option_map, slice_index, if◌then◌else◌, replicate}
+use Rattle.std.specs.Prelude.{◌≡◌, ◌<◌, ◌≤◌, ℕ, ◌+◌, ◌*◌, All, Bool, List, [], ◌∷◌, length, Option, Some, None, option_map, slice_index, if◌then◌else◌, replicate}
 use Rattle.std.specs.List.{slice_index_or}
 use Rattle.greedy_rules.specs.declared.flows.Flow.{Flow}
 use Rattle.greedy_rules.specs.declared.flows.Item.{Item}
+use Rattle.greedy_rules.specs.Schedule.{first_slot}
 use Rattle.takeover_history.specs.declared.event.Event.{Event}
 use Rattle.takeover_history.specs.declared.lease.Holder.{Holder}
 use Rattle.takeover_history.specs.declared.lease.Lease.{Lease}
@@ -51,8 +52,9 @@ pub record KeepsGeneration (endpoints generation : ℕ) (node : Node) (totals do
   pub published_is : (src dst : ℕ) → src < endpoints → dst < endpoints → cell node.published src dst ≡ done generation (flow_of src dst)
   pub list_is : node.list.items ≡ list generation
 
--- a node: its boot, its lease and how many batches of it are published, and what it keeps of the lease's generation
-pub record IsNode (endpoints : ℕ) (node : Node) (boot : ℕ) (lease : Option Lease) (used : ℕ) (totals done : ℕ → Flow → ℕ) (list : ℕ → List Item) : Type 0 where
+-- a node: its boot, its lease and how many batches of it are published, and what it keeps of the lease's generation; its list was
+-- last served before the batch that it publishes next
+pub record IsNode (endpoints b : ℕ) (node : Node) (boot : ℕ) (lease : Option Lease) (used : ℕ) (totals done : ℕ → Flow → ℕ) (list : ℕ → List Item) : Type 0 where
   pub boot_is : node.boot ≡ boot
   pub lease_is : node.lease ≡ lease
   pub used_is : node.used ≡ used
@@ -60,6 +62,7 @@ pub record IsNode (endpoints : ℕ) (node : Node) (boot : ℕ) (lease : Option L
   pub published : node.published.endpoints ≡ endpoints
   pub room : endpoints * endpoints ≤ length node.list.items + node.list.spare
   pub keeps : (held : Lease) → lease ≡ Some held → KeepsGeneration endpoints held.generation node totals done list
+  pub before : (held : Lease) → lease ≡ Some held → All (λ item. item.last < first_slot b (held.first + used)) node.list.items
 
 -- the endpoints: their generations, asks, bases and sends
 pub record AreEndpoints (endpoints : ℕ) (ends : Endpoints) (generations : ℕ → ℕ) (asks bases : Flow → ℕ) (all : List Send) : Type 0 where
@@ -95,7 +98,7 @@ last_batch setting (issue ∷ before) = kept_of setting.endpoints issue
 
 abbrev pub IsNodeOf : Setting → Log → ℕ → Node → Type 0
 IsNodeOf setting log number node =
-    IsNode setting.endpoints node (boot_of log number) (lease_of log number) (used_of log number) (λ k. recorded setting k log) (λ k. published setting k log) (λ k. list_of setting k log)
+    IsNode setting.endpoints setting.b node (boot_of log number) (lease_of log number) (used_of log number) (λ k. recorded setting k log) (λ k. published setting k log) (λ k. list_of setting k log)
 
 pub record StandsForLog (setting : Setting) (pair : Pair) (log : Log) : Type 0 where
   pub fits : IsSetting setting
@@ -104,6 +107,7 @@ pub record StandsForLog (setting : Setting) (pair : Pair) (log : Log) : Type 0 w
   pub b_is : pair.b ≡ setting.b
   pub keeper_is : IsKeeper setting.span pair.keeper (sent_messages log) (request_at log) (grant_at log) (leases log)
   pub two : length pair.nodes ≡ 2
+  pub turns_are : (pair.turns.endpoints ≡ setting.endpoints) × (pair.turns.b ≡ setting.b)
   pub nodes_are : (number : ℕ) (d : Node) → number < 2 → IsNodeOf setting log number (slice_index_or pair.nodes number d)
   pub ends_are : AreEndpoints setting.endpoints pair.ends (generation_of log) (asked log) (base_of setting log) (sent setting log)
   pub published_are : ArePublished setting.endpoints pair.published (issue_at log) (has_heard log)

@@ -1,15 +1,17 @@
 ghost use Rattle.std.specs.Prelude.{◌≡◌, ◌≢◌, ◌<◌, ◌≤◌, ◌+◌, ◌*◌, ◌^◌, ℕ, [], ◌++◌, length, None, Some, All, OnOk, IfOk, IfSome};
 ghost use Rattle.greedy_rules.specs.Demands.{HasEachFlowOnce, AreBelow, OpensNewFlows, need_with, opened};
 ghost use Rattle.greedy_rules.specs.Batches.{entry_of};
-ghost use Rattle.greedy_rules.specs.Schedule.{slots_then, list_then};
+ghost use Rattle.greedy_rules.specs.Schedule.{first_slot, slots_then, list_then};
 ghost use Rattle.takeover_core.specs.Cells.{cell};
 ghost use Rattle.takeover_core.specs.Entries.{entries_of};
 ghost use Rattle.takeover_core.specs.Node.{IsOfNewGeneration, MayPublish, next_of, refusal_of};
 
 use crate::entries::batch_of;
 use crate::flow_table::FlowTable;
-use greedy_rules::{Batch, DemandList, SlotTable, plain_batch};
+use fewest_order::batch_by_turns;
+use greedy_rules::{Batch, DemandList, SlotTable};
 use no_memory::NoMemory;
+use slot_batches::Turns;
 use std::alloc::Global;
 use takeover_history::{Lease, Refusal};
 
@@ -115,25 +117,30 @@ impl Node {
         self.used = 0;
     }
 
-    /// Allocates the next batch, of this number, by greedy allocation, and counts it as published. The table has `b` empty slots.
+    /// Allocates the next batch, of this number, by greedy allocation, and counts it as published. The table has `b` slots.
     pub(crate) fn publish(
         &mut self,
         alloc: Global,
         endpoints: u16,
         number: u32,
         b: u8,
+        turns: &mut Turns,
         slots: &mut SlotTable,
     ) -> Result<Batch, NoMemory>
         requires may { MayPublish endpoints self.old }
         requires used { self.old.used + 1 < 2 ^ 16 }
         requires number { number * b + b + 1 ≤ 2 ^ 32 }
+        requires before { All (λ item. item.last < first_slot b number) self.old.list.items }
+        requires turns { (turns.old.endpoints ≡ endpoints) × (turns.old.b ≡ b) }
         requires slots { length slots.old.slots ≡ b }
         requires endpoints { slots.old.endpoints ≡ endpoints }
         ensures batch { IfOk result (λ batch. batch ≡ next_of endpoints self.old) }
         ensures slots { OnOk result (slots.new.slots ≡ slots_then b number (next_of endpoints self.old) self.old.list.items) }
         ensures table { OnOk result (slots.new.endpoints ≡ endpoints) }
         ensures list { OnOk result (self.new.list.items ≡ list_then b number (next_of endpoints self.old) self.old.list.items) }
+        ensures before { OnOk result (All (λ item. item.last < first_slot b (number + 1)) self.new.list.items) }
         ensures room { OnOk result (length self.new.list.items + self.new.list.spare ≡ length self.old.list.items + self.old.list.spare) }
+        ensures turns { (turns.new.endpoints ≡ endpoints) × (turns.new.b ≡ b) }
         ensures published { OnOk result (self.new.published ≡ self.old.told) }
         ensures used { OnOk result (self.new.used ≡ self.old.used + 1) }
         ensures told { OnOk result (self.new.told ≡ self.old.told) }
@@ -142,7 +149,8 @@ impl Node {
     {
         let batch = batch_of(alloc, &self.told, &self.published, endpoints)?;
         let first_slot = number * u32::from(b) + 1;
-        plain_batch(alloc, &mut self.list, &batch, first_slot, b, slots)?;
+        batch_by_turns(alloc, turns, &mut self.list, &batch, first_slot)?;
+        slots.copy(turns.slots(), 0);
         self.published.copy(&self.told);
         self.used += 1;
         Ok(batch)

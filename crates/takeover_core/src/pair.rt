@@ -17,6 +17,7 @@ use crate::published::{Issued, Published};
 use endpoint_agent::Sent;
 use greedy_rules::{Batch, Flow, Limits, SlotTable};
 use no_memory::NoMemory;
+use slot_batches::Turns;
 use std::alloc::Global;
 use takeover_history::{Event, Holder, Refusal, a_generation_begins_anew, running_counts_serve};
 
@@ -29,6 +30,7 @@ pub struct Pair {
     b: u8,
     keeper: Keeper,
     nodes: [Node; 2],
+    turns: Turns,
     ends: Endpoints,
     published: Published,
     last: Option<u32>,
@@ -55,6 +57,7 @@ impl Pair {
             b,
             keeper: Keeper::open(alloc, lease, events)?,
             nodes: [Node::open(alloc, endpoints)?, Node::open(alloc, endpoints)?],
+            turns: Turns::open(alloc, endpoints, b)?,
             ends: Endpoints::open(alloc, endpoints)?,
             published: Published::new(alloc),
             last: None,
@@ -205,7 +208,14 @@ impl Pair {
         let number = lease.first + u32::from(used);
         let mut slots = SlotTable::open(self.alloc, u16::from(self.b), self.endpoints)?;
         let publisher = &mut self.nodes[node as usize];
-        let batch = publisher.publish(self.alloc, self.endpoints, number, self.b, &mut slots)?;
+        let batch = publisher.publish(
+            self.alloc,
+            self.endpoints,
+            number,
+            self.b,
+            &mut self.turns,
+            &mut slots,
+        )?;
         let issued = Issued {
             generation: lease.generation,
             batch,

@@ -3,8 +3,8 @@ use Rattle.front_desk.specs.State.{HavePolled}
 use Rattle.front_desk.specs.Standing.{AreLines, state_of}
 use Rattle.front_desk.proofs.desk.poll_all.Given as goal
 
-abbrev pub invariant-loop-line : goal.invariant-loop-line
-invariant-loop-line l = record {
+abbrev pub invariant-loop-endpoint : goal.invariant-loop-endpoint
+invariant-loop-endpoint l = record {
   many : length l.lines ≡ length l.fn.lines;
   lines : AreLines (length l.fn.lines) l.lines;
   polled : HavePolled (map state_of l.fn.lines) (map state_of l.lines);

@@ -22,6 +22,7 @@ returns c = λ setting events s may.
       endpoints_are = s.endpoints_are;
       b_is = s.b_is;
       keeper_is = s.keeper_is;
+      turns_are = s.turns_are;
       two = two_with c.args.self.now.nodes node c.crash.new.self s.two;
       nodes_are = nodes_with setting log (Crashed node ∷ log) c.args.self.now.nodes node c.crash.new.self s.two may.is_event s.nodes_are
           (own_crashed setting log node _ c.crash.new.self is.boot is.lease is.used is.told is.published is.list (s.nodes_are node c.index-self-node.result may.is_event))

@@ -47,6 +47,7 @@ returns-clause-stands c = λ setting events s may.
       endpoints_are = s.endpoints_are;
       b_is = s.b_is;
       keeper_is = keeper_granted setting.span c.args.self.now.keeper c.grant.new.self log lease c.in-Some.holder s.keeper_is is.lease is.messages is.span is.holder is.generation is.next;
+      turns_are = s.turns_are;
       two = s.two;
       nodes_are = s.nodes_are;
       ends_are = s.ends_are;

@@ -26,6 +26,7 @@ node_first setting number node boots leases useds told published room = record {
   published = published;
   room = room;
   keeps = λ held is. absurd (cc);
+  before = λ held is. absurd (cc);
 }
 
 two_of : (setting : Setting) (one other : Node) → IsNodeOf setting [] 0 one → IsNodeOf setting [] 1 other → (number : ℕ) (d : Node) → number < 2 → IsNodeOf setting [] number (get_or (one ∷ other ∷ []) number d)
@@ -40,10 +41,10 @@ pub returns : goal.returns
 returns c =
     let setting : Setting = record { endpoints = c.args.endpoints; b = c.args.b; span = c.args.lease } in
     let k = c.in_ok-open.ensures in
-    let e = c.in_ok-open-4.ensures in
-    let q = c.in_ok-open-5.ensures in
+    let e = c.in_ok-open-5.ensures in
+    let q = c.in_ok-open-6.ensures in
     let keeper : Keeper = c.in_ok-open.field-0 in
-    let ends : Endpoints = c.in_ok-open-4.field-0 in
+    let ends : Endpoints = c.in_ok-open-5.field-0 in
     record {
       fits = c.requires.sizes;
       asks_fit = λ flow. omega arith;
@@ -58,6 +59,7 @@ returns c =
         asks = λ m. ap (λ xs. request_in (message_at xs m)) (sym k.messages);
         answers = λ m. ap (λ xs. grant_in (message_at xs m)) (sym k.messages);
       };
+      turns_are = (c.in_ok-open-4.ensures.endpoints, c.in_ok-open-4.ensures.b);
       two = refl;
       nodes_are = two_of setting c.in_ok-open-2.field-0 c.in_ok-open-3.field-0
           (let n = c.in_ok-open-2.ensures in node_first setting 0 c.in_ok-open-2.field-0 n.boot n.lease n.used n.told n.published n.room)
@@ -74,7 +76,7 @@ returns c =
       published_are = record { batches_are = λ number. c.new.ensures.none number; heard_are = λ src number. c.new.ensures.unheard src number };
       last_is = refl;
       none_is =
-          ap (λ (b : DemandBatch). blank b c.in_ok-open-5.field-0.slots c.in_ok-open-5.field-0.endpoints) c.with_limits.ensures
-          ∙ (ap (λ (xs : List (List Flow)). blank (no_batch setting).batch xs c.in_ok-open-5.field-0.endpoints) (q.slots ∙ ap (λ (n : ℕ). replicate n []) c.from.ensures)
+          ap (λ (b : DemandBatch). blank b c.in_ok-open-6.field-0.slots c.in_ok-open-6.field-0.endpoints) c.with_limits.ensures
+          ∙ (ap (λ (xs : List (List Flow)). blank (no_batch setting).batch xs c.in_ok-open-6.field-0.endpoints) (q.slots ∙ ap (λ (n : ℕ). replicate n []) c.from.ensures)
           ∙ ap (λ (n : ℕ). blank (no_batch setting).batch (replicate c.args.b []) n) q.endpoints);
     }

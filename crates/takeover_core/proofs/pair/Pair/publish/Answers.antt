@@ -1,9 +1,9 @@
-use Rattle.std.proofs.Common.{◌≡◌, ◌≤◌, ◌+◌, ◌*◌, ◌==◌, nat_lt, cond, ◌∷◌, List, ℕ, length, get_or, Some, refl, sym, ap, ◌∙◌, subst, arith}
+use Rattle.std.proofs.Common.{◌≡◌, ◌<◌, ◌≤◌, ◌+◌, ◌*◌, All, ◌==◌, nat_lt, cond, ◌∷◌, List, ℕ, length, get_or, Some, refl, sym, ap, ◌∙◌, subst, arith}
 use Rattle.std.proofs.Math.Nat.{mul-le-mul}
 use Rattle.std.proofs.lemmas.Bool.{cond-true, cond-false, lt-ltb, le-ltb}
 use Rattle.greedy_rules.specs.declared.flows.Item.{Item}
 use Rattle.greedy_rules.specs.Batches.{DemandBatch}
-use Rattle.greedy_rules.specs.Schedule.{slots_then, list_then}
+use Rattle.greedy_rules.specs.Schedule.{first_slot, slots_then, list_then}
 use Rattle.takeover_history.specs.declared.event.Event.TheVariants as event
 use Rattle.takeover_history.specs.declared.event.Refusal.TheVariants.{NoLease}
 use Rattle.takeover_history.specs.Events.{Issue, Published, Refused}
@@ -70,6 +70,23 @@ publish-requires-clause-number c =
     let product : (c.in-Some.lease.first + c.from.result) * c.args.self.now.b ≤ 1000000 * 64 = mul-le-mul low b in
     omega (arith, product, b)
 
+pub publish-requires-clause-before : goal.publish-requires-clause-before
+publish-requires-clause-before c =
+    let (setting, events, s, may) = c.requires in
+    let log = log_of setting events in
+    let lease = c.in-Some.lease in
+    let n = s.nodes_are c.args.node c.index-self-node-2.result may.is_event in
+    let at = s.nodes_are c.args.node c.index-self-node.result may.is_event in
+    let of_node : lease_of log c.args.node ≡ Some lease = sym (s.nodes_are c.args.node _ may.is_event).lease_is ∙ c.in-Some.is in
+    let before : Node = get_or c.args.self.now.nodes c.args.node c.index-self-node-2.result in
+    subst (λ (b : ℕ). All (λ item. item.last < first_slot b (lease.first + c.from.result)) before.list.items) (sym s.b_is)
+    (subst (λ (u : ℕ). All (λ item. item.last < first_slot setting.b (lease.first + u)) before.list.items) (sym (c.from.ensures ∙ at.used_is)) (n.before lease of_node))
+
+pub publish-requires-clause-turns : goal.publish-requires-clause-turns
+publish-requires-clause-turns c =
+    let (setting, events, s, may) = c.requires in
+    (s.turns_are.0 ∙ sym s.endpoints_are, s.turns_are.1 ∙ sym s.b_is)
+
 pub returns-clause-answers : goal.returns-clause-answers
 returns-clause-answers c = λ setting events s may.
     let log = log_of setting events in
@@ -113,6 +130,7 @@ returns-clause-stands c = λ setting events s may.
     let lists = is.list
     ∙ (ap (λ (b : ℕ). list_then b at (next_of c.args.self.now.endpoints before) items) s.b_is
     ∙ ap (λ (m : ℕ). list_then setting.b at (next_of m before) items) s.endpoints_are) in
+    let befores = subst (λ (b : ℕ). All (λ item. item.last < first_slot b (at + 1)) c.publish.new.self.list.items) s.b_is is.before in
     let fact = ap (issued setting log node) of_node
     ∙ cond-true (nat_lt (used_of log node) setting.span) (Published issue) (Refused NoLease) (lt-ltb (used_of log node) setting.span (omega (arith, n.used_is, s.keeper_is.span_is, c.if-used-self.false))) in
     stands_by setting _ events (event.Publish node) (Published issue) fact (record {
@@ -121,9 +139,10 @@ returns-clause-stands c = λ setting events s may.
       endpoints_are = s.endpoints_are;
       b_is = s.b_is;
       keeper_is = s.keeper_is;
+      turns_are = (is.turns.0 ∙ s.endpoints_are, is.turns.1 ∙ s.b_is);
       two = two_with c.args.self.now.nodes node c.publish.new.self s.two;
       nodes_are = nodes_with setting log (Published issue ∷ log) c.args.self.now.nodes node c.publish.new.self s.two may.is_event s.nodes_are
-          (own_published setting log node at before c.publish.new.self lease of_node own number next lists is.room is.published is.used is.told is.boot is.lease then)
+          (own_published setting log node at before c.publish.new.self lease of_node own number next lists is.room befores is.published is.used is.told is.boot is.lease then)
           (λ k other below apart it. other_published setting log k other issue (λ e. apart (sym own ∙ e))
           (λ held its same. c.running_counts_serve.ensures.own setting events node k lease held of_node its apart (sym same)) it);
       ends_are = s.ends_are;

@@ -1,4 +1,4 @@
-use Rattle.std.proofs.Common.{◌≡◌, ◌≤◌, ◌+◌, ◌*◌, ◌<◌, ◌∷◌, ℕ, length, Option, Some, None, refl, sym, ap, ◌∙◌, arith}
+use Rattle.std.proofs.Common.{◌≡◌, ◌≤◌, ◌+◌, ◌*◌, ◌<◌, ◌∷◌, ℕ, length, false, Option, Some, None, refl, sym, ap, ◌∙◌, subst, arith}
 use Rattle.std.specs.Prelude.{IfSome}
 use Rattle.std.proofs.Math.Nat.{mul-le-mul}
 use Rattle.takeover_history.specs.declared.lease.Lease.{Lease}
@@ -6,9 +6,11 @@ use Rattle.takeover_history.specs.declared.event.Event.TheVariants as event
 use Rattle.takeover_history.specs.declared.event.Refusal.{Refusal}
 use Rattle.takeover_history.specs.declared.event.Refusal.TheVariants.{NoMessage}
 use Rattle.takeover_history.specs.Events.{Took, Refused}
+use Rattle.takeover_history.specs.Leases.{lease_of}
 use Rattle.takeover_history.specs.Steps.{taken, log_of}
+use Rattle.takeover_core.specs.Node.{begins_below}
 use Rattle.takeover_core.specs.declared.outcome.Outcome.TheVariants as outcome
-use Rattle.takeover_core.proofs.Noding.{taking, take-is, takes_own, own_took, other_took}
+use Rattle.takeover_core.proofs.Noding.{taking, take-is, takes_own, takes_later, own_took, other_took}
 use Rattle.takeover_core.proofs.Stepping.{stands_by, answers_by, stands_refused, nodes_with, two_with}
 use Rattle.takeover_core.proofs.pair.Pair.take.Goals as goal
 
@@ -59,6 +61,9 @@ returns-clause-stands c = λ setting events s may.
     let fact = take-is setting log node c.args.m c.args.self.now.keeper.span _ lease c.refuses.result (s.nodes_are node c.index-self-node.result may.is_event) s.keeper_is.span_is
     (s.keeper_is.answers c.args.m ∙ (sym c.granted.ensures ∙ c.in-Some.is)) c.refuses.ensures
     ∙ ap (λ (o : Option Refusal). taking o lease) c.in_default-refuses.is in
+    let later = subst (λ (n : ℕ). begins_below n (lease_of log node) lease ≡ false) s.keeper_is.span_is
+    (subst (λ (o : Option Lease). begins_below c.args.self.now.keeper.span o lease ≡ false) (s.nodes_are node c.index-self-node.result may.is_event).lease_is
+    (takes_later node _ c.args.self.now.keeper.span _ lease (sym c.refuses.ensures ∙ c.in_default-refuses.is))) in
     let own = takes_own node _ c.args.self.now.keeper.span _ lease (sym c.refuses.ensures ∙ c.in_default-refuses.is) in
     stands_by setting _ events (event.Take node c.args.m) (Took lease) fact (record {
       fits = s.fits;
@@ -66,9 +71,10 @@ returns-clause-stands c = λ setting events s may.
       endpoints_are = s.endpoints_are;
       b_is = s.b_is;
       keeper_is = s.keeper_is;
+      turns_are = s.turns_are;
       two = two_with c.args.self.now.nodes node c.take.new.self s.two;
       nodes_are = nodes_with setting log (Took lease ∷ log) c.args.self.now.nodes node c.take.new.self s.two may.is_event s.nodes_are
-          (own_took setting events node c.args.m _ c.take.new.self lease c.a_generation_begins_anew.ensures (omega (arith, s.fits.batch)) fact own is.lease is.used is.boot is.told is.published is.room is.anew is.goes_on
+          (own_took setting events node c.args.m _ c.take.new.self lease c.a_generation_begins_anew.ensures (omega (arith, s.fits.batch)) ((c.running_counts_serve.ensures.few setting events).1.published node) later fact own is.lease is.used is.boot is.told is.published is.room is.anew is.goes_on
           (s.nodes_are node c.index-self-node-2.result may.is_event))
           (λ number other below apart n. other_took setting log number other lease (λ e. apart (sym own ∙ e)) n);
       ends_are = s.ends_are;

@@ -64,6 +64,7 @@ returns-clause-stands c = λ setting events s may.
       endpoints_are = s.endpoints_are;
       b_is = s.b_is;
       keeper_is = s.keeper_is;
+      turns_are = s.turns_are;
       two = two_with c.args.self.now.nodes node _ s.two;
       nodes_are = nodes_with setting log (Told src lease.generation ∷ log) c.args.self.now.nodes node _ s.two may.is_event.1 s.nodes_are
           (own_told setting log node _ _ lease src c.take.new.self.asked c.take.new.self.base of_node e.asked_is.1 e.base_is.1
