@@ -3,5 +3,6 @@ mod UnservedLemmas
 mod BarLemmas
 mod RowLemmas
 mod PartLemmas
+mod PlaceLemmas
 mod FewestLemmas
 mod TurnLemmas

@@ -25,13 +25,22 @@ pub record MayServe (endpoints b number : ℕ) (entries : List Entry) (list : Li
   pub positive : 0 < number
   pub numbers : number + b ≤ 2 ^ 32
 
--- the batch makes the item need more than before
+-- the batch makes the item need no less than before, and more than before
+abbrev pub is_held : List Entry → Item → Bool
+is_held entries item = not (nat_lt (with_batch entries item).need item.need)
+
 abbrev pub is_raised : List Entry → Item → Bool
 is_raised entries item = nat_lt item.need (with_batch entries item).need
 
--- the items of a list that a batch raises, and the others, each with the batch applied
-abbrev pub raised_of : List Entry → List Item → List Item
-raised_of entries list = map (with_batch entries) (filter (is_raised entries) list)
+abbrev pub held : List Entry → List Item → List Item
+held entries list = filter (is_held entries) list
 
-abbrev pub others_of : List Entry → List Item → List Item
-others_of entries list = map (with_batch entries) (filter (λ item. not (is_raised entries item)) list)
+-- the items of a list that a batch raises, those that it leaves as they are, and those that it lowers, each with the batch applied
+abbrev pub raised_of : List Entry → List Item → List Item
+raised_of entries list = map (with_batch entries) (filter (is_raised entries) (held entries list))
+
+abbrev pub kept_of : List Entry → List Item → List Item
+kept_of entries list = map (with_batch entries) (filter (λ item. not (is_raised entries item)) (held entries list))
+
+abbrev pub lowered_of : List Entry → List Item → List Item
+lowered_of entries list = map (with_batch entries) (filter (λ item. not (is_held entries item)) list)

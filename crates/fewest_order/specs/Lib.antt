@@ -1,3 +1,4 @@
 pub mod Orders
 pub mod KeptOut
 pub mod FewestFirst
+pub mod Places

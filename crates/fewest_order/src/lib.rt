@@ -2,10 +2,10 @@
 //!
 //! `fewest_order` gives one batch its slots by an order of the caller's: `orders.rt` has the orders, `allocation.rt` the batch.
 //! Its slots are filled by the plain allocator, which is shown the list in the order and as never served. `by_turns.rt` gives a
-//! batch its slots by the standing order, flow by flow. `fewest.rt` has
-//! `FewestFirst`, which keeps one list by need from batch to batch: its items take their slots flow by flow (`Turns` of
-//! `slot_batches`), and before each sort the items that go first among equals are put in front, so that the sort meets long runs
-//! (`proofs/PartLemmas.antt` says why that is the same list).
+//! batch its slots by the standing order, flow by flow (`Turns` of `slot_batches`). `fewest.rt` has `FewestFirst`, which keeps one
+//! list by need from batch to batch: its items take their slots flow by flow, and only those that a batch changes are sorted;
+//! `places.rt` puts these among the others, each at its place (`proofs/PlaceLemmas.antt` and `PartLemmas.antt` say why that is the
+//! same list).
 #![tactic(auto)]
 
 mod allocation;
@@ -13,6 +13,7 @@ mod by_turns;
 mod fewest;
 mod laws;
 mod orders;
+mod places;
 #[cfg(test)]
 mod tests;
 

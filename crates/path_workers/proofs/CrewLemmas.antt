@@ -1,13 +1,9 @@
 -- The path workers before and after a call.
-use Rattle.std.proofs.Common.{◌≡◌, ◌<◌, ◌≤◌, ◌+◌, ℕ, zero, suc, List, [], ◌∷◌, ◌++◌, ◌==◌, Some, All, inl, inr, Vec, length, get_or, sym, ap, ◌∙◌, subst, arith}
+use Rattle.std.proofs.Common.{◌≡◌, ◌<◌, ◌≤◌, ◌+◌, ℕ, zero, suc, List, [], ◌∷◌, ◌++◌, All, Vec, length, get_or, sym, ap, ◌∙◌, subst, arith}
 use Rattle.std.specs.List.{range_with_len}
 use Rattle.std.specs.Vec.{with_items}
 use Rattle.std.proofs.lemmas.List.{with_items_is}
 use Rattle.greedy_rules.specs.declared.flows.Flow.{Flow}
-use Rattle.std.proofs.lemmas.Bool.{cases_Bool}
-use Rattle.std.proofs.lemmas.List.Elements.{All-head, All-tail}
-use Rattle.greedy_rules.proofs.Facts.{this_source, other_source}
-use Rattle.greedy_rules.specs.SlotTable.{destination_of}
 use Rattle.greedy_rules.specs.Matching.{IsMatching}
 use Rattle.clos_topology.specs.Network.{Network, endpoints_of}
 use Rattle.path_workers.specs.declared.painter.Painter.{Painter}
@@ -38,15 +34,3 @@ crew_ready net room slots painters taken shown new sized shows forget len is =
 
 pub all_may : (net : Network) (room : ℕ) (slots : List (List Flow)) (painters : List Painter) → AreColourable net room slots → All (HasPainted net room slots) painters → All (MayPaint slots) painters
 all_may net room slots painters can painted = λ k d below. may_paint net room slots (get_or painters k d) can (painted k d below)
-
--- where a source sends is an endpoint
-pub destination_fits : (net : Network) (slot : List Flow) (source destination : ℕ) → All (IsFlowOf net) slot → destination_of slot source ≡ Some destination → destination < endpoints_of net
-destination_fits net [] source destination flows sends = absurd (cc)
-destination_fits net (flow ∷ slot) source destination flows sends =
-    elim (cases_Bool (flow.src == source)) [
-      | inl same ↦
-          let is : Some flow.dst ≡ Some destination = sym (this_source source flow slot same) ∙ sends in
-          let equal : flow.dst ≡ destination = cc in
-          omega (arith, equal, (All-head (IsFlowOf net) flow slot flows).1)
-      | inr other ↦ destination_fits net slot source destination (All-tail (IsFlowOf net) flow slot flows) (sym (other_source source flow slot other) ∙ sends)
-    ]

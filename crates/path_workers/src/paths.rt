@@ -26,8 +26,8 @@ use std::mem;
 use std::sync::Wait;
 use std::thread::Threads;
 
-/// From so many packets between racks on, workers get threads of their own.
-const MANY: u16 = 16;
+/// From so many packets on, where there is more than one rack, workers get threads of their own.
+const MANY: u32 = 16;
 
 /// Path workers, which give the packets of many slots of one network their cores.
 #[derive(Drop)]
@@ -110,7 +110,7 @@ impl Paths {
         ensures same { AreTheSame self.old self.new }
     {
         let workers = self.painters.len() as u16;
-        let threads = workers > 1 && has_many(&self.net, slots);
+        let threads = workers > 1 && self.net.racks() > 1 && has_many(slots);
         forget(&mut self.painters);
         let painters = mem::replace(&mut self.painters, Vec::new(self.alloc));
         let pass = jobs::take_over(&self.queue, &mut self.pass);
@@ -130,13 +130,11 @@ impl Paths {
     }
 }
 
-/// Whether so many packets go between racks that threads are started for them.
-fn has_many(net: &Net, slots: &SlotTable) -> bool
-    requires { All (All (IsFlowOf net.now)) slots.now.slots }
-{
-    let mut packets = 0u16;
+/// Whether there are so many packets that threads are started for them.
+fn has_many(slots: &SlotTable) -> bool {
+    let mut packets = 0u32;
     for slot in 0..slots.slots() {
-        packets = packets.saturating_add(between_racks(net, slots, slot));
+        packets = packets.saturating_add(count_packets(slots, slot));
         if packets >= MANY {
             return true;
         }
@@ -144,22 +142,17 @@ fn has_many(net: &Net, slots: &SlotTable) -> bool
     false
 }
 
-/// How many packets of the slot go between racks.
-fn between_racks(net: &Net, slots: &SlotTable, slot: u16) -> u16
-    requires slot { slot < length slots.now.slots }
-    requires flows { All (IsFlowOf net.now) (slot_in slots.now.slots slot) }
+/// How many packets the slot has. There is no early end, so many places are read at once.
+fn count_packets(slots: &SlotTable, slot: u16) -> u32
+    requires { slot < length slots.now.slots }
 {
     if slots.is_idle(slot) {
         return 0;
     }
-    let mut packets = 0u16;
-    for source in 0..net.endpoints().min(slots.endpoints()) {
-        if let Some(destination) = slots.to(slot, source) {
-            let crosses = net.rack_of(source) != net.rack_of(destination);
-            packets = packets.saturating_add(u16::from(crosses));
-        }
-    }
-    packets
+    slots.row(slot).iter().fold(
+        0,
+        |count: u32, to| count.wrapping_add(u32::from(to.is_some())),
+    )
 }
 
 /// No worker has coloured a slot of the table that comes.

@@ -93,7 +93,6 @@ fn play_all<'s, E, R: Threads + Wait + Sync, G: Gate + Sync>(
     gate: &'s G,
     slots: &'s SlotTable,
     queue: &'s JobQueue,
-    threads: bool,
     ends: u16,
     painters: &mut Vec<Painter>,
     pass: &mut JobPass,
@@ -109,7 +108,7 @@ fn play_all<'s, E, R: Threads + Wait + Sync, G: Gate + Sync>(
         jobs::put_all(rt, queue, pass, slots.slots(), ends);
         return;
     };
-    let apart = threads && painter.number > 0;
+    let apart = painter.number > 0;
     let seat = Seat {
         painter,
         pass: jobs::split(queue, pass),
@@ -125,16 +124,16 @@ fn play_all<'s, E, R: Threads + Wait + Sync, G: Gate + Sync>(
         { work(rt, gate, slots, queue, seat) };
         match scope.spawn_with(promise, play) {
             Ok(child) => {
-                play_all(scope, rt, gate, slots, queue, threads, ends, painters, pass);
+                play_all(scope, rt, gate, slots, queue, ends, painters, pass);
                 child.join(rt)
             }
             Err(refused) => {
-                play_all(scope, rt, gate, slots, queue, threads, ends, painters, pass);
+                play_all(scope, rt, gate, slots, queue, ends, painters, pass);
                 (refused.value)()
             }
         }
     } else {
-        play_all(scope, rt, gate, slots, queue, threads, ends, painters, pass);
+        play_all(scope, rt, gate, slots, queue, ends, painters, pass);
         work(rt, gate, slots, queue, seat)
     };
     let Seat {
@@ -145,8 +144,46 @@ fn play_all<'s, E, R: Threads + Wait + Sync, G: Gate + Sync>(
     painters.push_reserved(painter);
 }
 
+/// Puts a job for each slot of the table, and then so many ends, and lets the workers take them in threads of their own. Without
+/// `threads` none is started, and nobody takes any yet.
+fn put_and_play<R: Threads + Wait + Sync, G: Gate + Sync>(
+    rt: &R,
+    gate: &G,
+    slots: &SlotTable,
+    queue: &JobQueue,
+    threads: bool,
+    ends: u16,
+    painters: Vec<Painter>,
+    pass: JobPass,
+) -> (Vec<Painter>, JobPass)
+    requires queue { IsPassOf queue.now pass }
+    requires parts { vec_len painters < (view pass).parts }
+    requires may { All (MayPaint slots.now.slots) painters.items }
+    ensures queue { IsPassOf queue.now result.1 }
+    ensures played { HaveAllPlayed slots.now.slots ends painters.items (view pass) result.0.items (view result.1) }
+{
+    if !threads {
+        let mut whole = pass;
+        jobs::put_all(rt, queue, &mut whole, slots.slots(), ends);
+        return (painters, whole);
+    }
+    thread::scope(
+        thread::scope_env(),
+        rt,
+        move |scope| -> (Vec<Painter>, JobPass)
+            requires { IsPassOf queue.now pass × (vec_len painters < (view pass).parts) × All (MayPaint slots.now.slots) painters.items }
+            ensures { IsPassOf queue.entry.now result.1 × HaveAllPlayed slots.entry.now.slots ends painters.items (view pass) result.0.items (view result.1) }
+        {
+            let mut all = painters;
+            let mut whole = pass;
+            play_all(scope, rt, gate, slots, queue, ends, &mut all, &mut whole);
+            (all, whole)
+        },
+    )
+}
+
 /// Colours every slot of the table: each is a job, which one of the workers takes; after them come so many ends. Without
-/// `threads` the caller plays all workers.
+/// `threads` the first worker takes all on the caller's thread.
 pub(crate) fn play<R: Threads + Wait + Sync, G: Gate + Sync>(
     rt: &R,
     gate: &G,
@@ -170,20 +207,8 @@ pub(crate) fn play<R: Threads + Wait + Sync, G: Gate + Sync>(
     ensures len { vec_len result.0 ≡ vec_len painters }
     ensures numbers { numbers_of result.0.items ≡ numbers_of painters.items }
 {
-    let (mut painters, mut pass) = thread::scope(
-        thread::scope_env(),
-        rt,
-        move |scope| -> (Vec<Painter>, JobPass)
-            requires { IsPassOf queue.now pass × (vec_len painters < (view pass).parts) × All (MayPaint slots.now.slots) painters.items }
-            ensures { IsPassOf queue.entry.now result.1 × HaveAllPlayed slots.entry.now.slots ends painters.items (view pass) result.0.items (view result.1) }
-        {
-            let mut all = painters;
-            let mut whole = pass;
-            play_all(
-                scope, rt, gate, slots, queue, threads, ends, &mut all, &mut whole,
-            );
-            (all, whole)
-        },
+    let (mut painters, mut pass) = put_and_play(
+        rt, gate, slots, queue, threads, ends, painters, pass,
     );
     finish(rt, gate, slots, queue, &mut painters[0], &mut pass);
     (painters, pass)

@@ -29,3 +29,4 @@ pub mod SmallLines
 pub mod NeedSteps
 pub mod Finished
 pub mod AuditSteps
+pub mod FrontLines

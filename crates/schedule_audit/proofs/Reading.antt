@@ -78,7 +78,7 @@ small-bit false = omega arith
 
 -- ---- lines
 
-free-bytes : (l : Line) → IsLine l → NoFeed (line_bytes l)
+pub free-bytes : (l : Line) → IsLine l → NoFeed (line_bytes l)
 free-bytes (line.Batch batch src dst clear add) is =
     free-line (codes "batch") (batch ∷ src ∷ dst ∷ bit clear ∷ add ∷ []) refl (
       (let a = is.0 in omega arith),

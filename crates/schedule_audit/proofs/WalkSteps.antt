@@ -14,7 +14,7 @@ use Rattle.schedule_audit.specs.declared.judges.Judges.{Judges}
 use Rattle.schedule_audit.specs.Lines.{Place}
 use Rattle.schedule_audit.specs.FlowNumbers.{Numbers, number_of}
 use Rattle.schedule_audit.specs.Judged.{order_of, AreBefore}
-use Rattle.schedule_audit.specs.Walked.{in_slot, JudgesStand, IsSameText, AreBetween}
+use Rattle.schedule_audit.specs.Walked.{in_slot, JudgesStand, StandApart, IsSameText, AreBetween}
 
 -- ---- orders
 
@@ -110,8 +110,8 @@ row-step slot src visited row to within is =
         length-take-of (x ∷ xs) (suc n) le = ap suc (length-take-of xs n (omega arith))
 
 -- numbers of slots fit 64 bits
-pub few-slots : (visited : List Place) (judges : Judges) (place : Place) → place.slot < 2 ^ 32 → place.flow.src < 65536 → AreBefore (order_of place) visited → JudgesStand visited judges → (length visited + 1 < 2 ^ 64) × ((flow : Flow) → number_of judges.slots flow + 1 < 2 ^ 64)
-few-slots visited judges place slot src before stands =
+pub few-slots : (held visited : List Place) (judges : Judges) (place : Place) → place.slot < 2 ^ 32 → place.flow.src < 65536 → AreBefore (order_of place) visited → StandApart held visited judges → (length visited + 1 < 2 ^ 64) × ((flow : Flow) → number_of judges.slots flow + 1 < 2 ^ 64)
+few-slots held visited judges place slot src before stands =
     let few = stands.few (order_of place) before in (
       omega (arith, few, slot, src),
       λ flow. let is = stands.slots flow in let some = count_by-le-length (λ (p : Place). same_flow p.flow flow) visited in omega (arith, few, slot, src, is, some),

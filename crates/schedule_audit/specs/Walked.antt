@@ -13,16 +13,20 @@ use Rattle.schedule_audit.specs.Judged.{PathsStand, SendsStand, AreBefore}
 abbrev pub in_slot : ℕ → List Flow → List Place
 in_slot slot flows = map (λ flow. record { slot = slot; flow = flow }) flows
 
--- these places went by
-pub record JudgesStand (visited : List Place) (judges : Judges) : Type 0 where
-  pub paths : PathsStand judges.net visited judges.paths
+-- the text was held against these places, and these were counted
+pub record StandApart (held counted : List Place) (judges : Judges) : Type 0 where
+  pub paths : PathsStand judges.net held judges.paths
   pub marks : HaveMarks judges.net judges.paths.links
-  pub sends : SendsStand visited judges.sends
-  pub slots : (flow : Flow) → number_of judges.slots flow ≡ count_by (λ place. same_flow place.flow flow) visited
+  pub sends : SendsStand held judges.sends
+  pub slots : (flow : Flow) → number_of judges.slots flow ≡ count_by (λ place. same_flow place.flow flow) counted
   pub sizes : endpoints_of judges.net ≤ 256
   pub between : judges.slots.endpoints ≡ endpoints_of judges.net
-  pub count : judges.places ≡ length visited
-  pub few : (order : ℕ) → AreBefore order visited → length visited ≤ order
+  pub count : judges.places ≡ length counted
+  pub few : (order : ℕ) → AreBefore order counted → length counted ≤ order
+
+-- these places went by
+abbrev pub JudgesStand : List Place → Judges → Type 0
+JudgesStand visited judges = StandApart visited visited judges
 
 -- the text that is judged stays
 pub record IsSameText (old new : Judges) : Type 0 where

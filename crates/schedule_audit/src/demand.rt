@@ -49,6 +49,8 @@ impl Demand {
         ensures empty { IfOk result (λ demand. demand.items ≡ []) }
     {
         let pairs = endpoints as usize * (endpoints as usize).saturating_sub(1);
+        // As much room as the stage has for what waits: so lists change hands and are not copied.
+        let room = endpoints as usize * endpoints as usize;
         let mut spare = Chain::new(alloc);
         let blank = Item {
             flow: Flow { src: 0, dst: 0 },
@@ -57,8 +59,8 @@ impl Demand {
         };
         spare.fill(pairs, blank)?;
         Ok(Demand {
-            list: DemandList::open(alloc, pairs)?,
-            left: DemandList::open(alloc, pairs)?,
+            list: DemandList::open(alloc, room)?,
+            left: DemandList::open(alloc, room)?,
             stage: Stage::open(alloc, endpoints, b)?,
             spare,
         })

@@ -5,7 +5,7 @@ ghost use Rattle.clos_topology.specs.Network.{endpoints_of};
 ghost use Rattle.schedule_audit.specs.Lines.{Place};
 ghost use Rattle.schedule_audit.specs.Numbered.{Numbered};
 ghost use Rattle.schedule_audit.specs.Judged.{order_of, AreBefore};
-ghost use Rattle.schedule_audit.specs.Walked.{JudgesStand, IsSameText};
+ghost use Rattle.schedule_audit.specs.Walked.{JudgesStand, StandApart, IsSameText};
 
 use crate::flow_numbers::FlowNumbers;
 use crate::packets::{Numbered, Path, Place};
@@ -46,18 +46,28 @@ impl Judges {
         })
     }
 
-    /// Takes the next packet of the schedule.
-    pub(crate) fn visit(&mut self, place: Place)
+    /// Holds the lines against the next packet of the schedule.
+    pub(crate) fn hold(&mut self, place: Place)
         requires src { place.flow.src < endpoints_of self.old.net }
         requires dst { place.flow.dst < endpoints_of self.old.net }
         requires slot { 0 < place.slot }
-        requires number { place.slot < 2 ^ 32 }
-        requires stands { (visited : List Place) × AreBefore (order_of place) visited × JudgesStand visited self.old }
-        ensures stands { (visited : List Place) → AreBefore (order_of place) visited → JudgesStand visited self.old → JudgesStand (visited ++ place ∷ []) self.new }
+        requires stands { (held : List Place) × (counted : List Place) × AreBefore (order_of place) held × StandApart held counted self.old }
+        ensures stands { (held : List Place) → (counted : List Place) → AreBefore (order_of place) held → StandApart held counted self.old → StandApart (held ++ place ∷ []) counted self.new }
         ensures text { IsSameText self.old self.new }
     {
         self.paths.visit(&self.net, place);
         self.sends.visit(place);
+    }
+
+    /// Counts the next packet of the schedule.
+    pub(crate) fn count(&mut self, place: Place)
+        requires src { place.flow.src < endpoints_of self.old.net }
+        requires dst { place.flow.dst < endpoints_of self.old.net }
+        requires number { place.slot < 2 ^ 32 }
+        requires stands { (held : List Place) × (counted : List Place) × AreBefore (order_of place) counted × StandApart held counted self.old }
+        ensures stands { (held : List Place) → (counted : List Place) → AreBefore (order_of place) counted → StandApart held counted self.old → StandApart held (counted ++ place ∷ []) self.new }
+        ensures text { IsSameText self.old self.new }
+    {
         let before = self.slots.get(place.flow);
         self.slots.set(place.flow, before + 1);
         self.places += 1;

@@ -1,14 +1,14 @@
 //! What makes a line of the text of a plan or a replay bad, whatever trace it was made from, and laws of it.
 //!
-//! `schedule_audit` holds a written text against itself. `text.rt` cuts it into lines; `recorded.rt` and `standing.rt` judge a
-//! `batch` line by those before it, with what each flow's entries added (`sums.rt`); `scanned.rt` goes through the lines once,
-//! judges each (`misplaced.rt`) and takes what it says, kind by kind (`collected.rt`). `auditor.rt` has `audit`: where no line is
-//! misplaced, `rounds.rt` plays the text's batches one after the other by one stage (`demand.rt`), each read off the records
-//! (`packets.rt`, `totals.rt` name what lines say). A batch's slots go by at once (`passing.rt`), packet by packet, before
-//! `judges.rt`: `path_lines.rt` holds the next `slot` line against each, with the links that were taken in its slot (`links.rt`),
-//! and `send_lines.rt` finds the `sent` line of each among those sorted by slot and source. `ledger.rt` keeps of each flow what
-//! was added and how many slots came before its last clear, in tables of `flow_numbers.rt`; by these `figures.rt` judges the
-//! lines that sum the text up. No schedule is kept.
+//! `schedule_audit` holds a written text against itself. `text.rt` cuts it into lines, of which `front.rt` reads the frequent
+//! kinds where they stand; `recorded.rt` and `standing.rt` judge a `batch` line by those before it, with what each flow's entries
+//! added (`sums.rt`); `scanned.rt` goes through the lines once, judges each (`misplaced.rt`) and takes what it says, kind by kind
+//! (`collected.rt`). `auditor.rt` has `audit`: where no line is misplaced, `rounds.rt` plays the text's batches one after the
+//! other by one stage (`demand.rt`), each read off the records (`packets.rt`, `totals.rt` name what lines say). A batch's slots
+//! go by at once (`passing.rt`), slot by slot, before `judges.rt`, and are counted: `path_lines.rt` holds the next `slot` line
+//! against each packet, with the links that were taken in its slot (`links.rt`), and `send_lines.rt` finds the `sent` line of each
+//! among those sorted by slot and source. `ledger.rt` keeps of each flow what was added and how many slots came before its last
+//! clear, in tables of `flow_numbers.rt`; by these `figures.rt` judges the lines that sum the text up. No schedule is kept.
 #![tactic(auto)]
 
 mod auditor;
@@ -16,6 +16,7 @@ mod collected;
 mod demand;
 mod figures;
 mod flow_numbers;
+mod front;
 mod judges;
 mod laws;
 mod ledger;

@@ -3,6 +3,7 @@ ghost use Rattle.std.specs.Prelude.{◌≡◌, ◌≢◌, ◌<◌, ◌≤◌, �
 ghost use Rattle.report_text.specs.declared.line.Line.{Line};
 ghost use Rattle.schedule_audit.specs.Reading.{Reads, AreLines, BeginsWith};
 
+use crate::front::front_line;
 use report_text::{Line, read_line};
 
 /// How many bytes stand before the first line feed.
@@ -24,10 +25,14 @@ fn spelled_line(bytes: &[u8]) -> Option<Line>
 }
 
 /// The first line of a text, and the text after it. `None` where its bytes spell no line or it has no line feed.
+#[inline(always)]
 pub(crate) fn first_line(text: &[u8]) -> (Option<Line>, &[u8])
     requires { text.now ≢ [] }
     ensures { BeginsWith text.now result.0 result.1.now }
 {
+    if let Some((line, rest)) = front_line(text) {
+        return (Some(line), rest);
+    }
     let end = line_len(text);
     if end == text.len() {
         return (None, &text[end..]);

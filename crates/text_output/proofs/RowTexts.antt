@@ -1,5 +1,6 @@
 -- The text of a slot, place by place of its row.
-use Rattle.std.proofs.Common.{◌≡◌, ◌<◌, ◌+◌, ℕ, suc, List, [], ◌∷◌, ◌++◌, length, get_or, map, take, drop, Option, Some, None, refl, sym, ap, ◌∙◌, arith}
+use Rattle.std.proofs.Common.{◌≡◌, ◌<◌, ◌+◌, ◌||◌, ℕ, suc, List, [], ◌∷◌, ◌++◌, length, get_or, map, take, drop, Bool, true, false, Option, Some, None, is_some, refl, sym, ap, ◌∙◌, arith}
+use Rattle.std.specs.List.{fold}
 use Rattle.std.proofs.lemmas.List.{map-append, take_more, take-append-drop, length-take-le}
 use Rattle.std.proofs.lemmas.List.Concat.{flat_map-append}
 use Rattle.greedy_rules.specs.declared.flows.Flow.{Flow}
@@ -21,26 +22,47 @@ flows_from-one : (src : ℕ) (cell : Option ℕ) → flows_from src (cell ∷ []
 flows_from-one src None = refl
 flows_from-one src (Some dst) = refl
 
--- one place more of a row
-pub row_more : (line : Flow → Line) (row : List (Option ℕ)) (at : ℕ) (d : Option ℕ) → at < length row
-    → text_of (map line (flows_from 0 (take (at + 1) row))) ≡ text_of (map line (flows_from 0 (take at row))) ++ text_of (map line (flow_list at (get_or row at d)))
-row_more line row at d below =
-    let front : List Flow = flows_from 0 (take at row) in
+-- one place more of a row whose first place is that of the source `from`
+pub row_more : (line : Flow → Line) (from : ℕ) (row : List (Option ℕ)) (at : ℕ) (d : Option ℕ) → at < length row
+    → text_of (map line (flows_from from (take (at + 1) row))) ≡ text_of (map line (flows_from from (take at row))) ++ text_of (map line (flow_list (from + at) (get_or row at d)))
+row_more line from row at d below =
+    let front : List Flow = flows_from from (take at row) in
     let cell : Option ℕ = get_or row at d in
-    let here : 0 + length (take at row) ≡ at = omega (arith, length-take-le at row (omega arith)) in
-    let last : flows_from (0 + length (take at row)) (cell ∷ []) ≡ flow_list at cell = ap (λ (n : ℕ). flows_from n (cell ∷ [])) here ∙ flows_from-one at cell in
-    ap (λ (cells : List (Option ℕ)). text_of (map line (flows_from 0 cells))) (take_more row at d below)
-    ∙ (ap (λ (fs : List Flow). text_of (map line fs)) (flows_from-append 0 (take at row) (cell ∷ []) ∙ ap (λ (fs : List Flow). front ++ fs) last)
-    ∙ (ap text_of (map-append line front (flow_list at cell)) ∙ flat_map-append line_text (map line front) (map line (flow_list at cell))))
+    let here : from + length (take at row) ≡ from + at = omega (arith, length-take-le at row (omega arith)) in
+    let last : flows_from (from + length (take at row)) (cell ∷ []) ≡ flow_list (from + at) cell = ap (λ (n : ℕ). flows_from n (cell ∷ [])) here ∙ flows_from-one (from + at) cell in
+    ap (λ (cells : List (Option ℕ)). text_of (map line (flows_from from cells))) (take_more row at d below)
+    ∙ (ap (λ (fs : List Flow). text_of (map line fs)) (flows_from-append from (take at row) (cell ∷ []) ∙ ap (λ (fs : List Flow). front ++ fs) last)
+    ∙ (ap text_of (map-append line front (flow_list (from + at) cell)) ∙ flat_map-append line_text (map line front) (map line (flow_list (from + at) cell))))
+
+-- the text of a row, and of what comes behind it
+pub row_parts : (line : Flow → Line) (from : ℕ) (row front rest : List (Option ℕ)) → row ≡ front ++ rest
+    → text_of (map line (flows_from from row)) ≡ text_of (map line (flows_from from front)) ++ text_of (map line (flows_from (from + length front) rest))
+row_parts line from row front rest is =
+    let first : List Flow = flows_from from front in
+    let behind : List Flow = flows_from (from + length front) rest in
+    ap (λ (cells : List (Option ℕ)). text_of (map line (flows_from from cells))) is
+    ∙ (ap (λ (fs : List Flow). text_of (map line fs)) (flows_from-append from front rest)
+    ∙ (ap text_of (map-append line first behind) ∙ flat_map-append line_text (map line first) (map line behind)))
 
 -- the whole text of a row, from a place on
-pub row_whole : (line : Flow → Line) (row : List (Option ℕ)) (at : ℕ) (d : Option ℕ) → at < length row
-    → text_of (map line (flows_from 0 row))
-    ≡ (text_of (map line (flows_from 0 (take at row))) ++ text_of (map line (flow_list at (get_or row at d)))) ++ text_of (map line (flows_from (0 + length (take (at + 1) row)) (drop (at + 1) row)))
-row_whole line row at d below =
-    let front : List Flow = flows_from 0 (take (at + 1) row) in
-    let rest : List Flow = flows_from (0 + length (take (at + 1) row)) (drop (at + 1) row) in
-    ap (λ (cells : List (Option ℕ)). text_of (map line (flows_from 0 cells))) (sym (take-append-drop (at + 1) row))
-    ∙ (ap (λ (fs : List Flow). text_of (map line fs)) (flows_from-append 0 (take (at + 1) row) (drop (at + 1) row))
-    ∙ (ap text_of (map-append line front rest)
-    ∙ (flat_map-append line_text (map line front) (map line rest) ∙ ap (λ (t : List ℕ). t ++ text_of (map line rest)) (row_more line row at d below))))
+pub row_whole : (line : Flow → Line) (from : ℕ) (row : List (Option ℕ)) (at : ℕ) (d : Option ℕ) → at < length row
+    → text_of (map line (flows_from from row))
+    ≡ (text_of (map line (flows_from from (take at row))) ++ text_of (map line (flow_list (from + at) (get_or row at d)))) ++ text_of (map line (flows_from (from + length (take (at + 1) row)) (drop (at + 1) row)))
+row_whole line from row at d below =
+    let rest : List Flow = flows_from (from + length (take (at + 1) row)) (drop (at + 1) row) in
+    row_parts line from row (take (at + 1) row) (drop (at + 1) row) (sym (take-append-drop (at + 1) row))
+    ∙ ap (λ (t : List ℕ). t ++ text_of (map line rest)) (row_more line from row at d below)
+
+-- whether a place has a destination, or one before it had
+abbrev or_sends : Bool → Option ℕ → Bool
+or_sends sends to = sends || is_some to
+
+stays_true : (row : List (Option ℕ)) → fold or_sends true row ≡ true
+stays_true [] = refl
+stays_true (to ∷ row) = stays_true row
+
+-- a row in which nobody sends has no flows
+pub no_flows : (src : ℕ) (row : List (Option ℕ)) → fold or_sends false row ≡ false → flows_from src row ≡ []
+no_flows src [] none = refl
+no_flows src (None ∷ row) none = no_flows (src + 1) row none
+no_flows src (Some dst ∷ row) none = let both : true ≡ false = sym (stays_true row) ∙ none in absurd (cc)

@@ -1,5 +1,6 @@
 // The lines of a slot.
-ghost use Rattle.std.specs.Prelude.{◌≡◌, ◌<◌, ◌^◌, length, map};
+ghost use Rattle.std.specs.Prelude.{◌≡◌, ◌<◌, ◌+◌, ◌^◌, ◌||◌, false, is_some, length, map};
+ghost use Rattle.std.specs.List.{fold};
 ghost use Rattle.greedy_rules.specs.SlotTable.{flows_from};
 ghost use Rattle.edge_colouring.specs.Cores.{core_in};
 ghost use Rattle.text_output.specs.Output.{Passes};
@@ -8,6 +9,9 @@ ghost use Rattle.text_output.specs.Text.{text_of, slot_line, flow_list};
 use crate::output::{Output, Stop};
 use fp_edge::Sink;
 use report_text::Numeral;
+
+/// So many places of a row are passed over at once where none of them has a destination.
+const FEW: usize = 32;
 
 /// The packet of a source in the slot of this number, if it sends one.
 fn put_source<K: Sink>(
@@ -36,6 +40,34 @@ fn core_at(cores: &[Option<u16>], src: u16) -> Option<u16>
     }
 }
 
+/// Whether one of these sources sends. There is no early end, so many places are read at once.
+fn has_sender(row: &[Option<u16>]) -> bool
+    ensures { result ≡ fold (λ sends to. sends || is_some to) false row.now }
+{
+    row.iter().fold(false, |sends, to| sends | to.is_some())
+}
+
+/// The packets of some sources, the first of them `from`.
+fn put_few<K: Sink>(
+    output: &mut Output<'_, K>,
+    number: &Numeral,
+    from: usize,
+    row: &[Option<u16>],
+    cores: &[Option<u16>],
+) -> Result<(), Stop>
+    requires { from + length row.now < 2 ^ 16 }
+    ensures { Passes output.old output.new
+        (text_of (map (slot_line number.now (core_in cores.now)) (flows_from from row.now))) result }
+{
+    if !has_sender(row) {
+        return Ok(());
+    }
+    for at in 0..row.len() {
+        put_source(output, number, (from + at) as u16, row[at], cores)?;
+    }
+    Ok(())
+}
+
 /// The packets of a row, by source, in the slot of this number; each with its core, where there is a row of cores.
 pub fn put_row<K: Sink>(
     output: &mut Output<'_, K>,
@@ -47,8 +79,10 @@ pub fn put_row<K: Sink>(
     ensures { Passes output.old output.new
         (text_of (map (slot_line number.now (core_in cores.now)) (flows_from 0 row.now))) result }
 {
-    for at in 0..row.len() {
-        put_source(output, number, at as u16, row[at], cores)?;
+    let mut at = 0;
+    for few in row.chunks(FEW) {
+        put_few(output, number, at, few, cores)?;
+        at += few.len();
     }
     Ok(())
 }

@@ -49,6 +49,18 @@ asking-set slots sources after at number long within asking more here flow low =
   | inr apart ↦ λ some. more (flow / 256) (asking flow low (subst (λ n. 0 < n) (get_or-set_other slots at flow number 0 apart) some))
 ]
 
+pub above-none : (n : ℕ) → 0 < n → nat_lt 0 n ≡ true
+above-none n some = grind (arith, nat_tests)
+
+-- a flow that has slots has others
+pub marked-more : (slots : List ℕ) (rows : List Places) (at number : ℕ) → length slots ≡ 65536 → at < 65536 → 0 < get_or slots at 0 → 0 < number → AreMarked slots rows → AreMarked (set slots at number) rows
+marked-more slots rows at number long within some more marked flow low = elim (cases_eq flow at) [
+  | inl same ↦
+      subst (λ k. is_marked (get_or rows (k / 256) unmarked) (k % 256) ≡ nat_lt 0 (get_or (set slots at number) k 0)) (sym same)
+      (marked at within ∙ above-none (get_or slots at 0) some ∙ sym (ap (λ (n : ℕ). nat_lt 0 n) (get_or-set_same slots at number 0 (omega arith)) ∙ above-none number more))
+  | inr apart ↦ marked flow low ∙ sym (ap (λ (n : ℕ). nat_lt 0 n) (get_or-set_other slots at flow number 0 apart))
+]
+
 -- a place is marked, or its mark is taken
 pub marks-more : (old new : Bool) (place at : ℕ) → place ≢ at → new ≡ (old || place == at) → new ≡ old
 marks-more old new place at apart is =
@@ -95,9 +107,6 @@ none-of n marked is not_marked = let none : nat_lt 0 n ≡ false = sym is ∙ no
 
 pub some-of : (n : ℕ) (marked : Bool) → marked ≡ nat_lt 0 n → marked ≡ true → 0 < n
 some-of n marked is is_marked = let some : nat_lt 0 n ≡ true = sym is ∙ is_marked in grind (arith, nat_tests)
-
-pub above-none : (n : ℕ) → 0 < n → nat_lt 0 n ≡ true
-above-none n some = grind (arith, nat_tests)
 
 pub none-above : {A : Type 0} (n : ℕ) → 0 < n → n ≡ 0 → A
 none-above n some none = absurd (omega (arith, some, none))

@@ -24,6 +24,19 @@ pub net-some : (net : Option Network) (endpoint : ℕ) → endpoint < endpoints_
 net-some None endpoint below = absurd (omega arith)
 net-some (Some net) endpoint below = refl
 
+-- where there is no net, there is no row
+pub no-rows : (before : List Row) (net : Option Network) → net ≡ None → IsNetOf before net → before ≡ []
+no-rows before net none is = by before (rw none at is)
+  where
+    by : (rows : List Row) → length rows ≡ 0 → rows ≡ []
+    by [] e = refl
+    by (row ∷ rows) e = absurd (omega arith)
+
+-- there are at most 256 endpoints
+pub few-endpoints : (before : List Row) (net : Option Network) → IsNetOf before net → endpoints_kept net ≤ 256
+few-endpoints before None is = omega arith
+few-endpoints before (Some net) is = is.2.most_endpoints
+
 pub greatest_round-more : (before : List Row) (row : Row) → greatest_round (before ++ row ∷ []) ≡ max (greatest_round before) (named_round row)
 greatest_round-more [] row = omega arith
 greatest_round-more (first ∷ rows) row = let rest = greatest_round-more rows row in omega arith

@@ -1,5 +1,5 @@
 -- The table of what each flow asked for, where one flow asks for more.
-use Rattle.std.proofs.Common.{◌≡◌, ◌≢◌, ℕ, ◌+◌, ◌*◌, ◌<◌, List, length, set, get_or, Bool, true, false, cond, refl, sym, ◌∙◌, arith}
+use Rattle.std.proofs.Common.{◌≡◌, ◌≢◌, ℕ, ◌+◌, ◌*◌, ◌<◌, zero, suc, List, length, replicate, set, get_or, Bool, true, false, cond, refl, sym, ◌∙◌, arith}
 use Rattle.std.specs.Prelude.{◌==◌, ◌&&◌}
 use Rattle.std.proofs.lemmas.List.{get_or-set_same, get_or-set_other}
 use Rattle.std.proofs.lemmas.Nat.{same_from_place, mul-add-lt}
@@ -30,3 +30,9 @@ table-more totals n round src dst slots s d len low low2 low3 low4 = by (src == 
     by false e b f =
         let differ : src ≢ s = grind (arith, nat_tests) in
         other (λ h. differ (sym (same_from_place s d src dst n low4 low2 h).0)) ∙ omega arith
+
+-- a table of one number
+pub all-same : (x n k : ℕ) → get_or (replicate n x) k x ≡ x
+all-same x zero k = refl
+all-same x (suc n) zero = refl
+all-same x (suc n) (suc k) = all-same x n k

@@ -12,6 +12,9 @@ use Rattle.std.proofs.lemmas.List.Sums.{sum_by-cons}
 use Rattle.clos_topology.specs.Network.{Network, endpoints_of}
 use Rattle.clos_topology.specs.Limits.{IsNetwork}
 use Rattle.trace_text.specs.Asks.{IsAmong, slots_asked, slots_for}
+use Rattle.trace_text.specs.Earlier.{slots_of, slots_in_round}
+use Rattle.trace_text.specs.Rows.{Row}
+use Rattle.trace_text.specs.Rows as row
 use Rattle.trace_text.specs.Events.{AreAmong, events_kept, is_boot_of}
 use Rattle.trace_text.specs.Faults.{is_fate}
 use Rattle.trace_text.specs.Puts.{AreFew, puts_in}
@@ -159,27 +162,57 @@ ask-rounds count src dst ask =
     by true = refl
     by false = refl
 
-rounds-le : (count src dst : ℕ) (asks : List Ask) → sum_by (λ r. sum_by (slots_asked r src dst) asks) (range_with_len 0 count) ≤ sum_by (slots_for src dst) asks
-rounds-le count src dst [] = omega (arith, none-round count 0)
-rounds-le count src dst (ask ∷ asks) =
-    let split : sum_by (λ r. sum_by (slots_asked r src dst) (ask ∷ asks)) (range_with_len 0 count) ≡ sum_by (λ r. slots_asked r src dst ask + sum_by (slots_asked r src dst) asks) (range_with_len 0 count) =
-    ap (λ g. sum_by g (range_with_len 0 count)) (fun_ext (λ r. sum_by-cons (slots_asked r src dst) ask asks)) in
+-- a sum over rounds of sums is at most a sum
+sums-le : {X : Type 0} (part : ℕ → X → ℕ) (whole : X → ℕ) (count : ℕ) (xs : List X) → ((x : X) → sum_by (λ r. part r x) (range_with_len 0 count) ≤ whole x)
+    → sum_by (λ r. sum_by (part r) xs) (range_with_len 0 count) ≤ sum_by whole xs
+sums-le part whole count [] each = omega (arith, none-round count 0)
+sums-le part whole count (x ∷ xs) each =
+    let split : sum_by (λ r. sum_by (part r) (x ∷ xs)) (range_with_len 0 count) ≡ sum_by (λ r. part r x + sum_by (part r) xs) (range_with_len 0 count) =
+    ap (λ g. sum_by g (range_with_len 0 count)) (fun_ext (λ r. sum_by-cons (part r) x xs)) in
     omega (
       arith,
       split,
-      sum_by-plus (λ r. slots_asked r src dst ask) (λ r. sum_by (slots_asked r src dst) asks) (range_with_len 0 count),
-      sum_by-cons (slots_for src dst) ask asks,
-      ask-rounds count src dst ask,
-      rounds-le count src dst asks,
+      sum_by-plus (λ r. part r x) (λ r. sum_by (part r) xs) (range_with_len 0 count),
+      sum_by-cons whole x xs,
+      each x,
+      sums-le part whole count xs each,
     )
 
--- what a flow asks for in one round it asks for
-pub asked-le : (round src dst : ℕ) (asks : List Ask) → sum_by (slots_asked round src dst) asks ≤ sum_by (slots_for src dst) asks
-asked-le round src dst asks = sum_by-below (slots_asked round src dst) (slots_for src dst) asks (λ ask. by (ask.round == round) (ask.src == src) (ask.dst == dst) ask.slots)
+pub rounds-le : (count src dst : ℕ) (asks : List Ask) → sum_by (λ r. sum_by (slots_asked r src dst) asks) (range_with_len 0 count) ≤ sum_by (slots_for src dst) asks
+rounds-le count src dst asks = sums-le (λ r. slots_asked r src dst) (slots_for src dst) count asks (ask-rounds count src dst)
+
+-- the same of rows
+pub row-rounds-le : (count src dst : ℕ) (rows : List Row) → sum_by (λ r. sum_by (slots_in_round r src dst) rows) (range_with_len 0 count) ≤ sum_by (slots_of src dst) rows
+row-rounds-le count src dst rows = sums-le (λ r. slots_in_round r src dst) (slots_of src dst) count rows each
   where
-    by : (a b c : Bool) (slots : ℕ) → cond (a && b && c) slots 0 ≤ cond (b && c) slots 0
-    by true b c slots = omega arith
-    by false b c slots = omega arith
+    each : (row : Row) → sum_by (λ r. slots_in_round r src dst row) (range_with_len 0 count) ≤ slots_of src dst row
+    each (row.Net racks hosts cores) = omega (arith, none-round count 0)
+    each (row.Ask round s d slots) = ask-rounds count src dst (record { round = round; src = s; dst = d; slots = slots })
+    each (row.Meets round endpoint up fate) = omega (arith, none-round count 0)
+    each (row.Boot round endpoint version) = omega (arith, none-round count 0)
+    each (row.Raw round packet) = omega (arith, none-round count 0)
+    each (row.Put endpoint packet) = omega (arith, none-round count 0)
+    each (row.End rounds) = omega (arith, none-round count 0)
+
+-- what a flow asks for in one round it asks for
+in-round : (a b c : Bool) (slots : ℕ) → cond (a && b && c) slots 0 ≤ cond (b && c) slots 0
+in-round true b c slots = omega arith
+in-round false b c slots = omega arith
+
+pub asked-le : (round src dst : ℕ) (asks : List Ask) → sum_by (slots_asked round src dst) asks ≤ sum_by (slots_for src dst) asks
+asked-le round src dst asks = sum_by-below (slots_asked round src dst) (slots_for src dst) asks (λ ask. in-round (ask.round == round) (ask.src == src) (ask.dst == dst) ask.slots)
+
+pub row-asked-le : (round src dst : ℕ) (rows : List Row) → sum_by (slots_in_round round src dst) rows ≤ sum_by (slots_of src dst) rows
+row-asked-le round src dst rows = sum_by-below (slots_in_round round src dst) (slots_of src dst) rows each
+  where
+    each : (row : Row) → slots_in_round round src dst row ≤ slots_of src dst row
+    each (row.Net racks hosts cores) = omega arith
+    each (row.Ask r s d slots) = in-round (r == round) (s == src) (d == dst) slots
+    each (row.Meets r endpoint up fate) = omega arith
+    each (row.Boot r endpoint version) = omega arith
+    each (row.Raw r packet) = omega arith
+    each (row.Put endpoint packet) = omega arith
+    each (row.End rounds) = omega arith
 
 -- a boot is one of one round at most
 boots-le : (count endpoint : ℕ) (boots : List Boot) → sum_by (λ r. length (map (λ boot. boot.version) (filter (is_boot_of r endpoint) boots))) (range_with_len 0 count) ≤ length boots
@@ -216,7 +249,7 @@ total-le endpoints rounds src dst f =
     (sum_by-below _ _ (range_with_len 0 rounds) (λ r. below-cases (λ l. amount_for dst l ≤ f r src dst) endpoints (some_asked endpoints f r) [] src (omega arith) (some-amount endpoints 0 (f r src) dst).0))
 
 pub content_by-sound : (net : Network) (rounds : ℕ) (asks : List Ask) (fates : List GivenFate) (boots : List Boot) (raws : List KeptPacket) (bytes : List ℕ) → IsNetwork net → 1 ≤ rounds → rounds ≤ 100000 → All (IsAmong (endpoints_of net)) asks
-    → ((src dst : ℕ) → sum_by (slots_for src dst) asks ≤ 100000000) → AreAmong (endpoints_of net) fates boots raws bytes → length boots ≤ 67108864 → All (λ byte. byte < 256) bytes
+    → ((src dst : ℕ) → sum_by (λ round. sum_by (slots_asked round src dst) asks) (range_with_len 0 rounds) ≤ 100000000) → AreAmong (endpoints_of net) fates boots raws bytes → length boots ≤ 67108864 → All (λ byte. byte < 256) bytes
     → IsTrace (content_by net rounds (λ round src dst. sum_by (slots_asked round src dst) asks) (events_kept fates boots raws bytes))
 content_by-sound net rounds asks fates boots raws bytes limits some few among bounded within few_boots are = record {
   net = limits;
@@ -232,7 +265,7 @@ content_by-sound net rounds asks fates boots raws bytes limits some few among bo
       let told = some-asked endpoints (f round src) k d lt in
       let none : f round src p.0 ≡ 0 = ap (f round src) same ∙ own-none endpoints round src asks among in
       omega (arith, told.1, told.2, none));
-  bounded = λ src dst. omega (arith, total-le endpoints rounds src dst f, rounds-le rounds src dst asks, bounded src dst);
+  bounded = λ src dst. omega (arith, total-le endpoints rounds src dst f, bounded src dst);
   holds = λ round endpoint up. fate-holds round endpoint up;
   versions = λ round endpoint. table-cases (All (λ version. (1 ≤ version) × (version ≤ 2))) rounds endpoints events.boots [] round endpoint (λ k d lt. absurd (omega arith))
       (versions-told endpoints boots round endpoint within.each_boot);

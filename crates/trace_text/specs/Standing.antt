@@ -11,7 +11,8 @@ use Rattle.trace_text.specs.Fields.{Field, Record, field, has_number, number_at,
 use Rattle.trace_text.specs.Stage.{takes_kind}
 use Rattle.trace_text.specs.Earlier.{net_of, greatest_round, end_of, slots_of, slots_in_round, latest_fate}
 use Rattle.trace_text.specs.Faults.{read_row, read_kind, is_between, is_fate, has_rounds_for}
-use Rattle.trace_text.specs.Asks.{IsAmong, slots_asked, slots_for}
+use Rattle.trace_text.specs.Asks.{IsAmong, slots_asked}
+use Rattle.trace_text.specs.FlowSums.{held, IsTidy, HoldsAmong}
 use Rattle.trace_text.specs.Events.{AreAmong, AreEventsOf, way_number}
 use Rattle.trace_text.specs.Puts.{ArePutsOf}
 use Rattle.trace_text.specs.Trace.{TraceContent, IsFaultOf, content_or_fault, ended}
@@ -101,15 +102,17 @@ IsNetOf before (Some net) = (0 < length before) × (net_of before ≡ net) × Is
 pub record StandsFor (before : List Row) (rows : Rows) : Type 0 where
   pub count : rows.count ≡ length before
   pub net : IsNetOf before rows.net
+  pub endpoints : rows.endpoints ≡ endpoints_kept rows.net
   pub round : rows.round ≡ greatest_round before
   pub ended : rows.end ≡ end_of before
   pub short : IfSome rows.end (λ rounds. (1 ≤ rounds) × (rounds ≤ 100000))
   pub table : length rows.totals.items ≡ endpoints_kept rows.net * endpoints_kept rows.net
   pub totals : (src dst : ℕ) → src < endpoints_kept rows.net → dst < endpoints_kept rows.net → slice_index rows.totals.items (src * endpoints_kept rows.net + dst) ≡ sum_by (slots_of src dst) before
   pub bounded : (src dst : ℕ) → sum_by (slots_of src dst) before ≤ 100000000
-  pub asks : (round src dst : ℕ) → sum_by (slots_asked round src dst) rows.asks.items ≡ sum_by (slots_in_round round src dst) before
-  pub flows : (src dst : ℕ) → sum_by (slots_for src dst) rows.asks.items ≡ sum_by (slots_of src dst) before
+  pub tidy : IsTidy rows.sums
+  pub asks : (round src dst : ℕ) → sum_by (slots_asked round src dst) rows.asks.items + held rows.sums round src dst ≡ sum_by (slots_in_round round src dst) before
   pub among : All (IsAmong (endpoints_kept rows.net)) rows.asks.items
+  pub held_among : HoldsAmong (endpoints_kept rows.net) rows.sums
   pub ways : length rows.fated.items ≡ endpoints_kept rows.net * 2
   pub fated : (endpoint : ℕ) (up : Bool) → endpoint < endpoints_kept rows.net → slice_index rows.fated.items (endpoint * 2 + way_number up) ≡ latest_fate endpoint up before
   pub events : AreEventsOf before rows.events.fates.items rows.events.boots.items rows.events.raws.items rows.events.bytes.items

@@ -6,6 +6,7 @@ ghost use Rattle.trace_text.specs.FlowSums.{flow_of, held, holds_none, IsTidy, H
 
 use crate::ask::Ask;
 use line_marks::Marks;
+use no_memory::NoMemory;
 use std::alloc::{AllocError, Global};
 
 const ENDPOINTS: usize = 256;
@@ -42,7 +43,7 @@ pub fn sum_rounds(alloc: Global, asks: &[Ask]) -> Result<Vec<Ask>, AllocError>
 }
 
 impl FlowSums {
-    fn new(alloc: Global) -> Result<FlowSums, AllocError>
+    pub fn new(alloc: Global) -> Result<FlowSums, AllocError>
         ensures tidy { IfOk result IsTidy }
         ensures none { IfOk result holds_none }
     {
@@ -58,8 +59,8 @@ impl FlowSums {
         })
     }
 
-    // Goes on with this round, where it is another one, and hands out what the last one asked for.
-    fn turn_to(&mut self, round: u32, summed: &mut Vec<Ask>) -> Result<(), AllocError>
+    /// Goes on with this round, where it is another one, and hands out what the last one asked for.
+    pub fn turn_to(&mut self, round: u32, summed: &mut Vec<Ask>) -> Result<(), AllocError>
         requires tidy { IsTidy self.old }
         ensures tidy { OnOk result (IsTidy self.new) }
         ensures round { OnOk result (self.new.round ≡ round) }
@@ -74,8 +75,8 @@ impl FlowSums {
         Ok(())
     }
 
-    // Adds the slots of an ask of the round to those of its flow.
-    fn add(&mut self, ask: &Ask)
+    /// Adds the slots of an ask of the round to those of its flow.
+    pub fn add(&mut self, ask: &Ask)
         requires tidy { IsTidy self.old }
         requires round { ask.now.round ≡ self.old.round }
         requires small { IsAmong 256 ask.now }
@@ -86,7 +87,11 @@ impl FlowSums {
     {
         let src = usize::from(ask.src);
         let dst = usize::from(ask.dst);
-        self.slots[src * ENDPOINTS + dst] += ask.slots;
+        let before = self.slots[src * ENDPOINTS + dst];
+        self.slots[src * ENDPOINTS + dst] = before + ask.slots;
+        if before > 0 {
+            return;
+        }
         self.sources.set(src);
         self.destinations[src].set(dst);
     }
@@ -112,6 +117,18 @@ impl FlowSums {
         }
         self.sources.clear_all();
         Ok(())
+    }
+
+    /// These asks, and behind them those of the round.
+    pub fn finish(self, asks: Vec<Ask>) -> Result<Vec<Ask>, NoMemory>
+        requires tidy { IsTidy self }
+        ensures among { IfOk result (λ all. (endpoints : ℕ) → All (IsAmong endpoints) asks.items → HoldsAmong endpoints self → All (IsAmong endpoints) all.items) }
+        ensures sums { IfOk result (λ all. (round src dst : ℕ) → sum_by (slots_asked round src dst) all.items ≡ sum_by (slots_asked round src dst) asks.items + held self round src dst) }
+    {
+        let mut sums = self;
+        let mut all = asks;
+        sums.drain_into(&mut all)?;
+        Ok(all)
     }
 
     // Takes the slots of a flow out.

@@ -7,7 +7,7 @@
 //! `clos_topology`'s `Net`, which has the limits; a raw packet stays in hexadecimal until it is kept), `rows.rt` judges the row
 //! against the rows so far and keeps it, `events.rt` has fates, boots and raw packets, `order.rt` sorts by rank and finds a part
 //! of what is sorted, for any type with a rank, `flow_sums.rt` makes one ask a flow of the asks of a round, in order and without
-//! a sort, `trace.rt` answers. `make.rt` draws a trace. `packets.rt` keeps packets one behind the other, each under a number: raw
+//! a sort, as they are read, so that no other ask is kept, `trace.rt` answers. `make.rt` draws a trace. `packets.rt` keeps packets one behind the other, each under a number: raw
 //! packets under their round, packets that are put under their endpoint (`puts.rt`). `proofs/Crossing.antt`: a trace may be read
 //! in several threads.
 #![tactic(auto)]

@@ -20,7 +20,7 @@ pub fn read_trace(alloc: Global, bytes: &[u8], command: Command) -> Result<Trace
 {
     let mut records = Records::new(alloc, bytes);
     let mut fields = ByteRecord::new(alloc);
-    let mut rows = Rows::new(alloc);
+    let mut rows = Rows::new(alloc)?;
     loop {
         let found = records.read(&mut fields)?;
         match found {
@@ -49,5 +49,6 @@ fn finish(rows: Rows) -> Result<Trace, TraceRefused>
             fault: Fault::NoEnd,
         });
     };
-    Ok(Trace::of(rows.alloc, net, rounds, rows.asks, rows.events, rows.puts)?)
+    let asks = rows.sums.finish(rows.asks)?;
+    Ok(Trace::of(rows.alloc, net, rounds, asks, rows.events, rows.puts)?)
 }

@@ -17,6 +17,7 @@ ghost use Rattle.trace_text.specs.declared.taken_row.TakenRow.TheVariants as tak
 use crate::ask::Ask;
 use crate::events::{Boot, EventRows, GivenFate};
 use crate::fields::field;
+use crate::flow_sums::FlowSums;
 use crate::kind::Kind;
 use crate::plain_ask::PlainAsk;
 use crate::puts::PutRows;
@@ -42,11 +43,15 @@ pub struct Rows {
     pub alloc: Global,
     pub count: u32,
     pub net: Option<Net>,
+    // How many endpoints the net has, where there is one.
+    pub endpoints: u32,
     pub round: u32,
     pub end: Option<u32>,
     // What each flow asked for, by source and then destination.
     pub totals: Vec<u32>,
+    // What is asked for, summed by round and flow: of the rounds before the latest that an ask names, and of that one.
     pub asks: Vec<Ask>,
+    pub sums: FlowSums,
     // The round after the latest in which a packet was given a fate, by endpoint and way; 0 for none.
     pub fated: Vec<u32>,
     pub events: EventRows,
@@ -54,21 +59,23 @@ pub struct Rows {
 }
 
 impl Rows {
-    pub fn new(alloc: Global) -> Rows
-        ensures { StandsFor [] result }
+    pub fn new(alloc: Global) -> Result<Rows, NoMemory>
+        ensures { IfOk result (StandsFor []) }
     {
-        Rows {
+        Ok(Rows {
             alloc,
             count: 0,
             net: None,
+            endpoints: 0,
             round: 0,
             end: None,
             totals: Vec::new(alloc),
             asks: Vec::new(alloc),
+            sums: FlowSums::new(alloc)?,
             fated: Vec::new(alloc),
             events: EventRows::new(alloc),
             puts: PutRows::new(alloc),
-        }
+        })
     }
 
     /// The row with these fields, or its fault.
@@ -232,7 +239,8 @@ impl Rows {
 
     #[tactic(auto, unfolding(crate::specs::Faults::checked))]
     fn boot_fault(&self, round: u32, endpoint: u32, version: u8) -> Option<Fault>
-        requires { is_between 1 2 version ≡ true }
+        requires stands { Stands self.now }
+        requires version { is_between 1 2 version ≡ true }
         ensures fault { (before : List Row) → StandsFor before self.now → checked before (row.Boot round endpoint version) ≡ row_unless (row.Boot round endpoint version) result }
         ensures allowed { IfNone result (IsAllowed self.now (taken.Boot round endpoint version)) }
     {
@@ -339,6 +347,7 @@ impl Rows {
         self.totals = vec![in self.alloc; 0; endpoints * endpoints]?;
         self.fated = vec![in self.alloc; 0; endpoints * 2]?;
         self.puts.open(self.alloc, net.endpoints())?;
+        self.endpoints = u32::from(net.endpoints());
         self.net = Some(net);
         self.count = 1;
         Ok(())
@@ -351,12 +360,13 @@ impl Rows {
         ensures { (before : List Row) → StandsFor before self.old → OnOk result (StandsFor (before ++ row.Ask round src dst slots ∷ []) self.new) }
     {
         let at = self.place_of(src, dst);
-        self.asks.push(Ask {
+        self.sums.turn_to(round, &mut self.asks)?;
+        self.sums.add(&Ask {
             round,
             src: src as u16,
             dst: dst as u16,
             slots,
-        })?;
+        });
         self.totals[at] += slots;
         self.round = round;
         self.count += 1;
@@ -422,6 +432,7 @@ impl Rows {
     }
 
     fn is_ask(&self, round: u32, src: u32, dst: u32, slots: u32) -> bool
+        requires { Stands self.now }
         ensures { result ≡ is_in_range (endpoints_kept self.now.net) (row.Ask round src dst slots) }
     {
         let endpoints = self.endpoints();
@@ -494,12 +505,10 @@ impl Rows {
 
     // How many endpoints the net has, where there is one.
     fn endpoints(&self) -> u32
+        requires { Stands self.now }
         ensures number { result ≡ endpoints_kept self.now.net }
         ensures few { result ≤ 256 }
     {
-        match &self.net {
-            Some(net) => u32::from(net.endpoints()),
-            None => 0,
-        }
+        self.endpoints
     }
 }

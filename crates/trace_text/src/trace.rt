@@ -1,8 +1,9 @@
 // What a trace holds.
 ghost use Rattle.std.specs.Prelude.{◌≡◌, ◌<◌, ◌≤◌, ◌^◌, ℕ, true, false, Some, length, map, slice_get, sum_by, All, IfOk};
+ghost use Rattle.std.specs.List.{range_with_len};
 ghost use Rattle.clos_topology.specs.Network.{endpoints_of};
 ghost use Rattle.clos_topology.specs.Limits.{IsNetwork};
-ghost use Rattle.trace_text.specs.Asks.{slots_asked, slots_for, ask_for, asks_in, IsAmong};
+ghost use Rattle.trace_text.specs.Asks.{slots_asked, ask_for, asks_in, IsAmong};
 ghost use Rattle.trace_text.specs.Events.{AreAmong, events_kept};
 ghost use Rattle.trace_text.specs.Puts.{AreFew, puts_in};
 ghost use Rattle.trace_text.specs.Trace.{asked_at, fate_at, boots_at, raw_at, puts_at, content_by, with_puts, each_below, last_of};
@@ -88,7 +89,8 @@ impl Trace {
         requires some { 1 ≤ rounds }
         requires few { rounds ≤ 100000 }
         requires among { All (IsAmong (endpoints_of net)) asks.items }
-        requires bounded { (src dst : ℕ) → sum_by (slots_for src dst) asks.items ≤ 100000000 }
+        requires small { (round src dst : ℕ) → sum_by (slots_asked round src dst) asks.items ≤ 100000000 }
+        requires bounded { (src dst : ℕ) → sum_by (λ round. sum_by (slots_asked round src dst) asks.items) (range_with_len 0 rounds) ≤ 100000000 }
         requires events { AreAmong (endpoints_of net) events.fates.items events.boots.items events.raws.items events.bytes.items }
         requires boots { length events.boots.items ≤ 67108864 }
         requires raws { length events.raws.items ≤ 67108864 }
@@ -102,7 +104,7 @@ impl Trace {
             mut raws,
             bytes,
         } = events;
-        let asks = settle(alloc, &asks)?;
+        let asks = settle(alloc, asks)?;
         let ask_starts = starts_of(alloc, rounds, ASK_RANKS, &asks)?;
         sort(&mut fates)?;
         let fate_starts = starts_of(alloc, rounds, FATE_RANKS, &fates)?;

@@ -1,13 +1,13 @@
 -- The slots of one table, put into empty places of another, flow by flow.
-use Rattle.std.proofs.Common.{◌≡◌, ◌<◌, ◌≤◌, ◌+◌, ◌-◌, ℕ, suc, List, [], ◌∷◌, ◌++◌, length, get_or, set, take, drop, replicate, Option, Some, None, nat_lt, All, AllPairs, IfSome, refl, sym, ap, ◌∙◌, subst, arith, inl, inr}
-use Rattle.std.proofs.lemmas.Bool.{cond-true, cond-false, cases_Bool, ltb-true, lt-ltb, ne_eqb}
+use Rattle.std.proofs.Common.{◌≡◌, ◌<◌, ◌≤◌, ◌+◌, ◌-◌, ℕ, zero, suc, List, [], ◌∷◌, ◌++◌, length, get_or, set, take, drop, replicate, Option, Some, None, nat_lt, All, AllPairs, IfSome, refl, sym, ap, ◌∙◌, subst, arith, inl, inr}
+use Rattle.std.proofs.lemmas.Bool.{cond-true, cond-false, cases_Bool, ltb-true, lt-ltb, eq-eqb, ne_eqb}
 use Rattle.std.proofs.lemmas.List.{append-nil, append_assoc, length-append, length-take, get_or_at, set_at, set-set, set-get_or, get_or-set_same, take_more, take-append-drop}
 use Rattle.std.proofs.lemmas.List.Elements.{All-nil, All-cons, All-head, All-tail, All-weaker}
 use Rattle.greedy_rules.specs.declared.flows.Flow.{Flow}
 use Rattle.greedy_rules.specs.Slot.{slot_with}
 use Rattle.greedy_rules.specs.Schedule.{slot_in}
 use Rattle.greedy_rules.specs.SlotTable.{destination_of, flows_from}
-use Rattle.greedy_rules.proofs.Facts.{before, sent, before-none, before-all, before_more, other_source, sent_flow}
+use Rattle.greedy_rules.proofs.Facts.{before, sent, before-none, before-all, before_more, this_source, other_source, sent_flow}
 
 -- a source above all of a slot's sends nothing, and comes last
 pub sends_nothing : (source : ℕ) (slot : List Flow) → All (λ flow. flow.src < source) slot → destination_of slot source ≡ None
@@ -53,6 +53,24 @@ slot_so_far old slots place source slot within is =
 pub dst_within : (endpoints source : ℕ) (slot : List Flow) (to : Option ℕ) → All (λ flow. (flow.src < endpoints) × (flow.dst < endpoints)) slot → to ≡ destination_of slot source → IfSome to (λ dst. dst < endpoints)
 dst_within endpoints source slot None all is = tt
 dst_within endpoints source slot (Some dst) all is = (sent_flow (λ (flow : Flow). (flow.src < endpoints) × (flow.dst < endpoints)) slot source dst all (sym is)).1
+
+none_before : (k src : ℕ) (cells : List (Option ℕ)) → src < k → destination_of (flows_from k cells) src ≡ None
+none_before k src [] low = refl
+none_before k src (None ∷ cells) low = none_before (k + 1) src cells (omega arith)
+none_before k src (Some dst ∷ cells) low =
+    other_source src (record { src = k; dst = dst }) (flows_from (k + 1) cells) (ne_eqb _ _ (λ same. omega arith)) ∙ none_before (k + 1) src cells (omega arith)
+
+cell_from : (k i src : ℕ) (cells : List (Option ℕ)) (d : Option ℕ) → src ≡ k + i → i < length cells → get_or cells i d ≡ destination_of (flows_from k cells) src
+cell_from k i src [] d is below = absurd (omega (arith, below))
+cell_from k zero src (None ∷ cells) d is below = sym (none_before (k + 1) src cells (omega arith))
+cell_from k (suc i) src (None ∷ cells) d is below = cell_from (k + 1) i src cells d (omega arith) (omega (arith, below))
+cell_from k zero src (Some dst ∷ cells) d is below = sym (this_source src (record { src = k; dst = dst }) (flows_from (k + 1) cells) (eq-eqb k src (omega (arith, is))))
+cell_from k (suc i) src (Some dst ∷ cells) d is below =
+    cell_from (k + 1) i src cells d (omega arith) (omega (arith, below)) ∙ sym (other_source src (record { src = k; dst = dst }) (flows_from (k + 1) cells) (ne_eqb _ _ (λ same. omega arith)))
+
+-- what stands at a source's place of a row is where it sends
+pub cell_is : (at : ℕ) (cells : List (Option ℕ)) (slot : List Flow) (d : Option ℕ) → at < length cells → flows_from 0 cells ≡ slot → get_or cells at d ≡ destination_of slot at
+cell_is at cells slot d below is = cell_from 0 at at cells d (omega arith) below ∙ ap (λ (flows : List Flow). destination_of flows at) is
 
 -- what one source more sends was put
 pub more_put : (old slots next : List (List Flow)) (place source : ℕ) (slot : List Flow) (to : Option ℕ) → place < length old → AllPairs (λ f g. f.src < g.src) slot → slots ≡ set old place (before source slot) → to ≡ destination_of slot source

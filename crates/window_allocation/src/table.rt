@@ -35,8 +35,9 @@ fn put_slot(from: &SlotTable, slot: u16, out: &mut SlotTable, to: u16)
     if from.is_idle(slot) {
         return;
     }
+    let row = from.row(slot);
     for src in 0..from.endpoints() {
-        put_flow(out, to, src, from.to(slot, src));
+        put_flow(out, to, src, row[src as usize]);
     }
 }
 

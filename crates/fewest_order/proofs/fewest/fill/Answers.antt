@@ -1,65 +1,79 @@
-use Rattle.std.proofs.Common.{◌≡◌, ◌+◌, ◌≤◌, ◌++◌, ℕ, List, length, ap, ◌∙◌, subst, arith}
+use Rattle.std.proofs.Common.{◌≡◌, ◌+◌, ◌≤◌, ◌++◌, ℕ, List, length, take, sym, ap, ◌∙◌, subst, arith}
 use Rattle.std.specs.Prelude.{vec_len, vec_capacity}
+use Rattle.std.specs.List.Sorted.{IsNonDecreasingBy}
 use Rattle.std.proofs.lemmas.Bool.{cond-true}
-use Rattle.std.proofs.lemmas.Result.{on_ok_weaker}
-use Rattle.list_facts.proofs.StableSort.{rises_from}
+use Rattle.list_facts.specs.Order.{sort_by}
+use Rattle.list_facts.proofs.StableSort.{length-sort_by}
 use Rattle.greedy_rules.specs.declared.flows.Item.{Item}
-use Rattle.greedy_rules.specs.declared.limits.Limits.{Limits}
-use Rattle.greedy_rules.specs.Demands.{by_key}
-use Rattle.greedy_rules.specs.Limits.{is_barred}
-use Rattle.greedy_rules.specs.Examples.{remaining}
-use Rattle.slot_batches.specs.Filled.{HasTakenUp}
-use Rattle.slot_batches.specs.Progress.{StandsAfter}
-use Rattle.slot_batches.proofs.FilledLemmas.{lengths_after}
-use Rattle.slot_batches.proofs.SlotExchange.{slot_by_slot}
-use Rattle.fewest_order.proofs.FewestLemmas.{need_of, sorted_after_slots}
+use Rattle.slot_batches.specs.Filled.{MayBeTakenUp}
+use Rattle.slot_batches.proofs.ListOrder.{in_order-sort_by}
+use Rattle.fewest_order.proofs.PlaceLemmas.{need_of}
+use Rattle.fewest_order.proofs.FewestLemmas.{filled}
 use Rattle.fewest_order.proofs.fewest.fill.Goals as goal
-use Rattle.fewest_order.proofs.fewest.fill.Goals.{After-sort}
 
--- what stands once the items had their turns
-stands : (c : After-sort) → StandsAfter (is_barred c.args.limits) c.args.first_slot c.args.turns.now.b c.args.items.now.items c.fill.new.self.slots c.fill.new.self.waiting c.fill.new.self.served
-stands c =
-    let now = c.fill.new.self in
-    let items : List Item = c.args.items.now.items in
-    let taken : HasTakenUp items now = subst (λ (xs : List Item). HasTakenUp xs now) c.deref.ensures.value c.fill.ensures.taken_up in
-    subst (λ (n : ℕ). StandsAfter (is_barred c.args.limits) c.args.first_slot n items now.slots now.waiting now.served) c.fill.ensures.b
-    (subst (λ (n : ℕ). StandsAfter (is_barred c.args.limits) n now.b items now.slots now.waiting now.served) c.fill.ensures.first
-    (subst (λ (l : Limits). StandsAfter (is_barred l) now.first_slot now.b items now.slots now.waiting now.served) c.fill.ensures.limits taken.stands))
+pub returns-in_err-sort-clause-slots : goal.returns-in_err-sort-clause-slots
+returns-in_err-sort-clause-slots c =
+    (filled c.args.limits c.args.first_slot c.args.turns.now.b c.place-idle.result c.args.items.now.items c.deref.result.now c.deref-2.result.now c.fill.new.self c.requires.order
+    (subst (λ (n : ℕ). MayBeTakenUp n c.args.first_slot c.args.items.now.items) (sym c.fill.ensures.endpoints) c.requires.may) c.deref.ensures.value c.place-idle.ensures.within c.place-idle.ensures.before
+    c.deref-2.ensures.value c.fill.ensures.taken_up c.fill.ensures.b c.fill.ensures.first c.fill.ensures.limits).slots_are
 
-lengths : (c : After-sort) → length c.fill.new.self.waiting + length c.fill.new.self.served ≡ length c.args.items.now.items
-lengths c =
-    let now = c.fill.new.self in
-    lengths_after (is_barred c.args.limits) c.args.first_slot c.args.turns.now.b c.args.items.now.items now.slots now.waiting now.served (stands c)
+pub put_among-requires-clause-standing : goal.put_among-requires-clause-standing
+put_among-requires-clause-standing c =
+    subst (IsNonDecreasingBy need_of) (sym c.waiting.ensures)
+    (filled c.args.limits c.args.first_slot c.args.turns.now.b c.place-idle.result c.args.items.now.items c.deref.result.now c.deref-2.result.now c.fill.new.self c.requires.order
+    (subst (λ (n : ℕ). MayBeTakenUp n c.args.first_slot c.args.items.now.items) (sym c.fill.ensures.endpoints) c.requires.may) c.deref.ensures.value c.place-idle.ensures.within c.place-idle.ensures.before
+    c.deref-2.ensures.value c.fill.ensures.taken_up c.fill.ensures.b c.fill.ensures.first c.fill.ensures.limits).order
 
-first_part : (c : After-sort) → c.extend_from_slice.new.self.items ≡ c.fill.new.self.waiting
-first_part c =
-    let waits : c.waiting.result.now ≡ c.fill.new.self.waiting = c.waiting.ensures in
-    let room : vec_len c.clear.new.self + length c.waiting.result.now ≤ vec_capacity c.clear.new.self =
-    omega (arith, c.clear.ensures.len, c.clear.ensures.capacity, ap length waits, lengths c, c.args.items.now.ok.0) in
+pub put_among-requires-clause-others : goal.put_among-requires-clause-others
+put_among-requires-clause-others c =
+    subst (IsNonDecreasingBy need_of) (sym (c.deref-3.ensures.value ∙ c.in_ok-sort.ensures.sorted)) (in_order-sort_by need_of c.extend_from_slice.new.self.items)
+
+pub put_among-requires-clause-room : goal.put_among-requires-clause-room
+put_among-requires-clause-room c =
+    let lengths : length c.fill.new.self.waiting + length c.fill.new.self.served + c.place-idle.result ≡ length c.args.items.now.items =
+    (filled c.args.limits c.args.first_slot c.args.turns.now.b c.place-idle.result c.args.items.now.items c.deref.result.now c.deref-2.result.now c.fill.new.self c.requires.order
+    (subst (λ (n : ℕ). MayBeTakenUp n c.args.first_slot c.args.items.now.items) (sym c.fill.ensures.endpoints) c.requires.may) c.deref.ensures.value c.place-idle.ensures.within c.place-idle.ensures.before
+    c.deref-2.ensures.value c.fill.ensures.taken_up c.fill.ensures.b c.fill.ensures.first c.fill.ensures.limits).lengths in
+    let room : vec_len c.clear.new.self + length c.served.result.now ≤ vec_capacity c.clear.new.self =
+    omega (arith, c.clear.ensures.len, c.clear.ensures.capacity, ap length c.served.ensures, lengths, c.requires.room) in
+    let copied : c.extend_from_slice.new.self.items ≡ c.fill.new.self.served =
     c.extend_from_slice.ensures.items
-    ∙ (cond-true _ (c.clear.new.self.items ++ c.waiting.result.now) c.clear.new.self.items (c.extend_from_slice.ensures.succeeds room)
-    ∙ (ap (λ (xs : List Item). xs ++ c.waiting.result.now) c.clear.ensures.items ∙ waits))
-
-both_parts : (c : After-sort) → c.extend_from_slice-2.new.self.items ≡ c.fill.new.self.waiting ++ c.fill.new.self.served
-both_parts c =
-    let serves : c.served.result.now ≡ c.fill.new.self.served = c.served.ensures in
-    let room : vec_len c.extend_from_slice.new.self + length c.served.result.now ≤ vec_capacity c.extend_from_slice.new.self =
-    omega (arith, ap length (first_part c), c.extend_from_slice.ensures.capacity, c.clear.ensures.capacity, ap length serves, lengths c, c.args.items.now.ok.0) in
-    c.extend_from_slice-2.ensures.items
-    ∙ (cond-true _ (c.extend_from_slice.new.self.items ++ c.served.result.now) c.extend_from_slice.new.self.items (c.extend_from_slice-2.ensures.succeeds room)
-    ∙ (ap (λ (xs : List Item). xs ++ c.served.result.now) (first_part c) ∙ ap (λ (xs : List Item). c.fill.new.self.waiting ++ xs) serves))
+    ∙ (cond-true _ (c.clear.new.self.items ++ c.served.result.now) c.clear.new.self.items (c.extend_from_slice.ensures.succeeds room)
+    ∙ (ap (λ (xs : List Item). xs ++ c.served.result.now) c.clear.ensures.items ∙ c.served.ensures)) in
+    let sorted : c.deref-3.result.now ≡ sort_by need_of c.fill.new.self.served = c.deref-3.ensures.value ∙ (c.in_ok-sort.ensures.sorted ∙ ap (sort_by need_of) copied) in
+    omega (
+      arith,
+      ap length sorted,
+      length-sort_by need_of c.fill.new.self.served,
+      ap length c.waiting.ensures,
+      lengths,
+      c.truncate.ensures.len,
+      c.truncate.ensures.capacity,
+      c.args.items.now.ok.0,
+    )
 
 pub returns-clause-items : goal.returns-clause-items
 returns-clause-items c =
     let now = c.fill.new.self in
-    let s = stands c in
-    on_ok_weaker c.sort.result
-    (λ sorted. sorted
-    ∙ (ap (by_key remaining) (both_parts c)
-    ∙ sorted_after_slots (is_barred c.args.limits) c.args.first_slot c.args.turns.now.b c.args.items.now.items now.waiting now.served
-    (rises_from need_of c.args.items.now.items c.requires.order) c.requires.may.once c.requires.may.below s.waiting_are s.served_are))
-    c.sort.ensures.sorted
+    let front : List Item = take c.place-idle.result c.args.items.now.items in
+    let all =
+    filled c.args.limits c.args.first_slot c.args.turns.now.b c.place-idle.result c.args.items.now.items c.deref.result.now c.deref-2.result.now c.fill.new.self c.requires.order
+    (subst (λ (n : ℕ). MayBeTakenUp n c.args.first_slot c.args.items.now.items) (sym c.fill.ensures.endpoints) c.requires.may) c.deref.ensures.value c.place-idle.ensures.within c.place-idle.ensures.before
+    c.deref-2.ensures.value c.fill.ensures.taken_up c.fill.ensures.b c.fill.ensures.first c.fill.ensures.limits in
+    let room : vec_len c.clear.new.self + length c.served.result.now ≤ vec_capacity c.clear.new.self =
+    omega (arith, c.clear.ensures.len, c.clear.ensures.capacity, ap length c.served.ensures, all.lengths, c.requires.room) in
+    let copied : c.extend_from_slice.new.self.items ≡ now.served =
+    c.extend_from_slice.ensures.items
+    ∙ (cond-true _ (c.clear.new.self.items ++ c.served.result.now) c.clear.new.self.items (c.extend_from_slice.ensures.succeeds room)
+    ∙ (ap (λ (xs : List Item). xs ++ c.served.result.now) c.clear.ensures.items ∙ c.served.ensures)) in
+    let sorted : c.deref-3.result.now ≡ sort_by need_of now.served = c.deref-3.ensures.value ∙ (c.in_ok-sort.ensures.sorted ∙ ap (sort_by need_of) copied) in
+    c.put_among.ensures.items
+    ∙ (ap (λ (xs : List Item). xs ++ sort_by need_of (c.waiting.result.now ++ c.deref-3.result.now)) c.truncate.ensures.items
+    ∙ (ap (λ (xs : List Item). front ++ sort_by need_of (xs ++ c.deref-3.result.now)) c.waiting.ensures
+    ∙ (ap (λ (xs : List Item). front ++ sort_by need_of (now.waiting ++ xs)) sorted ∙ all.left)))
 
 pub returns-clause-slots : goal.returns-clause-slots
 returns-clause-slots c =
-    (stands c).slots_are ∙ (slot_by_slot (is_barred c.args.limits) c.args.first_slot c.args.turns.now.b c.args.items.now.items c.requires.may.once).slots
+    (filled c.args.limits c.args.first_slot c.args.turns.now.b c.place-idle.result c.args.items.now.items c.deref.result.now c.deref-2.result.now c.fill.new.self c.requires.order
+    (subst (λ (n : ℕ). MayBeTakenUp n c.args.first_slot c.args.items.now.items) (sym c.fill.ensures.endpoints) c.requires.may) c.deref.ensures.value c.place-idle.ensures.within c.place-idle.ensures.before
+    c.deref-2.ensures.value c.fill.ensures.taken_up c.fill.ensures.b c.fill.ensures.first c.fill.ensures.limits).slots_are

@@ -1,7 +1,15 @@
-use Rattle.std.proofs.Common.{◌≡◌, ◌<◌, suc, ◌∷◌, ◌++◌, ◌+◌, ◌-◌, length, take, drop, arith, inl, ap, sym, ◌∙◌, length-drop}
+use Rattle.std.proofs.Common.{◌≡◌, ◌<◌, suc, ◌∷◌, ◌++◌, ◌+◌, ◌-◌, length, take, drop, arith, inl, ap, refl, sym, ◌∙◌, length-drop}
 use Rattle.std.proofs.lemmas.List.{take_all}
+use Rattle.report_text.specs.Lines.{line_bytes}
 use Rattle.schedule_audit.proofs.FirstLines.{cut_at, free_front}
+use Rattle.schedule_audit.proofs.Reading.{free-bytes}
 use Rattle.schedule_audit.proofs.text.first_line.Goals as goal
+
+pub returns-in-Some : goal.returns-in-Some
+returns-in-Some c =
+    let line = c.in-Some.line in
+    let read = c.in-Some.ensures in
+    inl (line_bytes line, read.spelled, free-bytes line read.fits, (read.fits, refl))
 
 pub returns : goal.returns
 returns c =

@@ -1,9 +1,10 @@
 use Rattle.std.proofs.Common.{◌≡◌, ◌≤◌, ℕ, List, IfOk, sym, subst, arith}
 use Rattle.clos_topology.specs.Network.{endpoints_of}
-use Rattle.trace_text.specs.Made.{asks_of_round, losses_of_round, made_trace, state_after, state_before}
+use Rattle.trace_text.specs.Made.{asks_of_round, losses_of_round, made_asks, made_trace, state_after, state_before}
 use Rattle.trace_text.specs.Trace.{with_puts}
 use Rattle.trace_text.proofs.MadeFacts.{asks-among, asks-bounded, losses-among, flat_map-more, round-next}
 use Rattle.trace_text.proofs.PutFacts.{none_few, none_kept}
+use Rattle.trace_text.proofs.ValidFacts.{asked-le, rounds-le}
 use Rattle.trace_text.proofs.make.make_trace.Goals as goal
 
 pub loop-round-preserved : goal.loop-round-preserved
@@ -27,10 +28,17 @@ loop-round-preserved c =
 pub of-requires-clause-among : goal.of-requires-clause-among
 of-requires-clause-among c = rw c.loop-round.invariant.asks (asks-among c.args.number (endpoints_of c.args.net) c.loop-round.round c.requires.endpoints)
 
+pub of-requires-clause-small : goal.of-requires-clause-small
+of-requires-clause-small c = λ round src dst.
+    let few : c.loop-round.round ≤ 100000 = omega (arith, c.loop-round.auto.round-end, c.requires.few) in
+    let asks = made_asks c.args.number (endpoints_of c.args.net) c.loop-round.round in
+    rw c.loop-round.invariant.asks (omega (arith, asked-le round src dst asks, asks-bounded c.args.number (endpoints_of c.args.net) c.loop-round.round src dst c.requires.endpoints few))
+
 pub of-requires-clause-bounded : goal.of-requires-clause-bounded
 of-requires-clause-bounded c = λ src dst.
     let few : c.loop-round.round ≤ 100000 = omega (arith, c.loop-round.auto.round-end, c.requires.few) in
-    rw c.loop-round.invariant.asks (asks-bounded c.args.number (endpoints_of c.args.net) c.loop-round.round src dst c.requires.endpoints few)
+    let asks = made_asks c.args.number (endpoints_of c.args.net) c.loop-round.round in
+    rw c.loop-round.invariant.asks (omega (arith, rounds-le c.args.rounds src dst asks, asks-bounded c.args.number (endpoints_of c.args.net) c.loop-round.round src dst c.requires.endpoints few))
 
 pub of-requires-clause-events : goal.of-requires-clause-events
 of-requires-clause-events c = record {

@@ -8,8 +8,8 @@ use Rattle.trace_text.proofs.FirstFields.{alike-row, alike-takes}
 use Rattle.trace_text.proofs.TraceFacts.{told, finished, rows_after-ok, rows_after-none}
 use Rattle.trace_text.proofs.read.read_trace.Goals as goal
 
-pub loop-rows-preserved-in-Continue-branch-2 : goal.loop-rows-preserved-in-Continue-branch-2
-loop-rows-preserved-in-Continue-branch-2 c =
+pub loop-rows-preserved-in-Continue-branch-3 : goal.loop-rows-preserved-in-Continue-branch-3
+loop-rows-preserved-in-Continue-branch-3 c =
     let before = c.loop-rows.invariant.stands.0 in
     let stands = c.loop-rows.invariant.stands.1 in
     let same = c.loop-rows.invariant.stands.2 in

@@ -21,7 +21,7 @@ returns-clause-tidy c =
     let tidy = c.requires.tidy in
     let before = c.index_mut-2.result.now in
     let after = c.set-2.new.self in
-    let number = c.index_mut.result.now + c.args.ask.now.slots in
+    let number = c.index-before.result.now + c.args.ask.now.slots in
     let some : 0 < number = omega (arith, c.requires.small.some) in
     let row : before ≡ get_or rows (flow / 256) unmarked =
     c.index_mut-2.ensures.value ∙ get_or_default rows src before unmarked (omega (arith, tidy.rows)) ∙ ap (λ k. get_or rows k unmarked) (sym row_of) in
