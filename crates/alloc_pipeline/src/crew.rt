@@ -26,8 +26,11 @@ use std::thread::Threads;
 // Room in each edge for twice the pieces of the longest list.
 const ROOM: usize = 2040;
 
-// The least list, in pieces, for which threads are started: below it the caller plays all workers.
+// The least list, in pieces, for which a thread is started: below it the caller plays all workers.
 const THREADS_FROM: u32 = 3;
+
+// So many pieces more pay for another thread.
+const PIECES_A_THREAD: u32 = 64;
 
 // What the nodes hold at first.
 const BLANK: Item = Item {
@@ -114,7 +117,7 @@ impl Crew {
         every_batch_leaves_a_list();
         flows_fit_pairs();
         name_batches(&mut self.window, batches);
-        let threads = count_pieces(list.items()) >= THREADS_FROM;
+        let threads = count_threads(count_pieces(list.items()));
         let opening = Opening {
             list,
             batches: &self.window,
@@ -167,6 +170,14 @@ fn open_edges(alloc: Global, workers: u16) -> Result<(Vec<EdgeQueue>, Vec<EdgePa
         passes.push(pass)?;
     }
     Ok((queues, passes))
+}
+
+/// How many workers get threads of their own where the list has so many pieces, if there are so many workers beside the caller's.
+fn count_threads(pieces: u32) -> u32 {
+    if pieces < THREADS_FROM {
+        return 0;
+    }
+    1 + pieces / PIECES_A_THREAD
 }
 
 /// Names the batches of a window.

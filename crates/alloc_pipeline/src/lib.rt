@@ -6,7 +6,7 @@
 //! on that list, the list is what they leave, and each edge has brought its worker its whole stream. An edge is a ruled queue of
 //! `crossbeam_queue`: `rule.rt` has its rule and the nine kinds of step, `parcel.rt` what lies in it, `edge.rt` each step as a
 //! call. `link.rt` is what a worker sees of its two edges; `player.rt` lets it take turns until its stages have ended; `play.rt`
-//! starts the threads, plays worker 0 and those whose threads were refused on the caller's, and waits for the others; `start.rt`
+//! starts the threads, plays the other workers and those whose threads were refused on the caller's, and waits for all; `start.rt`
 //! and `ends.rt` bring a window's list in and out, `rejoin.rt` joins the passes of each edge again, `crew.rt` keeps all of it
 //! from window to window. `proofs/Crossing.antt`: a ring may go to a thread.
 #![tactic(auto)]

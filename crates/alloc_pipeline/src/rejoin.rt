@@ -111,7 +111,7 @@ pub(crate) fn play_window<R: Threads + Wait + Sync, G: Gate + Sync>(
     gate: &G,
     queues: &[EdgeQueue],
     batches: &[Batch],
-    threads: bool,
+    threads: u32,
     last: usize,
     players: Vec<Player>,
     list: &mut DemandList,

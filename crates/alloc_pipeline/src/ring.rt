@@ -12,7 +12,7 @@ use std::marker::Model;
 use std::sync::Wait;
 use std::thread::Threads;
 
-/// A ring of workers, each in a thread of its own, that allocates windows of batches.
+/// A ring of workers, in threads where the list is long enough, that allocates windows of batches.
 #[derive(Drop)]
 pub struct Ring {
     crew: Crew,

@@ -8,21 +8,10 @@ use Rattle.core.specs.contracts.atomic.AtomicBool as AtomicBool
 use Rattle.std.proofs.Common.{◌≡◌, ℕ, ◌+◌, ◌<◌, ◌≤◌, ◌⊎◌, inl, inr, length, arith, [], ◌∷◌, ◌++◌, ◌∙◌}
 use Rattle.alloc_pipeline.proofs.Rounds.{linked_of, on_of, giving_on, on_same, goes_on_of}
 use Rattle.alloc_pipeline.proofs.play.+play_all.Goals as goal
-use Rattle.alloc_pipeline.proofs.play.+play_all.Goals.{then-number-queues, else-number-queues, then-is_empty, else-is_empty+in-Ok, else-is_empty+in-Err}
+use Rattle.alloc_pipeline.proofs.play.+play_all.Goals.{then-number-queues, else-number-queues, in-Ok, in-Err}
 
 pub bounds-queues-number : goal.bounds-queues-number
 bounds-queues-number g t c = (linked_of _ _ _ _ _ c.in-Some.ensures.items c.requires.linked).1.number
-
-pub play-player-requires-clause-passes : goal.play-player-requires-clause-passes
-play-player-requires-clause-passes g t c =
-    let s = (linked_of _ _ _ _ _ c.in-Some.ensures.items c.requires.linked).1 in
-    let number : ℕ = c.in-Some.player.number in
-    let either : ((number + 1 < length c.args.queues.now) × (c.if-number-queues.next ≡ number + 1)) ⊎ ((length c.args.queues.now ≤ number + 1) × (c.if-number-queues.next ≡ 0)) =
-    elim c.if-number-queues.branch [ then-number-queues w ↦ inl (omega (arith, w.if-number-queues.true), w.next-is) | else-number-queues w ↦ inr (omega (arith, w.if-number-queues.false), w.next-is) ] in
-    (s.taking _ c.index-queues-number.is, giving_on _ _ _ _ s either _ c.index-queues-next.is)
-
-pub play-player-requires-clause-plays : goal.play-player-requires-clause-plays
-play-player-requires-clause-plays g t c = (linked_of _ _ _ _ _ c.in-Some.ensures.items c.requires.linked).1.plays
 
 pub spawn_with-requires-clause-runs : goal.spawn_with-requires-clause-runs
 spawn_with-requires-clause-runs g t c κs within =
@@ -35,8 +24,8 @@ spawn_with-requires-clause-runs g t c κs within =
 pub play_all-requires-clause-linked : goal.play_all-requires-clause-linked
 play_all-requires-clause-linked g t c κs within = (linked_of _ _ _ _ _ c.in-Some.ensures.items c.requires.linked).0
 
-pub work-requires : goal.work-requires
-work-requires g t c κs within =
+pub work-player-requires : goal.work-player-requires
+work-player-requires g t c κs within =
     let s = (linked_of _ _ _ _ _ c.in-Some.ensures.items c.requires.linked).1 in
     let number : ℕ = c.in-Some.player.number in
     let either : ((number + 1 < length c.args.queues.now) × (c.if-number-queues.next ≡ number + 1)) ⊎ ((length c.args.queues.now ≤ number + 1) × (c.if-number-queues.next ≡ 0)) =
@@ -46,19 +35,15 @@ work-requires g t c κs within =
 pub returns-clause-goes_on : goal.returns-clause-goes_on
 returns-clause-goes_on g t c =
     let s = linked_of _ _ _ _ _ c.in-Some.ensures.items c.requires.linked in
-    elim c.if-is_empty.branch [
-      | then-is_empty w ↦
-          let k = w.play-player.ensures in
-          let f = goes_on_of c.args.queues.now c.args.batches.now c.in-Some.player c.in-Some.player c.args.batches.now w.play-player.result (λ i. c.in-Some.player) (λ i. c.args.batches.now) k.plays in
-          on_of _ _ _ _ _ _ _ _ c.in-Some.ensures.items (c.push_reserved.ensures.items ∙ (λ i. (w.players-is i).items ++ w.player-is i ∷ [])) (on_same _ _ _ s.0) f
-      | else-is_empty+in-Ok w ↦
-          let k = w.join.ensures in
-          let f = goes_on_of c.args.queues.now c.args.batches.now c.in-Some.player w.in-Ok.child.promise.was.value w.in-Ok.child.promise.batches.now w.join.result
-          ((λ i. (w.in-Ok.ensures.ok i).was.value) ∙ w.of.ensures) (λ i. (w.in-Ok.ensures.ok i).batches.now) k.0 in
+    elim c.match-spawn_with.branch [
+      | in-Ok w ↦
+          let k = w.join-player.ensures in
+          let f = goes_on_of c.args.queues.now c.args.batches.now c.in-Some.player w.in-Ok.child.promise.was.value w.in-Ok.child.promise.batches.now w.join-player.result
+          ((λ i. (w.in-Ok.ensures.ok i).was.value) ∙ c.of.ensures) (λ i. (w.in-Ok.ensures.ok i).batches.now) k.0 in
           on_of _ _ _ _ _ _ _ _ c.in-Some.ensures.items (c.push_reserved.ensures.items ∙ (λ i. (w.players-is i).items ++ w.player-is i ∷ [])) w.play_all.ensures.goes_on f
-      | else-is_empty+in-Err w ↦
-          let k = w.work.ensures in
-          let f = goes_on_of c.args.queues.now c.args.batches.now c.in-Some.player w.in-Err.refused.value.6 w.in-Err.refused.value.4.now w.work.result
+      | in-Err w ↦
+          let k = w.work-player.ensures in
+          let f = goes_on_of c.args.queues.now c.args.batches.now c.in-Some.player w.in-Err.refused.value.6 w.in-Err.refused.value.4.now w.work-player.result
           (λ i. (w.in-Err.ensures.err i).6) (λ i. (w.in-Err.ensures.err i).4.now) k.0 in
           on_of _ _ _ _ _ _ _ _ c.in-Some.ensures.items (c.push_reserved.ensures.items ∙ (λ i. (w.players-is i).items ++ w.player-is i ∷ [])) (on_same _ _ _ s.0) f
     ]
