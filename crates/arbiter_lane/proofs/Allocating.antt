@@ -7,8 +7,8 @@ use Rattle.std.proofs.lemmas.List.Sums.{sum_by-cons}
 use Rattle.flow_ledger.specs.FlowCount.{pending}
 use Rattle.endpoint_history.specs.Lane.{LaneHistory, last_reset}
 use Rattle.endpoint_history.specs.Counts.{Allocation}
-use Rattle.arbiter_lane.specs.declared.line.Line.{Line}
-use Rattle.arbiter_lane.specs.State.{LaneState, IsFlow, IsSound}
+use Rattle.arbiter_lane.specs.declared.line.LaneLine.{LaneLine}
+use Rattle.arbiter_lane.specs.State.{LaneState, IsFlow, IsSoundLane}
 use Rattle.arbiter_lane.specs.Standing.{StandsForFlow, StandsFor}
 use Rattle.arbiter_lane.specs.Lines.{Become, AllocatesSlots}
 use Rattle.arbiter_lane.proofs.Changes.{Become-set, Become-none}
@@ -18,7 +18,7 @@ use Rattle.arbiter_lane.proofs.Held.{each_line}
 abbrev pub counted : ℕ → ℕ → ℕ → ℕ → ℕ → ℕ
 counted since to batch slots dst = cond {A = ℕ} (eqb to dst && nat_le since batch) slots 0
 
-pub AllocatesSlots-none : (line : Line) (n : ℕ) → n ≡ 0 → AllocatesSlots n line line
+pub AllocatesSlots-none : (line : LaneLine) (n : ℕ) → n ≡ 0 → AllocatesSlots n line line
 AllocatesSlots-none line n none = record { opened = refl; entered = refl; count = record { demanded = refl; allocated = omega (arith, none); acknowledged = refl; lost = refl } }
 
 pub counted-here : (since batch slots dst : ℕ) → since ≤ batch → counted since dst batch slots dst ≡ slots
@@ -30,7 +30,7 @@ counted-elsewhere since to batch slots dst other = rw (ne_eqb to dst (λ h. othe
 pub counted-before : (since to batch slots dst : ℕ) → batch < since → counted since to batch slots dst ≡ 0
 counted-before since to batch slots dst before = ap (λ b. cond {A = ℕ} b slots 0) (and_right (eqb to dst) (nat_le since batch) (lt-leb since batch before))
 
-abbrev pub allocated_lane : LaneState → List Line → LaneState
+abbrev pub allocated_lane : LaneState → List LaneLine → LaneState
 allocated_lane was lines = record {
   endpoint = was.endpoint;
   endpoints = was.endpoints;
@@ -47,10 +47,10 @@ allocated_lane was lines = record {
   is_reset = was.is_reset;
 }
 
-abbrev pub Allocates : LaneState → ℕ → ℕ → ℕ → ℕ → Line → Line → Type 0
+abbrev pub Allocates : LaneState → ℕ → ℕ → ℕ → ℕ → LaneLine → LaneLine → Type 0
 Allocates was to batch slots dst = AllocatesSlots (counted was.last_reset to batch slots dst)
 
-flow-allocated : (g since to batch slots : ℕ) (history : LaneHistory) (allocations : List Allocation) (dst : ℕ) (old new : Line) → since ≡ last_reset history →
+flow-allocated : (g since to batch slots : ℕ) (history : LaneHistory) (allocations : List Allocation) (dst : ℕ) (old new : LaneLine) → since ≡ last_reset history →
     AllocatesSlots (counted since to batch slots dst) old new → StandsForFlow g history allocations dst old →
     StandsForFlow g history (record { dst = to; batch = batch; slots = slots } ∷ allocations) dst new
 flow-allocated g since to batch slots history allocations dst old new is allocates flow =
@@ -65,7 +65,7 @@ flow-allocated g since to batch slots history allocations dst old new is allocat
       opened = allocates.opened ∙ flow.opened;
     }
 
-pub stands-allocated : (was : LaneState) (lines : List Line) (to batch slots : ℕ) (history : LaneHistory) (allocations : List Allocation) → batch < was.round →
+pub stands-allocated : (was : LaneState) (lines : List LaneLine) (to batch slots : ℕ) (history : LaneHistory) (allocations : List Allocation) → batch < was.round →
     Become (Allocates was to batch slots) was.lines lines → StandsFor was history allocations →
     StandsFor (allocated_lane was lines) history (record { dst = to; batch = batch; slots = slots } ∷ allocations)
 stands-allocated was lines to batch slots history allocations past become stands = record {
@@ -82,7 +82,7 @@ stands-allocated was lines to batch slots history allocations past become stands
   recorded = All-cons (λ (a : Allocation). a.batch < was.round) (record { dst = to; batch = batch; slots = slots }) allocations past stands.recorded;
 }
 
-sound-flow : (was : LaneState) (lines : List Line) (n dst : ℕ) (old new : Line) → AllocatesSlots n old new → IsFlow was dst old → IsFlow (allocated_lane was lines) dst new
+sound-flow : (was : LaneState) (lines : List LaneLine) (n dst : ℕ) (old new : LaneLine) → AllocatesSlots n old new → IsFlow was dst old → IsFlow (allocated_lane was lines) dst new
 sound-flow was lines n dst old new allocates flow =
     let demanded = allocates.count.demanded in
     let allocated = allocates.count.allocated in
@@ -97,7 +97,7 @@ sound-flow was lines n dst old new allocates flow =
       own = λ is. let none = flow.own is in (omega (arith, demanded, lost, none.0), allocates.opened ∙ none.1);
     }
 
-pub sound-allocated : (was : LaneState) (lines : List Line) (to batch slots : ℕ) → Become (Allocates was to batch slots) was.lines lines → IsSound was → IsSound (allocated_lane was lines)
+pub sound-allocated : (was : LaneState) (lines : List LaneLine) (to batch slots : ℕ) → Become (Allocates was to batch slots) was.lines lines → IsSoundLane was → IsSoundLane (allocated_lane was lines)
 sound-allocated was lines to batch slots become sound = record {
   endpoint = sound.endpoint;
   endpoints = sound.endpoints;
@@ -114,7 +114,7 @@ sound-allocated was lines to batch slots become sound = record {
 }
 
 -- the line of the destination alone changes
-pub allocates_at : (was : LaneState) (to batch slots : ℕ) (old new : Line) → was.last_reset ≤ batch → slice_get was.lines to ≡ Some old → AllocatesSlots slots old new → Become (Allocates was to batch slots) was.lines (set was.lines to new)
+pub allocates_at : (was : LaneState) (to batch slots : ℕ) (old new : LaneLine) → was.last_reset ≤ batch → slice_get was.lines to ≡ Some old → AllocatesSlots slots old new → Become (Allocates was to batch slots) was.lines (set was.lines to new)
 allocates_at was to batch slots old new from here changes =
     Become-set (Allocates was to batch slots) was.lines to old new here
     (subst (λ n. AllocatesSlots n old new) (sym (counted-here was.last_reset batch slots to from)) changes)
@@ -126,7 +126,7 @@ allocates_none was to batch slots before =
     Become-none (Allocates was to batch slots) was.lines (λ dst line. AllocatesSlots-none line (counted was.last_reset to batch slots dst) (counted-before was.last_reset to batch slots dst before))
 
 -- what is pending fits
-pub room_left : (lane : LaneState) (dst n : ℕ) (line : Line) → IsSound lane → slice_get lane.lines dst ≡ Some line → n ≤ pending line.count → line.count.allocated + n < 4294967296
+pub room_left : (lane : LaneState) (dst n : ℕ) (line : LaneLine) → IsSoundLane lane → slice_get lane.lines dst ≡ Some line → n ≤ pending line.count → line.count.allocated + n < 4294967296
 room_left lane dst n line sound here few =
     let flow = sound.flows dst line here in
     let demanded = flow.demanded in

@@ -13,15 +13,15 @@ use Rattle.endpoint_history.specs.Packets.{Telling, Resets, slots_to}
 use Rattle.endpoint_history.specs.Lane.{LaneHistory, TakesUp, epoch_of, restarts, last_reset}
 use Rattle.endpoint_history.specs.Counts.{Allocation, slots_in}
 use Rattle.endpoint_history.specs.CountLaws.{ResetsCountAnew}
-use Rattle.arbiter_lane.specs.declared.line.Line.{Line}
-use Rattle.arbiter_lane.specs.State.{LaneState, IsFlow, IsSound, AreSlots, open_to}
+use Rattle.arbiter_lane.specs.declared.line.LaneLine.{LaneLine}
+use Rattle.arbiter_lane.specs.State.{LaneState, IsFlow, IsSoundLane, AreSlots, unresolved_to}
 use Rattle.arbiter_lane.specs.Standing.{StandsForFlow, StandsFor, TellsSlots}
 use Rattle.arbiter_lane.specs.Lines.{Become, HasStartedAgain}
 use Rattle.arbiter_lane.proofs.Held.{each_line}
 
 -- ---- a reset
 
-abbrev pub begun_lane : LaneState → ℕ → ℕ → Receiver → Sender Telling → List Line → LaneState
+abbrev pub begun_lane : LaneState → ℕ → ℕ → Receiver → Sender Telling → List LaneLine → LaneState
 begun_lane was epoch version arrived sent lines = record {
   endpoint = was.endpoint;
   endpoints = was.endpoints;
@@ -50,7 +50,7 @@ none-since round (a ∷ allocations) dst earlier =
     let both = sum_by-cons (λ (a : Allocation). cond {A = ℕ} (eqb a.dst dst && nat_le round a.batch) a.slots 0) a allocations in
     omega (arith, here, rest, both)
 
-flow-begun : (laws : ResetsCountAnew) (g round epoch version : ℕ) (history : LaneHistory) (allocations : List Allocation) (dst : ℕ) (old new : Line) → restarts history epoch ≡ true →
+flow-begun : (laws : ResetsCountAnew) (g round epoch version : ℕ) (history : LaneHistory) (allocations : List Allocation) (dst : ℕ) (old new : LaneLine) → restarts history epoch ≡ true →
     All (λ (a : Allocation). a.batch < round) allocations → HasStartedAgain old new → StandsForFlow g history allocations dst old →
     StandsForFlow g (TakesUp round (Resets epoch version) ∷ history) allocations dst new
 flow-begun laws g round epoch version history allocations dst old new starts earlier started flow =
@@ -66,7 +66,7 @@ flow-begun laws g round epoch version history allocations dst old new starts ear
       opened = started.opened ∙ flow.opened;
     }
 
-pub stands-begun : (laws : ResetsCountAnew) (was : LaneState) (round epoch version : ℕ) (arrived : Receiver) (sent : Sender Telling) (lines : List Line) (history : LaneHistory) (allocations : List Allocation) →
+pub stands-begun : (laws : ResetsCountAnew) (was : LaneState) (round epoch version : ℕ) (arrived : Receiver) (sent : Sender Telling) (lines : List LaneLine) (history : LaneHistory) (allocations : List Allocation) →
     was.round ≡ round → was.epoch < epoch → HasHeard arrived [] → sent.version ≡ version → HasDone sent [] → Become (λ dst. HasStartedAgain) was.lines lines → StandsFor was history allocations →
     StandsFor (begun_lane was epoch version arrived sent lines) (TakesUp round (Resets epoch version) ∷ history) allocations
 stands-begun laws was round epoch version arrived sent lines history allocations now greater heard same done become stands =
@@ -87,15 +87,15 @@ stands-begun laws was round epoch version arrived sent lines history allocations
     }
 
 -- nothing is told yet
-pub tells-begun : (was : LaneState) (round epoch version : ℕ) (arrived : Receiver) (sent : Sender Telling) (lines : List Line) (history : LaneHistory) → restarts history epoch ≡ true →
+pub tells-begun : (was : LaneState) (round epoch version : ℕ) (arrived : Receiver) (sent : Sender Telling) (lines : List LaneLine) (history : LaneHistory) → restarts history epoch ≡ true →
     TellsSlots (begun_lane was epoch version arrived sent lines) (TakesUp round (Resets epoch version) ∷ history)
 tells-begun was round epoch version arrived sent lines history starts = rw starts (All-nil (λ (number : Unresolved Telling). AreSlots was.endpoints was.b was.endpoint number.content.told))
 
 -- nothing is open
-open-none : (dst : ℕ) (sent : Sender Telling) → HasDone sent [] → open_to dst sent ≡ 0
+open-none : (dst : ℕ) (sent : Sender Telling) → HasDone sent [] → unresolved_to dst sent ≡ 0
 open-none dst sent done = ap (sum_by (λ (s : Unresolved Telling). slots_to dst s.content.told)) done.unresolved
 
-flow-started : (was : LaneState) (epoch version : ℕ) (arrived : Receiver) (sent : Sender Telling) (lines : List Line) (dst : ℕ) (old new : Line) → HasDone sent [] →
+flow-started : (was : LaneState) (epoch version : ℕ) (arrived : Receiver) (sent : Sender Telling) (lines : List LaneLine) (dst : ℕ) (old new : LaneLine) → HasDone sent [] →
     HasStartedAgain old new → IsFlow was dst old → IsFlow (begun_lane was epoch version arrived sent lines) dst new
 flow-started was epoch version arrived sent lines dst old new done started flow =
     let none = open-none dst sent done in
@@ -111,8 +111,8 @@ flow-started was epoch version arrived sent lines dst old new done started flow 
       own = λ is. (omega (arith, demanded, lost), started.opened ∙ (flow.own is).1);
     }
 
-pub sound-begun : (was : LaneState) (epoch version : ℕ) (arrived : Receiver) (sent : Sender Telling) (lines : List Line) → IsVersion version → arrived.version ≡ version → sent.version ≡ version →
-    HasDone sent [] → Become (λ dst. HasStartedAgain) was.lines lines → IsSound was → IsSound (begun_lane was epoch version arrived sent lines)
+pub sound-begun : (was : LaneState) (epoch version : ℕ) (arrived : Receiver) (sent : Sender Telling) (lines : List LaneLine) → IsVersion version → arrived.version ≡ version → sent.version ≡ version →
+    HasDone sent [] → Become (λ dst. HasStartedAgain) was.lines lines → IsSoundLane was → IsSoundLane (begun_lane was epoch version arrived sent lines)
 sound-begun was epoch version arrived sent lines known heard_version sent_version done become sound = record {
   endpoint = sound.endpoint;
   endpoints = sound.endpoints;
@@ -131,19 +131,19 @@ sound-begun was epoch version arrived sent lines known heard_version sent_versio
 -- ---- a lane that is opened
 
 -- what holds of a line of which nothing was asked
-pub record IsBlank (line : Line) : Type 0 where
+pub record IsBlank (line : LaneLine) : Type 0 where
   pub opened : line.opened ≡ false
   pub started : HasStartedAgain line line
 
 -- every line of a new table is that one
-pub each_blank : (lines : List Line) (n : ℕ) (new : Line) → lines ≡ replicate n new → IsBlank new → (dst : ℕ) (line : Line) → slice_get lines dst ≡ Some line → IsBlank line
+pub each_blank : (lines : List LaneLine) (n : ℕ) (new : LaneLine) → lines ≡ replicate n new → IsBlank new → (dst : ℕ) (line : LaneLine) → slice_get lines dst ≡ Some line → IsBlank line
 each_blank lines n new all blank dst line here =
-    let there : slice_get (replicate n new) dst ≡ Some line = subst (λ (xs : List Line). slice_get xs dst ≡ Some line) all here in
+    let there : slice_get (replicate n new) dst ≡ Some line = subst (λ (xs : List LaneLine). slice_get xs dst ≡ Some line) all here in
     let within : dst < n = subst (λ m. dst < m) (length-replicate n new) (slice_get_within (replicate n new) dst line there) in
     let same : new ≡ line = sym (get_or-replicate n dst new line within) ∙ get_or_from_slice_get (replicate n new) dst line line there in
     subst IsBlank same blank
 
-abbrev pub opened_lane : ℕ → ℕ → ℕ → ℕ → Receiver → Sender Telling → List Line → LaneState
+abbrev pub opened_lane : ℕ → ℕ → ℕ → ℕ → Receiver → Sender Telling → List LaneLine → LaneState
 opened_lane endpoint endpoints b g arrived sent lines = record {
   endpoint = endpoint;
   endpoints = endpoints;
@@ -160,7 +160,7 @@ opened_lane endpoint endpoints b g arrived sent lines = record {
   is_reset = false;
 }
 
-flow-opened : (g dst : ℕ) (line : Line) → IsBlank line → StandsForFlow g [] [] dst line
+flow-opened : (g dst : ℕ) (line : LaneLine) → IsBlank line → StandsForFlow g [] [] dst line
 unfolding slots_in
 flow-opened g dst line blank = record {
   demanded = blank.started.count.demanded;
@@ -171,8 +171,8 @@ flow-opened g dst line blank = record {
   opened = blank.opened;
 }
 
-pub stands-opened : (endpoint endpoints b g : ℕ) (arrived : Receiver) (sent : Sender Telling) (lines : List Line) → HasHeard arrived [] → sent.version ≡ 1 → HasDone sent [] →
-    ((dst : ℕ) (line : Line) → slice_get lines dst ≡ Some line → IsBlank line) → StandsFor (opened_lane endpoint endpoints b g arrived sent lines) [] []
+pub stands-opened : (endpoint endpoints b g : ℕ) (arrived : Receiver) (sent : Sender Telling) (lines : List LaneLine) → HasHeard arrived [] → sent.version ≡ 1 → HasDone sent [] →
+    ((dst : ℕ) (line : LaneLine) → slice_get lines dst ≡ Some line → IsBlank line) → StandsFor (opened_lane endpoint endpoints b g arrived sent lines) [] []
 stands-opened endpoint endpoints b g arrived sent lines heard same done blank = record {
   epoch = refl;
   version = refl;
@@ -186,7 +186,7 @@ stands-opened endpoint endpoints b g arrived sent lines heard same done blank = 
   recorded = All-nil (λ (a : Allocation). a.batch < 0);
 }
 
-opened-flow : (lane : LaneState) (dst : ℕ) (line : Line) → HasDone lane.sent [] → IsBlank line → IsFlow lane dst line
+opened-flow : (lane : LaneState) (dst : ℕ) (line : LaneLine) → HasDone lane.sent [] → IsBlank line → IsFlow lane dst line
 opened-flow lane dst line done blank =
     let none = open-none dst lane.sent done in
     let demanded = blank.started.count.demanded in
@@ -201,8 +201,8 @@ opened-flow lane dst line done blank =
       own = λ is. (omega (arith, demanded, lost), blank.opened);
     }
 
-pub sound-opened : (endpoint endpoints b g : ℕ) (arrived : Receiver) (sent : Sender Telling) (lines : List Line) → endpoint < endpoints → endpoints ≤ 256 → b ≤ 64 → arrived.version ≡ 1 → sent.version ≡ 1 → HasDone sent [] →
-    length lines ≡ endpoints → ((dst : ℕ) (line : Line) → slice_get lines dst ≡ Some line → IsBlank line) → IsSound (opened_lane endpoint endpoints b g arrived sent lines)
+pub sound-opened : (endpoint endpoints b g : ℕ) (arrived : Receiver) (sent : Sender Telling) (lines : List LaneLine) → endpoint < endpoints → endpoints ≤ 256 → b ≤ 64 → arrived.version ≡ 1 → sent.version ≡ 1 → HasDone sent [] →
+    length lines ≡ endpoints → ((dst : ℕ) (line : LaneLine) → slice_get lines dst ≡ Some line → IsBlank line) → IsSoundLane (opened_lane endpoint endpoints b g arrived sent lines)
 sound-opened endpoint endpoints b g arrived sent lines within few most heard_version sent_version done as_many blank = record {
   endpoint = within;
   endpoints = few;
@@ -217,5 +217,5 @@ sound-opened endpoint endpoints b g arrived sent lines within few most heard_ver
   flows = λ dst line here. opened-flow (opened_lane endpoint endpoints b g arrived sent lines) dst line done (blank dst line here);
 }
 
-pub tells-opened : (endpoint endpoints b g : ℕ) (arrived : Receiver) (sent : Sender Telling) (lines : List Line) → TellsSlots (opened_lane endpoint endpoints b g arrived sent lines) []
+pub tells-opened : (endpoint endpoints b g : ℕ) (arrived : Receiver) (sent : Sender Telling) (lines : List LaneLine) → TellsSlots (opened_lane endpoint endpoints b g arrived sent lines) []
 tells-opened endpoint endpoints b g arrived sent lines = All-nil (λ (number : Unresolved Telling). AreSlots endpoints b endpoint number.content.told)

@@ -16,11 +16,11 @@ use Rattle.ack_window.specs.Steps.{after_sending, after_reading, decided_for, Se
 use Rattle.ack_window.specs.Versions.{reorder_of, span_of}
 use Rattle.ack_window.specs.Windows.{Sender, HasDone, MaySend}
 use Rattle.endpoint_history.specs.Packets.{Telling}
-use Rattle.arbiter_lane.specs.Places.{Places, place_of, telling_at, with_telling, unresolved_with, decided_with, with_contents}
+use Rattle.arbiter_lane.specs.Places.{TellingPlaces, place_of, telling_at, with_telling, unresolved_with, decided_with, with_contents}
 
 -- ---- numbers alone decide
 
-left-with : (places : Places) (decision : ℕ → Option Decision) (xs : List (Unresolved (Unit {0}))) → left_in decision (map (unresolved_with places) xs) ≡ map (unresolved_with places) (left_in decision xs)
+left-with : (places : TellingPlaces) (decision : ℕ → Option Decision) (xs : List (Unresolved (Unit {0}))) → left_in decision (map (unresolved_with places) xs) ≡ map (unresolved_with places) (left_in decision xs)
 left-with places decision [] = refl
 left-with places decision (s ∷ xs) =
     rw (left-with places decision xs) (one (is_none (decision s.number)))
@@ -29,7 +29,7 @@ left-with places decision (s ∷ xs) =
     one true = refl
     one false = refl
 
-decided-with : (places : Places) (decision : ℕ → Option Decision) (xs : List (Unresolved (Unit {0}))) → decided_in decision (map (unresolved_with places) xs) ≡ map (decided_with places) (decided_in decision xs)
+decided-with : (places : TellingPlaces) (decision : ℕ → Option Decision) (xs : List (Unresolved (Unit {0}))) → decided_in decision (map (unresolved_with places) xs) ≡ map (decided_with places) (decided_in decision xs)
 decided-with places decision [] = refl
 decided-with places decision (s ∷ xs) =
     rw (decided-with places decision xs) (one (decision s.number))
@@ -40,12 +40,12 @@ decided-with places decision (s ∷ xs) =
     one None = refl
     one (Some d) = refl
 
-pub reading-with : (places : Places) (sent : Sender (Unit {0})) (ack : Acknowledgement) → with_contents places (after_reading sent ack) ≡ after_reading (with_contents places sent) ack
+pub reading-with : (places : TellingPlaces) (sent : Sender (Unit {0})) (ack : Acknowledgement) → with_contents places (after_reading sent ack) ≡ after_reading (with_contents places sent) ack
 reading-with places sent ack =
     ap {A = List (Unresolved Telling)} (λ xs. record { version = sent.version; outstanding = record { newest = sent.outstanding.newest; unresolved = xs } })
     (sym (left-with places (decision_read (reorder_of sent.version) (span_of sent.version) sent.outstanding.newest ack) sent.outstanding.unresolved))
 
-pub found-with : (places : Places) (sent : Sender (Unit {0})) (ack : Acknowledgement) → decided_for (with_contents places sent) ack ≡ map (decided_with places) (decided_for sent ack)
+pub found-with : (places : TellingPlaces) (sent : Sender (Unit {0})) (ack : Acknowledgement) → decided_for (with_contents places sent) ack ≡ map (decided_with places) (decided_for sent ack)
 found-with places sent ack = decided-with places (decision_read (reorder_of sent.version) (span_of sent.version) sent.outstanding.newest ack) sent.outstanding.unresolved
 
 -- ---- a new number
@@ -55,13 +55,13 @@ places-differ : (first older number : ℕ) → older < number → number ≤ old
 places-differ first older number below near same = omega (arith, below, near, same)
 
 -- what is written at a place is what lies there, and elsewhere nothing changes
-telling-written : (places : Places) (number : ℕ) (new : Telling) → length places.tellings ≡ 129 → telling_at (with_telling places number new) number ≡ new
+telling-written : (places : TellingPlaces) (number : ℕ) (new : Telling) → length places.tellings ≡ 129 → telling_at (with_telling places number new) number ≡ new
 telling-written places number new long = get_or-set_same places.tellings (place_of places.first number) new _ (omega (arith, long))
 
-telling-kept : (places : Places) (older number : ℕ) (new : Telling) → older < number → number ≤ older + 128 → telling_at (with_telling places number new) older ≡ telling_at places older
+telling-kept : (places : TellingPlaces) (older number : ℕ) (new : Telling) → older < number → number ≤ older + 128 → telling_at (with_telling places number new) older ≡ telling_at places older
 telling-kept places older number new below near = get_or-set_other places.tellings (place_of places.first number) (place_of places.first older) new _ (places-differ places.first older number below near)
 
-kept-with : (places : Places) (number : ℕ) (new : Telling) (xs : List (Unresolved (Unit {0}))) → All (λ s. (s.number < number) × (number ≤ s.number + 128)) xs →
+kept-with : (places : TellingPlaces) (number : ℕ) (new : Telling) (xs : List (Unresolved (Unit {0}))) → All (λ s. (s.number < number) × (number ≤ s.number + 128)) xs →
     map (unresolved_with (with_telling places number new)) xs ≡ map (unresolved_with places) xs
 kept-with places number new [] near = refl
 kept-with places number new (s ∷ xs) near =
@@ -69,7 +69,7 @@ kept-with places number new (s ∷ xs) near =
     let rest = kept-with places number new xs (All-tail (λ (s : Unresolved (Unit {0})). (s.number < number) × (number ≤ s.number + 128)) s xs near) in
     rw (telling-kept places s.number number new here.0 here.1, rest) refl
 
-pushed-with : (places : Places) (number : ℕ) (new : Telling) (xs : List (Unresolved (Unit {0}))) → length places.tellings ≡ 129 → All (λ s. (s.number < number) × (number ≤ s.number + 128)) xs →
+pushed-with : (places : TellingPlaces) (number : ℕ) (new : Telling) (xs : List (Unresolved (Unit {0}))) → length places.tellings ≡ 129 → All (λ s. (s.number < number) × (number ≤ s.number + 128)) xs →
     map (unresolved_with (with_telling places number new)) (xs ++ record { number = number; content = tt } ∷ []) ≡ map (unresolved_with places) xs ++ record { number = number; content = new } ∷ []
 pushed-with places number new xs long near =
     map-push (unresolved_with (with_telling places number new)) xs _
@@ -80,7 +80,7 @@ pushed-with places number new xs long near =
     map-push f [] x = refl
     map-push f (y ∷ xs) x = ap (λ ys. f y ∷ ys) (map-push f xs x)
 
-pub sending-with : (places : Places) (sent : Sender (Unit {0})) (new : Telling) → length places.tellings ≡ 129 →
+pub sending-with : (places : TellingPlaces) (sent : Sender (Unit {0})) (new : Telling) → length places.tellings ≡ 129 →
     All (λ s. (s.number < sent.outstanding.newest + 1) × (sent.outstanding.newest + 1 ≤ s.number + 128)) sent.outstanding.unresolved →
     with_contents (with_telling places (sent.outstanding.newest + 1) new) (after_sending sent tt) ≡ after_sending (with_contents places sent) new
 sending-with places sent new long near =
@@ -88,13 +88,13 @@ sending-with places sent new long near =
     (pushed-with places (sent.outstanding.newest + 1) new sent.outstanding.unresolved long near)
 
 -- where no number is unresolved, which place is the first doesn't matter
-pub begun-with : (settled : Bool) (places begun : Places) (sent : Sender (Unit {0})) → (settled ≡ false → begun ≡ places) → (settled ≡ true → sent.outstanding.unresolved ≡ []) → with_contents begun sent ≡ with_contents places sent
+pub begun-with : (settled : Bool) (places begun : TellingPlaces) (sent : Sender (Unit {0})) → (settled ≡ false → begun ≡ places) → (settled ≡ true → sent.outstanding.unresolved ≡ []) → with_contents begun sent ≡ with_contents places sent
 begun-with true places begun sent same none =
     ap {A = List (Unresolved Telling)} (λ xs. record { version = sent.version; outstanding = record { newest = sent.outstanding.newest; unresolved = xs } })
     (ap (map (unresolved_with begun)) (none refl) ∙ sym (ap (map (unresolved_with places)) (none refl)))
-begun-with false places begun sent same none = ap (λ (p : Places). with_contents p sent) (same refl)
+begun-with false places begun sent same none = ap (λ (p : TellingPlaces). with_contents p sent) (same refl)
 
-pub may-with : (places : Places) (sent : Sender (Unit {0})) → may_send_new (span_of sent.version) sent.outstanding.newest (map (unresolved_with places) sent.outstanding.unresolved) ≡ may_send_new (span_of sent.version) sent.outstanding.newest sent.outstanding.unresolved
+pub may-with : (places : TellingPlaces) (sent : Sender (Unit {0})) → may_send_new (span_of sent.version) sent.outstanding.newest (map (unresolved_with places) sent.outstanding.unresolved) ≡ may_send_new (span_of sent.version) sent.outstanding.newest sent.outstanding.unresolved
 may-with places sent = first (span_of sent.version) sent.outstanding.newest sent.outstanding.unresolved
   where
     first : (span newest : ℕ) (xs : List (Unresolved (Unit {0}))) → may_send_new span newest (map (unresolved_with places) xs) ≡ may_send_new span newest xs
@@ -104,7 +104,7 @@ may-with places sent = first (span_of sent.version) sent.outstanding.newest sent
 -- ---- the newest number
 
 -- where the last number is the newest, its content is what lies at its place
-last-with : (places : Places) (newest : ℕ) (P : Telling → Type 0) (xs : List (Unresolved (Unit {0}))) → 1 ≤ length xs → last_number xs ≡ newest →
+last-with : (places : TellingPlaces) (newest : ℕ) (P : Telling → Type 0) (xs : List (Unresolved (Unit {0}))) → 1 ≤ length xs → last_number xs ≡ newest →
     All (λ (s : Unresolved Telling). s.number ≡ newest → P s.content) (map (unresolved_with places) xs) → P (telling_at places newest)
 last-with places newest P [] some last all = absurd (omega (arith, some))
 last-with places newest P (s ∷ []) some last all =
@@ -116,13 +116,13 @@ some-open : (span newest : ℕ) (xs : List (Unresolved (Unit {0}))) → (may_sen
 some-open span newest [] full = absurd (full refl)
 some-open span newest (s ∷ xs) full = omega arith
 
-pub newest-with : (law : SendersGoOnByStep Telling) (places : Places) (sent : Sender (Unit {0})) (history : List (Event Telling)) → (MaySend (with_contents places sent) → ⊥) → last_number sent.outstanding.unresolved ≡ sent.outstanding.newest →
+pub newest-with : (law : SendersGoOnByStep Telling) (places : TellingPlaces) (sent : Sender (Unit {0})) (history : List (Event Telling)) → (MaySend (with_contents places sent) → ⊥) → last_number sent.outstanding.unresolved ≡ sent.outstanding.newest →
     HasDone (with_contents places sent) history → newest_content history ≡ Some (telling_at places sent.outstanding.newest)
 newest-with law places sent history full last done =
     last-with places sent.outstanding.newest (λ t. newest_content history ≡ Some t) sent.outstanding.unresolved
     (some-open (span_of sent.version) sent.outstanding.newest sent.outstanding.unresolved (λ may. full (may-with places sent ∙ may))) last (law.newest (with_contents places sent) history done)
 
-pub goes-on-told : (law : SendersGoOnByStep Telling) (places written : Places) (sent now : Sender (Unit {0})) (number : ℕ) (new : Telling) (history : List (Event Telling)) → length places.tellings ≡ 129 →
+pub goes-on-told : (law : SendersGoOnByStep Telling) (places written : TellingPlaces) (sent now : Sender (Unit {0})) (number : ℕ) (new : Telling) (history : List (Event Telling)) → length places.tellings ≡ 129 →
     number ≡ sent.outstanding.newest + 1 → now ≡ after_sending sent tt → written ≡ with_telling places number new → All (λ s. (s.number < number) × (number ≤ s.number + 128)) sent.outstanding.unresolved →
     MaySend (with_contents places sent) → HasDone (with_contents places sent) history → HasDone (with_contents written now) (Sends new ∷ history)
 goes-on-told law places written sent now number new history long is_number is_now is_written near may done =
@@ -134,13 +134,13 @@ goes-on-told law places written sent now number new history long is_number is_no
     ∙ (ap (with_contents (with_telling places next new)) is_now ∙ sending-with places sent new long near') in
     subst (λ (w : Sender Telling). HasDone w (Sends new ∷ history)) (sym same) (law.sends (with_contents places sent) new history done may)
 
-pub goes-on-read : (law : SendersGoOnByStep Telling) (places : Places) (sent now : Sender (Unit {0})) (ack : Acknowledgement) (history : List (Event Telling)) → now ≡ after_reading sent ack →
+pub goes-on-read : (law : SendersGoOnByStep Telling) (places : TellingPlaces) (sent now : Sender (Unit {0})) (ack : Acknowledgement) (history : List (Event Telling)) → now ≡ after_reading sent ack →
     HasDone (with_contents places sent) history → HasDone (with_contents places now) (Reads ack ∷ history)
 goes-on-read law places sent now ack history is_now done =
     subst (λ (w : Sender Telling). HasDone w (Reads ack ∷ history)) (sym (ap (with_contents places) is_now ∙ reading-with places sent ack)) (law.reads (with_contents places sent) ack history done)
 
 -- what is found is what the history says that it decides
-pub found-is : (law : SendersGoOnByStep Telling) (places : Places) (sent : Sender (Unit {0})) (ack : Acknowledgement) (found : List (Decided (Unit {0}))) (history : List (Event Telling)) → found ≡ decided_for sent ack →
+pub found-is : (law : SendersGoOnByStep Telling) (places : TellingPlaces) (sent : Sender (Unit {0})) (ack : Acknowledgement) (found : List (Decided (Unit {0}))) (history : List (Event Telling)) → found ≡ decided_for sent ack →
     HasDone (with_contents places sent) history → map (decided_with places) found ≡ decided_by (reorder_of sent.version) (span_of sent.version) history ack
 found-is law places sent ack found history is done =
     ap (map (decided_with places)) is ∙ (sym (found-with places sent ack) ∙ sym (law.decided (with_contents places sent) ack history done))
@@ -148,11 +148,11 @@ found-is law places sent ack found history is done =
 -- ---- a number that is decided
 
 -- of the numbers that are decided, the one at a place
-pub decided-at : (places : Places) (found : List (Decided (Unit {0}))) (at : ℕ) (other : Decided (Unit {0})) → get_or (map (decided_with places) found) at (decided_with places other) ≡ decided_with places (get_or found at other)
+pub decided-at : (places : TellingPlaces) (found : List (Decided (Unit {0}))) (at : ℕ) (other : Decided (Unit {0})) → get_or (map (decided_with places) found) at (decided_with places other) ≡ decided_with places (get_or found at other)
 decided-at places [] at other = refl
 decided-at places (d ∷ found) zero other = refl
 decided-at places (d ∷ found) (suc at) other = decided-at places found at other
 
-pub as_many : (places : Places) (found : List (Decided (Unit {0}))) → length (map (decided_with places) found) ≡ length found
+pub as_many : (places : TellingPlaces) (found : List (Decided (Unit {0}))) → length (map (decided_with places) found) ≡ length found
 as_many places [] = refl
 as_many places (d ∷ found) = ap suc (as_many places found)

@@ -11,13 +11,13 @@ use Rattle.fcp_framing.specs.declared.packet.Demand.{Demand}
 use Rattle.flow_ledger.specs.FlowCount.{in_flight}
 use Rattle.endpoint_history.specs.Confirmed.{total_named}
 use Rattle.ack_window.specs.declared.send_window.Decided.{Decided}
-use Rattle.arbiter_lane.specs.declared.line.Line.{Line}
+use Rattle.arbiter_lane.specs.declared.line.LaneLine.{LaneLine}
 use Rattle.endpoint_history.specs.Packets.{Telling, slots_to}
 use Rattle.arbiter_lane.specs.State.{AreInFlight}
 use Rattle.arbiter_lane.specs.Lines.{Become, LosesSlots, AcknowledgesSlots, DecidesSlots, RisesTo, slots_shown, slots_lost}
 
 -- the lines below a place have changed so, and the others not at all
-abbrev pub UpTo : (ℕ → Line → Line → Type 0) → ℕ → ℕ → Line → Line → Type 0
+abbrev pub UpTo : (ℕ → LaneLine → LaneLine → Type 0) → ℕ → ℕ → LaneLine → LaneLine → Type 0
 UpTo relation at dst old new = (dst < at → relation dst old new) × (at ≤ dst → new ≡ old)
 
 pub neither : (a b : Bool) → (a || b) ≡ false → (a ≡ false) × (b ≡ false)
@@ -26,8 +26,8 @@ neither true b none = absurd cc
 
 -- ---- one line, and one change after another
 
-pub Become-set : (relation : ℕ → Line → Line → Type 0) (lines : List Line) (at : ℕ) (old new : Line) → slice_get lines at ≡ Some old → relation at old new →
-    ((dst : ℕ) (line : Line) → dst ≢ at → relation dst line line) → Become relation lines (set lines at new)
+pub Become-set : (relation : ℕ → LaneLine → LaneLine → Type 0) (lines : List LaneLine) (at : ℕ) (old new : LaneLine) → slice_get lines at ≡ Some old → relation at old new →
+    ((dst : ℕ) (line : LaneLine) → dst ≢ at → relation dst line line) → Become relation lines (set lines at new)
 Become-set relation lines at old new here changed others = record {
   as_many = length-set lines at new;
   each = λ dst a b before after. elim (cases_eq dst at) [
@@ -42,13 +42,13 @@ Become-set relation lines at old new here changed others = record {
 }
 
 -- the line of a destination in lists that are as long
-pub line_between : (before after : List Line) → length after ≡ length before → (dst : ℕ) (line : Line) → slice_get before dst ≡ Some line → slice_get after dst ≡ Some (get_or after dst line)
+pub line_between : (before after : List LaneLine) → length after ≡ length before → (dst : ℕ) (line : LaneLine) → slice_get before dst ≡ Some line → slice_get after dst ≡ Some (get_or after dst line)
 line_between before after as_many dst line here =
     let within = slice_get_within before dst line here in
     slice_get-get_or after dst line (omega (arith, within, as_many))
 
-pub Become-then : (first second both : ℕ → Line → Line → Type 0) (a b c : List Line) → Become first a b → Become second b c →
-    ((dst : ℕ) (x y z : Line) → first dst x y → second dst y z → both dst x z) → Become both a c
+pub Become-then : (first second both : ℕ → LaneLine → LaneLine → Type 0) (a b c : List LaneLine) → Become first a b → Become second b c →
+    ((dst : ℕ) (x y z : LaneLine) → first dst x y → second dst y z → both dst x z) → Become both a c
 Become-then first second both a b c one two joins = record {
   as_many = two.as_many ∙ one.as_many;
   each = λ dst x z before after.
@@ -56,14 +56,14 @@ Become-then first second both a b c one two joins = record {
       joins dst x (get_or b dst x) z (one.each dst x (get_or b dst x) before between) (two.each dst (get_or b dst x) z between after);
 }
 
-pub Become-none : (relation : ℕ → Line → Line → Type 0) (lines : List Line) → ((dst : ℕ) (line : Line) → relation dst line line) → Become relation lines lines
+pub Become-none : (relation : ℕ → LaneLine → LaneLine → Type 0) (lines : List LaneLine) → ((dst : ℕ) (line : LaneLine) → relation dst line line) → Become relation lines lines
 Become-none relation lines same = record {
   as_many = refl;
   each = λ dst a b before after.
       subst (λ y. relation dst a y) (sym (get_or_from_slice_get lines dst a a before) ∙ get_or_from_slice_get lines dst b a after) (same dst a);
 }
 
-pub Become-weaker : (first second : ℕ → Line → Line → Type 0) (a b : List Line) → Become first a b → ((dst : ℕ) (x y : Line) → first dst x y → second dst x y) → Become second a b
+pub Become-weaker : (first second : ℕ → LaneLine → LaneLine → Type 0) (a b : List LaneLine) → Become first a b → ((dst : ℕ) (x y : LaneLine) → first dst x y → second dst x y) → Become second a b
 Become-weaker first second a b become weaker = record {
   as_many = become.as_many;
   each = λ dst x y before after. weaker dst x y (become.each dst x y before after);
@@ -71,10 +71,10 @@ Become-weaker first second a b become weaker = record {
 
 -- ---- counts
 
-pub LosesSlots-none : (line : Line) (n : ℕ) → n ≡ 0 → LosesSlots n line line
+pub LosesSlots-none : (line : LaneLine) (n : ℕ) → n ≡ 0 → LosesSlots n line line
 LosesSlots-none line n none = record { opened = refl; entered = refl; count = record { demanded = refl; allocated = refl; acknowledged = refl; lost = omega (arith, none) } }
 
-pub LosesSlots-then : (n m : ℕ) (x y z : Line) → LosesSlots n x y → LosesSlots m y z → LosesSlots (n + m) x z
+pub LosesSlots-then : (n m : ℕ) (x y z : LaneLine) → LosesSlots n x y → LosesSlots m y z → LosesSlots (n + m) x z
 LosesSlots-then n m x y z one two = record {
   opened = two.opened ∙ one.opened;
   entered = two.entered ∙ one.entered;
@@ -86,10 +86,10 @@ LosesSlots-then n m x y z one two = record {
   };
 }
 
-pub AcknowledgesSlots-none : (line : Line) (n : ℕ) → n ≡ 0 → AcknowledgesSlots n line line
+pub AcknowledgesSlots-none : (line : LaneLine) (n : ℕ) → n ≡ 0 → AcknowledgesSlots n line line
 AcknowledgesSlots-none line n none = record { opened = refl; entered = refl; count = record { demanded = refl; allocated = refl; acknowledged = omega (arith, none); lost = refl } }
 
-pub AcknowledgesSlots-then : (n m : ℕ) (x y z : Line) → AcknowledgesSlots n x y → AcknowledgesSlots m y z → AcknowledgesSlots (n + m) x z
+pub AcknowledgesSlots-then : (n m : ℕ) (x y z : LaneLine) → AcknowledgesSlots n x y → AcknowledgesSlots m y z → AcknowledgesSlots (n + m) x z
 AcknowledgesSlots-then n m x y z one two = record {
   opened = two.opened ∙ one.opened;
   entered = two.entered ∙ one.entered;
@@ -102,10 +102,10 @@ AcknowledgesSlots-then n m x y z one two = record {
 }
 
 -- what is in flight falls by the slots that are decided
-pub in_flight-lost : (n : ℕ) (x y : Line) → LosesSlots n x y → in_flight y.count ≡ in_flight x.count - n
+pub in_flight-lost : (n : ℕ) (x y : LaneLine) → LosesSlots n x y → in_flight y.count ≡ in_flight x.count - n
 in_flight-lost n x y loses = omega (arith, loses.count.allocated, loses.count.acknowledged, loses.count.lost)
 
-pub in_flight-shown : (n : ℕ) (x y : Line) → AcknowledgesSlots n x y → in_flight y.count ≡ in_flight x.count - n
+pub in_flight-shown : (n : ℕ) (x y : LaneLine) → AcknowledgesSlots n x y → in_flight y.count ≡ in_flight x.count - n
 in_flight-shown n x y shows = omega (arith, shows.count.allocated, shows.count.acknowledged, shows.count.lost)
 
 -- ---- slots to a destination
@@ -129,8 +129,8 @@ slots_to-some dst told at =
     omega (arith, parts)
 
 -- the next slot of a loop is in flight, once so many of those before it were decided
-pub still_in_flight : (relation : ℕ → Line → Line → Type 0) → ((n : ℕ) (x y : Line) → relation n x y → in_flight y.count ≡ in_flight x.count - n) →
-    (told : List Told) (at : ℕ) (slot : Told) (before lines : List Line) → at < length told → AreInFlight (λ dst. slots_to dst told) before → Become (λ dst. relation (slots_to dst (take at told))) before lines →
+pub still_in_flight : (relation : ℕ → LaneLine → LaneLine → Type 0) → ((n : ℕ) (x y : LaneLine) → relation n x y → in_flight y.count ≡ in_flight x.count - n) →
+    (told : List Told) (at : ℕ) (slot : Told) (before lines : List LaneLine) → at < length told → AreInFlight (λ dst. slots_to dst told) before → Become (λ dst. relation (slots_to dst (take at told))) before lines →
     AreInFlight (λ dst. slots_to dst (get_or told at slot ∷ [])) lines
 still_in_flight relation falls told at slot before lines within in_flight_before become dst line here =
     let there = line_between lines before (sym become.as_many) dst line here in
@@ -189,10 +189,10 @@ shown-some found at dst =
     let parts : slots_shown found dst ≡ slots_shown (take at found) dst + slots_shown (drop at found) dst = ap (λ xs. slots_shown xs dst) (sym (take-append-drop at found)) ∙ slots_shown-append (take at found) (drop at found) dst in
     omega (arith, parts)
 
-pub DecidesSlots-none : (line : Line) → DecidesSlots 0 0 line line
+pub DecidesSlots-none : (line : LaneLine) → DecidesSlots 0 0 line line
 DecidesSlots-none line = record { opened = refl; entered = refl; count = record { demanded = refl; allocated = refl; acknowledged = omega arith; lost = omega arith } }
 
-pub DecidesSlots-then : (shown lost more fewer all_shown all_lost : ℕ) (x y z : Line) → all_shown ≡ shown + more → all_lost ≡ lost + fewer → DecidesSlots shown lost x y → DecidesSlots more fewer y z → DecidesSlots all_shown all_lost x z
+pub DecidesSlots-then : (shown lost more fewer all_shown all_lost : ℕ) (x y z : LaneLine) → all_shown ≡ shown + more → all_lost ≡ lost + fewer → DecidesSlots shown lost x y → DecidesSlots more fewer y z → DecidesSlots all_shown all_lost x z
 DecidesSlots-then shown lost more fewer all_shown all_lost x y z sum_shown sum_lost one two = record {
   opened = two.opened ∙ one.opened;
   entered = two.entered ∙ one.entered;
@@ -205,7 +205,7 @@ DecidesSlots-then shown lost more fewer all_shown all_lost x y z sum_shown sum_l
 }
 
 -- the slots of the next number are in flight, once those before it were decided
-pub still_undecided : (found : List (Decided Telling)) (at : ℕ) (number : Decided Telling) (before lines : List Line) → at < length found →
+pub still_undecided : (found : List (Decided Telling)) (at : ℕ) (number : Decided Telling) (before lines : List LaneLine) → at < length found →
     AreInFlight (λ dst. slots_shown found dst + slots_lost found dst) before →
     Become (λ dst. DecidesSlots (slots_shown (take at found) dst) (slots_lost (take at found) dst)) before lines →
     AreInFlight (λ dst. slots_to dst (get_or found at number).content.told) lines
@@ -221,7 +221,7 @@ still_undecided found at number before lines within in_flight_before become dst 
     let either = one_either (get_or found at number) dst in
     omega (arith, changed.count.allocated, changed.count.acknowledged, changed.count.lost, all, next_lost, next_shown, some_lost, some_shown, either)
 
-pub DecidesSlots-next : (found : List (Decided Telling)) (at : ℕ) (number : Decided Telling) (before lines after : List Line) → at < length found →
+pub DecidesSlots-next : (found : List (Decided Telling)) (at : ℕ) (number : Decided Telling) (before lines after : List LaneLine) → at < length found →
     Become (λ dst. DecidesSlots (slots_shown (take at found) dst) (slots_lost (take at found) dst)) before lines →
     Become (λ dst. DecidesSlots (slots_shown (get_or found at number ∷ []) dst) (slots_lost (get_or found at number ∷ []) dst)) lines after →
     Become (λ dst. DecidesSlots (slots_shown (take (at + 1) found) dst) (slots_lost (take (at + 1) found) dst)) before after
@@ -233,7 +233,7 @@ DecidesSlots-next found at number before lines after within one two =
     DecidesSlots-then (slots_shown (take at found) dst) (slots_lost (take at found) dst) (slots_shown (get_or found at number ∷ []) dst) (slots_lost (get_or found at number ∷ []) dst)
     (slots_shown (take (at + 1) found) dst) (slots_lost (take (at + 1) found) dst) x y z (shown-next found at number dst within) (lost-next found at number dst within) first second)
 
-pub DecidesSlots-lost : (n shown lost : ℕ) (x y : Line) → shown ≡ 0 → lost ≡ n → LosesSlots n x y → DecidesSlots shown lost x y
+pub DecidesSlots-lost : (n shown lost : ℕ) (x y : LaneLine) → shown ≡ 0 → lost ≡ n → LosesSlots n x y → DecidesSlots shown lost x y
 DecidesSlots-lost n shown lost x y none all loses = record {
   opened = loses.opened;
   entered = loses.entered;
@@ -245,7 +245,7 @@ DecidesSlots-lost n shown lost x y none all loses = record {
   };
 }
 
-pub DecidesSlots-shown : (n shown lost : ℕ) (x y : Line) → shown ≡ n → lost ≡ 0 → AcknowledgesSlots n x y → DecidesSlots shown lost x y
+pub DecidesSlots-shown : (n shown lost : ℕ) (x y : LaneLine) → shown ≡ n → lost ≡ 0 → AcknowledgesSlots n x y → DecidesSlots shown lost x y
 DecidesSlots-shown n shown lost x y all none shows = record {
   opened = shows.opened;
   entered = shows.entered;
@@ -257,7 +257,7 @@ DecidesSlots-shown n shown lost x y all none shows = record {
   };
 }
 
-pub RisesTo-then : (first second : ℕ) (x y z : Line) → RisesTo first x y → RisesTo second y z → RisesTo (max first second) x z
+pub RisesTo-then : (first second : ℕ) (x y z : LaneLine) → RisesTo first x y → RisesTo second y z → RisesTo (max first second) x z
 RisesTo-then first second x y z one two = record {
   opened = two.opened ∙ one.opened;
   entered = two.entered ∙ one.entered;
@@ -284,7 +284,7 @@ pub total_named-next : (demands : List Demand) (at : ℕ) (demand : Demand) (dst
     total_named dst (take (at + 1) demands) ≡ max (total_named dst (take at demands)) (total_named dst (get_or demands at demand ∷ []))
 total_named-next demands at demand dst within = ap (λ n. total_named dst (take n demands)) (add-one at) ∙ (ap (total_named dst) (take-suc demands at demand within) ∙ total_named-append dst (take at demands) (get_or demands at demand ∷ []))
 
-pub RisesTo-next : (demands : List Demand) (at : ℕ) (demand : Demand) (before lines after : List Line) → at < length demands →
+pub RisesTo-next : (demands : List Demand) (at : ℕ) (demand : Demand) (before lines after : List LaneLine) → at < length demands →
     Become (λ dst. RisesTo (total_named dst (take at demands))) before lines →
     Become (λ dst. RisesTo (total_named dst (get_or demands at demand ∷ []))) lines after →
     Become (λ dst. RisesTo (total_named dst (take (at + 1) demands))) before after

@@ -9,13 +9,13 @@ use Rattle.std.proofs.Common.{Bool, Option, None, option_to_list, zero, suc}
 use Rattle.std.specs.List.{filter_map, range_with_len, cons_option}
 use Rattle.std.specs.Option.{option_and_then}
 use Rattle.arbiter_lane.specs.Lines.{entry_on}
-use Rattle.arbiter_lane.specs.Parts.{entry_at}
+use Rattle.arbiter_lane.specs.Parts.{entry_of_line}
 use Rattle.greedy_rules.specs.declared.flows.Flow.{Flow}
 use Rattle.greedy_rules.specs.declared.flows.Entry.{Entry}
 use Rattle.greedy_rules.specs.Flows.{flow_below}
 use Rattle.greedy_rules.specs.Batches.{IsAboveLast}
 use Rattle.greedy_rules.proofs.Facts.{flow_below-trans}
-use Rattle.arbiter_lane.specs.declared.line.Line.{Line}
+use Rattle.arbiter_lane.specs.declared.line.LaneLine.{LaneLine}
 use Rattle.arbiter_lane.specs.Lines.{Become}
 use Rattle.arbiter_lane.proofs.Changes.{UpTo, line_between}
 
@@ -51,14 +51,14 @@ above_upward entries src from to upward above =
 -- ---- the lines
 
 -- the line of the next destination is still as it was
-pub still : (relation : ℕ → Line → Line → Type 0) (before lines : List Line) (at : ℕ) (line : Line) → Become (UpTo relation at) before lines → slice_get lines at ≡ Some line → slice_get before at ≡ Some line
+pub still : (relation : ℕ → LaneLine → LaneLine → Type 0) (before lines : List LaneLine) (at : ℕ) (line : LaneLine) → Become (UpTo relation at) before lines → slice_get lines at ≡ Some line → slice_get before at ≡ Some line
 still relation before lines at line become here =
     let there = line_between lines before (sym become.as_many) at line here in
     let same : line ≡ get_or before at line = (become.each at (get_or before at line) line there here).1 (omega arith) in
     there ∙ ap Some (sym same)
 
 -- and once it has changed the lines up to it have
-pub changed_next : (relation : ℕ → Line → Line → Type 0) (before lines : List Line) (at : ℕ) (old new : Line) → Become (UpTo relation at) before lines → slice_get lines at ≡ Some old → relation at old new →
+pub changed_next : (relation : ℕ → LaneLine → LaneLine → Type 0) (before lines : List LaneLine) (at : ℕ) (old new : LaneLine) → Become (UpTo relation at) before lines → slice_get lines at ≡ Some old → relation at old new →
     Become (UpTo relation (at + 1)) before (set lines at new)
 changed_next relation before lines at old new become here changed = record {
   as_many = length-set lines at new ∙ become.as_many;
@@ -103,11 +103,11 @@ filter_map-more h n =
     sym (ap (filter_map h) more ∙ (filter_map-append h (range_with_len 0 n) (n ∷ []) ∙ ap (λ l. filter_map h (range_with_len 0 n) ++ l) (cons_option-none (h n))))
 
 -- the entries up to a line, and that of the line
-pub entries_next : (batch : List Entry) (lines : List Line) (endpoint : ℕ) (resets : Bool) (at : ℕ) (line : Line) → slice_get lines at ≡ Some line →
-    (batch ++ filter_map (entry_at lines endpoint resets) (range_with_len 0 at)) ++ option_to_list (entry_on line (record { src = endpoint; dst = at }) resets)
-    ≡ batch ++ filter_map (entry_at lines endpoint resets) (range_with_len 0 (at + 1))
+pub entries_next : (batch : List Entry) (lines : List LaneLine) (endpoint : ℕ) (resets : Bool) (at : ℕ) (line : LaneLine) → slice_get lines at ≡ Some line →
+    (batch ++ filter_map (entry_of_line lines endpoint resets) (range_with_len 0 at)) ++ option_to_list (entry_on line (record { src = endpoint; dst = at }) resets)
+    ≡ batch ++ filter_map (entry_of_line lines endpoint resets) (range_with_len 0 (at + 1))
 entries_next batch lines endpoint resets at line here =
-    let entry : Option Line → Option Entry = option_and_then (λ (l : Line). entry_on l (record { src = endpoint; dst = at }) resets) in
-    let same : entry_at lines endpoint resets at ≡ entry_on line (record { src = endpoint; dst = at }) resets = ap entry here in
-    append_assoc batch (filter_map (entry_at lines endpoint resets) (range_with_len 0 at)) (option_to_list (entry_on line (record { src = endpoint; dst = at }) resets))
-    ∙ ap (λ xs. batch ++ xs) (ap (λ o. filter_map (entry_at lines endpoint resets) (range_with_len 0 at) ++ option_to_list o) (sym same) ∙ filter_map-more (entry_at lines endpoint resets) at)
+    let entry : Option LaneLine → Option Entry = option_and_then (λ (l : LaneLine). entry_on l (record { src = endpoint; dst = at }) resets) in
+    let same : entry_of_line lines endpoint resets at ≡ entry_on line (record { src = endpoint; dst = at }) resets = ap entry here in
+    append_assoc batch (filter_map (entry_of_line lines endpoint resets) (range_with_len 0 at)) (option_to_list (entry_on line (record { src = endpoint; dst = at }) resets))
+    ∙ ap (λ xs. batch ++ xs) (ap (λ o. filter_map (entry_of_line lines endpoint resets) (range_with_len 0 at) ++ option_to_list o) (sym same) ∙ filter_map-more (entry_of_line lines endpoint resets) at)

@@ -17,14 +17,14 @@ use Rattle.endpoint_history.specs.Packets.{Telling, Requests, slots_to}
 use Rattle.endpoint_history.specs.Lane.{LaneHistory, TakesUp, epoch_of, version_of, is_current, arrived, takes, numbers}
 use Rattle.endpoint_history.specs.Counts.{Allocation, recorded, told}
 use Rattle.endpoint_history.specs.CountLaws.{ReadingDecides, CountsAddUp}
-use Rattle.arbiter_lane.specs.declared.line.Line.{Line}
-use Rattle.arbiter_lane.specs.State.{LaneState, IsFlow, IsSound, AreSlots, open_to}
+use Rattle.arbiter_lane.specs.declared.line.LaneLine.{LaneLine}
+use Rattle.arbiter_lane.specs.State.{LaneState, IsFlow, IsSoundLane, AreSlots, unresolved_to}
 use Rattle.arbiter_lane.specs.Standing.{StandsForFlow, StandsFor, TellsSlots}
 use Rattle.arbiter_lane.specs.Lines.{Become, DecidesSlots, RisesTo, Hears, slots_shown, slots_lost}
 use Rattle.arbiter_lane.proofs.Changes.{line_between, Become-then, Become-none}
 use Rattle.arbiter_lane.proofs.Held.{each_line, open_to-is, open-told}
 
-abbrev pub heard_lane : LaneState → Receiver → Sender Telling → List Line → LaneState
+abbrev pub heard_lane : LaneState → Receiver → Sender Telling → List LaneLine → LaneState
 heard_lane was arrived sent lines = record {
   endpoint = was.endpoint;
   endpoints = was.endpoints;
@@ -95,7 +95,7 @@ open-own endpoints b endpoint (number ∷ sent) slots =
 
 -- ---- what it makes of a line
 
-Hears-from : (shown lost total : ℕ) (x y z : Line) → DecidesSlots shown lost x y → RisesTo total y z → Hears shown lost total x z
+Hears-from : (shown lost total : ℕ) (x y z : LaneLine) → DecidesSlots shown lost x y → RisesTo total y z → Hears shown lost total x z
 Hears-from shown lost total x y z decides rises = record {
   opened = rises.opened ∙ decides.opened;
   entered = rises.entered ∙ decides.entered;
@@ -107,26 +107,26 @@ Hears-from shown lost total x y z decides rises = record {
   };
 }
 
-Hears-lines : (shown lost total : ℕ → ℕ) (was between lines : List Line) → Become (λ dst. DecidesSlots (shown dst) (lost dst)) was between → Become (λ dst. RisesTo (total dst)) between lines →
+Hears-lines : (shown lost total : ℕ → ℕ) (was between lines : List LaneLine) → Become (λ dst. DecidesSlots (shown dst) (lost dst)) was between → Become (λ dst. RisesTo (total dst)) between lines →
     Become (λ dst. Hears (shown dst) (lost dst) (total dst)) was lines
 Hears-lines shown lost total was between lines decides rises =
     Become-then (λ dst. DecidesSlots (shown dst) (lost dst)) (λ dst. RisesTo (total dst)) (λ dst. Hears (shown dst) (lost dst) (total dst)) was between lines decides rises
     (λ dst x y z one two. Hears-from (shown dst) (lost dst) (total dst) x y z one two)
 
 -- a fresh number raises what it names
-pub Hears-fresh : (shown lost total : ℕ → ℕ) (fresh : Bool) (was between lines : List Line) → fresh ≡ true → Become (λ dst. DecidesSlots (shown dst) (lost dst)) was between → Become (λ dst. RisesTo (total dst)) between lines →
+pub Hears-fresh : (shown lost total : ℕ → ℕ) (fresh : Bool) (was between lines : List LaneLine) → fresh ≡ true → Become (λ dst. DecidesSlots (shown dst) (lost dst)) was between → Become (λ dst. RisesTo (total dst)) between lines →
     Become (λ dst. Hears (shown dst) (lost dst) (cond fresh (total dst) 0)) was lines
 Hears-fresh shown lost total fresh was between lines is decides rises =
     subst (λ (b : Bool). Become (λ dst. Hears (shown dst) (lost dst) (cond b (total dst) 0)) was lines) (sym is) (Hears-lines shown lost total was between lines decides rises)
 
 -- and one that is not raises nothing
-pub Hears-stale : (shown lost total : ℕ → ℕ) (fresh : Bool) (was lines : List Line) → fresh ≡ false → Become (λ dst. DecidesSlots (shown dst) (lost dst)) was lines →
+pub Hears-stale : (shown lost total : ℕ → ℕ) (fresh : Bool) (was lines : List LaneLine) → fresh ≡ false → Become (λ dst. DecidesSlots (shown dst) (lost dst)) was lines →
     Become (λ dst. Hears (shown dst) (lost dst) (cond fresh (total dst) 0)) was lines
 Hears-stale shown lost total fresh was lines is decides =
     subst (λ (b : Bool). Become (λ dst. Hears (shown dst) (lost dst) (cond b (total dst) 0)) was lines) (sym is)
     (Hears-lines shown lost (λ dst. 0) was lines lines decides (Become-none (λ dst. RisesTo 0) lines (λ dst line. RisesTo-none line)))
   where
-    RisesTo-none : (line : Line) → RisesTo 0 line line
+    RisesTo-none : (line : LaneLine) → RisesTo 0 line line
     RisesTo-none line = record { opened = refl; entered = refl; count = record { demanded = omega arith; allocated = refl; acknowledged = refl; lost = refl } }
 
 -- whether a number that arrives is fresh to a lane
@@ -134,7 +134,7 @@ abbrev pub is_new : LaneState → LaneHistory → ℕ → Bool
 is_new lane history seq = is_fresh (receive_verdict (reorder_of lane.arrived.version) (arrived history) seq)
 
 -- what a request of the connection makes of the line of a destination
-abbrev pub HearsRequest : LaneState → LaneHistory → Numbered (List Demand) → ℕ → Line → Line → Type 0
+abbrev pub HearsRequest : LaneState → LaneHistory → Numbered (List Demand) → ℕ → LaneLine → LaneLine → Type 0
 HearsRequest was history packet dst =
     Hears (slots_shown (decided_by (reorder_of was.sent.version) (span_of was.sent.version) (numbers was.g history) packet.ack) dst)
     (slots_lost (decided_by (reorder_of was.sent.version) (span_of was.sent.version) (numbers was.g history) packet.ack) dst)
@@ -146,7 +146,7 @@ max-taken : (taken : Bool) (before named : ℕ) → max before (cond taken named
 max-taken true before named = omega arith
 max-taken false before named = omega arith
 
-flow-heard : (laws : ReadingDecides) (g version round : ℕ) (packet : Numbered (List Demand)) (history : LaneHistory) (allocations : List Allocation) (dst total : ℕ) (old new : Line) →
+flow-heard : (laws : ReadingDecides) (g version round : ℕ) (packet : Numbered (List Demand)) (history : LaneHistory) (allocations : List Allocation) (dst total : ℕ) (old new : LaneLine) →
     is_current history packet ≡ true → version ≡ version_of history → total ≡ cond (takes history packet) (total_named dst packet.content) 0 →
     Hears (slots_shown (decided_by (reorder_of version) (span_of version) (numbers g history) packet.ack) dst) (slots_lost (decided_by (reorder_of version) (span_of version) (numbers g history) packet.ack) dst) total old new →
     StandsForFlow g history allocations dst old → StandsForFlow g (TakesUp round (Requests packet) ∷ history) allocations dst new
@@ -168,7 +168,7 @@ flow-heard laws g version round packet history allocations dst total old new cur
     }
 
 -- what is known once a request of the connection has arrived
-pub record HasHeardRequest (was : LaneState) (packet : Numbered (List Demand)) (arrived_now : Receiver) (sent : Sender Telling) (lines : List Line) (history : LaneHistory) : Type 0 where
+pub record HasHeardRequest (was : LaneState) (packet : Numbered (List Demand)) (arrived_now : Receiver) (sent : Sender Telling) (lines : List LaneLine) (history : LaneHistory) : Type 0 where
   pub epoch : packet.epoch ≡ was.epoch
   pub version : packet.version ≡ was.version
   pub heard_version : was.arrived.version ≡ was.version
@@ -179,7 +179,7 @@ pub record HasHeardRequest (was : LaneState) (packet : Numbered (List Demand)) (
   pub done : HasDone sent (Reads packet.ack ∷ numbers was.g history)
   pub change : Become (HearsRequest was history packet) was.lines lines
 
-pub stands-heard : (laws : ReadingDecides) (was : LaneState) (round : ℕ) (packet : Numbered (List Demand)) (arrived_now : Receiver) (sent : Sender Telling) (lines : List Line) (history : LaneHistory) (allocations : List Allocation) →
+pub stands-heard : (laws : ReadingDecides) (was : LaneState) (round : ℕ) (packet : Numbered (List Demand)) (arrived_now : Receiver) (sent : Sender Telling) (lines : List LaneLine) (history : LaneHistory) (allocations : List Allocation) →
     HasHeardRequest was packet arrived_now sent lines history → StandsFor was history allocations → StandsFor (heard_lane was arrived_now sent lines) (TakesUp round (Requests packet) ∷ history) allocations
 stands-heard laws was round packet arrived_now sent lines history allocations hears stands =
     let current = is_current-from history packet (hears.epoch ∙ stands.epoch) (hears.version ∙ stands.version) in
@@ -201,7 +201,7 @@ stands-heard laws was round packet arrived_now sent lines history allocations he
     }
 
 -- nothing more is told
-pub tells-heard : (was : LaneState) (round : ℕ) (packet : Numbered (List Demand)) (arrived_now : Receiver) (sent : Sender Telling) (lines : List Line) (history : LaneHistory) →
+pub tells-heard : (was : LaneState) (round : ℕ) (packet : Numbered (List Demand)) (arrived_now : Receiver) (sent : Sender Telling) (lines : List LaneLine) (history : LaneHistory) →
     TellsSlots was history → TellsSlots (heard_lane was arrived_now sent lines) (TakesUp round (Requests packet) ∷ history)
 tells-heard was round packet arrived_now sent lines history tells =
     elim (cases_Bool (is_current history packet)) [
@@ -225,10 +225,10 @@ none-named true total h = h
 none-named false total h = refl
 
 -- what is open, acknowledged and lost is as much as before
-told-again : (laws : ReadingDecides) (sums : CountsAddUp) (was now : LaneState) (round : ℕ) (packet : Numbered (List Demand)) (history : LaneHistory) (allocations : List Allocation) (dst : ℕ) (old new : Line) →
+told-again : (laws : ReadingDecides) (sums : CountsAddUp) (was now : LaneState) (round : ℕ) (packet : Numbered (List Demand)) (history : LaneHistory) (allocations : List Allocation) (dst : ℕ) (old new : LaneLine) →
     was.g ≡ now.g → was.sent.version ≡ was.version → now.sent.version ≡ was.version → StandsFor was history allocations → StandsFor now (TakesUp round (Requests packet) ∷ history) allocations →
     StandsForFlow was.g history allocations dst old → StandsForFlow now.g (TakesUp round (Requests packet) ∷ history) allocations dst new →
-    new.count.acknowledged + new.count.lost + open_to dst now.sent ≡ old.count.acknowledged + old.count.lost + open_to dst was.sent
+    new.count.acknowledged + new.count.lost + unresolved_to dst now.sent ≡ old.count.acknowledged + old.count.lost + unresolved_to dst was.sent
 told-again laws sums was now round packet history allocations dst old new windows was_version now_version stood stands before after =
     let three = sums.three was.g history dst in
     let three_now = sums.three now.g (TakesUp round (Requests packet) ∷ history) dst in
@@ -242,9 +242,9 @@ told-again laws sums was now round packet history allocations dst old new window
     let two_now = after.lost in
     omega (arith, three, three_now, tells, same, open_was, open_now, one, two, one_now, two_now)
 
-flow-sound : (was : LaneState) (arrived_now : Receiver) (sent : Sender Telling) (lines : List Line) (shown lost total dst : ℕ) (old new : Line) → (dst ≡ was.endpoint → open_to dst was.sent ≡ 0) →
+flow-sound : (was : LaneState) (arrived_now : Receiver) (sent : Sender Telling) (lines : List LaneLine) (shown lost total dst : ℕ) (old new : LaneLine) → (dst ≡ was.endpoint → unresolved_to dst was.sent ≡ 0) →
     total ≤ 200000000 → (dst ≡ was.endpoint → total ≡ 0) → Hears shown lost total old new →
-    new.count.acknowledged + new.count.lost + open_to dst sent ≡ old.count.acknowledged + old.count.lost + open_to dst was.sent → IsFlow was dst old → IsFlow (heard_lane was arrived_now sent lines) dst new
+    new.count.acknowledged + new.count.lost + unresolved_to dst sent ≡ old.count.acknowledged + old.count.lost + unresolved_to dst was.sent → IsFlow was dst old → IsFlow (heard_lane was arrived_now sent lines) dst new
 flow-sound was arrived_now sent lines shown lost total dst old new none_open most none_named hears three flow =
     let demanded = hears.count.demanded in
     let allocated = hears.count.allocated in
@@ -268,9 +268,9 @@ flow-sound was arrived_now sent lines shown lost total dst old new none_open mos
           (omega (arith, three, owed, named, opened, demanded, acknowledged, lost_now), hears.opened ∙ none.1);
     }
 
-pub sound-heard : (laws : ReadingDecides) (sums : CountsAddUp) (was : LaneState) (round : ℕ) (packet : Numbered (List Demand)) (arrived_now : Receiver) (sent : Sender Telling) (lines : List Line) (history : LaneHistory) (allocations : List Allocation) →
+pub sound-heard : (laws : ReadingDecides) (sums : CountsAddUp) (was : LaneState) (round : ℕ) (packet : Numbered (List Demand)) (arrived_now : Receiver) (sent : Sender Telling) (lines : List LaneLine) (history : LaneHistory) (allocations : List Allocation) →
     HasHeardRequest was packet arrived_now sent lines history → NamesOthers was packet.content → sent.outstanding.newest ≡ was.sent.outstanding.newest →
-    StandsFor was history allocations → TellsSlots was history → IsSound was → IsSound (heard_lane was arrived_now sent lines)
+    StandsFor was history allocations → TellsSlots was history → IsSoundLane was → IsSoundLane (heard_lane was arrived_now sent lines)
 sound-heard laws sums was round packet arrived_now sent lines history allocations hears names newest stands tells sound =
     let now : LaneState = heard_lane was arrived_now sent lines in
     let stands_now : StandsFor now (TakesUp round (Requests packet) ∷ history) allocations = stands-heard laws was round packet arrived_now sent lines history allocations hears stands in
@@ -295,7 +295,7 @@ sound-heard laws sums was round packet arrived_now sent lines history allocation
           (slots_shown (decided_by (reorder_of was.sent.version) (span_of was.sent.version) (numbers was.g history) packet.ack) dst)
           (slots_lost (decided_by (reorder_of was.sent.version) (span_of was.sent.version) (numbers was.g history) packet.ack) dst)
           (cond fresh (total_named dst packet.content) 0) dst old new
-          (λ is. ap (λ d. open_to d was.sent) is ∙ own_open)
+          (λ is. ap (λ d. unresolved_to d was.sent) is ∙ own_open)
           (at-most fresh (total_named dst packet.content) 200000000 (total_named-most 200000000 dst packet.content names.totals))
           (λ is. none-named fresh (total_named dst packet.content) (ap (λ d. total_named d packet.content) is ∙ total_named-own was.endpoint packet.content names.others))
           (hears.change.each dst old new there here)

@@ -14,10 +14,10 @@ use Rattle.endpoint_history.specs.Lane.{LaneHistory, version_of, numbers}
 use Rattle.endpoint_history.specs.CountLaws.{CountsAddUp}
 use Rattle.endpoint_history.specs.Counts.{Allocation}
 use Rattle.endpoint_history.specs.Counts as counts
-use Rattle.arbiter_lane.specs.declared.line.Line.{Line}
+use Rattle.arbiter_lane.specs.declared.line.LaneLine.{LaneLine}
 use Rattle.arbiter_lane.specs.Lines.{Become}
 use Rattle.arbiter_lane.specs.Standing.{StandsFor, FlowIsWithinLedger}
-use Rattle.arbiter_lane.specs.State.{LaneState, IsSound, open_to}
+use Rattle.arbiter_lane.specs.State.{LaneState, IsSoundLane, unresolved_to}
 use Rattle.arbiter_lane.proofs.Changes.{line_between}
 
 -- ---- what is told under numbers
@@ -52,12 +52,12 @@ newest-counted (Sends telling ∷ events) content is = omega arith
 newest-counted (Reads ack ∷ events) content is = newest-counted events content is
 
 -- the open slots of a sender are those of the lane that it stands for
-pub open_to-is : (g : ℕ) (sent : Sender Telling) (history : LaneHistory) (dst : ℕ) → sent.version ≡ version_of history → HasDone sent (numbers g history) → open_to dst sent ≡ counts.open_to g history dst
+pub open_to-is : (g : ℕ) (sent : Sender Telling) (history : LaneHistory) (dst : ℕ) → sent.version ≡ version_of history → HasDone sent (numbers g history) → unresolved_to dst sent ≡ counts.open_to g history dst
 open_to-is g sent history dst version done =
     ap (sum_by (λ (s : Unresolved Telling). slots_to dst s.content.told)) (done.unresolved ∙ ap (λ v. open_numbers (reorder_of v) (span_of v) (numbers g history)) version)
 
 -- what is told is allocated, and that is owed
-pub told-is-owed : CountsAddUp → (lane : LaneState) → IsSound lane → (history : LaneHistory) (allocations : List Allocation) (dst : ℕ) (line : Line) → slice_get lane.lines dst ≡ Some line →
+pub told-is-owed : CountsAddUp → (lane : LaneState) → IsSoundLane lane → (history : LaneHistory) (allocations : List Allocation) (dst : ℕ) (line : LaneLine) → slice_get lane.lines dst ≡ Some line →
     StandsFor lane history allocations → FlowIsWithinLedger lane.g history allocations dst
 told-is-owed sums lane sound history allocations dst line here stands =
     let three = sums.three lane.g history dst in
@@ -78,24 +78,24 @@ told-is-owed sums lane sound history allocations dst line here stands =
 -- ---- lines
 
 -- what holds of each line that was, and of what it becomes, holds of each line that is
-pub each_line : (relation : ℕ → Line → Line → Type 0) (P Q : ℕ → Line → Type 0) (before after : List Line) → Become relation before after →
-    ((dst : ℕ) (line : Line) → slice_get before dst ≡ Some line → P dst line) →
-    ((dst : ℕ) (old new : Line) → relation dst old new → P dst old → Q dst new) →
-    (dst : ℕ) (line : Line) → slice_get after dst ≡ Some line → Q dst line
+pub each_line : (relation : ℕ → LaneLine → LaneLine → Type 0) (P Q : ℕ → LaneLine → Type 0) (before after : List LaneLine) → Become relation before after →
+    ((dst : ℕ) (line : LaneLine) → slice_get before dst ≡ Some line → P dst line) →
+    ((dst : ℕ) (old new : LaneLine) → relation dst old new → P dst old → Q dst new) →
+    (dst : ℕ) (line : LaneLine) → slice_get after dst ≡ Some line → Q dst line
 each_line relation P Q before after become held goes_on dst line here =
     let there = line_between after before (sym become.as_many) dst line here in
     let old = get_or before dst line in
     goes_on dst old line (become.each dst old line there here) (held dst old there)
 
 -- each place below the length has a line
-pub line_here : (lines : List Line) (dst : ℕ) → dst < length lines → (line : Line) × (slice_get lines dst ≡ Some line)
+pub line_here : (lines : List LaneLine) (dst : ℕ) → dst < length lines → (line : LaneLine) × (slice_get lines dst ≡ Some line)
 line_here lines dst within = elim (slice_get_cases lines dst).1 [
   | inl line ↦ (line.0, line.2)
   | inr past ↦ absurd (omega (arith, within, past.0))
 ]
 
 -- so it is of each flow
-pub each-told-is-owed : CountsAddUp → (lane : LaneState) → IsSound lane → (history : LaneHistory) (allocations : List Allocation) → StandsFor lane history allocations →
+pub each-told-is-owed : CountsAddUp → (lane : LaneState) → IsSoundLane lane → (history : LaneHistory) (allocations : List Allocation) → StandsFor lane history allocations →
     (dst : ℕ) → dst < lane.endpoints → FlowIsWithinLedger lane.g history allocations dst
 each-told-is-owed sums lane sound history allocations stands dst below =
     let as_many = sound.as_many in
@@ -103,7 +103,7 @@ each-told-is-owed sums lane sound history allocations stands dst below =
     told-is-owed sums lane sound history allocations dst here.0 here.1 stands
 
 -- what is written through the slice of all lines
-pub Become-written : {Z : Type 0} (relation : ℕ → Line → Line → Type 0) (lines : Vec Line Z) (old new : List Line) → old ≡ lines.items → Become relation old new → Become relation lines.items (with_items lines new).items
+pub Become-written : {Z : Type 0} (relation : ℕ → LaneLine → LaneLine → Type 0) (lines : Vec LaneLine Z) (old new : List LaneLine) → old ≡ lines.items → Become relation old new → Become relation lines.items (with_items lines new).items
 Become-written relation lines old new is become =
     let same : (with_items lines new).items ≡ new = with_items_is lines new (become.as_many ∙ (ap length is ∙ sym lines.ok.0)) in
-    subst (λ (xs : List Line). Become relation lines.items xs) (sym same) (subst (λ (xs : List Line). Become relation xs new) is become)
+    subst (λ (xs : List LaneLine). Become relation lines.items xs) (sym same) (subst (λ (xs : List LaneLine). Become relation xs new) is become)

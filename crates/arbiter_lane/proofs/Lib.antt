@@ -1,6 +1,6 @@
 mod Changes
 mod Entering
-mod Held
+pub mod Held
 mod Recording
 mod Marking
 mod Beginning

@@ -21,16 +21,16 @@ use Rattle.endpoint_history.specs.Packets.{Telling, DownPacket, slots_to, framed
 use Rattle.endpoint_history.specs.Lane.{LaneHistory, MakesDown, epoch_of, version_of, last_reset, arrived, telling_in, may_send, numbers, packet_down}
 use Rattle.endpoint_history.specs.Counts.{Allocation, told, lost}
 use Rattle.endpoint_history.specs.CountLaws.{MakingTells, CountsAddUp}
-use Rattle.arbiter_lane.specs.declared.line.Line.{Line}
-use Rattle.arbiter_lane.specs.State.{LaneState, IsFlow, IsSound, AreSlots, AreAllocated, AreInFlight, open_to}
+use Rattle.arbiter_lane.specs.declared.line.LaneLine.{LaneLine}
+use Rattle.arbiter_lane.specs.State.{LaneState, IsFlow, IsSoundLane, AreSlots, AreAllocated, AreInFlight, unresolved_to}
 use Rattle.arbiter_lane.specs.Standing.{StandsForFlow, StandsFor, TellsSlots}
 use Rattle.arbiter_lane.specs.Lines.{Become, LosesSlots}
-use Rattle.arbiter_lane.specs.Parts.{packet_with, slots_told, may_tell, events_after, lost_by}
+use Rattle.arbiter_lane.specs.Parts.{packet_with, slots_to_tell, may_tell, events_after, lost_by}
 use Rattle.arbiter_lane.proofs.Changes.{line_between}
 use Rattle.arbiter_lane.proofs.Held.{each_line, open_to-is, open-told, newest-told, newest-counted}
 use Rattle.arbiter_lane.proofs.Hearing.{told-own, open-own}
 
-abbrev pub made_lane : LaneState → Sender Telling → List Line → LaneState
+abbrev pub made_lane : LaneState → Sender Telling → List LaneLine → LaneState
 made_lane was sent lines = record {
   endpoint = was.endpoint;
   endpoints = was.endpoints;
@@ -50,7 +50,7 @@ made_lane was sent lines = record {
 -- ---- the slots that are told
 
 abbrev pub telling_of : LaneState → ℕ → List Told → Telling
-telling_of lane round slots = record { batch = round - 2 * lane.g; told = slots_told lane round slots }
+telling_of lane round slots = record { batch = round - 2 * lane.g; told = slots_to_tell lane round slots }
 
 abbrev telling_with : ℕ → List Told → Telling
 telling_with batch slots = record { batch = batch; told = slots }
@@ -60,7 +60,7 @@ telling-is lane history round slots is =
     ap (λ (r : ℕ). telling_with (round - 2 * lane.g) (cond (nat_le (2 * lane.g) round && nat_le r (round - 2 * lane.g)) slots [])) is
 
 -- they are the round's slots or none
-pub told-either : (lane : LaneState) (round : ℕ) (slots : List Told) (P : List Told → Type 0) → P slots → P [] → P (slots_told lane round slots)
+pub told-either : (lane : LaneState) (round : ℕ) (slots : List Told) (P : List Told → Type 0) → P slots → P [] → P (slots_to_tell lane round slots)
 told-either lane round slots P all nothing =
     elim (nat_le (2 * lane.g) round && nat_le lane.last_reset (round - 2 * lane.g)) as (λ b. P (cond b slots [])) [
       | true ↦ all
@@ -77,8 +77,8 @@ AreSlots-none endpoints b endpoint = record {
 }
 
 -- what is told and what is open is in flight
-pub room-for : (lane : LaneState) (round : ℕ) (slots : List Told) → IsSound lane → AreAllocated lane round slots → 0 < lane.epoch →
-    AreInFlight (λ dst. slots_to dst (slots_told lane round slots) + open_to dst lane.sent) lane.lines
+pub room-for : (lane : LaneState) (round : ℕ) (slots : List Told) → IsSoundLane lane → AreAllocated lane round slots → 0 < lane.epoch →
+    AreInFlight (λ dst. slots_to dst (slots_to_tell lane round slots) + unresolved_to dst lane.sent) lane.lines
 room-for lane round slots sound allocated begun dst line here =
     let test = nat_le (2 * lane.g) round && nat_le lane.last_reset (round - 2 * lane.g) in
     let open_slots = (sound.flows dst line here).open_slots in
@@ -117,18 +117,18 @@ numbers-made lane history allocations round slots version stands begun =
     ∙ ap (λ (t : Telling). cond (may_tell lane.sent) (Sends t ∷ events) events) (sym (telling-is lane history round slots stands.last_reset)))
 
 -- what is known once the slots of a round are told
-pub record HasTold (was : LaneState) (round : ℕ) (slots : List Told) (sent : Sender Telling) (lines : List Line) (content : Telling) : Type 0 where
-  pub few : length (slots_told was round slots) ≤ 64
+pub record HasTold (was : LaneState) (round : ℕ) (slots : List Told) (sent : Sender Telling) (lines : List LaneLine) (content : Telling) : Type 0 where
+  pub few : length (slots_to_tell was round slots) ≤ 64
   pub done : (events : List (Event Telling)) → HasDone was.sent events → HasDone sent (events_after was.sent (telling_of was round slots) events)
   pub says : (events : List (Event Telling)) → HasDone was.sent events → newest_content (events_after was.sent (telling_of was round slots) events) ≡ Some content
   pub version : sent.version ≡ was.sent.version
   pub newest : sent.outstanding.newest ≤ was.sent.outstanding.newest + 1
-  pub change : Become (λ dst. LosesSlots (lost_by was.sent (slots_told was round slots) dst)) was.lines lines
+  pub change : Become (λ dst. LosesSlots (lost_by was.sent (slots_to_tell was round slots) dst)) was.lines lines
 
 abbrev pub with_slots : ℕ → List Told → Telling
 with_slots batch slots = record { batch = batch; told = slots }
 
-pub told-from : (was : LaneState) (round : ℕ) (slots : List Told) (batch : ℕ) (now : List Told) (sent : Sender Telling) (lines : List Line) (content : Telling) → batch ≡ round - 2 * was.g → now ≡ slots_told was round slots → length now ≤ 64 →
+pub told-from : (was : LaneState) (round : ℕ) (slots : List Told) (batch : ℕ) (now : List Told) (sent : Sender Telling) (lines : List LaneLine) (content : Telling) → batch ≡ round - 2 * was.g → now ≡ slots_to_tell was round slots → length now ≤ 64 →
     ((events : List (Event Telling)) → HasDone was.sent events → HasDone sent (events_after was.sent (with_slots batch now) events)) →
     ((events : List (Event Telling)) → HasDone was.sent events → newest_content (events_after was.sent (with_slots batch now) events) ≡ Some content) →
     sent.version ≡ was.sent.version → sent.outstanding.newest ≡ was.sent.outstanding.newest + cond (may_tell was.sent) 1 0 → Become (λ dst. LosesSlots (lost_by was.sent now dst)) was.lines lines →
@@ -152,11 +152,11 @@ told-from was round slots batch now sent lines content is_batch is_now few done 
 -- ---- what it stands for
 
 lost-made : (laws : MakingTells) (lane : LaneState) (history : LaneHistory) (allocations : List Allocation) (round : ℕ) (slots : List Told) (dst : ℕ) → lane.sent.version ≡ lane.version → StandsFor lane history allocations → 0 < lane.epoch →
-    lost lane.g (MakesDown round slots ∷ history) dst ≡ lost lane.g history dst + lost_by lane.sent (slots_told lane round slots) dst
+    lost lane.g (MakesDown round slots ∷ history) dst ≡ lost lane.g history dst + lost_by lane.sent (slots_to_tell lane round slots) dst
 lost-made laws lane history allocations round slots dst version stands begun =
     let above : 0 < epoch_of history = omega (arith, begun, stands.epoch) in
     let may = may-is lane history (version ∙ stands.version) stands.sent in
-    let n = slots_to dst (slots_told lane round slots) in
+    let n = slots_to dst (slots_to_tell lane round slots) in
     let same : slots_to dst (telling_in lane.g history round slots).told ≡ n = ap (λ (t : Telling). slots_to dst t.told) (sym (telling-is lane history round slots stands.last_reset)) in
     elim (cases_Bool (may_tell lane.sent)) [
       | inl new ↦
@@ -169,7 +169,7 @@ lost-made laws lane history allocations round slots dst version stands begun =
           omega (arith, all, law, same)
     ]
 
-flow-made : (laws : MakingTells) (g round n : ℕ) (slots : List Told) (history : LaneHistory) (allocations : List Allocation) (dst : ℕ) (old new : Line) →
+flow-made : (laws : MakingTells) (g round n : ℕ) (slots : List Told) (history : LaneHistory) (allocations : List Allocation) (dst : ℕ) (old new : LaneLine) →
     lost g (MakesDown round slots ∷ history) dst ≡ lost g history dst + n → LosesSlots n old new → StandsForFlow g history allocations dst old → StandsForFlow g (MakesDown round slots ∷ history) allocations dst new
 flow-made laws g round n slots history allocations dst old new law loses flow = record {
   demanded = loses.count.demanded ∙ flow.demanded;
@@ -180,9 +180,9 @@ flow-made laws g round n slots history allocations dst old new law loses flow = 
   opened = loses.opened ∙ flow.opened;
 }
 
-pub stands-made : (laws : MakingTells) (was : LaneState) (round : ℕ) (slots : List Told) (sent : Sender Telling) (lines : List Line) (history : LaneHistory) (allocations : List Allocation) →
+pub stands-made : (laws : MakingTells) (was : LaneState) (round : ℕ) (slots : List Told) (sent : Sender Telling) (lines : List LaneLine) (history : LaneHistory) (allocations : List Allocation) →
     was.sent.version ≡ was.version → sent.version ≡ was.sent.version → 0 < was.epoch → HasDone sent (events_after was.sent (telling_of was round slots) (numbers was.g history)) →
-    Become (λ dst. LosesSlots (lost_by was.sent (slots_told was round slots) dst)) was.lines lines → StandsFor was history allocations →
+    Become (λ dst. LosesSlots (lost_by was.sent (slots_to_tell was round slots) dst)) was.lines lines → StandsFor was history allocations →
     StandsFor (made_lane was sent lines) (MakesDown round slots ∷ history) allocations
 stands-made laws was round slots sent lines history allocations version same begun done become stands = record {
   epoch = stands.epoch;
@@ -191,8 +191,8 @@ stands-made laws was round slots sent lines history allocations version same beg
   arrived = stands.arrived;
   sent = subst (HasDone sent) (sym (numbers-made was history allocations round slots version stands begun)) done;
   sent_version = same ∙ stands.sent_version;
-  flows = each_line (λ dst. LosesSlots (lost_by was.sent (slots_told was round slots) dst)) (StandsForFlow was.g history allocations) (StandsForFlow was.g (MakesDown round slots ∷ history) allocations) was.lines lines become stands.flows
-      (λ dst old new. flow-made laws was.g round (lost_by was.sent (slots_told was round slots) dst) slots history allocations dst old new (lost-made laws was history allocations round slots dst version stands begun));
+  flows = each_line (λ dst. LosesSlots (lost_by was.sent (slots_to_tell was round slots) dst)) (StandsForFlow was.g history allocations) (StandsForFlow was.g (MakesDown round slots ∷ history) allocations) was.lines lines become stands.flows
+      (λ dst old new. flow-made laws was.g round (lost_by was.sent (slots_to_tell was round slots) dst) slots history allocations dst old new (lost-made laws was history allocations round slots dst version stands begun));
   round = stands.round;
   is_reset = stands.is_reset;
   recorded = stands.recorded;
@@ -205,13 +205,13 @@ pub tells-after : (was : LaneState) (round : ℕ) (slots : List Told) (events : 
 tells-after was round slots events are tells =
     let P : Unresolved Telling → Type 0 = λ number. AreSlots was.endpoints was.b was.endpoint number.content.told in
     let telling = telling_of was round slots in
-    let new : AreSlots was.endpoints was.b was.endpoint (slots_told was round slots) = told-either was round slots (AreSlots was.endpoints was.b was.endpoint) are (AreSlots-none was.endpoints was.b was.endpoint) in
+    let new : AreSlots was.endpoints was.b was.endpoint (slots_to_tell was round slots) = told-either was round slots (AreSlots was.endpoints was.b was.endpoint) are (AreSlots-none was.endpoints was.b was.endpoint) in
     elim (may_tell was.sent) as (λ b. All P (numbers_sent (cond b (Sends telling ∷ events) events))) [
       | true ↦ All-push P (numbers_sent events) (record { number = newest_of events + 1; content = telling }) tells new
       | false ↦ tells
     ]
 
-pub tells-made : (was : LaneState) (round : ℕ) (slots : List Told) (sent : Sender Telling) (lines : List Line) (history : LaneHistory) (allocations : List Allocation) → was.sent.version ≡ was.version → 0 < was.epoch →
+pub tells-made : (was : LaneState) (round : ℕ) (slots : List Told) (sent : Sender Telling) (lines : List LaneLine) (history : LaneHistory) (allocations : List Allocation) → was.sent.version ≡ was.version → 0 < was.epoch →
     AreSlots was.endpoints was.b was.endpoint slots → StandsFor was history allocations → TellsSlots was history → TellsSlots (made_lane was sent lines) (MakesDown round slots ∷ history)
 tells-made was round slots sent lines history allocations version begun are stands tells =
     subst (λ (e : List (Event Telling)). All (λ (number : Unresolved Telling). AreSlots was.endpoints was.b was.endpoint number.content.told) (numbers_sent e)) (sym (numbers-made was history allocations round slots version stands begun))
@@ -219,10 +219,10 @@ tells-made was round slots sent lines history allocations version begun are stan
 
 -- ---- it stays sound
 
-told-more : (laws : MakingTells) (sums : CountsAddUp) (was now : LaneState) (round : ℕ) (slots : List Told) (history : LaneHistory) (allocations : List Allocation) (dst : ℕ) (old new : Line) →
+told-more : (laws : MakingTells) (sums : CountsAddUp) (was now : LaneState) (round : ℕ) (slots : List Told) (history : LaneHistory) (allocations : List Allocation) (dst : ℕ) (old new : LaneLine) →
     was.g ≡ now.g → was.sent.version ≡ was.version → now.sent.version ≡ was.version → 0 < was.epoch → StandsFor was history allocations → StandsFor now (MakesDown round slots ∷ history) allocations →
     StandsForFlow was.g history allocations dst old → StandsForFlow now.g (MakesDown round slots ∷ history) allocations dst new →
-    new.count.acknowledged + new.count.lost + open_to dst now.sent ≡ old.count.acknowledged + old.count.lost + open_to dst was.sent + slots_to dst (slots_told was round slots)
+    new.count.acknowledged + new.count.lost + unresolved_to dst now.sent ≡ old.count.acknowledged + old.count.lost + unresolved_to dst was.sent + slots_to dst (slots_to_tell was round slots)
 told-more laws sums was now round slots history allocations dst old new windows was_version now_version begun stood stands before after =
     let above : 0 < epoch_of history = omega (arith, begun, stood.epoch) in
     let three = sums.three was.g history dst in
@@ -241,9 +241,9 @@ told-more laws sums was now round slots history allocations dst old new windows 
 made-once : (b : Bool) → b ≡ false → cond {A = ℕ} b 1 0 ≡ 0
 made-once b is = ap (λ b. cond {A = ℕ} b 1 0) is
 
-flow-sound : (was : LaneState) (sent : Sender Telling) (lines : List Line) (n lost dst : ℕ) (old new : Line) → was.is_made ≡ false → n ≤ 64 → n + open_to dst was.sent ≤ in_flight old.count →
-    (dst ≡ was.endpoint → n + open_to dst was.sent ≡ 0) → LosesSlots lost old new →
-    new.count.acknowledged + new.count.lost + open_to dst sent ≡ old.count.acknowledged + old.count.lost + open_to dst was.sent + n → IsFlow was dst old → IsFlow (made_lane was sent lines) dst new
+flow-sound : (was : LaneState) (sent : Sender Telling) (lines : List LaneLine) (n lost dst : ℕ) (old new : LaneLine) → was.is_made ≡ false → n ≤ 64 → n + unresolved_to dst was.sent ≤ in_flight old.count →
+    (dst ≡ was.endpoint → n + unresolved_to dst was.sent ≡ 0) → LosesSlots lost old new →
+    new.count.acknowledged + new.count.lost + unresolved_to dst sent ≡ old.count.acknowledged + old.count.lost + unresolved_to dst was.sent + n → IsFlow was dst old → IsFlow (made_lane was sent lines) dst new
 flow-sound was sent lines n lost dst old new once few room own loses three flow =
     let demanded = loses.count.demanded in
     let allocated = loses.count.allocated in
@@ -266,11 +266,11 @@ flow-sound was sent lines n lost dst old new once few room own loses three flow 
           (omega (arith, three, owed, nothing, demanded, acknowledged, lost_now), loses.opened ∙ none.1);
     }
 
-pub sound-made : (laws : MakingTells) (sums : CountsAddUp) (was : LaneState) (round : ℕ) (slots : List Told) (sent : Sender Telling) (lines : List Line) (history : LaneHistory) (allocations : List Allocation) →
-    was.is_made ≡ false → was.round < 100000 → 0 < was.epoch → length (slots_told was round slots) ≤ 64 → AreSlots was.endpoints was.b was.endpoint slots → AreAllocated was round slots →
+pub sound-made : (laws : MakingTells) (sums : CountsAddUp) (was : LaneState) (round : ℕ) (slots : List Told) (sent : Sender Telling) (lines : List LaneLine) (history : LaneHistory) (allocations : List Allocation) →
+    was.is_made ≡ false → was.round < 100000 → 0 < was.epoch → length (slots_to_tell was round slots) ≤ 64 → AreSlots was.endpoints was.b was.endpoint slots → AreAllocated was round slots →
     sent.version ≡ was.sent.version → sent.outstanding.newest ≤ was.sent.outstanding.newest + 1 → HasDone sent (events_after was.sent (telling_of was round slots) (numbers was.g history)) →
-    Become (λ dst. LosesSlots (lost_by was.sent (slots_told was round slots) dst)) was.lines lines →
-    StandsFor was history allocations → TellsSlots was history → IsSound was → IsSound (made_lane was sent lines)
+    Become (λ dst. LosesSlots (lost_by was.sent (slots_to_tell was round slots) dst)) was.lines lines →
+    StandsFor was history allocations → TellsSlots was history → IsSoundLane was → IsSoundLane (made_lane was sent lines)
 sound-made laws sums was round slots sent lines history allocations once rounds begun short are allocated version newest done become stands tells sound =
     let now : LaneState = made_lane was sent lines in
     let stands_now : StandsFor now (MakesDown round slots ∷ history) allocations = stands-made laws was round slots sent lines history allocations sound.sent_version version begun done become stands in
@@ -278,7 +278,7 @@ sound-made laws sums was round slots sent lines history allocations once rounds 
     let numbered = sound.numbers in
     let none_open = open-own was.endpoints was.b was.endpoint was.sent.outstanding.unresolved (open-told (λ (t : Telling). AreSlots was.endpoints was.b was.endpoint t.told) was.sent (numbers was.g history) stands.sent tells) in
     let told_slots = told-either was round slots (AreSlots was.endpoints was.b was.endpoint) are (AreSlots-none was.endpoints was.b was.endpoint) in
-    let none_told = told-own was.endpoints was.b was.endpoint (slots_told was round slots) told_slots in
+    let none_told = told-own was.endpoints was.b was.endpoint (slots_to_tell was round slots) told_slots in
     record {
       endpoint = sound.endpoint;
       endpoints = sound.endpoints;
@@ -293,12 +293,12 @@ sound-made laws sums was round slots sent lines history allocations once rounds 
       flows = λ dst new here.
           let there = line_between lines was.lines (sym become.as_many) dst new here in
           let old = get_or was.lines dst new in
-          let counted = count_by-le-length (λ (slot : Told). slot.dst == dst) (slots_told was round slots) in
-          flow-sound was sent lines (slots_to dst (slots_told was round slots)) (lost_by was.sent (slots_told was round slots) dst) dst old new once (omega (arith, counted, short))
+          let counted = count_by-le-length (λ (slot : Told). slot.dst == dst) (slots_to_tell was round slots) in
+          flow-sound was sent lines (slots_to dst (slots_to_tell was round slots)) (lost_by was.sent (slots_to_tell was round slots) dst) dst old new once (omega (arith, counted, short))
           (room-for was round slots sound allocated begun dst old there)
           (λ is.
-          let one = ap (λ d. slots_to d (slots_told was round slots)) is in
-          let two = ap (λ d. open_to d was.sent) is in
+          let one = ap (λ d. slots_to d (slots_to_tell was round slots)) is in
+          let two = ap (λ d. unresolved_to d was.sent) is in
           omega (arith, one, two, none_told, none_open))
           (become.each dst old new there here)
           (told-more laws sums was now round slots history allocations dst old new refl sound.sent_version (version ∙ sound.sent_version) begun stands stands_now (stands.flows dst old there) (stands_now.flows dst new here))
@@ -337,7 +337,7 @@ stands-quiet laws was round slots history allocations none stands =
 pub tells-quiet : (was : LaneState) (round : ℕ) (slots : List Told) (history : LaneHistory) → epoch_of history ≡ 0 → TellsSlots was history → TellsSlots (made_lane was was.sent was.lines) (MakesDown round slots ∷ history)
 tells-quiet was round slots history quiet tells = rw (le-ltb 0 (epoch_of history) (omega (arith, quiet))) tells
 
-pub sound-quiet : (was : LaneState) → was.is_made ≡ false → was.round < 100000 → IsSound was → IsSound (made_lane was was.sent was.lines)
+pub sound-quiet : (was : LaneState) → was.is_made ≡ false → was.round < 100000 → IsSoundLane was → IsSoundLane (made_lane was was.sent was.lines)
 sound-quiet was once rounds sound =
     let made = made-once was.is_made once in
     let numbered = sound.numbers in
@@ -422,7 +422,7 @@ unfolding packet_down
 packet-none lane history allocations round slots none stands = rw (le-ltb 0 (epoch_of history) (omega (arith, none, stands.epoch))) refl
 
 -- it keeps every rule
-pub allocation-made : (lane : LaneState) (seq : ℕ) (content : Telling) → IsSound lane → 0 < lane.epoch → 1 ≤ seq → IsMask lane.arrived.told.high lane.arrived.told.mask → lane.arrived.told.mask < 2 ^ mask_bits lane.version →
+pub allocation-made : (lane : LaneState) (seq : ℕ) (content : Telling) → IsSoundLane lane → 0 < lane.epoch → 1 ≤ seq → IsMask lane.arrived.told.high lane.arrived.told.mask → lane.arrived.told.mask < 2 ^ mask_bits lane.version →
     length content.told ≤ 64 → AreSlots lane.endpoints lane.b lane.endpoint content.told → IsAllocation lane.endpoints lane.b (packet_with lane seq content.batch content.told)
 allocation-made lane seq content sound begun counted mask width few slots = record {
   network = sound.endpoints;
@@ -441,7 +441,7 @@ allocation-made lane seq content sound begun counted mask width few slots = reco
 }
 
 -- what is told keeps every rule
-pub rules-made : (was : LaneState) (round : ℕ) (slots : List Told) (sent : Sender Telling) (lines : List Line) (content : Telling) (history : LaneHistory) (allocations : List Allocation) → IsSound was → 0 < was.epoch →
+pub rules-made : (was : LaneState) (round : ℕ) (slots : List Told) (sent : Sender Telling) (lines : List LaneLine) (content : Telling) (history : LaneHistory) (allocations : List Allocation) → IsSoundLane was → 0 < was.epoch →
     IsMask was.arrived.told.high was.arrived.told.mask → was.arrived.told.mask < 2 ^ mask_bits was.version → length content.told ≤ 64 → AreSlots was.endpoints was.b was.endpoint slots →
     HasTold was round slots sent lines content → StandsFor was history allocations → TellsSlots was history → IsAllocation was.endpoints was.b (packet_with was sent.outstanding.newest content.batch content.told)
 rules-made was round slots sent lines content history allocations sound begun mask width few are told stands tells =

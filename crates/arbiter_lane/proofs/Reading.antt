@@ -16,8 +16,8 @@ use Rattle.ack_window.specs.Versions.{reorder_of, span_of}
 use Rattle.ack_window.specs.Weights.{AReadingMovesWhatItDecides}
 use Rattle.ack_window.specs.Windows.{Sender, HasDone}
 use Rattle.endpoint_history.specs.Packets.{Telling, slots_to}
-use Rattle.arbiter_lane.specs.declared.line.Line.{Line}
-use Rattle.arbiter_lane.specs.State.{AreInFlight, open_to}
+use Rattle.arbiter_lane.specs.declared.line.LaneLine.{LaneLine}
+use Rattle.arbiter_lane.specs.State.{AreInFlight, unresolved_to}
 use Rattle.arbiter_lane.specs.Lines.{slots_shown, slots_lost}
 
 -- what is true of the contents of open numbers is true of those that are decided
@@ -57,18 +57,18 @@ shown_or_lost (d ∷ found) dst =
     either false n = omega arith
 
 -- what is decided was in flight
-pub decided-in_flight : (law : AReadingMovesWhatItDecides Telling) (sent : Sender Telling) (events : List (Event Telling)) (ack : Acknowledgement) (found : List (Decided Telling)) (lines : List Line) → HasDone sent events →
-    found ≡ decided_by (reorder_of sent.version) (span_of sent.version) events ack → AreInFlight (λ dst. open_to dst sent) lines → AreInFlight (λ dst. slots_shown found dst + slots_lost found dst) lines
+pub decided-in_flight : (law : AReadingMovesWhatItDecides Telling) (sent : Sender Telling) (events : List (Event Telling)) (ack : Acknowledgement) (found : List (Decided Telling)) (lines : List LaneLine) → HasDone sent events →
+    found ≡ decided_by (reorder_of sent.version) (span_of sent.version) events ack → AreInFlight (λ dst. unresolved_to dst sent) lines → AreInFlight (λ dst. slots_shown found dst + slots_lost found dst) lines
 decided-in_flight law sent events ack found lines done is held dst line here =
     let decided = decided_by (reorder_of sent.version) (span_of sent.version) events ack in
     let moved = law.waiting (λ (t : Telling). slots_to dst t.told) (reorder_of sent.version) (span_of sent.version) events ack in
-    let opened : open_to dst sent ≡ sum_by (λ (s : Unresolved Telling). slots_to dst s.content.told) (open_numbers (reorder_of sent.version) (span_of sent.version) events) =
+    let opened : unresolved_to dst sent ≡ sum_by (λ (s : Unresolved Telling). slots_to dst s.content.told) (open_numbers (reorder_of sent.version) (span_of sent.version) events) =
     ap (sum_by (λ (s : Unresolved Telling). slots_to dst s.content.told)) done.unresolved in
     let same : sum_by (λ (d : Decided Telling). slots_to dst d.content.told) found ≡ sum_by (λ (d : Decided Telling). slots_to dst d.content.told) decided = ap (sum_by (λ (d : Decided Telling). slots_to dst d.content.told)) is in
     omega (arith, shown_or_lost found dst, same, moved, opened, held dst line here)
 
 -- and so are those of one that is decided alone
-pub one-in_flight : (d : Decided Telling) (lines : List Line) → AreInFlight (λ dst. slots_shown (d ∷ []) dst + slots_lost (d ∷ []) dst) lines → AreInFlight (λ dst. slots_to dst d.content.told) lines
+pub one-in_flight : (d : Decided Telling) (lines : List LaneLine) → AreInFlight (λ dst. slots_shown (d ∷ []) dst + slots_lost (d ∷ []) dst) lines → AreInFlight (λ dst. slots_to dst d.content.told) lines
 one-in_flight d lines held dst line here =
     let none : sum_by (λ (e : Decided Telling). slots_to dst e.content.told) [] ≡ 0 = refl in
     omega (arith, held dst line here, shown_or_lost (d ∷ []) dst, sum_by-cons (λ (e : Decided Telling). slots_to dst e.content.told) d [], none)

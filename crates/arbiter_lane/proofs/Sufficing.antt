@@ -10,7 +10,7 @@ use Rattle.endpoint_history.specs.Counts.{Allocation}
 use Rattle.endpoint_history.specs.CountLaws.{MakingTells, CountsAddUp}
 use Rattle.endpoint_history.specs.LedgerLaws.{LedgerIsWithin}
 use Rattle.endpoint_history.specs.Conditions.{LaneCall, Happens, Allocates, history_of, allocations_of, MeetsConditions}
-use Rattle.arbiter_lane.specs.declared.line.Line.{Line}
+use Rattle.arbiter_lane.specs.declared.line.LaneLine.{LaneLine}
 use Rattle.arbiter_lane.specs.Laws.{ConditionsSuffice}
 use Rattle.arbiter_lane.specs.State.{LaneState, AreAllocated}
 use Rattle.arbiter_lane.specs.Standing.{StandsFor}
@@ -35,7 +35,7 @@ telling-meets laws sums ledger lane calls round told meets stands begun past sin
     let lost = flow.lost in
     omega (arith, all, within, tells, three, open_slots, allocated, acknowledged, lost)
 
-allocating-meets : (lane : LaneState) (calls : List LaneCall) (allocation : Allocation) (line : Line) → MeetsConditions lane.g (Allocates allocation ∷ calls) → StandsFor lane (history_of calls) (allocations_of calls) →
+allocating-meets : (lane : LaneState) (calls : List LaneCall) (allocation : Allocation) (line : LaneLine) → MeetsConditions lane.g (Allocates allocation ∷ calls) → StandsFor lane (history_of calls) (allocations_of calls) →
     lane.last_reset ≤ allocation.batch → slice_get lane.lines allocation.dst ≡ Some line → allocation.slots ≤ pending line.count
 allocating-meets lane calls allocation line meets stands since here =
     let owed = meets.1 (omega (arith, since, stands.last_reset)) in

@@ -16,7 +16,7 @@ use Rattle.endpoint_history.specs.Lane.{LaneHistory, TakesUp, epoch_of, version_
 use Rattle.endpoint_history.specs.Counts.{Allocation}
 use Rattle.endpoint_history.specs.CountLaws.{ReadingDecides, ResetsCountAnew}
 use Rattle.arbiter_lane.specs.State.{LaneState}
-use Rattle.arbiter_lane.specs.Refusals.{refusal_of, refusal_or, refusal_of_packet, refusal_of_number}
+use Rattle.arbiter_lane.specs.Refusals.{up_refusal, up_refusal_or, up_refusal_of_packet, up_refusal_of_number}
 use Rattle.arbiter_lane.specs.Standing.{StandsFor}
 use Rattle.arbiter_lane.proofs.Hearing.{NamesOthers}
 use Rattle.arbiter_lane.proofs.Refusing.{stands-reset_again, stands-other_epoch, stands-other_version}
@@ -51,13 +51,13 @@ names_others lane endpoints bytes up spells request own =
 -- a request of the lane's epoch and version is refused for its number alone
 pub refusal-request : (lane : LaneState) (bytes : List ℕ) (up : Up) (history : LaneHistory) (allocations : List Allocation) → first_refusal (refuses_up lane.endpoints bytes) ≡ None → up ≡ up_of bytes → up.src ≡ lane.endpoint → up.epoch ≡ lane.epoch →
     up.version ≡ lane.version → up.reset ≡ false → lane.arrived.version ≡ lane.version → StandsFor lane history allocations →
-    refusal_of lane.endpoint lane.endpoints history bytes ≡ refusal_of_number (receive_verdict (reorder_of lane.arrived.version) (arrived history) up.seq)
+    up_refusal lane.endpoint lane.endpoints history bytes ≡ up_refusal_of_number (receive_verdict (reorder_of lane.arrived.version) (arrived history) up.seq)
 refusal-request lane bytes up history allocations spelled read own epoch version request heard_version stands =
     let known : up.epoch ≡ epoch_of history = epoch ∙ stands.epoch in
-    ap (λ o. refusal_or o (refusal_of_packet lane.endpoint history (up_of bytes))) spelled
-    ∙ (ap (refusal_of_packet lane.endpoint history) (sym read)
+    ap (λ o. up_refusal_or o (up_refusal_of_packet lane.endpoint history (up_of bytes))) spelled
+    ∙ (ap (up_refusal_of_packet lane.endpoint history) (sym read)
     ∙ rw (eq-eqb up.src lane.endpoint own, le-ltb up.epoch (epoch_of history) (omega (arith, known)), le-ltb (epoch_of history) up.epoch (omega (arith, known)), eq-eqb up.version (version_of history) (version ∙ stands.version), request)
-    (ap (λ v. refusal_of_number (receive_verdict (reorder_of v) (arrived history) up.seq)) (sym (heard_version ∙ stands.version))))
+    (ap (λ v. up_refusal_of_number (receive_verdict (reorder_of v) (arrived history) up.seq)) (sym (heard_version ∙ stands.version))))
 
 pub IfSome-then : {X : Type 0} (P Q : X → Type 0) (o : Option X) → IfSome o P → ((x : X) → P x → Q x) → IfSome o Q
 IfSome-then P Q None p then = tt

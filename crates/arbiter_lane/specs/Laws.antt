@@ -5,7 +5,7 @@ use Rattle.flow_ledger.specs.FlowCount.{pending}
 use Rattle.endpoint_history.specs.Lane.{MakesDown}
 use Rattle.endpoint_history.specs.Counts.{Allocation}
 use Rattle.endpoint_history.specs.Conditions.{LaneCall, Happens, Allocates, history_of, allocations_of, MeetsConditions}
-use Rattle.arbiter_lane.specs.declared.line.Line.{Line}
+use Rattle.arbiter_lane.specs.declared.line.LaneLine.{LaneLine}
 use Rattle.arbiter_lane.specs.State.{LaneState, AreAllocated}
 use Rattle.arbiter_lane.specs.Standing.{StandsFor}
 
@@ -14,6 +14,6 @@ pub record ConditionsSuffice : Type 0 where
   pub telling : (lane : LaneState) (calls : List LaneCall) (round : ℕ) (told : List Told) → MeetsConditions lane.g (Happens (MakesDown round told) ∷ calls) →
       StandsFor lane (history_of calls) (allocations_of calls) → AreAllocated lane round told
   -- no more slots are allocated than are owed, so they are pending
-  pub allocating : (lane : LaneState) (calls : List LaneCall) (allocation : Allocation) (line : Line) → MeetsConditions lane.g (Allocates allocation ∷ calls) →
+  pub allocating : (lane : LaneState) (calls : List LaneCall) (allocation : Allocation) (line : LaneLine) → MeetsConditions lane.g (Allocates allocation ∷ calls) →
       StandsFor lane (history_of calls) (allocations_of calls) → lane.last_reset ≤ allocation.batch → slice_get lane.lines allocation.dst ≡ Some line →
       allocation.slots ≤ pending line.count

@@ -5,3 +5,6 @@ pub mod Lines
 pub mod Parts
 pub mod Laws
 pub mod Places
+pub use Rattle.ack_window.specs.Arrivals
+pub use Rattle.ack_window.specs.Versions
+pub use Rattle.ack_window.specs.declared.take_window.Taken

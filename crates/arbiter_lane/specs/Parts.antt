@@ -7,7 +7,7 @@ use Rattle.fcp_framing.specs.declared.packet.Told.{Told}
 use Rattle.fcp_framing.specs.declared.packet.Up.{Up}
 use Rattle.fcp_framing.specs.declared.packet.Down.{Down}
 use Rattle.ack_window.specs.declared.acknowledgement.Acknowledgement.{Acknowledgement}
-use Rattle.arbiter_lane.specs.declared.line.Line.{Line}
+use Rattle.arbiter_lane.specs.declared.line.LaneLine.{LaneLine}
 use Rattle.line_marks.specs.Places.{Places, is_marked}
 use Rattle.ack_window.specs.Outstanding.{may_send_new}
 use Rattle.ack_window.specs.Sends.{Event, Sends}
@@ -31,33 +31,33 @@ packet_with lane seq batch told = record {
 }
 
 -- the slots that are told in a round: none of a batch that was recorded before the last reset
-abbrev pub slots_told : LaneState → ℕ → List Told → List Told
-slots_told lane round told = if nat_le (2 * lane.g) round && nat_le lane.last_reset (round - 2 * lane.g) then told else []
+abbrev pub slots_to_tell : LaneState → ℕ → List Told → List Told
+slots_to_tell lane round told = if nat_le (2 * lane.g) round && nat_le lane.last_reset (round - 2 * lane.g) then told else []
 
 -- what a request acknowledges
 abbrev pub acknowledgement_in : Up → Acknowledgement
 acknowledgement_in up = record { high = up.high; mask = up.mask }
 
 -- what each line owes fits a number, and is not below what is entered
-pub record CanRise (lines : List Line) : Type 0 where
-  pub fits : (dst : ℕ) (line : Line) → slice_get lines dst ≡ Some line → line.count.demanded + line.count.lost < 2 ^ 32
-  pub entered : (dst : ℕ) (line : Line) → slice_get lines dst ≡ Some line → line.entered ≤ line.count.demanded + line.count.lost
+pub record CanRise (lines : List LaneLine) : Type 0 where
+  pub fits : (dst : ℕ) (line : LaneLine) → slice_get lines dst ≡ Some line → line.count.demanded + line.count.lost < 2 ^ 32
+  pub entered : (dst : ℕ) (line : LaneLine) → slice_get lines dst ≡ Some line → line.entered ≤ line.count.demanded + line.count.lost
 
 -- the entry of the line of a destination, for the flow from an endpoint
-abbrev pub entry_at : List Line → ℕ → Bool → ℕ → Option Entry
-entry_at lines endpoint resets dst =
+abbrev pub entry_of_line : List LaneLine → ℕ → Bool → ℕ → Option Entry
+entry_of_line lines endpoint resets dst =
     option_and_then (λ line. entry_on line (record { src = endpoint; dst = dst }) resets) (slice_get lines dst)
 
-abbrev pub entries_on : List Line → ℕ → Bool → List Entry
-entries_on lines endpoint resets = filter_map (entry_at lines endpoint resets) (range_with_len 0 (length lines))
+abbrev pub entries_on : List LaneLine → ℕ → Bool → List Entry
+entries_on lines endpoint resets = filter_map (entry_of_line lines endpoint resets) (range_with_len 0 (length lines))
 
 -- a line that has risen since it was entered last is marked; others may be, too
-abbrev pub AreMarked : Places → List Line → Type 0
-AreMarked marks lines = (dst : ℕ) (line : Line) → slice_get lines dst ≡ Some line → is_marked marks dst ≡ false → line.count.demanded + line.count.lost ≡ line.entered
+abbrev pub AreMarked : Places → List LaneLine → Type 0
+AreMarked marks lines = (dst : ℕ) (line : LaneLine) → slice_get lines dst ≡ Some line → is_marked marks dst ≡ false → line.count.demanded + line.count.lost ≡ line.entered
 
 -- only marked lines have an entry
-abbrev pub HaveEntriesMarked : Places → Bool → List Line → Type 0
-HaveEntriesMarked marks resets lines = (dst : ℕ) (line : Line) → slice_get lines dst ≡ Some line → is_marked marks dst ≡ false → has_entry resets line ≡ false
+abbrev pub HaveEntriesMarked : Places → Bool → List LaneLine → Type 0
+HaveEntriesMarked marks resets lines = (dst : ℕ) (line : LaneLine) → slice_get lines dst ≡ Some line → is_marked marks dst ≡ false → has_entry resets line ≡ false
 
 -- a new number may be sent
 abbrev pub may_tell : Sender Telling → Bool

@@ -14,14 +14,14 @@ use Rattle.arbiter_lane.specs.declared.refusal.UpRefused.{UpRefused}
 use Rattle.arbiter_lane.specs.declared.refusal.UpRefused.TheVariants as refused
 
 -- what a number is refused for
-abbrev pub refusal_of_number : Taken → Option UpRefused
-refusal_of_number Fresh = None
-refusal_of_number Repeat = Some refused.Repeat
-refusal_of_number Old = Some refused.OldSeq
+abbrev pub up_refusal_of_number : Taken → Option UpRefused
+up_refusal_of_number Fresh = None
+up_refusal_of_number Repeat = Some refused.Repeat
+up_refusal_of_number Old = Some refused.OldSeq
 
 -- what a packet is refused for, by the lane of an endpoint after these calls
-abbrev pub refusal_of_packet : ℕ → LaneHistory → framing.Up → Option UpRefused
-refusal_of_packet endpoint history up =
+abbrev pub up_refusal_of_packet : ℕ → LaneHistory → framing.Up → Option UpRefused
+up_refusal_of_packet endpoint history up =
     if up.src == endpoint
     then
     (if nat_lt up.epoch (epoch_of history)
@@ -31,20 +31,20 @@ refusal_of_packet endpoint history up =
     then (if up.reset then None else Some refused.Unsynced)
     else
     (if up.version == version_of history
-    then (if up.reset then None else refusal_of_number (receive_verdict (reorder_of (version_of history)) (arrived history) up.seq))
+    then (if up.reset then None else up_refusal_of_number (receive_verdict (reorder_of (version_of history)) (arrived history) up.seq))
     else Some refused.OtherVersion)))
     else Some refused.NotMine
 
-abbrev pub refusal_or : Option FrameRefused → Option UpRefused → Option UpRefused
-refusal_or None later = later
-refusal_or (Some frame) later = Some (refused.Frame frame)
+abbrev pub up_refusal_or : Option FrameRefused → Option UpRefused → Option UpRefused
+up_refusal_or None later = later
+up_refusal_or (Some frame) later = Some (refused.Frame frame)
 
 -- what bytes are refused for, None where they are accepted
-abbrev pub refusal_of : ℕ → ℕ → LaneHistory → List ℕ → Option UpRefused
-refusal_of endpoint endpoints history bytes =
-    refusal_or (first_refusal (refuses_up endpoints bytes)) (refusal_of_packet endpoint history (up_of bytes))
+abbrev pub up_refusal : ℕ → ℕ → LaneHistory → List ℕ → Option UpRefused
+up_refusal endpoint endpoints history bytes =
+    up_refusal_or (first_refusal (refuses_up endpoints bytes)) (up_refusal_of_packet endpoint history (up_of bytes))
 
 -- the bytes spell a packet of this endpoint, which is then a call of the lane, whatever it answers
-pub record IsOwn (endpoint endpoints : ℕ) (bytes : List ℕ) : Type 0 where
+pub record IsOwnUp (endpoint endpoints : ℕ) (bytes : List ℕ) : Type 0 where
   pub spelled : first_refusal (refuses_up endpoints bytes) ≡ None
   pub source : (up_of bytes).src ≡ endpoint

@@ -7,10 +7,10 @@ use Rattle.endpoint_history.specs.Packets.{Telling}
 use Rattle.endpoint_history.specs.Lane.{LaneHistory, epoch_of, version_of, last_reset, arrived, numbers}
 use Rattle.endpoint_history.specs.Counts.{Allocation, recorded, acknowledged, lost, told, owed, allocated}
 use Rattle.endpoint_history.specs.Entries.{rounds_recorded, counted_from, is_reset, had}
-use Rattle.arbiter_lane.specs.declared.line.Line.{Line}
+use Rattle.arbiter_lane.specs.declared.line.LaneLine.{LaneLine}
 use Rattle.arbiter_lane.specs.State.{LaneState, AreSlots}
 
-pub record StandsForFlow (g : ℕ) (history : LaneHistory) (allocations : List Allocation) (dst : ℕ) (line : Line) : Type 0 where
+pub record StandsForFlow (g : ℕ) (history : LaneHistory) (allocations : List Allocation) (dst : ℕ) (line : LaneLine) : Type 0 where
   pub demanded : line.count.demanded ≡ recorded history dst
   pub allocated : line.count.allocated ≡ allocated history allocations dst
   pub acknowledged : line.count.acknowledged ≡ acknowledged g history dst
@@ -25,7 +25,7 @@ pub record StandsFor (lane : LaneState) (history : LaneHistory) (allocations : L
   pub arrived : HasHeard lane.arrived (arrived history)
   pub sent : HasDone lane.sent (numbers lane.g history)
   pub sent_version : lane.sent.version ≡ version_of history
-  pub flows : (dst : ℕ) (line : Line) → slice_get lane.lines dst ≡ Some line → StandsForFlow lane.g history allocations dst line
+  pub flows : (dst : ℕ) (line : LaneLine) → slice_get lane.lines dst ≡ Some line → StandsForFlow lane.g history allocations dst line
   pub round : lane.round ≡ rounds_recorded history
   pub is_reset : lane.is_reset ≡ is_reset history
   pub recorded : All (λ (a : Allocation). a.batch < lane.round) allocations
@@ -35,8 +35,8 @@ abbrev pub TellsSlots : LaneState → LaneHistory → Type 0
 TellsSlots lane history = All (λ (number : Unresolved Telling). AreSlots lane.endpoints lane.b lane.endpoint number.content.told) (numbers_sent (numbers lane.g history))
 
 -- there are calls for which it stands
-abbrev pub HasHistory : LaneState → Type 0
-HasHistory lane = (history : LaneHistory) × (allocations : List Allocation) × StandsFor lane history allocations × TellsSlots lane history
+abbrev pub HasLaneHistory : LaneState → Type 0
+HasLaneHistory lane = (history : LaneHistory) × (allocations : List Allocation) × StandsFor lane history allocations × TellsSlots lane history
 
 -- of a flow no more slots are told than were counted as allocated, and no more are counted so than are owed
 pub record FlowIsWithinLedger (g : ℕ) (history : LaneHistory) (allocations : List Allocation) (dst : ℕ) : Type 0 where

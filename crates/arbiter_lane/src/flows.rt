@@ -9,12 +9,12 @@ ghost use Rattle.arbiter_lane.specs.Places.{telling_at, decided_with};
 ghost use Rattle.arbiter_lane.specs.Lines.{entry_on, Become, LosesSlots, AcknowledgesSlots, RisesTo, DecidesSlots, IsEntered, slots_shown, slots_lost, HasStartedAgain};
 ghost use Rattle.std.specs.List.{filter_map};
 ghost use Rattle.greedy_rules.specs.Batches.{IsAboveLast};
-ghost use Rattle.arbiter_lane.specs.declared.line.Line.{Line as LineOf};
+ghost use Rattle.arbiter_lane.specs.declared.line.LaneLine.{LaneLine as LineOf};
 ghost use Rattle.arbiter_lane.specs.Parts.{CanRise, AreMarked, HaveEntriesMarked, entries_on};
 ghost use Rattle.endpoint_history.specs.Confirmed.{total_named};
 
 use crate::NoMemory;
-use crate::line::Line;
+use crate::line::LaneLine;
 use crate::places::Places;
 use ack_window::Decided;
 use fcp_framing::{Demand, Told};
@@ -22,7 +22,7 @@ use greedy_rules::{Batch, Flow};
 use line_marks::Marks;
 
 /// Counts each of the slots as lost, and marks its flow.
-pub(crate) fn lose(lines: &mut [Line], risen: &mut Marks, told: &[Told])
+pub(crate) fn lose(lines: &mut [LaneLine], risen: &mut Marks, told: &[Told])
     requires few { length lines.old ≤ 256 }
     requires destinations { All (λ (slot : ToldSlot). slot.dst < length lines.old) told.now }
     requires in_flight { AreInFlight (λ dst. slots_to dst told.now) lines.old }
@@ -34,7 +34,7 @@ pub(crate) fn lose(lines: &mut [Line], risen: &mut Marks, told: &[Told])
     }
 }
 
-fn lose_one(lines: &mut [Line], risen: &mut Marks, slot: Told)
+fn lose_one(lines: &mut [LaneLine], risen: &mut Marks, slot: Told)
     requires few { length lines.old ≤ 256 }
     requires destination { slot.dst < length lines.old }
     requires in_flight { AreInFlight (λ dst. slots_to dst (slot ∷ [])) lines.old }
@@ -46,7 +46,7 @@ fn lose_one(lines: &mut [Line], risen: &mut Marks, slot: Told)
 }
 
 /// Counts each of the slots as acknowledged.
-pub(crate) fn acknowledge(lines: &mut [Line], told: &[Told])
+pub(crate) fn acknowledge(lines: &mut [LaneLine], told: &[Told])
     requires destinations { All (λ (slot : ToldSlot). slot.dst < length lines.old) told.now }
     requires in_flight { AreInFlight (λ dst. slots_to dst told.now) lines.old }
     ensures { Become (λ dst. AcknowledgesSlots (slots_to dst told.now)) lines.old lines.new }
@@ -56,7 +56,7 @@ pub(crate) fn acknowledge(lines: &mut [Line], told: &[Told])
     }
 }
 
-fn acknowledge_one(lines: &mut [Line], slot: Told)
+fn acknowledge_one(lines: &mut [LaneLine], slot: Told)
     requires destination { slot.dst < length lines.old }
     requires in_flight { AreInFlight (λ dst. slots_to dst (slot ∷ [])) lines.old }
     ensures { Become (λ dst. AcknowledgesSlots (slots_to dst (slot ∷ []))) lines.old lines.new }
@@ -65,7 +65,7 @@ fn acknowledge_one(lines: &mut [Line], slot: Told)
 }
 
 /// Raises the demand of each flow that is named to the total that is named for it, and marks those that rise.
-pub(crate) fn raise(lines: &mut [Line], risen: &mut Marks, demands: &[Demand])
+pub(crate) fn raise(lines: &mut [LaneLine], risen: &mut Marks, demands: &[Demand])
     requires few { length lines.old ≤ 256 }
     requires destinations { All (λ (demand : DemandItem). demand.dst < length lines.old) demands.now }
     ensures raised { Become (λ dst. RisesTo (total_named dst demands.now)) lines.old lines.new }
@@ -76,7 +76,7 @@ pub(crate) fn raise(lines: &mut [Line], risen: &mut Marks, demands: &[Demand])
     }
 }
 
-fn raise_one(lines: &mut [Line], risen: &mut Marks, demand: Demand)
+fn raise_one(lines: &mut [LaneLine], risen: &mut Marks, demand: Demand)
     requires few { length lines.old ≤ 256 }
     requires destination { demand.dst < length lines.old }
     ensures raised { Become (λ dst. RisesTo (total_named dst (demand ∷ []))) lines.old lines.new }
@@ -89,7 +89,7 @@ fn raise_one(lines: &mut [Line], risen: &mut Marks, demand: Demand)
 }
 
 /// Starts the counts of every flow again.
-pub(crate) fn restart(lines: &mut [Line])
+pub(crate) fn restart(lines: &mut [LaneLine])
     ensures { Become (λ dst. HasStartedAgain) lines.old lines.new }
 {
     for at in 0..lines.len() {
@@ -99,7 +99,12 @@ pub(crate) fn restart(lines: &mut [Line])
 
 /// Counts the slots that lie at the places of the numbers that are decided, as lost or as acknowledged, and marks the flows of
 /// those that are lost.
-pub(crate) fn decide(lines: &mut [Line], risen: &mut Marks, found: &[Decided<()>], places: &Places)
+pub(crate) fn decide(
+    lines: &mut [LaneLine],
+    risen: &mut Marks,
+    found: &[Decided<()>],
+    places: &Places,
+)
     requires few { length lines.old ≤ 256 }
     requires destinations { All (λ (number : DecidedNumber TellingOf). All (λ (slot : ToldSlot). slot.dst < length lines.old) number.content.told) (map (decided_with places.now) found.now) }
     requires in_flight { AreInFlight (λ dst. slots_shown (map (decided_with places.now) found.now) dst + slots_lost (map (decided_with places.now) found.now) dst) lines.old }
@@ -113,7 +118,7 @@ pub(crate) fn decide(lines: &mut [Line], risen: &mut Marks, found: &[Decided<()>
 
 /// Counts the slots that lie at the place of a number that is decided, as [`decide`] does.
 pub(crate) fn decide_one(
-    lines: &mut [Line],
+    lines: &mut [LaneLine],
     risen: &mut Marks,
     number: &Decided<()>,
     places: &Places,
@@ -135,7 +140,7 @@ pub(crate) fn decide_one(
 /// Records a round of an endpoint's flows: enters those that have risen, or whose demand starts again. After `NoMemory` the lines
 /// are as they were.
 pub(crate) fn record(
-    lines: &mut [Line],
+    lines: &mut [LaneLine],
     risen: &mut Marks,
     endpoint: u16,
     resets: bool,
@@ -162,7 +167,7 @@ pub(crate) fn record(
 }
 
 /// Marks every line in a round with a reset, since any flow that a batch has may start again.
-fn mark_entries(lines: &[Line], risen: &mut Marks, resets: bool)
+fn mark_entries(lines: &[LaneLine], risen: &mut Marks, resets: bool)
     requires few { length lines.now ≤ 256 }
     requires marked { AreMarked risen.old lines.now }
     ensures entries { HaveEntriesMarked risen.new resets lines.now }
@@ -176,7 +181,7 @@ fn mark_entries(lines: &[Line], risen: &mut Marks, resets: bool)
 /// Enters the marked flows of an endpoint one by one, rising by destination. There is none from the endpoint to itself, whose line
 /// never rises.
 fn enter(
-    lines: &[Line],
+    lines: &[LaneLine],
     risen: &Marks,
     endpoint: u16,
     resets: bool,
@@ -202,7 +207,7 @@ fn enter(
 }
 
 /// Enters one flow.
-fn enter_one(line: &Line, flow: Flow, resets: bool, batch: &mut Batch) -> Result<(), NoMemory>
+fn enter_one(line: &LaneLine, flow: Flow, resets: bool, batch: &mut Batch) -> Result<(), NoMemory>
     requires above { IsAboveLast batch.old.entries flow }
     requires fits { line.now.count.demanded + line.now.count.lost < 2 ^ 32 }
     requires risen { line.now.entered ≤ line.now.count.demanded + line.now.count.lost }
@@ -217,7 +222,7 @@ fn enter_one(line: &Line, flow: Flow, resets: bool, batch: &mut Batch) -> Result
 }
 
 /// Takes all that the marked flows have risen by for entered. The others have not risen.
-fn settle(lines: &mut [Line], risen: &Marks)
+fn settle(lines: &mut [LaneLine], risen: &Marks)
     requires few { length lines.old ≤ 256 }
     requires marked { AreMarked risen.now lines.old }
     requires can_rise { CanRise lines.old }

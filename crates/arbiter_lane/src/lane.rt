@@ -20,14 +20,14 @@ ghost use Rattle.endpoint_history.specs.Lane.{LaneHistory, MakesDown, TakesUp, R
 ghost use Rattle.endpoint_history.specs.Confirmed.{total_named};
 ghost use Rattle.endpoint_history.specs.Counts.{Allocation, recorded, acknowledged, lost, allocated};
 ghost use Rattle.endpoint_history.specs.Entries.{had, entry_of};
-ghost use Rattle.arbiter_lane.specs.State.{AreSlots, AreAllocated, AreInFlight, open_to};
+ghost use Rattle.arbiter_lane.specs.State.{AreInFlight, IsSameLane, MayMakeDown, MayOpenLane, unresolved_to};
 ghost use Rattle.arbiter_lane.specs.Standing.{StandsFor, FlowIsWithinLedger};
-ghost use Rattle.arbiter_lane.specs.Refusals.{refusal_of, refusal_of_number, IsOwn};
-ghost use Rattle.arbiter_lane.specs.declared.line.Line.{Line as LineOf};
+ghost use Rattle.arbiter_lane.specs.Refusals.{up_refusal, up_refusal_of_number, IsOwnUp};
+ghost use Rattle.arbiter_lane.specs.declared.line.LaneLine.{LaneLine as LineOf};
 ghost use Rattle.arbiter_lane.specs.Lines.{Become, LosesSlots, Hears, HasStartedAgain, slots_shown, slots_lost};
-ghost use Rattle.arbiter_lane.specs.Parts.{packet_with, slots_told, acknowledgement_in, AreMarked};
+ghost use Rattle.arbiter_lane.specs.Parts.{packet_with, slots_to_tell, acknowledgement_in, AreMarked};
 
-use crate::line::Line;
+use crate::line::LaneLine;
 use crate::refusal::UpRefused;
 use crate::telling::tell;
 use crate::tellings::Tellings;
@@ -58,7 +58,7 @@ pub struct Lane {
     last_reset: u32,
     arrived: TakeWindow,
     sent: Tellings,
-    lines: Vec<Line>,
+    lines: Vec<LaneLine>,
     /// The lines that have risen since their entries were counted last: all of these, and maybe others.
     risen: Marks,
     round: u32,
@@ -71,8 +71,8 @@ pub struct Lane {
 
 impl Model for Lane {
     ghost use Rattle.std.specs.Prelude.{◌≡◌, []};
-    ghost use Rattle.arbiter_lane.specs.State.{LaneState, IsSound};
-    ghost use Rattle.arbiter_lane.specs.Standing.{HasHistory};
+    ghost use Rattle.arbiter_lane.specs.State.{LaneState, IsSoundLane};
+    ghost use Rattle.arbiter_lane.specs.Standing.{HasLaneHistory};
     ghost use Rattle.arbiter_lane.specs.Parts.{AreMarked};
 
     ghost Value = { LaneState };
@@ -109,7 +109,7 @@ impl Model for Lane {
           is_made = lane.is_made;
           is_reset = lane.is_reset;
         } in
-        IsSound state × HasHistory state × AreMarked lane.risen lane.lines.items };
+        IsSoundLane state × HasLaneHistory state × AreMarked lane.risen lane.lines.items };
 }
 
 impl Lane {
@@ -122,12 +122,7 @@ impl Lane {
         b: u8,
         g: u8,
     ) -> Result<Lane, NoMemory>
-        requires endpoint { endpoint < endpoints }
-        requires endpoints { endpoints ≤ 256 }
-        requires some_slot { 1 ≤ b }
-        requires most_slots { b ≤ 64 }
-        requires some_round { 1 ≤ g }
-        requires most_rounds { g ≤ 16 }
+        requires { MayOpenLane endpoint endpoints b g }
         ensures endpoint { IfOk result (λ lane. lane.endpoint ≡ endpoint) }
         ensures endpoints { IfOk result (λ lane. lane.endpoints ≡ endpoints) }
         ensures b { IfOk result (λ lane. lane.b ≡ b) }
@@ -145,7 +140,7 @@ impl Lane {
             last_reset: 0,
             arrived: TakeWindow::new(FIRST_VERSION),
             sent: Tellings::open(alloc, FIRST_VERSION)?,
-            lines: vec![in alloc; Line::new(); endpoints as usize]?,
+            lines: vec![in alloc; LaneLine::new(); endpoints as usize]?,
             risen: Marks::new(),
             round: 0,
             is_made: false,
@@ -163,14 +158,8 @@ impl Lane {
         told: &ArrayVec<Told, 64>,
         buf: &mut [u8; 2048],
     ) -> Option<usize>
-        // Each round's packet is made once and then the round is recorded, from round 0 on: so it is the round that is next.
-        requires round { round ≡ self.old.round }
-        requires rounds { round < 100000 }
-        requires once { self.old.is_made ≡ false }
-        // An endpoint's slots of one batch are such; in the first two windows there are none.
-        requires slots { AreSlots self.old.endpoints self.old.b self.old.endpoint told.now.items }
-        // Slots are counted by `allocated` before they are told; `conditions_suffice` shows that this follows.
-        requires allocated { AreAllocated self.old round told.now.items }
+        // Each round's packet is made once and then the round is recorded, from round 0 on.
+        requires { MayMakeDown self.old round told.now.items }
         ensures none { IsNone result ↔ (self.old.epoch ≡ 0) }
         ensures packet { (history : LaneHistory) (allocations : List Allocation) →
             StandsFor self.old history allocations →
@@ -218,18 +207,13 @@ impl Lane {
         requires round { round ≡ self.old.round }
         ensures answer { (history : LaneHistory) (allocations : List Allocation) →
             StandsFor self.old history allocations →
-            result_err result ≡ refusal_of self.old.endpoint self.old.endpoints history bytes.now }
+            result_err result ≡ up_refusal self.old.endpoint self.old.endpoints history bytes.now }
         ensures unchanged { IfSome (result_err result) (λ refusal.
             refusal ≢ UpRefused.OldSeq → refusal ≢ UpRefused.Repeat → self.new ≡ self.old) }
         ensures kept { IfSome (result_err result) (λ refusal.
             self.new ≡ record self.old { sent = self.new.sent; lines = self.new.lines }) }
-        ensures endpoint { self.new.endpoint ≡ self.old.endpoint }
-        ensures endpoints { self.new.endpoints ≡ self.old.endpoints }
-        ensures b { self.new.b ≡ self.old.b }
-        ensures g { self.new.g ≡ self.old.g }
-        ensures round { self.new.round ≡ self.old.round }
-        ensures is_made { self.new.is_made ≡ self.old.is_made }
-        ensures stands { IsOwn self.old.endpoint self.old.endpoints bytes.now →
+        ensures same { IsSameLane self.old self.new }
+        ensures stands { IsOwnUp self.old.endpoint self.old.endpoints bytes.now →
             (history : LaneHistory) (allocations : List Allocation) →
             StandsFor self.old history allocations →
             StandsFor self.new (TakesUp round (up_packet (up_of bytes.now)) ∷ history) allocations }
@@ -348,7 +332,7 @@ impl Lane {
 
     /// The slots that are told: none of a batch that was recorded before the last reset.
     fn slots_told<'a>(&self, round: u32, told: &'a ArrayVec<Told, 64>) -> &'a [Told]
-        ensures slots { result.now ≡ slots_told self.now round told.now.items }
+        ensures slots { result.now ≡ slots_to_tell self.now round told.now.items }
         ensures few { length result.now ≤ 64 }
     {
         let windows = 2 * u32::from(self.g);
@@ -418,7 +402,7 @@ fn take_request(
     up: &Up,
     arrived: &mut TakeWindow,
     sent: &mut Tellings,
-    lines: &mut [Line],
+    lines: &mut [LaneLine],
     risen: &mut Marks,
 ) -> Result<(), UpRefused>
     requires number { 1 ≤ up.now.seq }
@@ -426,10 +410,10 @@ fn take_request(
     requires stands { (events : List (Event TellingOf)) × HasDone sent.old events }
     requires destinations { All (λ (number : UnresolvedNumber TellingOf). All (λ (slot : ToldSlot). slot.dst < length lines.old) number.content.told) sent.old.outstanding.unresolved }
     requires named { All (λ (demand : DemandItem). demand.dst < length lines.old) up.now.demands.items }
-    requires in_flight { AreInFlight (λ dst. open_to dst sent.old) lines.old }
+    requires in_flight { AreInFlight (λ dst. unresolved_to dst sent.old) lines.old }
     ensures answer { (numbers : List ℕ) →
         HasHeard arrived.old numbers →
-        result_err result ≡ refusal_of_number (receive_verdict (reorder_of arrived.old.version) numbers up.now.seq) }
+        result_err result ≡ up_refusal_of_number (receive_verdict (reorder_of arrived.old.version) numbers up.now.seq) }
     ensures refused { IfSome (result_err result) (λ refusal. (refusal ≡ UpRefused.OldSeq) ⊎ (refusal ≡ UpRefused.Repeat)) }
     ensures unheard { IfSome (result_err result) (λ refusal. arrived.new ≡ arrived.old) }
     ensures arrived { (numbers : List ℕ) →

@@ -27,7 +27,7 @@ mod tellings;
 
 pub use lane::Lane;
 pub use laws::conditions_suffice;
-pub use line::Line;
+pub use line::LaneLine;
 pub use no_memory::NoMemory;
 pub use refusal::UpRefused;
 pub use telling::Telling;

@@ -7,21 +7,21 @@ use greedy_rules::{Entry, Flow};
 /// The flow to one destination: whether a batch has it, its counts since the last reset, and how many of the slots that were
 /// demanded and lost since then are in batches.
 #[derive(Clone, Copy, Debug)]
-pub struct Line {
+pub struct LaneLine {
     pub(crate) opened: bool,
     pub(crate) entered: u32,
     pub(crate) count: FlowCount,
 }
 
-impl Line {
+impl LaneLine {
     ghost use Rattle.arbiter_lane.specs.Lines.{IsEntered, HasStartedAgain, entry_on};
 
     /// A flow that no batch has, and of which nothing was demanded.
-    pub(crate) fn new() -> Line
+    pub(crate) fn new() -> LaneLine
         ensures opened { result.opened ≡ false }
         ensures started { HasStartedAgain result result }
     {
-        Line {
+        LaneLine {
             opened: false,
             entered: 0,
             count: FlowCount::new(),

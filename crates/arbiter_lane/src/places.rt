@@ -21,7 +21,7 @@ pub(crate) struct Places {
 
 impl Model for Places {
     ghost use Rattle.std.specs.Prelude.{◌≡◌, ◌<◌, length};
-    ghost use Rattle.arbiter_lane.specs.Places.{Places as PlacesOf};
+    ghost use Rattle.arbiter_lane.specs.Places.{TellingPlaces as PlacesOf};
 
     ghost Value = { PlacesOf };
 

@@ -9,7 +9,7 @@ ghost use Rattle.arbiter_lane.specs.Lines.{Become, LosesSlots};
 ghost use Rattle.arbiter_lane.specs.Parts.{may_tell, events_after, lost_by, AreMarked};
 
 use crate::flows;
-use crate::line::Line;
+use crate::line::LaneLine;
 use crate::tellings::Tellings;
 use arrayvec::ArrayVec;
 use fcp_framing::{Down, Told};
@@ -84,7 +84,7 @@ fn write_front(row: &mut [Told; 64], told: &[Told])
 /// what goes with it, into `down`.
 pub(crate) fn tell(
     sent: &mut Tellings,
-    lines: &mut [Line],
+    lines: &mut [LaneLine],
     risen: &mut Marks,
     batch: u32,
     told: &[Told],

@@ -6,11 +6,11 @@ ghost use Rattle.ack_window.specs.Sends.{Event, Sends, Reads, newest_content, de
 ghost use Rattle.ack_window.specs.Versions.{reorder_of, span_of};
 ghost use Rattle.ack_window.specs.Windows.{HasDone, MaySend};
 ghost use Rattle.endpoint_history.specs.Packets.{Telling as TellingOf};
-ghost use Rattle.arbiter_lane.specs.State.{AreInFlight, open_to};
+ghost use Rattle.arbiter_lane.specs.State.{AreInFlight, unresolved_to};
 ghost use Rattle.arbiter_lane.specs.Lines.{Become, DecidesSlots, slots_shown, slots_lost};
 ghost use Rattle.arbiter_lane.specs.Parts.{AreMarked};
 
-use crate::line::Line;
+use crate::line::LaneLine;
 use crate::places::Places;
 use crate::telling::Telling;
 use crate::{NoMemory, flows};
@@ -98,11 +98,17 @@ impl Tellings {
     }
 
     /// Reads an acknowledgement, and counts the slots in the numbers that it decides, as lost or as acknowledged.
-    pub(crate) fn read_ack(&mut self, high: u32, mask: u128, lines: &mut [Line], risen: &mut Marks)
+    pub(crate) fn read_ack(
+        &mut self,
+        high: u32,
+        mask: u128,
+        lines: &mut [LaneLine],
+        risen: &mut Marks,
+    )
         requires few { length lines.old ≤ 256 }
         requires stands { (events : List (Event TellingOf)) × HasDone self.old events }
         requires destinations { All (λ (number : UnresolvedNumber TellingOf). All (λ (slot : ToldSlot). slot.dst < length lines.old) number.content.told) self.old.outstanding.unresolved }
-        requires in_flight { AreInFlight (λ dst. open_to dst self.old) lines.old }
+        requires in_flight { AreInFlight (λ dst. unresolved_to dst self.old) lines.old }
         ensures lines { (events : List (Event TellingOf)) →
             HasDone self.old events →
             Become (λ dst. DecidesSlots

@@ -15,7 +15,7 @@ use Rattle.endpoint_history.specs.Tellings.{Among}
 use Rattle.endpoint_agent.specs.Standing.{StandsFor}
 use Rattle.endpoint_agent.specs.State.{AgentState}
 use Rattle.endpoint_agent.specs.Timely.{AreApart, MayTake}
-use Rattle.both_ends_rows.specs.Callers.{IsHeard, MayHear}
+use Rattle.both_ends_rows.specs.Callers.{IsHeard, MayBeHeard}
 
 -- ---- a number that was taken is not taken again
 
@@ -69,7 +69,7 @@ nil_or : (told : List Told) → (told ≡ []) ⊎ (told ≢ [])
 nil_or [] = inl refl
 nil_or (t ∷ told) = inr (λ e. cc)
 
-module _ (agent : AgentState) (round boots asks batch number : ℕ) (down : Down) (is : IsHeard agent round boots asks batch number) (may : MayHear round batch number down) where
+module _ (agent : AgentState) (round boots asks batch number : ℕ) (down : Down) (is : IsHeard agent round boots asks batch number) (may : MayBeHeard round batch number down) where
   once : takes is.calls (down_packet down) ≡ true → down.told.items ≢ [] → (t : TakenDown) → Among t (taken is.calls) → t.packet.content.told ≢ [] → t.packet.content.batch ≢ down.batch
   once fresh some t among told same =
       elim (is.told t among told) [

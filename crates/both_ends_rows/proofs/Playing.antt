@@ -21,13 +21,14 @@ use Rattle.endpoint_agent.specs.Standing as agents
 use Rattle.arbiter_lane.specs.Laws.{ConditionsSuffice}
 use Rattle.arbiter_lane.specs.Standing as lanes
 use Rattle.arbiter_lane.specs.State.{AreSlots, AreAllocated}
-use Rattle.arbiter_lane.specs.declared.line.Line.{Line}
+use Rattle.arbiter_lane.specs.declared.line.LaneLine.{LaneLine}
 use Rattle.flow_ledger.specs.FlowCount.{pending}
 use Rattle.lane_rounds.specs.declared.events.Events.{Events}
-use Rattle.lane_rounds.specs.Outside.{round_of}
+use Rattle.lane_rounds.specs.Outside.{round_with}
 use Rattle.lane_rounds.specs.State.{RoundsState, MayAsk, with_each}
 use Rattle.lane_rounds.specs.Standing.{StandsFor, played_by}
-use Rattle.both_ends_rows.specs.Callers.{told_of, IsPlayed}
+use Rattle.lane_rounds.specs.Rounds.{HasRoundMore}
+use Rattle.both_ends_rows.specs.Callers.{told_of, HasPlayedRounds}
 
 -- ---- the slot that is told
 
@@ -192,7 +193,7 @@ one-ask me endpoints dst n most versions calls asks is other within few limit =
 -- ---- all that the caller keeps
 
 pub opened : (state : RoundsState) (dst endpoint : ℕ) → state.lane.endpoint ≡ endpoint → state.lane.endpoints ≡ 2 → state.lane.b ≡ 1 → state.lane.g ≡ 1 → state.is_whole ≡ true →
-    StandsFor state [] [] → dst < 2 → dst ≢ endpoint → IsPlayed state dst 0 0 false false
+    StandsFor state [] [] → dst < 2 → dst ≢ endpoint → HasPlayedRounds state dst 0 0 false false
 opened state dst endpoint own endpoints b g whole stands within other = record {
   whole = whole;
   endpoints = endpoints;
@@ -214,14 +215,14 @@ opened state dst endpoint own endpoints b g whole stands within other = record {
   counted_last = λ no. absurd (cc);
 }
 
-pub told-counted : (state : RoundsState) (dst number asks : ℕ) (before last : Bool) (is : IsPlayed state dst number asks before last) →
+pub told-counted : (state : RoundsState) (dst number asks : ℕ) (before last : Bool) (is : HasPlayedRounds state dst number asks before last) →
     AreCounted state.lane.g number (told_of dst before) (allocations_of is.calls)
 told-counted state dst number asks before last is late to =
     told-few dst to (allocated_in (number - 2 * state.lane.g) (allocations_of is.calls) to) before
     (λ on same. subst (λ (d : ℕ). 1 ≤ allocated_in (number - 2 * state.lane.g) (allocations_of is.calls) d) same
     (subst (λ (g : ℕ). 1 ≤ allocated_in (number - 2 * g) (allocations_of is.calls) dst) (sym is.g) (is.counted_before on)))
 
-with_calls : (state : RoundsState) (dst number asks : ℕ) (before last : Bool) (is : IsPlayed state dst number asks before last) →
+with_calls : (state : RoundsState) (dst number asks : ℕ) (before last : Bool) (is : HasPlayedRounds state dst number asks before last) →
     HasCalls state.lane.g number number (allocations_of is.calls) (played_by state is.rounds).steps
 with_calls state dst number asks before last is = record {
   calls = is.calls;
@@ -232,17 +233,17 @@ with_calls state dst number asks before last is = record {
   recorded = ap rounds_recorded is.history ∙ sym is.stands.lane.round ∙ is.at;
 }
 
-telling-meets : (state : RoundsState) (dst number asks : ℕ) (before last : Bool) (is : IsPlayed state dst number asks before last) →
+telling-meets : (state : RoundsState) (dst number asks : ℕ) (before last : Bool) (is : HasPlayedRounds state dst number asks before last) →
     MeetsConditions state.lane.g (Happens (MakesDown number (told_of dst before)) ∷ is.calls)
 telling-meets state dst number asks before last is =
     (omega (arith, is.begun), λ late reset to. told-counted state dst number asks before last is late to, is.meets)
 
-round-played : (state new : RoundsState) (dst number asks n : ℕ) (before last : Bool) (events : Events) → IsPlayed state dst number asks before last →
+round-played : (state new : RoundsState) (dst number asks n : ℕ) (before last : Bool) (events : Events) → HasPlayedRounds state dst number asks before last →
     events.asks ≡ (dst, n) ∷ [] → events.boots ≤ 1 →
     new.lane.endpoint ≡ state.lane.endpoint → new.lane.endpoints ≡ state.lane.endpoints → new.lane.b ≡ state.lane.b → new.lane.g ≡ state.lane.g → new.is_whole ≡ true → new.lane.round ≡ number + 1 →
     ((rounds : List Round) (allocations : List Allocation) → StandsFor state rounds allocations →
-    StandsFor new (round_of state.lane.endpoint state.lane.endpoints events (told_of dst before) ∷ rounds) allocations) →
-    IsPlayed new dst (number + 1) (asks + n) last false
+    StandsFor new (round_with state.lane.endpoint state.lane.endpoints events (told_of dst before) ∷ rounds) allocations) →
+    HasPlayedRounds new dst (number + 1) (asks + n) last false
 round-played state new dst number asks n before last events is asks_are boots same_endpoint same_endpoints same_b same_g whole at stands =
     record {
       whole = whole;
@@ -270,7 +271,7 @@ round-played state new dst number asks n before last events is asks_are boots sa
     }
   where
     round : Round
-    round = round_of state.lane.endpoint state.lane.endpoints events (told_of dst before)
+    round = round_with state.lane.endpoint state.lane.endpoints events (told_of dst before)
 
     before_it : Played
     before_it = played_by state is.rounds
@@ -312,8 +313,8 @@ IsOwed state dst =
     (rounds : List Round) (allocations : List Allocation) → StandsFor state rounds allocations →
     allocated (lane_of (played_by state rounds).steps) allocations dst + 1 ≤ owed state.lane.g (lane_of (played_by state rounds).steps) dst
 
-pub may-allocate : (state : RoundsState) (dst number asks : ℕ) (before last : Bool) → IsPlayed state dst number asks before last → IsOwed state dst →
-    (line : Line) → slice_get state.lane.lines dst ≡ Some line → 1 ≤ pending line.count
+pub may-allocate : (state : RoundsState) (dst number asks : ℕ) (before last : Bool) → HasPlayedRounds state dst number asks before last → IsOwed state dst →
+    (line : LaneLine) → slice_get state.lane.lines dst ≡ Some line → 1 ≤ pending line.count
 may-allocate state dst number asks before last is owes line here =
     let flow = is.stands.lane.flows dst line here in
     let demanded = flow.demanded in
@@ -321,10 +322,10 @@ may-allocate state dst number asks before last is owes line here =
     let lost = flow.lost in
     omega (arith, owes is.rounds (allocations_of is.calls) is.stands, demanded, allocated_now, lost)
 
-pub slot-allocated : (state new : RoundsState) (dst number asks : ℕ) (before : Bool) → IsPlayed state dst (number + 1) asks before false → IsOwed state dst →
+pub slot-allocated : (state new : RoundsState) (dst number asks : ℕ) (before : Bool) → HasPlayedRounds state dst (number + 1) asks before false → IsOwed state dst →
     new ≡ record state { lane = record state.lane { lines = new.lane.lines } } →
     ((rounds : List Round) (allocations : List Allocation) → StandsFor state rounds allocations → StandsFor new rounds (record { dst = dst; batch = number; slots = 1 } ∷ allocations)) →
-    IsPlayed new dst (number + 1) asks before true
+    HasPlayedRounds new dst (number + 1) asks before true
 slot-allocated state new dst number asks before is owes frame stands =
     let a : Allocation = record { dst = dst; batch = number; slots = 1 } in
     let A = allocations_of is.calls in
@@ -356,10 +357,10 @@ slot-allocated state new dst number asks before is owes frame stands =
 
 -- ---- what a round asks
 
-pub epochs-fit : (state : RoundsState) (dst number asks boots : ℕ) (before last : Bool) → IsPlayed state dst number asks before last → number < 99999 → boots ≤ 1 → state.agent.epoch + boots < 2 ^ 32
+pub epochs-fit : (state : RoundsState) (dst number asks boots : ℕ) (before last : Bool) → HasPlayedRounds state dst number asks before last → number < 99999 → boots ≤ 1 → state.agent.epoch + boots < 2 ^ 32
 epochs-fit state dst number asks boots before last is few most = omega (arith, is.stands.agent.epoch, is.boots, few, most)
 
-pub asks-may : (state : RoundsState) (dst number asks n boots version : ℕ) (before last : Bool) (asked_now : List (ℕ × ℕ)) → IsPlayed state dst number asks before last → asked_now ≡ (dst, n) ∷ [] → asks + n ≤ 100000000 →
+pub asks-may : (state : RoundsState) (dst number asks n boots version : ℕ) (before last : Bool) (asked_now : List (ℕ × ℕ)) → HasPlayedRounds state dst number asks before last → asked_now ≡ (dst, n) ∷ [] → asks + n ≤ 100000000 →
     (calls : AgentHistory) × agents.StandsFor state.agent calls × MayAsk state.lane.endpoint state.lane.endpoints (with_each Boots (replicate boots version) calls) asked_now
 asks-may state dst number asks n boots version before last asked_now is asks_are most = (
   agent_of (played_by state is.rounds).steps,
@@ -367,23 +368,20 @@ asks-may state dst number asks n boots version before last asked_now is asks_are
   one-ask state.lane.endpoint state.lane.endpoints dst n asks (replicate boots version) (agent_of (played_by state is.rounds).steps) asked_now asks_are is.other (subst (λ (e : ℕ). dst < e) (sym is.endpoints) is.within) is.asked most,
 )
 
-pub slots-are : (state : RoundsState) (dst number asks : ℕ) (before last : Bool) → IsPlayed state dst number asks before last → AreSlots state.lane.endpoints state.lane.b state.lane.endpoint (told_of dst before)
+pub slots-are : (state : RoundsState) (dst number asks : ℕ) (before last : Bool) → HasPlayedRounds state dst number asks before last → AreSlots state.lane.endpoints state.lane.b state.lane.endpoint (told_of dst before)
 slots-are state dst number asks before last is =
     told-slots state.lane.endpoints state.lane.b state.lane.endpoint dst before (omega (arith, is.b)) (subst (λ (e : ℕ). dst < e) (sym is.endpoints) is.within) is.other
 
-pub slots-allocated : ConditionsSuffice → (state : RoundsState) (dst number asks : ℕ) (before last : Bool) → IsPlayed state dst number asks before last → AreAllocated state.lane number (told_of dst before)
+pub slots-allocated : ConditionsSuffice → (state : RoundsState) (dst number asks : ℕ) (before last : Bool) → HasPlayedRounds state dst number asks before last → AreAllocated state.lane number (told_of dst before)
 slots-allocated suffice state dst number asks before last is =
     suffice.telling state.lane is.calls number (told_of dst before) (telling-meets state dst number asks before last is)
     (subst (λ h. lanes.StandsFor state.lane h (allocations_of is.calls)) (sym is.history) is.stands.lane)
 
 -- a round that ends well
-pub round-ends : (state new : RoundsState) (dst number asks n : ℕ) (before last : Bool) (events : Events) (result : Result (Unit {0}) NoMemory) → IsPlayed state dst number asks before last →
+pub round-ends : (state new : RoundsState) (dst number asks n : ℕ) (before last : Bool) (events : Events) (result : Result (Unit {0}) NoMemory) → HasPlayedRounds state dst number asks before last →
     events.asks ≡ (dst, n) ∷ [] → events.boots ≤ 1 →
-    OnOk result (new.lane.endpoint ≡ state.lane.endpoint) → OnOk result (new.lane.endpoints ≡ state.lane.endpoints) → OnOk result (new.lane.b ≡ state.lane.b) → OnOk result (new.lane.g ≡ state.lane.g) →
-    OnOk result (new.is_whole ≡ true) → OnOk result (new.lane.round ≡ number + 1) →
-    OnOk result ((rounds : List Round) (allocations : List Allocation) → StandsFor state rounds allocations →
-    StandsFor new (round_of state.lane.endpoint state.lane.endpoints events (told_of dst before) ∷ rounds) allocations) →
-    OnOk result (IsPlayed new dst (number + 1) (asks + n) last false)
-round-ends state new dst number asks n before last events (Ok one) is asks_are boots endpoint endpoints b g whole at stands =
-    round-played state new dst number asks n before last events is asks_are boots endpoint endpoints b g whole at stands
-round-ends state new dst number asks n before last events (Err want) is asks_are boots endpoint endpoints b g whole at stands = tt
+    OnOk result (HasRoundMore state number (round_with state.lane.endpoint state.lane.endpoints events (told_of dst before)) new) →
+    OnOk result (HasPlayedRounds new dst (number + 1) (asks + n) last false)
+round-ends state new dst number asks n before last events (Ok one) is asks_are boots more =
+    round-played state new dst number asks n before last events is asks_are boots more.endpoint more.endpoints more.b more.g more.whole more.round more.stands
+round-ends state new dst number asks n before last events (Err want) is asks_are boots more = tt

@@ -12,7 +12,7 @@ use Rattle.endpoint_history.specs.Lane.{MakesDown, TakesUp, Records}
 use Rattle.endpoint_history.specs.Packets.{up_packet}
 use Rattle.endpoint_history.specs.Steps.{rounds_begun}
 use Rattle.arbiter_lane.specs.Laws.{ConditionsSuffice}
-use Rattle.arbiter_lane.specs.Refusals.{refusal_of, refusal_or, refusal_of_packet, IsOwn}
+use Rattle.arbiter_lane.specs.Refusals.{up_refusal, up_refusal_or, up_refusal_of_packet, IsOwnUp}
 use Rattle.arbiter_lane.specs.Standing.{StandsFor}
 use Rattle.arbiter_lane.specs.State.{LaneState, AreAllocated}
 use Rattle.arbiter_lane.specs.declared.refusal.UpRefused.{UpRefused}
@@ -22,7 +22,7 @@ use Rattle.both_ends_rows.proofs.Playing.{told-few, counted-more, counted-one}
 
 -- ---- bytes that are a packet of another endpoint, or none
 
-own-or-same : (lane new : LaneState) (f : Option FrameRefused) (own : Bool) (later given : Option UpRefused) → given ≡ refusal_or f later → (own ≡ false → later ≡ Some NotMine) →
+own-or-same : (lane new : LaneState) (f : Option FrameRefused) (own : Bool) (later given : Option UpRefused) → given ≡ up_refusal_or f later → (own ≡ false → later ≡ Some NotMine) →
     IfSome given (λ refusal. refusal ≢ OldSeq → refusal ≢ Repeat → new ≡ lane) → ((f ≡ None) × (own ≡ true)) ⊎ (new ≡ lane)
 own-or-same lane new None true later given is mine same = inl (refl, refl)
 own-or-same lane new None false later given is mine same =
@@ -79,12 +79,12 @@ module _ (lane : LaneState) (dst number : ℕ) (before last : Bool) where
 
   pub served-read : (new : LaneState) (bytes : List ℕ) (given : Option UpRefused) → (is : IsServed lane dst number 1 before last) →
       new.endpoint ≡ lane.endpoint → new.endpoints ≡ lane.endpoints → new.b ≡ lane.b → new.g ≡ lane.g → new.round ≡ lane.round →
-      given ≡ refusal_of lane.endpoint lane.endpoints (history_of is.calls) bytes →
+      given ≡ up_refusal lane.endpoint lane.endpoints (history_of is.calls) bytes →
       IfSome given (λ refusal. refusal ≢ OldSeq → refusal ≢ Repeat → new ≡ lane) →
-      (IsOwn lane.endpoint lane.endpoints bytes → StandsFor new (TakesUp number (up_packet (up_of bytes)) ∷ history_of is.calls) (allocations_of is.calls)) →
+      (IsOwnUp lane.endpoint lane.endpoints bytes → StandsFor new (TakesUp number (up_packet (up_of bytes)) ∷ history_of is.calls) (allocations_of is.calls)) →
       IsServed new dst number 1 before last
   served-read new bytes given is endpoint endpoints b g round answer unchanged stands =
-      elim (own-or-same lane new (first_refusal (refuses_up lane.endpoints bytes)) ((up_of bytes).src == lane.endpoint) (refusal_of_packet lane.endpoint (history_of is.calls) (up_of bytes)) given
+      elim (own-or-same lane new (first_refusal (refuses_up lane.endpoints bytes)) ((up_of bytes).src == lane.endpoint) (up_refusal_of_packet lane.endpoint (history_of is.calls) (up_of bytes)) given
       answer (λ other. rw other refl) unchanged) [
         | inl own ↦
             let packet = up_packet (up_of bytes) in

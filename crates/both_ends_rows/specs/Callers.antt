@@ -22,7 +22,7 @@ told_of dst one = if one then record { offset = 0; core = 0; dst = dst } ∷ [] 
 
 -- so many rounds were played, with at most one boot in each and asks to one destination, and the slots of the last two batches are
 -- counted as allocated
-pub record IsPlayed (state : RoundsState) (dst number asks : ℕ) (before last : Bool) : Type 0 where
+pub record HasPlayedRounds (state : RoundsState) (dst number asks : ℕ) (before last : Bool) : Type 0 where
   pub whole : state.is_whole ≡ true
   pub endpoints : state.lane.endpoints ≡ 2
   pub b : state.lane.b ≡ 1
@@ -61,7 +61,7 @@ pub record IsHeard (agent : AgentState) (round boots asks batch number : ℕ) : 
       (t.packet.content.batch < batch) ⊎ ((t.packet.content.batch ≡ batch) × (t.packet.seq ≡ number))
 
 -- an allocation tells slots two rounds after their batch or later, and of a later batch than the last one, or it is that one
-pub record MayHear (round batch number : ℕ) (down : Down) : Type 0 where
+pub record MayBeHeard (round batch number : ℕ) (down : Down) : Type 0 where
   pub destination : down.dst ≡ 0
   pub late : down.told.items ≢ [] → down.batch + 2 ≤ round
   pub next : down.told.items ≢ [] → (batch < down.batch) ⊎ ((down.batch ≡ batch) × (down.seq ≡ number))

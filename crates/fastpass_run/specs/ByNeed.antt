@@ -1,10 +1,10 @@
 -- What a plan by need comes to (this project's own profile).
 use Rattle.std.specs.Prelude.{◌≡◌, ℕ, List, All, Some, Ok}
 use Rattle.greedy_rules.specs.Examples.{remaining}
+use Rattle.clos_topology.specs.NetSlots.{SlotCores}
 use Rattle.trace_text.specs.declared.command.Command.TheVariants.{Plan}
 use Rattle.trace_text.specs.Trace.{TraceContent, trace_of}
 use Rattle.plan_rounds.specs.Batches.{plan_batches}
-use Rattle.replay_rounds.specs.Setting.{Cores}
 use Rattle.run_text.specs.Ledger.{IsBalanced}
 use Rattle.run_text.specs.declared.sizes.Sizes.{Sizes}
 use Rattle.fewest_plan.specs.Barred.{NoneThatNeedsMoreBarsIn}
@@ -23,7 +23,7 @@ pub record PlansByNeed (grew : Growth) (words : List (List ℕ)) (old new : Outs
   pub accepted : asked_of words ≡ Some (plans_by_need sizes)
   pub trace : TraceContent
   pub read : IsReadAs (λ bytes. trace_of Plan bytes ≡ Ok trace) old new
-  pub cores : Cores
+  pub cores : SlotCores
   pub written : grew old.sink.held new.sink.held (fewest_text cores sizes.b trace)
   -- each slot is a matching that no waiting demand could join, on paths that share no link
   pub slots : EverySlotIsScheduledBy remaining sizes.b trace.net (plan_batches trace) cores

@@ -1,6 +1,7 @@
 -- What a run comes to: the words, the bytes read, the text written, the status and the note (this project's own profile).
 use Rattle.std.specs.Prelude.{◌≡◌, ◌⊎◌, ℕ, ◌+◌, ◌≤◌, ◌<◌, List, [], ◌∷◌, ◌++◌, length, All, Option, Some, None, Result, Ok, Err, codes, decimal}
 use Rattle.std.specs.Io.KnownBytes.{Consumes, Appends, IsAtEnd}
+use Rattle.clos_topology.specs.NetSlots.{SlotCores}
 use Rattle.fp_edge.specs.Faults.{Rose}
 use Rattle.trace_text.specs.declared.command.Command.{Command}
 use Rattle.trace_text.specs.declared.command.Command.TheVariants.{Plan, Replay}
@@ -11,7 +12,7 @@ use Rattle.window_engine.specs.Batches.{plan_batches}
 use Rattle.window_engine.specs.Counts.{AllIsAllocatedOrPending}
 use Rattle.trace_run.specs.Run.{replayed}
 use Rattle.trace_run.specs.Shown.{IsShown}
-use Rattle.replay_rounds.specs.Setting.{Cores, setting_of}
+use Rattle.replay_rounds.specs.Setting.{setting_of}
 use Rattle.window_engine.specs.Scheduled.{EverySlotIsScheduled}
 use Rattle.text_output.specs.Content.{SinkContent}
 use Rattle.text_output.specs.Transfer.{AppendsFront}
@@ -43,7 +44,7 @@ pub record Plans (grew : Growth) (words : List (List ℕ)) (old new : Outside) :
   pub command : asked.input ≡ Read Plan
   pub trace : TraceContent
   pub read : IsReadAs (λ bytes. trace_of Plan bytes ≡ Ok trace) old new
-  pub cores : Cores
+  pub cores : SlotCores
   pub written : grew old.sink.held new.sink.held (plan_text cores asked.b trace)
   -- each slot is a matching that no waiting demand could join, on paths that share no link
   pub slots : EverySlotIsScheduled asked.b trace.net (plan_batches trace) cores
@@ -58,7 +59,7 @@ pub record Replays (grew : Growth) (words : List (List ℕ)) (old new : Outside)
   pub command : asked.input ≡ Read Replay
   pub trace : TraceContent
   pub read : IsReadAs (λ bytes. trace_of Replay bytes ≡ Ok trace) old new
-  pub cores : Cores
+  pub cores : SlotCores
   pub written : grew old.sink.held new.sink.held (replay_text cores asked.b asked.g trace)
   -- each slot is a matching that no waiting demand could join, on paths that share no link
   pub slots : EverySlotIsScheduled asked.b trace.net (replayed (setting_of trace asked.b asked.g cores) trace.rounds).batches cores
@@ -77,9 +78,9 @@ pub record Makes (grew : Growth) (words : List (List ℕ)) (old new : Outside) :
   pub accepted : asked_of words ≡ Some (writes asked)
   pub command : asked.input ≡ Made number
   pub unread : IsUnread old new
-  pub written : (cores : Cores) → grew old.sink.held new.sink.held (made_text number asked.b asked.g cores)
-  pub balanced : (cores : Cores) → Balances (made_sums number asked.b asked.g cores)
-  pub shown : (cores : Cores) → IsShown (made_run number asked.b asked.g cores) (trace_of_number number).rounds
+  pub written : (cores : SlotCores) → grew old.sink.held new.sink.held (made_text number asked.b asked.g cores)
+  pub balanced : (cores : SlotCores) → Balances (made_sums number asked.b asked.g cores)
+  pub shown : (cores : SlotCores) → IsShown (made_run number asked.b asked.g cores) (trace_of_number number).rounds
 
 -- the output grew so by the text that the words ask for
 abbrev pub Performs : Growth → List (List ℕ) → Outside → Outside → Type 0

@@ -14,10 +14,11 @@ use Rattle.greedy_rules.specs.Recorded.{MayBeAppliedBy, LaterBatchesMayBeApplied
 use Rattle.greedy_rules.specs.Examples.{remaining}
 use Rattle.greedy_rules.proofs.Facts.{once-after_batch_by}
 use Rattle.clos_topology.specs.Network.{endpoints_of}
+use Rattle.clos_topology.specs.NetSlots.{limits_of}
 use Rattle.fewest_order.specs.KeptOut.{IsLeftOut, AreBarring, NoneThatNeedsMoreBars}
 use Rattle.trace_text.specs.Trace.{TraceContent}
 use Rattle.trace_text.specs.Valid.{IsTrace}
-use Rattle.window_allocation.specs.Nets.{limits_of, AreOfNet}
+use Rattle.window_allocation.specs.Nets.{AreOfNet}
 use Rattle.plan_rounds.specs.Batches.{plan_batches, EveryPlanIsRecorded}
 use Rattle.run_lines.specs.Text.{no_batch}
 use Rattle.fewest_plan.specs.Barred.{batch_of, start_of, NoneThatNeedsMoreBarsInPlans}

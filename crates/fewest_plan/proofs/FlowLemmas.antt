@@ -8,12 +8,12 @@ use Rattle.greedy_rules.specs.Schedule.{rest_by}
 use Rattle.greedy_rules.specs.Recorded.{IsLeftBy, RecordedBatchesMayBeAppliedBy}
 use Rattle.greedy_rules.specs.Examples.{remaining}
 use Rattle.clos_topology.specs.Network.{endpoints_of}
+use Rattle.clos_topology.specs.NetSlots.{limits_of}
 use Rattle.trace_text.specs.Trace.{TraceContent}
 use Rattle.trace_text.specs.Valid.{total_asked, IsTrace}
 use Rattle.plan_rounds.specs.Asked.{EveryPlanAddsWhatIsAsked}
 use Rattle.plan_rounds.specs.Batches.{Round, plan_batches, EveryPlanIsRecorded}
 use Rattle.window_allocation.specs.Needs.{place_of}
-use Rattle.window_allocation.specs.Nets.{limits_of}
 use Rattle.run_lines.proofs.FlowLemmas.{flow_of}
 use Rattle.fewest_plan.specs.declared.planner.Planner.{Planner}
 use Rattle.fewest_plan.specs.Counts.{EveryPlanBalancesBy}

@@ -13,14 +13,13 @@ use Rattle.greedy_rules.specs.Balance.{AreInOrder, clears, added_by, added_of, i
 use Rattle.greedy_rules.specs.Recorded.{RecordedBatchesMayBeAppliedBy}
 use Rattle.greedy_rules.specs.Examples.{remaining}
 use Rattle.clos_topology.specs.Network.{endpoints_of}
+use Rattle.clos_topology.specs.NetSlots.{SlotCores, limits_of}
 use Rattle.report_text.specs.declared.line.Line.{Line}
 use Rattle.report_text.specs.declared.line.Line.TheVariants as line
 use Rattle.trace_text.specs.Trace.{TraceContent}
 use Rattle.trace_text.specs.Valid.{IsTrace}
 use Rattle.plan_rounds.specs.Asked.{EveryPlanAddsWhatIsAsked}
 use Rattle.plan_rounds.specs.Batches.{plan_batches, EveryPlanIsRecorded}
-use Rattle.replay_rounds.specs.Setting.{Cores}
-use Rattle.window_allocation.specs.Nets.{limits_of}
 use Rattle.window_engine.specs.declared.counts.Counts.{Counts}
 use Rattle.run_lines.specs.Text.{flow_lines_of}
 use Rattle.run_text.specs.Ledger.{IsBalanced}
@@ -66,7 +65,7 @@ one_flow b batches flow balance =
       | inr other ↦ subst P (sym (cond-false (is_recorded batches flow) _ _ other)) (All-nil IsBalanced)
     ]
 
-pub lines_balance : (cores : Cores) (b : ℕ) (trace : TraceContent) → AllIsAllocatedOrPendingBy remaining b (plan_batches trace) → All IsBalanced (fewest_lines cores b trace)
+pub lines_balance : (cores : SlotCores) (b : ℕ) (trace : TraceContent) → AllIsAllocatedOrPendingBy remaining b (plan_batches trace) → All IsBalanced (fewest_lines cores b trace)
 lines_balance cores b trace balance =
     let batches : List DemandBatch = plan_batches trace in
     let rounds : List Line = batches_lines cores b 0 batches (schedule_by remaining b batches) in

@@ -20,7 +20,8 @@ use Rattle.greedy_rules.specs.Examples.{remaining}
 use Rattle.slot_batches.proofs.ListOrder.{in_order-sort_by}
 use Rattle.slot_batches.proofs.NextList.{lasts-opened}
 use Rattle.clos_topology.specs.Network.{endpoints_of}
-use Rattle.window_allocation.specs.Nets.{limits_of, AreOfNet}
+use Rattle.clos_topology.specs.NetSlots.{limits_of}
+use Rattle.window_allocation.specs.Nets.{AreOfNet}
 use Rattle.plan_rounds.specs.Batches.{plan_batches, EveryPlanIsRecorded}
 use Rattle.run_lines.specs.Text.{no_batch}
 use Rattle.fewest_plan.specs.Standing.{EveryPlanMayBeServed}

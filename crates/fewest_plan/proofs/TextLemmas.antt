@@ -7,10 +7,10 @@ use Rattle.greedy_rules.specs.declared.flows.Flow.{Flow}
 use Rattle.greedy_rules.specs.Batches.{DemandBatch}
 use Rattle.greedy_rules.specs.Schedule.{schedule_by}
 use Rattle.greedy_rules.specs.Examples.{remaining}
+use Rattle.clos_topology.specs.NetSlots.{SlotCores}
 use Rattle.trace_text.specs.Trace.{TraceContent}
 use Rattle.trace_text.specs.Valid.{IsTrace}
 use Rattle.plan_rounds.specs.Batches.{plan_batches}
-use Rattle.replay_rounds.specs.Setting.{Cores}
 use Rattle.window_engine.specs.Step.{StepContent}
 use Rattle.run_lines.specs.Text.{line_text, text_of}
 use Rattle.run_text.specs.PlanText.{batches_lines}
@@ -65,12 +65,12 @@ is_window b trace planner window sound stands counts size planned =
 
 pub window_text : (b k n : ℕ) (trace : TraceContent) (window : Window) → IsPlanned trace b k n window → text_of (lines_of_window b window) ≡ text_of (window_lines (cores_of_window b window) b k n trace)
 window_text b k n trace window p =
-    let cores : Cores = cores_of_window b window in
+    let cores : SlotCores = cores_of_window b window in
     λ i. text_of (batches_lines cores b (p.starts i) (p.batches i) (p.slots i))
 
 -- ---- the rounds
 
-rounds_more : (cores : Cores) (b k n : ℕ) (trace : TraceContent) → k + n ≤ length (plan_batches trace) → text_of (rounds_lines cores b (k + n) trace) ≡ text_of (rounds_lines cores b k trace) ++ text_of (window_lines cores b k n trace)
+rounds_more : (cores : SlotCores) (b k n : ℕ) (trace : TraceContent) → k + n ≤ length (plan_batches trace) → text_of (rounds_lines cores b (k + n) trace) ≡ text_of (rounds_lines cores b k trace) ++ text_of (window_lines cores b k n trace)
 rounds_more cores b k n trace within =
     let same : 0 + k ≡ k = omega arith in
     let slots : List (List Flow) = schedule_by remaining b (plan_batches trace) in
@@ -79,26 +79,26 @@ rounds_more cores b k n trace within =
     ∙ flat_map-append line_text (rounds_lines cores b k trace) (window_lines cores b k n trace)
 
 -- one window more, with its own cores
-step_parts : (b k n : ℕ) (trace : TraceContent) (here there : Cores) →
-    let cores : Cores = spliced (k * b) (n * b) here there in
+step_parts : (b k n : ℕ) (trace : TraceContent) (here there : SlotCores) →
+    let cores : SlotCores = spliced (k * b) (n * b) here there in
     text_of (rounds_lines cores b k trace) ++ text_of (window_lines cores b k n trace) ≡ text_of (rounds_lines there b k trace) ++ text_of (window_lines here b k n trace)
 step_parts b k n trace here there = λ i. text_of (rounds_spliced b k n trace here there i) ++ text_of (window_spliced b k n trace here there i)
 
-pub rounds_step : (b k n round : ℕ) (trace : TraceContent) (here there : Cores) → IsTrace trace → EveryPlanHasItsSlotsBy remaining → k + n ≤ trace.rounds → round ≡ k + n →
-    let cores : Cores = spliced (k * b) (n * b) here there in
+pub rounds_step : (b k n round : ℕ) (trace : TraceContent) (here there : SlotCores) → IsTrace trace → EveryPlanHasItsSlotsBy remaining → k + n ≤ trace.rounds → round ≡ k + n →
+    let cores : SlotCores = spliced (k * b) (n * b) here there in
     text_of (rounds_lines cores b round trace) ≡ text_of (rounds_lines there b k trace) ++ text_of (window_lines here b k n trace)
 rounds_step b k n round trace here there sound counts inside is =
-    let cores : Cores = spliced (k * b) (n * b) here there in
+    let cores : SlotCores = spliced (k * b) (n * b) here there in
     let counted = counts b trace sound in
     ap (λ (m : ℕ). text_of (rounds_lines cores b m trace)) is ∙ (rounds_more cores b k n trace (omega (arith, counted.0)) ∙ step_parts b k n trace here there)
 
 -- and the windows after it
-pub rounds_stop : (b k n : ℕ) (trace : TraceContent) (here there : Cores) → IsTrace trace → EveryPlanHasItsSlotsBy remaining → k + n ≤ trace.rounds →
-    let cores : Cores = spliced (k * b) (n * b) here there in
+pub rounds_stop : (b k n : ℕ) (trace : TraceContent) (here there : SlotCores) → IsTrace trace → EveryPlanHasItsSlotsBy remaining → k + n ≤ trace.rounds →
+    let cores : SlotCores = spliced (k * b) (n * b) here there in
     text_of (rounds_lines cores b trace.rounds trace)
     ≡ (text_of (rounds_lines there b k trace) ++ text_of (window_lines here b k n trace)) ++ text_of (window_lines cores b (k + n) (trace.rounds - (k + n)) trace)
 rounds_stop b k n trace here there sound counts inside =
-    let cores : Cores = spliced (k * b) (n * b) here there in
+    let cores : SlotCores = spliced (k * b) (n * b) here there in
     let counted = counts b trace sound in
     let rest : ℕ = trace.rounds - (k + n) in
     let parts : trace.rounds ≡ (k + n) + rest = omega arith in
@@ -109,7 +109,7 @@ rounds_stop b k n trace here there sound counts inside =
 
 -- ---- the whole
 
-pub plan_parts : (cores : Cores) (trace : TraceContent) (b : ℕ) → IsTrace trace → EveryPlanHasItsSlotsBy remaining
+pub plan_parts : (cores : SlotCores) (trace : TraceContent) (b : ℕ) → IsTrace trace → EveryPlanHasItsSlotsBy remaining
     → text_of (rounds_lines cores b trace.rounds trace) ++ (text_of (flows_lines_by remaining b trace) ++ end_text trace) ≡ fewest_text cores b trace
 plan_parts cores trace b accepted slots =
     let batches : List DemandBatch = plan_batches trace in

@@ -9,10 +9,10 @@ use Rattle.greedy_rules.specs.Fronts.{SchedulesGoOnBy, FrontsAreFrontsBy, EveryB
 use Rattle.greedy_rules.specs.Recorded.{EveryRecordedSlotBy}
 use Rattle.greedy_rules.specs.Examples.{remaining}
 use Rattle.clos_topology.specs.Network.{endpoints_of}
+use Rattle.clos_topology.specs.NetSlots.{limits_of}
 use Rattle.fewest_order.specs.FewestFirst.{MayServe}
 use Rattle.trace_text.specs.Trace.{TraceContent}
 use Rattle.trace_text.specs.Valid.{IsTrace}
-use Rattle.window_allocation.specs.Nets.{limits_of}
 use Rattle.window_allocation.specs.Ready.{IsFit}
 use Rattle.plan_rounds.specs.Batches.{plan_batches, EveryPlanIsRecorded}
 use Rattle.run_lines.specs.Text.{no_batch}

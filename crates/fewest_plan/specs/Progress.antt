@@ -2,10 +2,10 @@
 use Rattle.std.specs.Prelude.{◌≡◌, ◌≤◌, ℕ, ◌+◌, ◌*◌, ◌^◌, List, length, take, drop, slice_index_or}
 use Rattle.greedy_rules.specs.Schedule.{first_slot, schedule_by}
 use Rattle.greedy_rules.specs.Examples.{remaining}
+use Rattle.clos_topology.specs.NetSlots.{SlotCores}
 use Rattle.report_text.specs.declared.line.Line.{Line}
 use Rattle.trace_text.specs.Trace.{TraceContent}
 use Rattle.plan_rounds.specs.Batches.{plan_batches}
-use Rattle.replay_rounds.specs.Setting.{Cores}
 use Rattle.window_allocation.specs.Scheduled.{cores_from}
 use Rattle.run_lines.specs.Text.{no_batch, batch_lines}
 use Rattle.run_text.specs.PlanText.{batches_lines}
@@ -13,15 +13,15 @@ use Rattle.fewest_plan.specs.declared.planner.Window.{Window}
 use Rattle.fewest_plan.specs.Scheduled.{window_slots_by}
 
 -- so many rounds from this one on
-abbrev pub window_lines : Cores → ℕ → ℕ → ℕ → TraceContent → List Line
+abbrev pub window_lines : SlotCores → ℕ → ℕ → ℕ → TraceContent → List Line
 window_lines cores b first count trace = batches_lines cores b first (take count (drop first (plan_batches trace))) (window_slots_by remaining b (plan_batches trace) first count)
 
 -- the first rounds
-abbrev pub rounds_lines : Cores → ℕ → ℕ → TraceContent → List Line
+abbrev pub rounds_lines : SlotCores → ℕ → ℕ → TraceContent → List Line
 rounds_lines cores b k trace = batches_lines cores b 0 (take k (plan_batches trace)) (take (k * b) (schedule_by remaining b (plan_batches trace)))
 
 -- the cores that a window names
-abbrev pub cores_of_window : ℕ → Window → Cores
+abbrev pub cores_of_window : ℕ → Window → SlotCores
 cores_of_window b window = cores_from (first_slot b window.first) window.cores
 
 -- the batches of a window, each with its slots, and one of them, by its place

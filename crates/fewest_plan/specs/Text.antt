@@ -6,11 +6,11 @@ use Rattle.greedy_rules.specs.Demands.{Key}
 use Rattle.greedy_rules.specs.Schedule.{schedule_by}
 use Rattle.greedy_rules.specs.Examples.{remaining}
 use Rattle.clos_topology.specs.Network.{endpoints_of}
+use Rattle.clos_topology.specs.NetSlots.{SlotCores}
 use Rattle.report_text.specs.declared.line.Line.{Line}
 use Rattle.report_text.specs.declared.line.Line.TheVariants as line
 use Rattle.trace_text.specs.Trace.{TraceContent}
 use Rattle.plan_rounds.specs.Batches.{plan_batches}
-use Rattle.replay_rounds.specs.Setting.{Cores}
 use Rattle.run_lines.specs.Text.{each_source, flow_lines_of, text_of}
 use Rattle.run_text.specs.PlanText.{batches_lines, plan_text}
 use Rattle.fewest_plan.specs.Counts.{counts_of_by}
@@ -23,20 +23,20 @@ abbrev pub flows_lines_by : Key → ℕ → TraceContent → List Line
 flows_lines_by key b trace = each_source (flow_lines_by key b trace) (endpoints_of trace.net) 0 (endpoints_of trace.net)
 
 -- the lines, in order
-abbrev pub lines_by : Key → Cores → ℕ → TraceContent → List Line
+abbrev pub lines_by : Key → SlotCores → ℕ → TraceContent → List Line
 lines_by key cores b trace =
     (batches_lines cores b 0 (plan_batches trace) (schedule_by key b (plan_batches trace)) ++ flows_lines_by key b trace) ++ line.End trace.rounds ∷ []
 
-abbrev pub text_by : Key → Cores → ℕ → TraceContent → List ℕ
+abbrev pub text_by : Key → SlotCores → ℕ → TraceContent → List ℕ
 text_by key cores b trace = text_of (lines_by key cores b trace)
 
 -- by need: the flow that needs the fewest slots goes first
-abbrev pub fewest_lines : Cores → ℕ → TraceContent → List Line
+abbrev pub fewest_lines : SlotCores → ℕ → TraceContent → List Line
 fewest_lines cores b trace = lines_by remaining cores b trace
 
-abbrev pub fewest_text : Cores → ℕ → TraceContent → List ℕ
+abbrev pub fewest_text : SlotCores → ℕ → TraceContent → List ℕ
 fewest_text cores b trace = text_by remaining cores b trace
 
 -- by the slot in which a flow was last served it is the text of `plan` as it stands
 abbrev pub IsThePlainText : Key → Type 0
-IsThePlainText key = (cores : Cores) (b : ℕ) (trace : TraceContent) → text_by key cores b trace ≡ plan_text cores b trace
+IsThePlainText key = (cores : SlotCores) (b : ℕ) (trace : TraceContent) → text_by key cores b trace ≡ plan_text cores b trace

@@ -1,8 +1,8 @@
 ghost use Rattle.std.specs.Prelude.{◌≡◌, ◌≢◌, ◌<◌, ◌≤◌, ◌+◌, length, All, OnOk};
 ghost use Rattle.greedy_rules.specs.Examples.{remaining};
+ghost use Rattle.clos_topology.specs.NetSlots.{SlotCores};
 ghost use Rattle.trace_text.specs.Valid.{IsTrace};
 ghost use Rattle.plan_rounds.specs.Batches.{plan_batches};
-ghost use Rattle.replay_rounds.specs.Setting.{Cores};
 ghost use Rattle.run_lines.specs.Content.{sink_content};
 ghost use Rattle.run_lines.specs.Output.{Passes, Ends, Writes};
 ghost use Rattle.run_lines.specs.Text.{text_of};
@@ -159,7 +159,7 @@ pub fn write_fewest<R: Threads + Wait + Sync, G: Gate + Sync, K: Sink>(
         Writes (sink_content K.Sink sink.old) (sink_content K.Sink sink.new) (fewest_text cores sizes.b trace.now) result) }
     ensures barred { NoneThatNeedsMoreBarsIn sizes.b (plan_batches trace.now) }
     ensures ledger { AllIsAllocatedOrPendingBy remaining sizes.b (plan_batches trace.now) }
-    ensures balanced { (cores : Cores) → All IsBalanced (fewest_lines cores sizes.b trace.now) }
+    ensures balanced { (cores : SlotCores) → All IsBalanced (fewest_lines cores sizes.b trace.now) }
 {
     texts_follow();
     every_plan_is_recorded();

@@ -1,54 +1,16 @@
 -- The entries of all lines, by rising endpoint.
-use Rattle.std.proofs.Common.{◌≡◌, ◌≤◌, ◌<◌, ℕ, zero, suc, ◌+◌, ◌==◌, ◌&&◌, ◌||◌, Bool, true, false, not, cond, nat_lt, IsTrue, List, [], ◌∷◌, ◌++◌, length, map, set, take, Option, Some, None, IfSome, slice_get, All, sym, ◌∙◌, ap, subst, refl, append_assoc, arith}
-use Rattle.std.specs.List.{filter_map, range_with_len, cons_option}
-use Rattle.std.proofs.lemmas.Bool.{lt-ltb}
+use Rattle.std.proofs.Common.{◌≡◌, ◌≤◌, ℕ, zero, suc, ◌+◌, List, [], ◌∷◌, ◌++◌, length, map, set, take, Some, slice_get, All, sym, ◌∙◌, ap, subst, refl, append_assoc, arith}
+use Rattle.std.specs.List.{range_with_len}
 use Rattle.std.proofs.lemmas.Option.{get_or_from_slice_get, slice_get_within}
 use Rattle.std.proofs.lemmas.List.{append-nil}
 use Rattle.greedy_rules.specs.declared.flows.Entry.{Entry}
 use Rattle.greedy_rules.specs.Batches.{IsAboveLast}
-use Rattle.endpoint_history.specs.Lane.{LaneHistory}
-use Rattle.endpoint_history.specs.Entries.{had, is_reset, added, entry_of}
+use Rattle.endpoint_history.specs.Entries.{entry_of}
+use Rattle.lane_rounds.proofs.Entries.{Below, Below-append, Below-more, Below-filter_map, entry-below, above_last}
 use Rattle.front_desk.specs.State.{LineState, recorded_line}
 use Rattle.front_desk.specs.declared.progress.Progress.TheVariants.{Closed}
 use Rattle.front_desk.specs.Answers.{calls_of, entries_of, entries_from}
 use Rattle.front_desk.proofs.Polls.{some_same}
-
--- ---- they lie below the next endpoint
-
-abbrev pub Below : ℕ → List Entry → Type 0
-Below bound [] = Unit {0}
-Below bound (entry ∷ entries) = (entry.flow.src < bound) × Below bound entries
-
-Below-append : (bound : ℕ) (xs ys : List Entry) → Below bound xs → Below bound ys → Below bound (xs ++ ys)
-Below-append bound [] ys here there = there
-Below-append bound (x ∷ xs) ys here there = (here.0, Below-append bound xs ys here.1 there)
-
-Below-more : (bound other : ℕ) (xs : List Entry) → bound ≤ other → Below bound xs → Below other xs
-Below-more bound other [] le below = tt
-Below-more bound other (x ∷ xs) le below = (omega (arith, below.0), Below-more bound other xs le below.1)
-
-Below-cons : (bound : ℕ) (entry : Option Entry) (entries : List Entry) → IfSome entry (λ e. e.flow.src < bound) → Below bound entries → Below bound (cons_option entry entries)
-Below-cons bound None entries here there = there
-Below-cons bound (Some entry) entries here there = (here, there)
-
-Below-filter_map : (bound : ℕ) (f : ℕ → Option Entry) → ((n : ℕ) → IfSome (f n) (λ entry. entry.flow.src < bound)) → (ns : List ℕ) → Below bound (filter_map f ns)
-Below-filter_map bound f each [] = tt
-Below-filter_map bound f each (n ∷ ns) = Below-cons bound (f n) (filter_map f ns) (each n) (Below-filter_map bound f each ns)
-
-if_below : (some : Bool) (entry : Entry) (bound : ℕ) → entry.flow.src < bound → IfSome (cond some (Some entry) None) (λ e. e.flow.src < bound)
-if_below true entry bound below = below
-if_below false entry bound below = tt
-
-entry-below : (endpoint g : ℕ) (history : LaneHistory) (dst : ℕ) → IfSome (entry_of endpoint g history dst) (λ entry. entry.flow.src < endpoint + 1)
-entry-below endpoint g history dst =
-    if_below (nat_lt 0 (added g history dst) || (is_reset history && had g history dst))
-    (record { flow = record { src = endpoint; dst = dst }; opens = nat_lt 0 (added g history dst) && not (had g history dst); clear = is_reset history && had g history dst; add = added g history dst })
-    (endpoint + 1) (omega arith)
-
-above_last : (bound : ℕ) (entries : List Entry) → Below bound entries → IsAboveLast entries (record { src = bound; dst = 0 })
-above_last bound [] below = tt
-above_last bound (x ∷ []) below = subst (λ (b : Bool). IsTrue (b || (x.flow.src == bound && nat_lt x.flow.dst 0))) (sym (lt-ltb x.flow.src bound below.0)) refl
-above_last bound (x ∷ (y ∷ entries)) below = above_last bound (y ∷ entries) below.1
 
 -- ---- those of a front of the lines
 

@@ -10,7 +10,7 @@ use Rattle.endpoint_history.specs.Counts.{owed, recorded, slots_in, decides}
 use Rattle.ack_window.specs.Acknowledgement.{is_found_lost}
 use Rattle.endpoint_history.specs.Entries.{added, counted_from, entry_of, entry_with, had, is_reset}
 use Rattle.lane_rounds.specs.Outside.{names}
-use Rattle.lane_rounds.specs.Refused.{with_bytes}
+use Rattle.lane_rounds.specs.Refused.{with_arrival}
 use Rattle.front_desk.specs.Answers.{arrived_after, calls_of}
 use Rattle.front_desk.specs.Laws.{EveryWindowRecordsTheSame}
 use mathlib.Core.Path.{fun_ext}
@@ -75,7 +75,7 @@ module _ (g h : ℕ) where
 
 arrived-are : (endpoint endpoints : ℕ) (packets : List (List ℕ)) (history : LaneHistory) → AreArrivals history → AreArrivals (arrived_after endpoint endpoints packets history)
 arrived-are endpoint endpoints [] history are = are
-arrived-are endpoint endpoints (bytes ∷ packets) history are = arrived-are endpoint endpoints packets (with_bytes endpoint endpoints 0 bytes history) (by (names endpoint endpoints bytes))
+arrived-are endpoint endpoints (bytes ∷ packets) history are = arrived-are endpoint endpoints packets (with_arrival endpoint endpoints 0 bytes history) (by (names endpoint endpoints bytes))
   where
     by : (b : Bool) → AreArrivals (cond b (TakesUp 0 (up_packet (up_of bytes)) ∷ history) history)
     by true = are

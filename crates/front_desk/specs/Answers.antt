@@ -6,8 +6,8 @@ use Rattle.greedy_rules.specs.declared.flows.Entry.{Entry}
 use Rattle.endpoint_history.specs.Lane.{LaneHistory, MakesDown}
 use Rattle.endpoint_history.specs.Entries.{entry_of}
 use Rattle.arbiter_lane.specs.declared.refusal.UpRefused.{UpRefused}
-use Rattle.arbiter_lane.specs.Refusals.{refusal_of}
-use Rattle.lane_rounds.specs.Refused.{number_of, with_bytes}
+use Rattle.arbiter_lane.specs.Refusals.{up_refusal}
+use Rattle.lane_rounds.specs.Refused.{number_of, with_arrival}
 use Rattle.front_desk.specs.State.{LineState}
 
 -- 0 where a packet is accepted, else the number of its refusal
@@ -19,13 +19,13 @@ module _ (endpoint endpoints : ℕ) where
   -- a lane's calls with these packets after them, all in round 0
   abbrev pub arrived_after : List (List ℕ) → LaneHistory → LaneHistory
   arrived_after [] history = history
-  arrived_after (bytes ∷ packets) history = arrived_after packets (with_bytes endpoint endpoints 0 bytes history)
+  arrived_after (bytes ∷ packets) history = arrived_after packets (with_arrival endpoint endpoints 0 bytes history)
 
   -- what each of them is answered, by the lane as it then stands
   abbrev pub answers_after : List (List ℕ) → LaneHistory → List ℕ
   answers_after [] history = []
   answers_after (bytes ∷ packets) history =
-      answer_number (refusal_of endpoint endpoints history bytes) ∷ answers_after packets (with_bytes endpoint endpoints 0 bytes history)
+      answer_number (up_refusal endpoint endpoints history bytes) ∷ answers_after packets (with_arrival endpoint endpoints 0 bytes history)
 
   -- a lane's calls in round 0 with these packets, once its own packet was made, which tells nothing
   abbrev pub calls_of : List (List ℕ) → LaneHistory

@@ -17,11 +17,11 @@ use Rattle.endpoint_agent.specs.declared.lines.FlowLine.{FlowLine}
 use Rattle.endpoint_agent.specs.State.{AgentState}
 use Rattle.endpoint_agent.specs.Standing as agents
 use Rattle.endpoint_agent.specs.Refusals as agent_refusals
-use Rattle.arbiter_lane.specs.State.{LaneState}
+use Rattle.arbiter_lane.specs.State.{LaneState, IsSameLane}
 use Rattle.arbiter_lane.specs.Standing as lanes
 use Rattle.arbiter_lane.specs.Refusals as lane_refusals
 use Rattle.lane_rounds.specs.Standing.{HasCarried, spell_down, spell_up}
-use Rattle.lane_rounds.specs.Parts.{IsSameAgent, IsSameLane, IsReadDown, IsReadUp}
+use Rattle.lane_rounds.specs.Parts.{IsSameAgent, IsReadDown, IsReadUp}
 
 -- ---- the world
 
@@ -75,11 +75,11 @@ heard-one was agent new round bytes p calls same taken is it stands =
 -- ---- the lane
 
 pub read-one : (was lane new : LaneState) (round : ℕ) (bytes : List ℕ) (p : UpPacket) (history : LaneHistory) (allocations : List Allocation) → IsSameLane was lane →
-    (lane_refusals.IsOwn lane.endpoint lane.endpoints bytes → (history : LaneHistory) (allocations : List Allocation) → lanes.StandsFor lane history allocations → lanes.StandsFor new (TakesUp round (up_packet (up_of bytes)) ∷ history) allocations) →
+    (lane_refusals.IsOwnUp lane.endpoint lane.endpoints bytes → (history : LaneHistory) (allocations : List Allocation) → lanes.StandsFor lane history allocations → lanes.StandsFor new (TakesUp round (up_packet (up_of bytes)) ∷ history) allocations) →
     bytes ≡ spell_up was.endpoint p → IsReadUp was.endpoint was.endpoints p → lanes.StandsFor lane history allocations → lanes.StandsFor new (TakesUp round p ∷ history) allocations
 read-one was lane new round bytes p history allocations same taken is it stands =
     let own =
-    subst (λ n. lane_refusals.IsOwn n lane.endpoints bytes) (sym same.endpoint)
-    (subst (λ n. lane_refusals.IsOwn was.endpoint n bytes) (sym same.endpoints)
-    (subst (λ bs. lane_refusals.IsOwn was.endpoint was.endpoints bs) (sym is) it.own)) in
+    subst (λ n. lane_refusals.IsOwnUp n lane.endpoints bytes) (sym same.endpoint)
+    (subst (λ n. lane_refusals.IsOwnUp was.endpoint n bytes) (sym same.endpoints)
+    (subst (λ bs. lane_refusals.IsOwnUp was.endpoint was.endpoints bs) (sym is) it.own)) in
     subst (λ q. lanes.StandsFor new (TakesUp round q ∷ history) allocations) (ap (λ bs. up_packet (up_of bs)) is ∙ it.back) (taken own history allocations stands)

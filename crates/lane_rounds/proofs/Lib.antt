@@ -1,7 +1,8 @@
 mod Arriving
 mod Coming
+pub mod Entries
 mod Hearing
 mod Playing
 mod Posting
-mod Raw
+pub mod Raw
 mod Whole

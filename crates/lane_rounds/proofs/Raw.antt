@@ -10,13 +10,13 @@ use Rattle.endpoint_history.specs.Lane.{LaneHistory, TakesUp}
 use Rattle.endpoint_history.specs.Packets.{up_packet}
 use Rattle.endpoint_history.specs.Counts.{Allocation}
 use Rattle.fcp_framing.specs.Fields.{up_of}
-use Rattle.arbiter_lane.specs.State.{LaneState}
-use Rattle.arbiter_lane.specs.Refusals.{refusal_of, refusal_or, refusal_of_packet, IsOwn}
+use Rattle.arbiter_lane.specs.State.{LaneState, IsSameLane}
+use Rattle.arbiter_lane.specs.Refusals.{up_refusal, up_refusal_or, up_refusal_of_packet, IsOwnUp}
 use Rattle.arbiter_lane.specs.Standing as lanes
 use Rattle.lane_rounds.specs.Raw.{Raw}
 use Rattle.lane_rounds.specs.Outside.{names, packets_in}
-use Rattle.lane_rounds.specs.Refused.{with_bytes, with_raw, refused_in, numbered}
-use Rattle.lane_rounds.specs.Parts.{IsSameLane, reading}
+use Rattle.lane_rounds.specs.Refused.{with_arrival, with_raw, refused_in, numbered}
+use Rattle.lane_rounds.specs.Parts.{reading}
 
 -- some have been read, and the others make of it what all do
 pub record HasRead (endpoint endpoints round : ℕ) (raw left : List Raw) (history : LaneHistory) (allocations : List Allocation) (lane : LaneState) (was refused : List (ℕ × ℕ)) : Type 0 where
@@ -27,15 +27,15 @@ pub record HasRead (endpoint endpoints round : ℕ) (raw left : List Raw) (histo
 
 pub read-more : (endpoint endpoints round : ℕ) (raw : List Raw) (r : Raw) (left : List Raw) (history : LaneHistory) (allocations : List Allocation) (lane next : LaneState) (was refused more : List (ℕ × ℕ)) →
     HasRead endpoint endpoints round raw (r ∷ left) history allocations lane was refused →
-    ((now : LaneHistory) → lanes.StandsFor lane now allocations → lanes.StandsFor next (with_bytes endpoint endpoints round r.bytes now) allocations) →
-    ((now : LaneHistory) → lanes.StandsFor lane now allocations → more ≡ refused ++ numbered r.place (refusal_of endpoint endpoints now r.bytes)) →
+    ((now : LaneHistory) → lanes.StandsFor lane now allocations → lanes.StandsFor next (with_arrival endpoint endpoints round r.bytes now) allocations) →
+    ((now : LaneHistory) → lanes.StandsFor lane now allocations → more ≡ refused ++ numbered r.place (up_refusal endpoint endpoints now r.bytes)) →
     HasRead endpoint endpoints round raw left history allocations next was more
 read-more endpoint endpoints round raw r left history allocations lane next was refused more some stands told = record {
-  now = with_bytes endpoint endpoints round r.bytes some.now;
+  now = with_arrival endpoint endpoints round r.bytes some.now;
   stands = stands some.now some.stands;
   rest = some.rest;
-  told = some.told ∙ sym (append_assoc refused (numbered r.place (refusal_of endpoint endpoints some.now r.bytes)) (refused_in endpoint endpoints round left (with_bytes endpoint endpoints round r.bytes some.now)))
-      ∙ ap (λ xs. xs ++ refused_in endpoint endpoints round left (with_bytes endpoint endpoints round r.bytes some.now)) (sym (told some.now some.stands));
+  told = some.told ∙ sym (append_assoc refused (numbered r.place (up_refusal endpoint endpoints some.now r.bytes)) (refused_in endpoint endpoints round left (with_arrival endpoint endpoints round r.bytes some.now)))
+      ∙ ap (λ xs. xs ++ refused_in endpoint endpoints round left (with_arrival endpoint endpoints round r.bytes some.now)) (sym (told some.now some.stands));
 }
 
 -- the calls that raw packets are
@@ -57,30 +57,30 @@ record NotNamed (given : Option UpRefused) : Type 0 where
   pub not_old : refusal ≢ OldSeq
   pub not_repeat : refusal ≢ Repeat
 
-not_named : (f : Option FrameRefused) (own : Bool) (later : Option UpRefused) → (is_none f && own) ≡ false → (own ≡ false → later ≡ Some NotMine) → NotNamed (refusal_or f later)
+not_named : (f : Option FrameRefused) (own : Bool) (later : Option UpRefused) → (is_none f && own) ≡ false → (own ≡ false → later ≡ Some NotMine) → NotNamed (up_refusal_or f later)
 not_named None own later off mine = record { refusal = NotMine; is = mine off; not_old = λ e. cc; not_repeat = λ e. cc }
 not_named (Some frame) own later off mine = record { refusal = Frame frame; is = refl; not_old = λ e. cc; not_repeat = λ e. cc }
 
-names-not : (endpoint endpoints : ℕ) (history : LaneHistory) (bytes : List ℕ) → names endpoint endpoints bytes ≡ false → NotNamed (refusal_of endpoint endpoints history bytes)
+names-not : (endpoint endpoints : ℕ) (history : LaneHistory) (bytes : List ℕ) → names endpoint endpoints bytes ≡ false → NotNamed (up_refusal endpoint endpoints history bytes)
 unfolding names
 names-not endpoint endpoints history bytes off =
-    not_named (first_refusal (refuses_up endpoints bytes)) ((up_of bytes).src == endpoint) (refusal_of_packet endpoint history (up_of bytes)) off (λ other. rw other refl)
+    not_named (first_refusal (refuses_up endpoints bytes)) ((up_of bytes).src == endpoint) (up_refusal_of_packet endpoint history (up_of bytes)) off (λ other. rw other refl)
 
-none_is : (f : Option FrameRefused) → is_none f ≡ true → f ≡ None
+pub none_is : (f : Option FrameRefused) → is_none f ≡ true → f ≡ None
 none_is None is = refl
 none_is (Some frame) is = absurd (cc)
 
-names-own : (endpoint endpoints : ℕ) (bytes : List ℕ) → names endpoint endpoints bytes ≡ true → IsOwn endpoint endpoints bytes
+pub names-own : (endpoint endpoints : ℕ) (bytes : List ℕ) → names endpoint endpoints bytes ≡ true → IsOwnUp endpoint endpoints bytes
 unfolding names
 names-own endpoint endpoints bytes on =
     let both = and_parts (is_none (first_refusal (refuses_up endpoints bytes))) ((up_of bytes).src == endpoint) on in
     record { spelled = none_is (first_refusal (refuses_up endpoints bytes)) both.0; source = eqb-true (up_of bytes).src endpoint both.1 }
 
 pub with_bytes-stands : (lane new : LaneState) (round : ℕ) (bytes : List ℕ) (given : Option UpRefused) →
-    ((history : LaneHistory) (allocations : List Allocation) → lanes.StandsFor lane history allocations → given ≡ refusal_of lane.endpoint lane.endpoints history bytes) →
+    ((history : LaneHistory) (allocations : List Allocation) → lanes.StandsFor lane history allocations → given ≡ up_refusal lane.endpoint lane.endpoints history bytes) →
     IfSome given (λ refusal. refusal ≢ OldSeq → refusal ≢ Repeat → new ≡ lane) →
-    (IsOwn lane.endpoint lane.endpoints bytes → (history : LaneHistory) (allocations : List Allocation) → lanes.StandsFor lane history allocations → lanes.StandsFor new (TakesUp round (up_packet (up_of bytes)) ∷ history) allocations) →
-    (history : LaneHistory) (allocations : List Allocation) → lanes.StandsFor lane history allocations → lanes.StandsFor new (with_bytes lane.endpoint lane.endpoints round bytes history) allocations
+    (IsOwnUp lane.endpoint lane.endpoints bytes → (history : LaneHistory) (allocations : List Allocation) → lanes.StandsFor lane history allocations → lanes.StandsFor new (TakesUp round (up_packet (up_of bytes)) ∷ history) allocations) →
+    (history : LaneHistory) (allocations : List Allocation) → lanes.StandsFor lane history allocations → lanes.StandsFor new (with_arrival lane.endpoint lane.endpoints round bytes history) allocations
 with_bytes-stands lane new round bytes given answer unchanged stands history allocations stood =
     elim (cases_Bool (names lane.endpoint lane.endpoints bytes)) [
       | inl on ↦

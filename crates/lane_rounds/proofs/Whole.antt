@@ -21,17 +21,17 @@ use Rattle.endpoint_history.specs.Steps.{agent_of, lane_of}
 use Rattle.endpoint_history.specs.Tellings.{ToldWithin, ToldRises, ToldTo}
 use Rattle.endpoint_agent.specs.State.{AgentState}
 use Rattle.endpoint_agent.specs.Standing as agents
-use Rattle.arbiter_lane.specs.State.{LaneState, AreSlots}
+use Rattle.arbiter_lane.specs.State.{LaneState, AreSlots, IsSameLane}
 use Rattle.arbiter_lane.specs.Standing as lanes
 use Rattle.endpoint_history.specs.Entries.{entry_of}
 use Rattle.endpoint_history.specs.Sending.{Slot, sent_in}
 use Rattle.lane_rounds.specs.declared.events.Events.{Events}
-use Rattle.lane_rounds.specs.Outside.{round_of}
+use Rattle.lane_rounds.specs.Outside.{round_with}
 use Rattle.lane_rounds.specs.Refused.{with_raw, refused_in, refused_by}
 use Rattle.lane_rounds.specs.State.{RoundsState, with_each}
 use Rattle.lane_rounds.proofs.Raw.{with_raw-reads}
 use Rattle.lane_rounds.specs.Standing.{StandsFor, played_by, StandsAt, HasCarried, EachPosted, IsDownOf, IsUpOf, spell_down, spell_up}
-use Rattle.lane_rounds.specs.Parts.{IsSameAgent, IsSameLane, hearing, reading, handed, Each, IsReadDown, IsReadUp, MayHear}
+use Rattle.lane_rounds.specs.Parts.{IsSameAgent, hearing, reading, handed, Each, IsReadDown, IsReadUp, MayHear}
 use Rattle.lane_rounds.proofs.Coming.{Laws}
 use Rattle.lane_rounds.proofs.Playing.{posted, asked_calls, made_calls, down_now, heard_calls, up_now, read_calls, down-posted, up-posted, agent-recorded, lane-read, posted-spelled, due-arrives, posted-append, posted-some, each-arrives, read-down, read-up, within-read, rises-read, are-within, rises-from, are-to, to-read, round-heard}
 
@@ -194,7 +194,7 @@ pub record Run (was : RoundsState) (number : ℕ) (events : Events) (told : List
   pub last : LaneSizes done was.lane.endpoint was.lane.endpoints was.lane.b was.lane.g
 
 abbrev pub round_in : RoundsState → Events → List Told → Round
-round_in was events told = round_of was.lane.endpoint was.lane.endpoints events told
+round_in was events told = round_with was.lane.endpoint was.lane.endpoints events told
 
 pub number-is : (order : RoundsAreInOrder) (was : RoundsState) (number : ℕ) (rounds : List Round) (allocations : List Allocation) → number ≡ was.lane.round → StandsFor was rounds allocations → number ≡ length rounds
 number-is order was number rounds allocations is stood = is ∙ stood.lane.round ∙ (order was.lane.endpoints was.lane.g rounds).recorded
@@ -280,9 +280,9 @@ sends-are n b g number round rounds sent len it =
 
 -- the raw packets that are refused
 pub refused-are : (e n g number : ℕ) (events : Events) (told : List Told) (rounds : List Round) (was now : List (ℕ × ℕ)) → number ≡ length rounds →
-    now ≡ was ++ refused_in e n number events.raw (read_calls n g number (round_of e n events told) (played n g rounds)) → now ≡ was ++ refused_by e n g events told rounds
+    now ≡ was ++ refused_in e n number events.raw (read_calls n g number (round_with e n events told) (played n g rounds)) → now ≡ was ++ refused_by e n g events told rounds
 refused-are e n g number events told rounds was now len it =
-    let round : Round = record (round_of e n events told) { raw = [] } in
+    let round : Round = record (round_with e n events told) { raw = [] } in
     subst (λ m. now ≡ was ++ refused_in e n m events.raw (lane_of (read n g m round (played n g rounds)))) len
     (subst (λ (h : LaneHistory). now ≡ was ++ refused_in e n number events.raw h) (sym (lane-read n g number round (played n g rounds))) it)
 

@@ -17,8 +17,8 @@ abbrev pub packets_in : ℕ → ℕ → List Raw → List UpPacket
 packets_in endpoint endpoints raw = map (λ r. up_packet (up_of r.bytes)) (filter (λ r. names endpoint endpoints r.bytes) raw)
 
 -- a round of an endpoint: what comes from outside, and the slots that it is to be told
-abbrev pub round_of : ℕ → ℕ → Events → List Told → Round
-round_of endpoint endpoints events told = record {
+abbrev pub round_with : ℕ → ℕ → Events → List Told → Round
+round_with endpoint endpoints events told = record {
   boots = replicate events.boots events.version;
   asks = events.asks;
   up = events.up;

@@ -11,22 +11,13 @@ use Rattle.endpoint_history.specs.Lane.{LaneHistory, TakesUp}
 use Rattle.endpoint_agent.specs.State.{AgentState}
 use Rattle.endpoint_agent.specs.Timely.{MayTake}
 use Rattle.endpoint_agent.specs.Refusals as agents
-use Rattle.arbiter_lane.specs.State.{LaneState}
 use Rattle.arbiter_lane.specs.Refusals as lanes
 use Rattle.lane_rounds.specs.State.{with_each}
 use Rattle.lane_rounds.specs.Standing.{spell_down, spell_up}
 
--- what a part of a round leaves of an agent, and of a lane
+-- what a part of a round leaves of an agent
 pub record IsSameAgent (old new : AgentState) : Type 0 where
   pub me : new.me ≡ old.me
-  pub endpoints : new.endpoints ≡ old.endpoints
-  pub b : new.b ≡ old.b
-  pub g : new.g ≡ old.g
-  pub round : new.round ≡ old.round
-  pub is_made : new.is_made ≡ old.is_made
-
-pub record IsSameLane (old new : LaneState) : Type 0 where
-  pub endpoint : new.endpoint ≡ old.endpoint
   pub endpoints : new.endpoints ≡ old.endpoints
   pub b : new.b ≡ old.b
   pub g : new.g ≡ old.g
@@ -45,7 +36,7 @@ pub record IsReadDown (me endpoints b : ℕ) (packet : DownPacket) : Type 0 wher
   pub back : down_packet (down_of (spell_down me packet)) ≡ packet
 
 pub record IsReadUp (endpoint endpoints : ℕ) (packet : UpPacket) : Type 0 where
-  pub own : lanes.IsOwn endpoint endpoints (spell_up endpoint packet)
+  pub own : lanes.IsOwnUp endpoint endpoints (spell_up endpoint packet)
   pub back : up_packet (up_of (spell_up endpoint packet)) ≡ packet
 
 abbrev pub Each : {X : Type 0} → (X → Type 0) → List X → Type 0

@@ -9,8 +9,8 @@ use Rattle.endpoint_history.specs.Rounds.{Round, read, played}
 use Rattle.endpoint_history.specs.Steps.{lane_of}
 use Rattle.arbiter_lane.specs.declared.refusal.UpRefused.{UpRefused}
 use Rattle.arbiter_lane.specs.declared.refusal.UpRefused.TheVariants.{Frame, NotMine, Unsynced, OldEpoch, OtherVersion, OldSeq, Repeat}
-use Rattle.arbiter_lane.specs.Refusals.{refusal_of}
-use Rattle.lane_rounds.specs.Outside.{names, round_of}
+use Rattle.arbiter_lane.specs.Refusals.{up_refusal}
+use Rattle.lane_rounds.specs.Outside.{names, round_with}
 use Rattle.lane_rounds.specs.Raw.{Raw}
 use Rattle.lane_rounds.specs.declared.events.Events.{Events}
 
@@ -24,8 +24,8 @@ number_of NotMine = 25
 number_of OtherVersion = 26
 
 -- a lane's calls with bytes that arrive after them: a packet of its endpoint is one more, whatever it is answered
-abbrev pub with_bytes : ℕ → ℕ → ℕ → List ℕ → LaneHistory → LaneHistory
-with_bytes endpoint endpoints round bytes history =
+abbrev pub with_arrival : ℕ → ℕ → ℕ → List ℕ → LaneHistory → LaneHistory
+with_arrival endpoint endpoints round bytes history =
     if names endpoint endpoints bytes then TakesUp round (up_packet (up_of bytes)) ∷ history else history
 
 -- the place of a packet with the number of its refusal, nothing where it is accepted
@@ -37,15 +37,15 @@ numbered place (Some refusal) = (place, number_of refusal) ∷ []
 module _ (endpoint endpoints round : ℕ) where
   abbrev pub with_raw : List Raw → LaneHistory → LaneHistory
   with_raw [] history = history
-  with_raw (r ∷ raw) history = with_raw raw (with_bytes endpoint endpoints round r.bytes history)
+  with_raw (r ∷ raw) history = with_raw raw (with_arrival endpoint endpoints round r.bytes history)
 
   abbrev pub refused_in : List Raw → LaneHistory → List (ℕ × ℕ)
   refused_in [] history = []
   refused_in (r ∷ raw) history =
-      numbered r.place (refusal_of endpoint endpoints history r.bytes) ++ refused_in raw (with_bytes endpoint endpoints round r.bytes history)
+      numbered r.place (up_refusal endpoint endpoints history r.bytes) ++ refused_in raw (with_arrival endpoint endpoints round r.bytes history)
 
 -- the raw packets that are refused in a round, after all that arrives of the world's
 abbrev pub refused_by : ℕ → ℕ → ℕ → Events → List Told → List Round → List (ℕ × ℕ)
 refused_by endpoint endpoints g events told rounds =
     refused_in endpoint endpoints (length rounds) events.raw
-    (lane_of (read endpoints g (length rounds) (record (round_of endpoint endpoints events told) { raw = [] }) (played endpoints g rounds)))
+    (lane_of (read endpoints g (length rounds) (record (round_with endpoint endpoints events told) { raw = [] }) (played endpoints g rounds)))

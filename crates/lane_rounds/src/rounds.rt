@@ -17,15 +17,16 @@ ghost use Rattle.endpoint_history.specs.Unharmed.{IsUnharmed};
 ghost use Rattle.endpoint_history.specs.Steps.{agent_of, lane_of};
 ghost use Rattle.endpoint_agent.specs.Lines.{slots_sent};
 ghost use Rattle.endpoint_agent.specs.Standing as agents;
-ghost use Rattle.arbiter_lane.specs.declared.line.Line.{Line as LineOf};
-ghost use Rattle.arbiter_lane.specs.State.{AreSlots, AreAllocated};
+ghost use Rattle.arbiter_lane.specs.declared.line.LaneLine.{LaneLine as LineOf};
+ghost use Rattle.arbiter_lane.specs.State.{IsSameLane, MayMakeDown, MayOpenLane};
 ghost use Rattle.arbiter_lane.specs.Standing as lanes;
-ghost use Rattle.arbiter_lane.specs.Refusals.{refusal_of};
-ghost use Rattle.lane_rounds.specs.Outside.{round_of, packets_in};
-ghost use Rattle.lane_rounds.specs.Refused.{refused_by, refused_in, with_raw, with_bytes, numbered};
+ghost use Rattle.arbiter_lane.specs.Refusals.{up_refusal};
+ghost use Rattle.lane_rounds.specs.Outside.{round_with, packets_in};
+ghost use Rattle.lane_rounds.specs.Refused.{refused_by, refused_in, with_raw, with_arrival, numbered};
 ghost use Rattle.lane_rounds.specs.State.{MayAsk, with_each};
 ghost use Rattle.lane_rounds.specs.Standing.{StandsFor, HasCarried, IsDownOf, IsUpOf, spell_down, spell_up, played_by};
-ghost use Rattle.lane_rounds.specs.Parts.{IsSameAgent, IsSameLane, IsReadDown, IsReadUp, Each, MayHear, hearing, reading, handed, with_at_hand};
+ghost use Rattle.lane_rounds.specs.Rounds.{MayPlayRound, HasRoundMore, GivesRound};
+ghost use Rattle.lane_rounds.specs.Parts.{IsSameAgent, IsReadDown, IsReadUp, Each, MayHear, hearing, reading, handed, with_at_hand};
 
 use crate::NoMemory;
 use crate::events::{Events, RawPacket, RefusedList};
@@ -79,12 +80,7 @@ impl LaneRounds {
         b: u8,
         g: u8,
     ) -> Result<LaneRounds, NoMemory>
-        requires endpoint { endpoint < endpoints }
-        requires endpoints { endpoints ≤ 256 }
-        requires some_slot { 1 ≤ b }
-        requires most_slots { b ≤ 64 }
-        requires some_round { 1 ≤ g }
-        requires most_rounds { g ≤ 16 }
+        requires { MayOpenLane endpoint endpoints b g }
         ensures endpoint { IfOk result (λ rounds. rounds.lane.endpoint ≡ endpoint) }
         ensures endpoints { IfOk result (λ rounds. rounds.lane.endpoints ≡ endpoints) }
         ensures b { IfOk result (λ rounds. rounds.lane.b ≡ b) }
@@ -114,47 +110,13 @@ impl LaneRounds {
         sent: &mut ArrayVec<Sent, 64>,
         refused: &mut RefusedList,
     ) -> Result<(), NoMemory>
-        // After a round that wanted for memory there is none.
-        requires whole { self.old.is_whole ≡ true }
-        // Rounds are numbered from 0 on.
-        requires round { round ≡ self.old.lane.round }
-        requires rounds { round < 100000 }
-        // The agent boots and asks as its own calls allow: after the boots the asks of a flow stay within the limit.
-        requires version { 0 < events.now.boots → IsVersion events.now.version }
-        requires epochs { self.old.agent.epoch + events.now.boots < 2 ^ 32 }
-        requires asks { (calls : AgentHistory) × agents.StandsFor self.old.agent calls
-            × MayAsk self.old.lane.endpoint self.old.lane.endpoints (with_each Boots (replicate events.now.boots events.now.version) calls) events.now.asks }
-        // As for `Lane::make_down` and `Lane::record`: slots are counted by `allocated` before they are told.
-        requires slots { AreSlots self.old.lane.endpoints self.old.lane.b self.old.lane.endpoint told.now.items }
-        requires allocated { AreAllocated self.old.lane round told.now.items }
-        requires above { IsAboveLast batch.old.entries (record { src = self.old.lane.endpoint; dst = 0 }) }
+        requires may { MayPlayRound self.old round events.now told.now.items batch.old.entries }
         requires empty { sent.old.items ≡ [] }
-        ensures endpoint { OnOk result (self.new.lane.endpoint ≡ self.old.lane.endpoint) }
-        ensures endpoints { OnOk result (self.new.lane.endpoints ≡ self.old.lane.endpoints) }
-        ensures b { OnOk result (self.new.lane.b ≡ self.old.lane.b) }
-        ensures g { OnOk result (self.new.lane.g ≡ self.old.lane.g) }
+        ensures played { OnOk result (HasRoundMore self.old round (round_with self.old.lane.endpoint self.old.lane.endpoints events.now told.now.items) self.new) }
+        ensures gives { OnOk result (GivesRound self.old events.now told.now.items batch.old.entries batch.new.entries (slots_sent sent.new.items) refused.old refused.new) }
         ensures limits { batch.new.limits ≡ batch.old.limits }
-        ensures whole { OnOk result (self.new.is_whole ≡ true) }
-        ensures round { OnOk result (self.new.lane.round ≡ round + 1) }
-        ensures entries { OnOk result ((rounds : List Round) (allocations : List Allocation) →
-            StandsFor self.old rounds allocations →
-            batch.new.entries ≡ batch.old.entries ++ entries_by self.old.lane.endpoint self.old.lane.endpoints self.old.lane.g (round_of self.old.lane.endpoint self.old.lane.endpoints events.now told.now.items ∷ rounds)) }
-        ensures sends { OnOk result ((rounds : List Round) (allocations : List Allocation) →
-            StandsFor self.old rounds allocations →
-            slots_sent sent.new.items ≡ sent_by self.old.lane.endpoints self.old.lane.b self.old.lane.g (round_of self.old.lane.endpoint self.old.lane.endpoints events.now told.now.items ∷ rounds)) }
-        ensures refused { OnOk result ((rounds : List Round) (allocations : List Allocation) →
-            StandsFor self.old rounds allocations →
-            refused.new ≡ refused.old ++ refused_by self.old.lane.endpoint self.old.lane.endpoints self.old.lane.g events.now told.now.items rounds) }
         // No slot is used in a round whose batch isn't recorded.
         ensures unsent { OnErr result (sent.new.items ≡ sent.old.items) }
-        ensures stands { OnOk result ((rounds : List Round) (allocations : List Allocation) →
-            StandsFor self.old rounds allocations →
-            StandsFor self.new (round_of self.old.lane.endpoint self.old.lane.endpoints events.now told.now.items ∷ rounds) allocations) }
-        // Where no raw packet names the endpoint.
-        ensures unharmed { OnOk result ((rounds : List Round) (allocations : List Allocation) →
-            StandsFor self.old rounds allocations →
-            NamedByNoRaw (round_of self.old.lane.endpoint self.old.lane.endpoints events.now told.now.items ∷ rounds) →
-            IsUnharmed self.new.lane.endpoints self.new.lane.b self.new.lane.g (round_of self.old.lane.endpoint self.old.lane.endpoints events.now told.now.items ∷ rounds)) }
     {
         no_loss_or_boot_harms();
         counts_are_bounded();
@@ -271,11 +233,7 @@ fn post_down(
     told: &ArrayVec<Told, 64>,
     buf: &mut [u8; 2048],
 ) -> Result<Option<usize>, NoMemory>
-    requires round { round ≡ lane.old.round }
-    requires rounds { round < 100000 }
-    requires once { lane.old.is_made ≡ false }
-    requires slots { AreSlots lane.old.endpoints lane.old.b lane.old.endpoint told.now.items }
-    requires allocated { AreAllocated lane.old round told.now.items }
+    requires { MayMakeDown lane.old round told.now.items }
     ensures frame { lane.new ≡ record lane.old { sent = lane.new.sent; lines = lane.new.lines; is_made = true } }
     ensures stands { OnOk result ((history : LaneHistory) (allocations : List Allocation) →
         lanes.StandsFor lane.old history allocations →
@@ -491,10 +449,10 @@ fn read_one(
     ensures same { IsSameLane lane.old lane.new }
     ensures stands { (history : LaneHistory) (allocations : List Allocation) →
         lanes.StandsFor lane.old history allocations →
-        lanes.StandsFor lane.new (with_bytes lane.old.endpoint lane.old.endpoints round packet.now.bytes history) allocations }
+        lanes.StandsFor lane.new (with_arrival lane.old.endpoint lane.old.endpoints round packet.now.bytes history) allocations }
     ensures refused { OnOk result ((history : LaneHistory) (allocations : List Allocation) →
         lanes.StandsFor lane.old history allocations →
-        refused.new ≡ refused.old ++ numbered packet.now.place (refusal_of lane.old.endpoint lane.old.endpoints history packet.now.bytes)) }
+        refused.new ≡ refused.old ++ numbered packet.now.place (up_refusal lane.old.endpoint lane.old.endpoints history packet.now.bytes)) }
 {
     match lane.take_up(round, packet.bytes()) {
         Ok(()) => Ok(()),

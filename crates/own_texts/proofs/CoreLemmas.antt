@@ -3,18 +3,18 @@ use Rattle.std.proofs.Common.{◌≡◌, ◌<◌, ◌≤◌, ◌+◌, ◌-◌, �
 use Rattle.std.proofs.lemmas.List.Elements.{All-nil, All-cons, All-head, All-tail, All-append, All-map}
 use Rattle.greedy_rules.specs.declared.flows.Flow.{Flow}
 use Rattle.greedy_rules.specs.Schedule.{slot_in, slot_at}
+use Rattle.clos_topology.specs.NetSlots.{SlotCores}
 use Rattle.report_text.specs.declared.line.Line.{Line}
 use Rattle.schedule_audit.specs.declared.packets.Path.{Path}
 use Rattle.schedule_audit.specs.Laws.{read}
-use Rattle.replay_rounds.specs.Setting.{Cores}
 use Rattle.own_texts.specs.SameCores.{AgreeOn}
 use Rattle.own_texts.proofs.Shows.{path_at, paths_by}
 
 -- a path's core is the one that these name for it
-abbrev IsBy : Cores → Path → Type 0
+abbrev IsBy : SlotCores → Path → Type 0
 IsBy cores p = p.core ≡ cores p.place.slot p.place.flow.src
 
-by_own : (cores : Cores) (number : ℕ) (slots : List (List Flow)) → All (IsBy cores) (paths_by cores number slots)
+by_own : (cores : SlotCores) (number : ℕ) (slots : List (List Flow)) → All (IsBy cores) (paths_by cores number slots)
 by_own cores number [] = All-nil (IsBy cores)
 by_own cores number (slot ∷ slots) =
     All-append (IsBy cores) (map (path_at number (cores number)) slot) (paths_by cores (number + 1) slots) (All-map (IsBy cores) (path_at number (cores number)) slot (λ i d within. refl)) (by_own cores (number + 1) slots)
@@ -29,7 +29,7 @@ of_slot : (P : Path → Type 0) (f : Flow → Path) (slot : List Flow) → All P
 of_slot P f [] all = All-nil (λ flow. P (f flow))
 of_slot P f (x ∷ slot) all = All-cons (λ flow. P (f flow)) x slot (All-head P (f x) (map f slot) all) (of_slot P f slot (All-tail P (f x) (map f slot) all))
 
-agree_from : (cores others : Cores) (number : ℕ) (slots : List (List Flow)) → All (IsBy others) (paths_by cores number slots)
+agree_from : (cores others : SlotCores) (number : ℕ) (slots : List (List Flow)) → All (IsBy others) (paths_by cores number slots)
     → (at : ℕ) → All (λ flow. cores (number + at) flow.src ≡ others (number + at) flow.src) (slot_in slots at)
 agree_from cores others number [] all at = All-nil (λ (flow : Flow). cores (number + at) flow.src ≡ others (number + at) flow.src)
 agree_from cores others number (slot ∷ slots) all zero =
@@ -42,7 +42,7 @@ agree_from cores others number (slot ∷ slots) all (suc at) =
     (agree_from cores others (number + 1) slots (parts_of (IsBy others) (map (path_at number (cores number)) slot) (paths_by cores (number + 1) slots) all).1 at)
 
 -- where the paths are the same, so are the cores
-pub agree : (cores others : Cores) (slots later : List (List Flow)) → paths_by cores 1 slots ≡ paths_by others 1 later → AgreeOn slots cores others
+pub agree : (cores others : SlotCores) (slots later : List (List Flow)) → paths_by cores 1 slots ≡ paths_by others 1 later → AgreeOn slots cores others
 agree cores others slots later same number some =
     let there : 1 + (number - 1) ≡ number = omega arith in
     subst (λ (n : ℕ). All (λ flow. cores n flow.src ≡ others n flow.src) (slot_at slots number)) there

@@ -12,18 +12,18 @@ use Rattle.greedy_rules.specs.Schedule.{slot_in, slot_at, schedule}
 use Rattle.greedy_rules.specs.Batches.{DemandBatch}
 use Rattle.clos_topology.specs.Network.{Network}
 use Rattle.clos_topology.specs.Links.{Link, up, rise, fall, down, links_of, SharesNoLink, HasItsCore, IsClean}
+use Rattle.clos_topology.specs.NetSlots.{SlotCores}
 use Rattle.schedule_audit.specs.declared.packets.Place.{Place}
 use Rattle.schedule_audit.specs.declared.packets.Path.{Path}
 use Rattle.schedule_audit.specs.Wrong.{places_from, same_link, share_a_link, has_wrong_core, links_of_path}
 use Rattle.window_allocation.specs.Scheduled.{EverySlotIsScheduled, AreClean}
-use Rattle.replay_rounds.specs.Setting.{Cores}
 use Rattle.own_texts.proofs.Shows.{path_at, paths_by}
 
-places-slot : (cores : Cores) (number : ℕ) (slot : List Flow) → map (λ (p : Path). p.place) (map (path_at number (cores number)) slot) ≡ map (λ flow. record { slot = number; flow = flow }) slot
+places-slot : (cores : SlotCores) (number : ℕ) (slot : List Flow) → map (λ (p : Path). p.place) (map (path_at number (cores number)) slot) ≡ map (λ flow. record { slot = number; flow = flow }) slot
 places-slot cores number [] = refl
 places-slot cores number (f ∷ slot) = ap (λ (xs : List Place). record { slot = number; flow = f } ∷ xs) (places-slot cores number slot)
 
-pub places-by : (cores : Cores) (number : ℕ) (slots : List (List Flow)) → map (λ (p : Path). p.place) (paths_by cores number slots) ≡ places_from number slots
+pub places-by : (cores : SlotCores) (number : ℕ) (slots : List (List Flow)) → map (λ (p : Path). p.place) (paths_by cores number slots) ≡ places_from number slots
 places-by cores number [] = refl
 places-by cores number (slot ∷ slots) =
     map-append (λ (p : Path). p.place) (map (path_at number (cores number)) slot) (paths_by cores (number + 1) slots)
@@ -31,7 +31,7 @@ places-by cores number (slot ∷ slots) =
     ∙ ap (λ (xs : List Place). map (λ (flow : Flow). record { slot = number; flow = flow }) slot ++ xs) (places-by cores (number + 1) slots))
 
 -- the slots of a schedule are clean, by their numbers
-pub clean_slots : (b : ℕ) (net : Network) (batches : List DemandBatch) (cores : Cores) → EverySlotIsScheduled b net batches cores → AreClean net cores 1 (schedule b batches)
+pub clean_slots : (b : ℕ) (net : Network) (batches : List DemandBatch) (cores : SlotCores) → EverySlotIsScheduled b net batches cores → AreClean net cores 1 (schedule b batches)
 clean_slots b net batches cores scheduled at within =
     let back : 1 + at - 1 ≡ at = omega arith in
     subst (λ (n : ℕ). IsClean net.hosts net.cores (slot_in (schedule b batches) n) (cores (1 + at))) back (scheduled (1 + at) (omega arith) (omega arith)).clean
@@ -47,22 +47,22 @@ right_core net flow (Some core) is =
 abbrev HasRightCore : Network → Path → Type 0
 HasRightCore net p = has_wrong_core net p.place.flow p.core ≡ false
 
-cores-slot : (net : Network) (cores : Cores) (number : ℕ) (slot : List Flow) → All (HasItsCore net.hosts net.cores (cores number)) slot → All (HasRightCore net) (map (path_at number (cores number)) slot)
+cores-slot : (net : Network) (cores : SlotCores) (number : ℕ) (slot : List Flow) → All (HasItsCore net.hosts net.cores (cores number)) slot → All (HasRightCore net) (map (path_at number (cores number)) slot)
 cores-slot net cores number [] all = All-nil (HasRightCore net)
 cores-slot net cores number (f ∷ slot) all =
     let H : Flow → Type 0 = HasItsCore net.hosts net.cores (cores number) in
     All-cons (HasRightCore net) (path_at number (cores number) f) (map (path_at number (cores number)) slot) (right_core net f (cores number f.src) (All-head H f slot all))
     (cores-slot net cores number slot (All-tail H f slot all))
 
-first_clean : (net : Network) (cores : Cores) (number : ℕ) (slot : List Flow) (slots : List (List Flow)) → AreClean net cores number (slot ∷ slots) → IsClean net.hosts net.cores slot (cores number)
+first_clean : (net : Network) (cores : SlotCores) (number : ℕ) (slot : List Flow) (slots : List (List Flow)) → AreClean net cores number (slot ∷ slots) → IsClean net.hosts net.cores slot (cores number)
 first_clean net cores number slot slots clean = subst (λ (n : ℕ). IsClean net.hosts net.cores slot (cores n)) (omega arith) (clean 0 (omega arith))
 
-later_clean : (net : Network) (cores : Cores) (number : ℕ) (slot : List Flow) (slots : List (List Flow)) → AreClean net cores number (slot ∷ slots) → AreClean net cores (number + 1) slots
+later_clean : (net : Network) (cores : SlotCores) (number : ℕ) (slot : List Flow) (slots : List (List Flow)) → AreClean net cores number (slot ∷ slots) → AreClean net cores (number + 1) slots
 later_clean net cores number slot slots clean at within =
     let same : number + suc at ≡ number + 1 + at = omega arith in
     subst (λ (n : ℕ). IsClean net.hosts net.cores (slot_in slots at) (cores n)) same (clean (suc at) (omega arith))
 
-pub cores-by : (net : Network) (cores : Cores) (number : ℕ) (slots : List (List Flow)) → AreClean net cores number slots → All (λ (p : Path). has_wrong_core net p.place.flow p.core ≡ false) (paths_by cores number slots)
+pub cores-by : (net : Network) (cores : SlotCores) (number : ℕ) (slots : List (List Flow)) → AreClean net cores number slots → All (λ (p : Path). has_wrong_core net p.place.flow p.core ≡ false) (paths_by cores number slots)
 cores-by net cores number [] clean = All-nil (HasRightCore net)
 cores-by net cores number (slot ∷ slots) clean =
     All-append (HasRightCore net) (map (path_at number (cores number)) slot) (paths_by cores (number + 1) slots)
@@ -109,7 +109,7 @@ no_common xs ys apart = false_from_ne_true (list_any (λ l. list_any (same_link 
 abbrev NoShare : Network → Path → Path → Type 0
 NoShare net p q = share_a_link net q p ≡ false
 
-apart-one : (net : Network) (cores : Cores) (number : ℕ) (f : Flow) (slot : List Flow) → All (λ g. SharesNoLink (links_of net.hosts (cores number) f) (links_of net.hosts (cores number) g)) slot
+apart-one : (net : Network) (cores : SlotCores) (number : ℕ) (f : Flow) (slot : List Flow) → All (λ g. SharesNoLink (links_of net.hosts (cores number) f) (links_of net.hosts (cores number) g)) slot
     → All (NoShare net (path_at number (cores number) f)) (map (path_at number (cores number)) slot)
 apart-one net cores number f [] all = All-nil (NoShare net (path_at number (cores number) f))
 apart-one net cores number f (g ∷ slot) all =
@@ -120,7 +120,7 @@ apart-one net cores number f (g ∷ slot) all =
     (and_right (number == number) (list_any (λ l. list_any (same_link l) (links_of_path net p)) (links_of_path net q)) (no_common (links_of_path net q) (links_of_path net p) (All-head R g slot all)))
     (apart-one net cores number f slot (All-tail R g slot all))
 
-apart-slot : (net : Network) (cores : Cores) (number : ℕ) (slot : List Flow) → AllPairs (λ f g. SharesNoLink (links_of net.hosts (cores number) f) (links_of net.hosts (cores number) g)) slot
+apart-slot : (net : Network) (cores : SlotCores) (number : ℕ) (slot : List Flow) → AllPairs (λ f g. SharesNoLink (links_of net.hosts (cores number) f) (links_of net.hosts (cores number) g)) slot
     → AllPairs (NoShare net) (map (path_at number (cores number)) slot)
 apart-slot net cores number [] pairs = AllPairs-nil (NoShare net)
 apart-slot net cores number (f ∷ slot) pairs =
@@ -128,12 +128,12 @@ apart-slot net cores number (f ∷ slot) pairs =
     AllPairs-cons (NoShare net) (path_at number (cores number) f) (map (path_at number (cores number)) slot) (apart-one net cores number f slot (AllPairs-head R f slot pairs))
     (apart-slot net cores number slot (AllPairs-tail R f slot pairs))
 
-at_number : (cores : Cores) (number : ℕ) (slot : List Flow) → All (λ (p : Path). p.place.slot ≡ number) (map (path_at number (cores number)) slot)
+at_number : (cores : SlotCores) (number : ℕ) (slot : List Flow) → All (λ (p : Path). p.place.slot ≡ number) (map (path_at number (cores number)) slot)
 at_number cores number [] = All-nil (λ (p : Path). p.place.slot ≡ number)
 at_number cores number (f ∷ slot) =
     All-cons (λ (p : Path). p.place.slot ≡ number) (path_at number (cores number) f) (map (path_at number (cores number)) slot) refl (at_number cores number slot)
 
-from_number : (cores : Cores) (number : ℕ) (slots : List (List Flow)) → All (λ (p : Path). number ≤ p.place.slot) (paths_by cores number slots)
+from_number : (cores : SlotCores) (number : ℕ) (slots : List (List Flow)) → All (λ (p : Path). number ≤ p.place.slot) (paths_by cores number slots)
 from_number cores number [] = All-nil (λ (p : Path). number ≤ p.place.slot)
 from_number cores number (slot ∷ slots) =
     let P : Path → Type 0 = λ p. number ≤ p.place.slot in
@@ -141,7 +141,7 @@ from_number cores number (slot ∷ slots) =
     (All-weaker (λ (p : Path). p.place.slot ≡ number) P (λ p at. omega arith) (map (path_at number (cores number)) slot) (at_number cores number slot))
     (All-weaker (λ (p : Path). number + 1 ≤ p.place.slot) P (λ p from. omega arith) (paths_by cores (number + 1) slots) (from_number cores (number + 1) slots))
 
-pub apart-by : (net : Network) (cores : Cores) (number : ℕ) (slots : List (List Flow)) → AreClean net cores number slots → AllPairs (λ (p q : Path). share_a_link net q p ≡ false) (paths_by cores number slots)
+pub apart-by : (net : Network) (cores : SlotCores) (number : ℕ) (slots : List (List Flow)) → AreClean net cores number slots → AllPairs (λ (p q : Path). share_a_link net q p ≡ false) (paths_by cores number slots)
 apart-by net cores number [] clean = AllPairs-nil (NoShare net)
 apart-by net cores number (slot ∷ slots) clean =
     let here : List Path = map (path_at number (cores number)) slot in

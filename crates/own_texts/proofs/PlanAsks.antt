@@ -12,11 +12,11 @@ use Rattle.greedy_rules.specs.Demands.{need_with}
 use Rattle.greedy_rules.specs.Balance.{added_by, added_of}
 use Rattle.greedy_rules.specs.Recorded.{demand_through, demand_of}
 use Rattle.clos_topology.specs.Network.{endpoints_of}
+use Rattle.clos_topology.specs.NetSlots.{limits_of}
 use Rattle.schedule_audit.specs.Misplaced.{most_added}
 use Rattle.schedule_audit.specs.Texts.{Says, FewAfter}
 use Rattle.trace_text.specs.Trace.{TraceContent}
 use Rattle.trace_text.specs.Valid.{IsAskList, IsTrace}
-use Rattle.window_allocation.specs.Nets.{limits_of}
 use Rattle.window_engine.specs.Batches.{Round, entry_for, entries_from, batch_after, batches_after, plan_batches}
 use Rattle.plan_rounds.specs.Asked.{EveryPlanAddsWhatIsAsked}
 

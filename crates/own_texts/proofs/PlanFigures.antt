@@ -17,12 +17,13 @@ use Rattle.greedy_rules.specs.Balance.{is_recorded, added_by, added_of}
 use Rattle.greedy_rules.specs.Recorded.{AreRecordedAfter}
 use Rattle.greedy_rules.proofs.Facts.{same_flow-refl, same_flow-true, flow_below-not_same}
 use Rattle.clos_topology.specs.Network.{endpoints_of}
+use Rattle.clos_topology.specs.NetSlots.{limits_of}
 use Rattle.schedule_audit.specs.declared.recorded.Recorded.{Recorded}
 use Rattle.schedule_audit.specs.Wrong.{Expected, expected_of_batches, added_in_all, is_bad_flow}
 use Rattle.schedule_audit.specs.Texts.{record_of, records_of}
 use Rattle.trace_text.specs.Trace.{TraceContent}
 use Rattle.trace_text.specs.Valid.{IsTrace}
-use Rattle.window_allocation.specs.Nets.{limits_of, AreOfNet}
+use Rattle.window_allocation.specs.Nets.{AreOfNet}
 use Rattle.window_engine.specs.Batches.{plan_batches}
 use Rattle.window_engine.specs.Counts.{plan_counts, EveryPlanBalances}
 use Rattle.run_lines.specs.Text.{flow_lines_of, flow_lines, flows_lines}

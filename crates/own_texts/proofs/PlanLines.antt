@@ -10,6 +10,7 @@ use Rattle.greedy_rules.specs.Batches.{DemandBatch}
 use Rattle.greedy_rules.specs.Fronts.{EveryBatchHasItsSlots}
 use Rattle.greedy_rules.specs.Matching.{EverySlotIsInRange}
 use Rattle.greedy_rules.specs.Schedule.{first_slot, schedule}
+use Rattle.clos_topology.specs.NetSlots.{SlotCores}
 use Rattle.report_text.specs.declared.line.Line.{Line}
 use Rattle.schedule_audit.specs.declared.recorded.Recorded.{Recorded}
 use Rattle.schedule_audit.specs.declared.packets.Place.{Place}
@@ -20,7 +21,6 @@ use Rattle.schedule_audit.specs.Laws.{read}
 use Rattle.schedule_audit.specs.ReadLaws.{EachTextIsRead, EachTextHasOneReading}
 use Rattle.schedule_audit.specs.Texts.{record_of, records_of, IsTextOf, ATextOfBatchesHasNoBadLine}
 use Rattle.trace_text.specs.Trace.{TraceContent}
-use Rattle.replay_rounds.specs.Setting.{Cores}
 use Rattle.window_allocation.specs.Scheduled.{AreClean}
 use Rattle.window_engine.specs.Batches.{plan_batches, EveryPlanIsRecorded}
 use Rattle.window_engine.specs.Counts.{EveryPlanBalances}
@@ -48,7 +48,7 @@ back_long (suc n) m (x ∷ xs) long = back_long n m xs (omega arith)
 next_first : (b k : ℕ) → first_slot b k + b ≡ first_slot b (k + 1)
 next_first b k = let one : k + 1 ≡ suc k = omega arith in let times : (k + 1) * b ≡ suc k * b = ap (λ n. n * b) one in omega (arith, suc-mul k b, times)
 
-batches_show : (b : ℕ) (e : Expected) (cores : Cores) (k : ℕ) (batches : List DemandBatch) (slots : List (List Flow)) → length slots ≡ length batches * b
+batches_show : (b : ℕ) (e : Expected) (cores : SlotCores) (k : ℕ) (batches : List DemandBatch) (slots : List (List Flow)) → length slots ≡ length batches * b
     → Shows b e (batches_lines cores b k batches slots) (records_of k batches) (paths_by cores (first_slot b k) slots) []
 batches_show b e cores k [] [] long = shows-nil b e
 batches_show b e cores k [] (slot ∷ slots) long = absurd (omega arith)
@@ -64,11 +64,11 @@ batches_show b e cores k (batch ∷ batches) slots long =
     refl
 
 -- the lines before the last
-abbrev pub plan_body : Cores → ℕ → TraceContent → List Line
+abbrev pub plan_body : SlotCores → ℕ → TraceContent → List Line
 plan_body cores b trace = batches_lines cores b 0 (plan_batches trace) (schedule b (plan_batches trace)) ++ flows_lines b trace
 
 module _ (slots_of_all : EveryBatchHasItsSlots) (recorded : EveryPlanIsRecorded) (balances : EveryPlanBalances) (asked : EveryPlanAddsWhatIsAsked) where
-  pub plan_shows : (b : ℕ) (trace : TraceContent) (cores : Cores) → IsPlan b trace cores
+  pub plan_shows : (b : ℕ) (trace : TraceContent) (cores : SlotCores) → IsPlan b trace cores
       → Shows b (expected_of_batches b (records_of 0 (plan_batches trace)) (plan_batches trace)) (plan_body cores b trace) (records_of 0 (plan_batches trace)) (paths_by cores 1 (schedule b (plan_batches trace))) []
   plan_shows b trace cores is =
       let batches : List DemandBatch = plan_batches trace in
@@ -79,7 +79,7 @@ module _ (slots_of_all : EveryBatchHasItsSlots) (recorded : EveryPlanIsRecorded)
       (shows-append (batches_show b e cores 0 batches slots (slots_of_all b 0 [] batches)) (flows_show balances asked b trace is.accepted (recorded trace is.accepted).0))
       (append-nil (records_of 0 batches)) (append-nil (paths_by cores (first_slot b 0) slots) ∙ ap (λ (n : ℕ). paths_by cores n slots) first) refl
 
-  pub text_of_plan : (b : ℕ) (trace : TraceContent) (cores : Cores) → IsPlan b trace cores → IsTextOf trace.net b (plan_batches trace) (plan_body cores b trace)
+  pub text_of_plan : (b : ℕ) (trace : TraceContent) (cores : SlotCores) → IsPlan b trace cores → IsTextOf trace.net b (plan_batches trace) (plan_body cores b trace)
   text_of_plan b trace cores is =
       let batches : List DemandBatch = plan_batches trace in
       let slots : List (List Flow) = schedule b batches in

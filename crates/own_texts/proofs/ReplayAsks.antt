@@ -24,7 +24,7 @@ use Rattle.trace_run.specs.Histories.{lane_after}
 use Rattle.trace_run.specs.Windows.{batch_at}
 use Rattle.trace_run.specs.Applicable.{IsApplicable, EveryRunIsApplicable}
 use Rattle.trace_run.specs.Rest.{OwedIsAllocatedOrLeft}
-use Rattle.trace_run.specs.Recorded.{IsTrace, IsRecorded, EveryRunIsRecorded}
+use Rattle.trace_run.specs.Recorded.{KeepsTraceRules, IsRecorded, EveryRunIsRecorded}
 use Rattle.own_texts.proofs.Formed.{own_entries, of_images}
 use Rattle.own_texts.proofs.PlanAsks.{at_most_added}
 
@@ -67,7 +67,7 @@ slots_few rounds all b within long narrow =
     let one : rounds * b ≤ 100000 * b = mul-le-mul_right b low in
     omega (arith, one, narrow)
 
-few_all : OwedIsAllocatedOrLeft → EveryRunIsApplicable → EveryRunIsRecorded → (setting : Setting) (rounds all : ℕ) → rounds ≤ all → IsTrace setting all → (flow : Flow)
+few_all : OwedIsAllocatedOrLeft → EveryRunIsApplicable → EveryRunIsRecorded → (setting : Setting) (rounds all : ℕ) → rounds ≤ all → KeepsTraceRules setting all → (flow : Flow)
     → demand_of (replayed setting rounds).batches flow ≤ 206400000
 few_all owed_is applicable recorded setting rounds all within trace flow =
     let n : ℕ = setting.endpoints in
@@ -93,7 +93,7 @@ few_push earlier (x ∷ batches) batch few last = (
   few_push (earlier ++ x ∷ []) batches batch few.1 (λ flow. subst (λ (bs : List DemandBatch). demand_of (bs ++ batch ∷ []) flow ≤ most_added) (sym (append_assoc earlier (x ∷ []) batches)) (last flow)),
 )
 
-pub adds_few : OwedIsAllocatedOrLeft → EveryRunIsApplicable → EveryRunIsRecorded → (setting : Setting) (rounds all : ℕ) → rounds ≤ all → IsTrace setting all → FewAfter [] (replayed setting rounds).batches
+pub adds_few : OwedIsAllocatedOrLeft → EveryRunIsApplicable → EveryRunIsRecorded → (setting : Setting) (rounds all : ℕ) → rounds ≤ all → KeepsTraceRules setting all → FewAfter [] (replayed setting rounds).batches
 adds_few owed_is applicable recorded setting zero all within trace = tt
 adds_few owed_is applicable recorded setting (suc rounds) all within trace =
     few_push [] (replayed setting rounds).batches (batch_at setting rounds) (adds_few owed_is applicable recorded setting rounds all (omega arith) trace)
@@ -127,7 +127,7 @@ rising endpoints limits front [] are = All-nil (λ (x : DemandBatch). IsBatch x.
 rising endpoints limits front (batch ∷ batches) are = All-cons (λ (x : DemandBatch). IsBatch x.entries) batch batches are.0.rises (rising endpoints limits (front ++ batch ∷ []) batches are.1)
 
 -- so each entry of a batch does, since it is its flow's
-pub entries_say : EveryRunIsApplicable → EveryRunIsRecorded → (setting : Setting) (rounds : ℕ) → IsTrace setting rounds → All (λ batch. All Says batch.entries) (replayed setting rounds).batches
+pub entries_say : EveryRunIsApplicable → EveryRunIsRecorded → (setting : Setting) (rounds : ℕ) → KeepsTraceRules setting rounds → All (λ batch. All Says batch.entries) (replayed setting rounds).batches
 entries_say applicable recorded setting rounds trace i d within k e inside =
     let batches : List DemandBatch = (replayed setting rounds).batches in
     let batch : DemandBatch = get_or batches i d in

@@ -28,7 +28,7 @@ use Rattle.trace_run.specs.Applicable.{IsApplicable, EveryRunIsApplicable}
 use Rattle.trace_run.specs.Counts.{flight, IsCounted}
 use Rattle.trace_run.specs.Histories.{played_after, agent_after, lane_after}
 use Rattle.trace_run.specs.Premises.{Schedules}
-use Rattle.trace_run.specs.Recorded.{IsTrace}
+use Rattle.trace_run.specs.Recorded.{KeepsTraceRules}
 use Rattle.trace_run.specs.Rest.{allocated_from, left_after}
 use Rattle.trace_run.specs.Run.{Setting, told_in, replayed}
 use Rattle.trace_run.proofs.Applicable.{recording}
@@ -185,7 +185,7 @@ one_count setting rounds src dst is few near far = either (had setting.g h dst)
 -- ---- all of them
 
 module _ (slots : Slots) (ends : Ends) (runs : Runs) where
-  is_right : (setting : Setting) (rounds src dst : ℕ) → IsTrace setting rounds → 0 < rounds → src < setting.endpoints → dst < setting.endpoints → IsRight setting rounds src dst
+  is_right : (setting : Setting) (rounds src dst : ℕ) → KeepsTraceRules setting rounds → 0 < rounds → src < setting.endpoints → dst < setting.endpoints → IsRight setting rounds src dst
   is_right setting rounds src dst trace some near far =
       let run = runs.recorded setting rounds rounds (omega arith) trace in
       let wide = slots_few rounds rounds setting.b (omega arith) trace.length trace.batch in
@@ -199,7 +199,7 @@ module _ (slots : Slots) (ends : Ends) (runs : Runs) where
             (begins ends.order ends.begins runs.applicable setting rounds src dst near far some);
       }
 
-  pub counts_show : (setting : Setting) (trace : TraceContent) → setting.endpoints ≡ endpoints_of trace.net → endpoints_of trace.net ≤ 256 → IsTrace setting trace.rounds → 0 < trace.rounds
+  pub counts_show : (setting : Setting) (trace : TraceContent) → setting.endpoints ≡ endpoints_of trace.net → endpoints_of trace.net ≤ 256 → KeepsTraceRules setting trace.rounds → 0 < trace.rounds
       → Shows setting.b (expected_of_batches setting.b (records_of 0 (replayed setting trace.rounds).batches) (replayed setting trace.rounds).batches) (counts_lines setting trace) [] [] []
   counts_show setting trace wide most is some =
       each_flow setting.b (expected_of_batches setting.b (records_of 0 (replayed setting trace.rounds).batches) (replayed setting trace.rounds).batches) (count_lines setting trace) (endpoints_of trace.net)

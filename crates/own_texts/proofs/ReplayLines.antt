@@ -6,6 +6,7 @@ use Rattle.greedy_rules.specs.declared.flows.Flow.{Flow}
 use Rattle.greedy_rules.specs.Batches.{DemandBatch}
 use Rattle.greedy_rules.specs.Schedule.{schedule}
 use Rattle.clos_topology.specs.Network.{endpoints_of}
+use Rattle.clos_topology.specs.NetSlots.{SlotCores}
 use Rattle.report_text.specs.declared.line.Line.{Line}
 use Rattle.report_text.specs.declared.line.Line.TheVariants as line
 use Rattle.schedule_audit.specs.declared.packets.Place.{Place}
@@ -16,9 +17,9 @@ use Rattle.schedule_audit.specs.Laws.{read}
 use Rattle.schedule_audit.specs.ReadLaws.{EachTextIsRead, EachTextHasOneReading}
 use Rattle.schedule_audit.specs.Texts.{records_of, IsTextOf, ATextOfBatchesHasNoBadLine}
 use Rattle.trace_text.specs.Trace.{TraceContent}
-use Rattle.trace_run.specs.Recorded.{IsTrace}
+use Rattle.trace_run.specs.Recorded.{KeepsTraceRules}
 use Rattle.trace_run.specs.Run.{Setting, replayed}
-use Rattle.replay_rounds.specs.Setting.{Cores, setting_of}
+use Rattle.replay_rounds.specs.Setting.{setting_of}
 use Rattle.window_allocation.specs.Scheduled.{AreClean}
 use Rattle.run_lines.specs.Text.{counts_lines}
 use Rattle.run_text.specs.ReplayText.{all_steps_lines, replay_lines}
@@ -37,11 +38,11 @@ use Rattle.own_texts.proofs.Formed.{text_formed}
 use Rattle.own_texts.proofs.Pass.{passes}
 
 -- the lines before the last
-abbrev pub replay_body : Cores → Setting → TraceContent → List Line
+abbrev pub replay_body : SlotCores → Setting → TraceContent → List Line
 replay_body cores setting trace = all_steps_lines cores setting trace ++ counts_lines setting trace
 
 module _ (schedules : Slots) (ends : Ends) (runs : Runs) where
-  pub replay_shows : (b g : ℕ) (trace : TraceContent) (cores : Cores) → IsReplay b g trace cores →
+  pub replay_shows : (b g : ℕ) (trace : TraceContent) (cores : SlotCores) → IsReplay b g trace cores →
       let setting : Setting = setting_of trace b g cores in
       let batches : List DemandBatch = (replayed setting trace.rounds).batches in
       Shows b (expected_of_batches b (records_of 0 batches) batches) (replay_body cores setting trace) (records_of 0 batches) (paths_by cores 1 (schedule b batches)) (sent_from setting 0 trace.rounds)
@@ -49,7 +50,7 @@ module _ (schedules : Slots) (ends : Ends) (runs : Runs) where
       let setting : Setting = setting_of trace b g cores in
       let batches : List DemandBatch = (replayed setting trace.rounds).batches in
       let e : Expected = expected_of_batches b (records_of 0 batches) batches in
-      let run : IsTrace setting trace.rounds = runs.setting trace b g cores is.accepted is.batch.1 is.window.0 in
+      let run : KeepsTraceRules setting trace.rounds = runs.setting trace b g cores is.accepted is.batch.1 is.window.0 in
       let some = is.accepted.some_round in
       shows-as
       (shows-append
@@ -57,7 +58,7 @@ module _ (schedules : Slots) (ends : Ends) (runs : Runs) where
       (counts_show schedules ends runs setting trace refl is.accepted.net.most_endpoints run (omega arith)))
       (append-nil (records_of 0 batches)) (append-nil (paths_by cores 1 (schedule b batches))) (append-nil (sent_from setting 0 trace.rounds))
 
-  pub text_of_replay : (b g : ℕ) (trace : TraceContent) (cores : Cores) → IsReplay b g trace cores
+  pub text_of_replay : (b g : ℕ) (trace : TraceContent) (cores : SlotCores) → IsReplay b g trace cores
       → IsTextOf trace.net b (replayed (setting_of trace b g cores) trace.rounds).batches (replay_body cores (setting_of trace b g cores) trace)
   text_of_replay b g trace cores is =
       let setting : Setting = setting_of trace b g cores in
@@ -66,7 +67,7 @@ module _ (schedules : Slots) (ends : Ends) (runs : Runs) where
       let body : List Line = replay_body cores setting trace in
       let last : List Line = line.End trace.rounds ∷ [] in
       let shows = replay_shows b g trace cores is in
-      let run : IsTrace setting trace.rounds = runs.setting trace b g cores is.accepted is.batch.1 is.window.0 in
+      let run : KeepsTraceRules setting trace.rounds = runs.setting trace b g cores is.accepted is.batch.1 is.window.0 in
       let long : length batches ≡ trace.rounds = runs.long setting trace.rounds in
       let clean : AreClean trace.net cores 1 slots = clean_slots b trace.net batches cores is.scheduled in
       let right : SendsAreScheduled setting trace.rounds (body ++ last) = sends_are_scheduled cores setting trace runs.scheduled runs.once is.window.0 in

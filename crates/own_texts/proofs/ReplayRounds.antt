@@ -16,7 +16,7 @@ use Rattle.trace_text.specs.Trace.{TraceContent}
 use Rattle.trace_run.specs.Run.{Setting, replayed}
 use Rattle.trace_run.specs.Windows.{batch_at}
 use Rattle.replay_rounds.specs.declared.played.Departure.{Departure}
-use Rattle.replay_rounds.specs.Played.{answers_in, departures_in, EveryRefusalHasANumber}
+use Rattle.replay_rounds.specs.Played.{raw_answers, departures_in, EveryRefusalHasANumber}
 use Rattle.run_lines.specs.Text.{entry_line, refused_line, sent_line}
 use Rattle.run_text.specs.ReplayText.{round_lines, rounds_lines}
 use Rattle.own_texts.proofs.Shows.{Shows, shows-nil, shows-append, shows-as, shows-entries}
@@ -55,7 +55,7 @@ round_shows : EveryRefusalHasANumber → (b : ℕ) (e : Expected) (setting : Set
 round_shows named b e setting trace round low =
     let entries : List Recorded = map (record_of round) (batch_at setting round).entries in
     shows-as
-    (shows-append (shows-append (shows-entries b e round (batch_at setting round).entries) (refusals_show b e round (answers_in setting trace round) low (named setting trace round))) (sends_show b e (departures_in setting round)))
+    (shows-append (shows-append (shows-entries b e round (batch_at setting round).entries) (refusals_show b e round (raw_answers setting trace round) low (named setting trace round))) (sends_show b e (departures_in setting round)))
     (append-nil (entries ++ []) ∙ append-nil entries) refl refl
 
 -- ---- of some rounds

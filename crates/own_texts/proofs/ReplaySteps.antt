@@ -7,6 +7,7 @@ use Rattle.greedy_rules.specs.declared.flows.Flow.{Flow}
 use Rattle.greedy_rules.specs.Batches.{DemandBatch}
 use Rattle.greedy_rules.specs.Fronts.{FrontsAreFronts, EveryBatchHasItsSlots}
 use Rattle.greedy_rules.specs.Schedule.{first_slot, schedule}
+use Rattle.clos_topology.specs.NetSlots.{SlotCores}
 use Rattle.report_text.specs.declared.line.Line.{Line}
 use Rattle.schedule_audit.specs.declared.recorded.Recorded.{Recorded}
 use Rattle.schedule_audit.specs.declared.packets.Place.{Place}
@@ -18,7 +19,6 @@ use Rattle.trace_text.specs.Trace.{TraceContent}
 use Rattle.trace_run.specs.Fronts.{EveryRoundHasABatch}
 use Rattle.trace_run.specs.Run.{Setting, replayed}
 use Rattle.trace_run.specs.Windows.{collected_after}
-use Rattle.replay_rounds.specs.Setting.{Cores}
 use Rattle.replay_rounds.specs.Played.{EveryRefusalHasANumber}
 use Rattle.replay_rounds.specs.Standing.{slots_between}
 use Rattle.window_engine.specs.Replay.{EveryReplayTakesItsSteps}
@@ -41,7 +41,7 @@ before_rises g rounds (suc steps) =
     let before : suc steps - 1 ≡ steps = omega arith in
     subst (λ (n : ℕ). collected_after g rounds n ≤ collected_after g rounds (suc steps)) (sym before) (collected_rises g rounds steps)
 
-module _ (fronts : FrontsAreFronts) (slots_of_all : EveryBatchHasItsSlots) (long : EveryRoundHasABatch) (named : EveryRefusalHasANumber) (e : Expected) (cores : Cores) (setting : Setting) (trace : TraceContent) (low : trace.rounds ≤ 100000) where
+module _ (fronts : FrontsAreFronts) (slots_of_all : EveryBatchHasItsSlots) (long : EveryRoundHasABatch) (named : EveryRefusalHasANumber) (e : Expected) (cores : SlotCores) (setting : Setting) (trace : TraceContent) (low : trace.rounds ≤ 100000) where
   abbrev b : ℕ
   b = setting.b
 

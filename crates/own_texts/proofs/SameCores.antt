@@ -7,11 +7,12 @@ use Rattle.greedy_rules.specs.declared.flows.Flow.{Flow}
 use Rattle.greedy_rules.specs.Fronts.{EveryBatchHasItsSlots}
 use Rattle.greedy_rules.specs.Schedule.{schedule}
 use Rattle.clos_topology.specs.Network.{Network}
+use Rattle.clos_topology.specs.NetSlots.{SlotCores}
 use Rattle.schedule_audit.specs.declared.packets.Path.{Path}
 use Rattle.schedule_audit.specs.Lines.{path_of, paths}
 use Rattle.schedule_audit.specs.Laws.{read}
 use Rattle.schedule_audit.specs.Reading.{AreLines}
-use Rattle.replay_rounds.specs.Setting.{Cores, setting_of}
+use Rattle.replay_rounds.specs.Setting.{setting_of}
 use Rattle.window_engine.specs.Batches.{plan_batches, EveryPlanIsRecorded}
 use Rattle.window_engine.specs.Counts.{EveryPlanBalances}
 use Rattle.run_text.specs.PlanText.{plan_text}
@@ -33,7 +34,7 @@ with_end : (body : List Line) (rounds : ℕ) → paths (read (body ++ line.End r
 with_end body rounds = read-append path_of body (line.End rounds ∷ []) ∙ append-nil (paths (read body))
 
 -- two texts that are equal have one reading, so their slots have the same cores
-pub same_cores : (net other_net : Network) (b c rounds more : ℕ) (text other : List ℕ) (body others : List Line) (cores there : Cores) (slots later : List (List Flow))
+pub same_cores : (net other_net : Network) (b c rounds more : ℕ) (text other : List ℕ) (body others : List Line) (cores there : SlotCores) (slots later : List (List Flow))
     → HasNoBadLine net b text (body ++ line.End rounds ∷ []) → HasNoBadLine other_net c other (others ++ line.End more ∷ [])
     → paths (read body) ≡ paths_by cores 1 slots → paths (read others) ≡ paths_by there 1 later → text ≡ other → AgreeOn slots cores there
 same_cores net other_net b c rounds more text other body others cores there slots later one two mine theirs same =

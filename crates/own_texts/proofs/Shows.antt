@@ -8,6 +8,7 @@ use Rattle.greedy_rules.specs.declared.flows.Flow.{Flow}
 use Rattle.greedy_rules.specs.declared.flows.Entry.{Entry}
 use Rattle.greedy_rules.specs.Schedule.{first_slot}
 use Rattle.clos_topology.specs.Links.{CoreOf}
+use Rattle.clos_topology.specs.NetSlots.{SlotCores}
 use Rattle.report_text.specs.declared.line.Line.{Line}
 use Rattle.report_text.specs.declared.line.Line.TheVariants as line
 use Rattle.report_text.specs.Lines.{IsLine}
@@ -18,7 +19,6 @@ use Rattle.schedule_audit.specs.Lines.{recorded_by, path_of, sent_by, records, p
 use Rattle.schedule_audit.specs.Wrong.{Expected}
 use Rattle.schedule_audit.specs.Laws.{read, IsInner, AreInner, IsGoodLine, AreGoodLines}
 use Rattle.schedule_audit.specs.Texts.{record_of}
-use Rattle.replay_rounds.specs.Setting.{Cores}
 use Rattle.run_lines.specs.Text.{entry_line, slot_line, slots_lines}
 
 -- each number of a line that is none of a batch, a slot or a send fits its field
@@ -98,7 +98,7 @@ shows-entries b e k (x ∷ es) =
 abbrev pub path_at : ℕ → CoreOf → Flow → Path
 path_at number core_of flow = record { place = record { slot = number; flow = flow }; core = core_of flow.src }
 
-abbrev pub paths_by : Cores → ℕ → List (List Flow) → List Path
+abbrev pub paths_by : SlotCores → ℕ → List (List Flow) → List Path
 paths_by cores number [] = []
 paths_by cores number (slot ∷ slots) = map (path_at number (cores number)) slot ++ paths_by cores (number + 1) slots
 
@@ -108,11 +108,11 @@ shows-slot b e number core_of (f ∷ slot) =
     let more = shows-slot b e number core_of slot in
     record { inner = (tt, more.inner); good = (tt, more.good); figures = (tt, more.figures); recorded = more.recorded; routed = ap (λ xs. path_at number core_of f ∷ xs) more.routed; sent = more.sent }
 
-pub shows-slots : (b : ℕ) (e : Expected) (cores : Cores) (number : ℕ) (slots : List (List Flow)) → Shows b e (slots_lines cores number slots) [] (paths_by cores number slots) []
+pub shows-slots : (b : ℕ) (e : Expected) (cores : SlotCores) (number : ℕ) (slots : List (List Flow)) → Shows b e (slots_lines cores number slots) [] (paths_by cores number slots) []
 shows-slots b e cores number [] = shows-nil b e
 shows-slots b e cores number (slot ∷ slots) = shows-append (shows-slot b e number (cores number) slot) (shows-slots b e cores (number + 1) slots)
 
-pub paths_by-append : (cores : Cores) (number : ℕ) (xs ys : List (List Flow)) → paths_by cores number (xs ++ ys) ≡ paths_by cores number xs ++ paths_by cores (number + length xs) ys
+pub paths_by-append : (cores : SlotCores) (number : ℕ) (xs ys : List (List Flow)) → paths_by cores number (xs ++ ys) ≡ paths_by cores number xs ++ paths_by cores (number + length xs) ys
 paths_by-append cores number [] ys = ap (λ n. paths_by cores n ys) (omega arith)
 paths_by-append cores number (x ∷ xs) ys =
     let same : number + 1 + length xs ≡ number + suc (length xs) = omega arith in

@@ -3,17 +3,17 @@ use Rattle.std.proofs.Common.{◌≡◌, ◌<◌, ◌+◌, ◌^◌, ℕ, zero, s
 use Rattle.std.proofs.lemmas.Bool.Decides.{nat_tests}
 use Rattle.std.proofs.lemmas.List.{append-nil, append_assoc, take_more, length-drop, get_or-drop}
 use Rattle.std.proofs.lemmas.List.Sums.{sum_by_more, sum_by-take-le}
-use Rattle.std.proofs.lemmas.List.Elements.{All-head, All-tail, All-append, All-map}
+use Rattle.std.proofs.lemmas.List.Elements.{All-head, All-tail, All-map}
 use Rattle.greedy_rules.specs.declared.flows.Entry.{Entry}
 use Rattle.greedy_rules.specs.Flows.{flow_below}
 use Rattle.greedy_rules.specs.declared.limits.Limits.{Limits}
 use Rattle.greedy_rules.specs.Batches.{DemandBatch}
 use Rattle.greedy_rules.specs.Matching.{AreAmong}
-use Rattle.list_facts.proofs.Pairs.{AllPairs-nil, AllPairs-head, AllPairs-tail, AllPairs-cons}
+use Rattle.list_facts.proofs.Pairs.{AllPairs-nil, AllPairs-head, AllPairs-tail, AllPairs-cons, AllPairs-append}
 use Rattle.clos_topology.specs.Network.{endpoints_of}
+use Rattle.clos_topology.specs.NetSlots.{limits_of}
 use Rattle.trace_text.specs.Trace.{TraceContent, asked_at}
 use Rattle.trace_text.specs.Valid.{amount_for, total_asked, IsAskList, IsTrace}
-use Rattle.window_allocation.specs.Nets.{limits_of}
 use Rattle.plan_rounds.specs.Batches.{Round, entry_for, entries_from, batch_after, batches_after, plan_batches}
 use Rattle.window_allocation.specs.Needs.{place_of}
 use Rattle.plan_rounds.specs.Tallies.{Tallies, added_in, Adds}
@@ -69,12 +69,6 @@ batch_among trace k sound below =
     among (endpoints_of trace.net) (take k trace.asked) (round_of trace k) (sound.sources k [] within) (sound.asks k [] within)
 
 -- the entries of a batch rise
-AllPairs-append : {X : Type 0} (R : X → X → Type 0) (xs ys : List X) → AllPairs R xs → AllPairs R ys → All (λ x. All (R x) ys) xs → AllPairs R (xs ++ ys)
-AllPairs-append R [] ys own later both = later
-AllPairs-append R (x ∷ xs) ys own later both =
-    AllPairs-cons R x (xs ++ ys) (All-append (R x) xs ys (AllPairs-head R x xs own) (All-head (λ z. All (R z) ys) x xs both))
-    (AllPairs-append R xs ys (AllPairs-tail R x xs own) later (All-tail (λ z. All (R z) ys) x xs both))
-
 abbrev pub Rises : Entry → Entry → Type 0
 Rises e f = IsTrue (flow_below e.flow f.flow)
 

@@ -13,9 +13,9 @@ use Rattle.greedy_rules.specs.Demands.{need_with}
 use Rattle.greedy_rules.specs.Balance.{is_recorded, clears, added_by, added_of, NoneClears}
 use Rattle.greedy_rules.specs.Recorded.{demand_through, demand_of, IsRecordedAfter, AreRecordedAfter}
 use Rattle.clos_topology.specs.Network.{endpoints_of}
+use Rattle.clos_topology.specs.NetSlots.{limits_of}
 use Rattle.trace_text.specs.Trace.{TraceContent}
 use Rattle.trace_text.specs.Valid.{amount_for, total_asked, IsAskList, IsTrace}
-use Rattle.window_allocation.specs.Nets.{limits_of}
 use Rattle.plan_rounds.specs.Batches.{Round, asks_for, is_asked, entries_from, batch_after, batches_after, plan_batches, EveryPlanIsRecorded}
 use Rattle.plan_rounds.specs.Asked.{EveryPlanAddsWhatIsAsked}
 use Rattle.plan_rounds.proofs.AskLemmas.{row_of, total_asked-zero}

@@ -2,7 +2,7 @@ ghost use Rattle.std.specs.Prelude.{◌≡◌, ◌<◌, ◌≤◌, ◌+◌, ◌*
 ghost use Rattle.std.specs.List.{slice_index_or};
 ghost use Rattle.greedy_rules.specs.Matching.{AreAmong};
 ghost use Rattle.clos_topology.specs.Network.{endpoints_of};
-ghost use Rattle.window_allocation.specs.Nets.{limits_of};
+ghost use Rattle.clos_topology.specs.NetSlots.{limits_of};
 ghost use Rattle.window_allocation.specs.Needs.{place_of};
 ghost use Rattle.plan_rounds.specs.Batches.{batch_after, plan_batches};
 ghost use Rattle.plan_rounds.specs.Standing.{HasCollected};

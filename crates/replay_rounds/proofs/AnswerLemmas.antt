@@ -13,17 +13,18 @@ use Rattle.fcp_framing.specs.Fields.{up_of, kind_in, endpoint_in, version_in, ep
 use Rattle.fcp_framing.specs.Refusals as framing
 use Rattle.fcp_framing.specs.Refusals.{first_refusal, refuses_up, refuses_request, refuses_reset}
 use Rattle.clos_topology.specs.Network.{endpoints_of}
+use Rattle.clos_topology.specs.NetSlots.{SlotCores}
 use Rattle.endpoint_history.specs.Lane.{LaneHistory, TakesUp}
 use Rattle.endpoint_history.specs.Packets.{up_packet}
 use Rattle.arbiter_lane.specs.declared.refusal.UpRefused.{UpRefused}
-use Rattle.arbiter_lane.specs.Refusals.{refusal_of, refusal_of_packet, refusal_or}
+use Rattle.arbiter_lane.specs.Refusals.{up_refusal, up_refusal_of_packet, up_refusal_or}
 use Rattle.lane_rounds.specs.Outside.{names}
 use Rattle.lane_rounds.specs.Raw.{Raw}
-use Rattle.lane_rounds.specs.Refused.{number_of, numbered, refused_in, with_bytes, with_raw}
+use Rattle.lane_rounds.specs.Refused.{number_of, numbered, refused_in, with_arrival, with_raw}
 use Rattle.trace_text.specs.Trace.{TraceContent, raw_at}
 use Rattle.trace_run.specs.Run.{Setting}
-use Rattle.replay_rounds.specs.Setting.{Cores, raw_rows, rows_from, setting_of}
-use Rattle.replay_rounds.specs.Played.{answer_after, answers_in, lane_before, lane_before_raw}
+use Rattle.replay_rounds.specs.Setting.{raw_rows, rows_from, setting_of}
+use Rattle.replay_rounds.specs.Played.{answer_after, raw_answers, lane_before, lane_before_raw}
 use Rattle.replay_rounds.specs.Collecting.{answers_below, framed_answer, refused_of, source_of, with_numbers}
 use Rattle.replay_rounds.proofs.RowLemmas.{named}
 
@@ -108,7 +109,7 @@ by_other bound (Some source) last first other =
 
 -- the last answer is the framing's where it refuses, and else the lane's
 answer_of : (refusal : Option FrameRefused) (src n : ℕ) (later : Option UpRefused) → (refusal ≡ None → src < n)
-    → answer_by n (cond (is_none refusal) (Some src) None) (option_map number_of (refusal_or refusal later)) (option_map framing.number_of refusal) ≡ option_map number_of (refusal_or refusal later)
+    → answer_by n (cond (is_none refusal) (Some src) None) (option_map number_of (up_refusal_or refusal later)) (option_map framing.number_of refusal) ≡ option_map number_of (up_refusal_or refusal later)
 answer_of None src n later below = cond-true (nat_lt src n) (option_map number_of later) None (lt-ltb src n (below refl))
 answer_of (Some refusal) src n later below = refl
 
@@ -154,18 +155,18 @@ module _ (bound n round : ℕ) (start : LaneHistory) (last : Raw → Option ℕ)
   abbrev AreAnswered : List Raw → List Raw → Type 0
   AreAnswered done [] = Unit {0}
   AreAnswered done (row ∷ rows) =
-      (row.place ≡ length done) × (names bound n row.bytes ≡ true → last row ≡ option_map number_of (refusal_of bound n (calls done) row.bytes)) × AreAnswered (done ++ row ∷ []) rows
+      (row.place ≡ length done) × (names bound n row.bytes ≡ true → last row ≡ option_map number_of (up_refusal bound n (calls done) row.bytes)) × AreAnswered (done ++ row ∷ []) rows
 
-  calls-more : (history : LaneHistory) (done : List Raw) (row : Raw) → with_raw bound n round (done ++ row ∷ []) history ≡ with_bytes bound n round row.bytes (with_raw bound n round done history)
+  calls-more : (history : LaneHistory) (done : List Raw) (row : Raw) → with_raw bound n round (done ++ row ∷ []) history ≡ with_arrival bound n round row.bytes (with_raw bound n round done history)
   calls-more history [] row = refl
-  calls-more history (r ∷ done) row = calls-more (with_bytes bound n round r.bytes history) done row
+  calls-more history (r ∷ done) row = calls-more (with_arrival bound n round r.bytes history) done row
 
   one_lane : (done rows : List Raw) (before : List (Option ℕ)) → length before ≡ length done → AreAnswered done rows
       → with_numbers (refused_in bound n round (filter (λ r. names bound n r.bytes) rows) (calls done)) (before ++ map (answer bound) rows) ≡ before ++ map (answer (bound + 1)) rows
   one_lane done [] before many are = refl
   one_lane done (row ∷ rows) before many are =
       let Named : Raw → Bool = λ r. names bound n r.bytes in
-      let refusal : Option UpRefused = refusal_of bound n (calls done) row.bytes in
+      let refusal : Option UpRefused = up_refusal bound n (calls done) row.bytes in
       let source : Option ℕ = source_of n row.bytes in
       let first : Option ℕ = framed_answer n row.bytes in
       let later : List Raw = filter Named rows in
@@ -182,8 +183,8 @@ module _ (bound n round : ℕ) (start : LaneHistory) (last : Raw → Option ℕ)
             let x : Option ℕ = option_map number_of refusal in
             ap (λ (rs : List Raw). with_numbers (told rs (calls done)) (before ++ answer bound row ∷ map (answer bound) rows)) (cond-true (names bound n row.bytes) (row ∷ later) later mine)
             ∙ (ap (λ (y : Option ℕ). with_numbers (told (row ∷ later) (calls done)) (before ++ y ∷ map (answer bound) rows)) none
-            ∙ (with_numbers-append (numbered row.place refusal) (told later (with_bytes bound n round row.bytes (calls done))) (before ++ None ∷ map (answer bound) rows)
-            ∙ (ap (with_numbers (told later (with_bytes bound n round row.bytes (calls done)))) (numbered_at refusal before (map (answer bound) rows) row.place place ∙ split x (map (answer bound) rows))
+            ∙ (with_numbers-append (numbered row.place refusal) (told later (with_arrival bound n round row.bytes (calls done))) (before ++ None ∷ map (answer bound) rows)
+            ∙ (ap (with_numbers (told later (with_arrival bound n round row.bytes (calls done)))) (numbered_at refusal before (map (answer bound) rows) row.place place ∙ split x (map (answer bound) rows))
             ∙ (ap (λ (h : LaneHistory). with_numbers (told later h) ((before ++ x ∷ []) ++ map (answer bound) rows)) (sym (calls-more start done row))
             ∙ (goes_on x
             ∙ (sym (split x (map (answer (bound + 1)) rows))
@@ -203,7 +204,7 @@ module _ (bound n round : ℕ) (start : LaneHistory) (last : Raw → Option ℕ)
 -- ---- all lanes
 
 -- the rows of a round, of which these are done
-module _ (trace : TraceContent) (b g : ℕ) (cores : Cores) (round : ℕ) where
+module _ (trace : TraceContent) (b g : ℕ) (cores : SlotCores) (round : ℕ) where
   abbrev run : Setting
   run = setting_of trace b g cores
 
@@ -225,7 +226,7 @@ module _ (trace : TraceContent) (b g : ℕ) (cores : Cores) (round : ℕ) where
         is,
         λ mine.
             ap (λ (rs : List Raw). answer_after run round rs row) earlier
-            ∙ ap (λ (s : ℕ). option_map number_of (refusal_of s n (lane_before run round done s) bytes)) (is_source bound n bytes mine),
+            ∙ ap (λ (s : ℕ). option_map number_of (up_refusal s n (lane_before run round done s) bytes)) (is_source bound n bytes mine),
         answered bound (place + 1) (done ++ row ∷ []) raw (omega (arith, is, length-append done (row ∷ []))) (append_assoc done (row ∷ []) (rows_from (place + 1) raw) ∙ whole),
       )
 
@@ -246,7 +247,7 @@ module _ (trace : TraceContent) (b g : ℕ) (cores : Cores) (round : ℕ) where
   ended [] = refl
   ended (row ∷ rs) =
       let src : ℕ = (up_of row.bytes).src in
-      cc (answer_of (first_refusal (refuses_up n row.bytes)) src n (refusal_of_packet src (lane_before run round (take row.place rows) src) (up_of row.bytes)) (source_below n row.bytes), ended rs)
+      cc (answer_of (first_refusal (refuses_up n row.bytes)) src n (up_refusal_of_packet src (lane_before run round (take row.place rows) src) (up_of row.bytes)) (source_below n row.bytes), ended rs)
 
-  pub answers_are : answers_below run trace round n ≡ answers_in run trace round
+  pub answers_are : answers_below run trace round n ≡ raw_answers run trace round
   answers_are = below_bound n ∙ ended rows

@@ -2,7 +2,8 @@
 use Rattle.std.proofs.Common.{◌≡◌, ◌<◌, ◌↔◌, ◌+◌, ℕ, List, get_or, Bool, true, cond, Option, IsSome, sym, ap, ◌∙◌, subst, arith}
 use Rattle.std.proofs.lemmas.Bool.{le-ltb}
 use Rattle.std.proofs.lemmas.Option.{slice_get_read}
-use Rattle.flow_ledger.specs.declared.FlowCount.{FlowCount}
+use Rattle.clos_topology.specs.NetSlots.{SlotCores}
+use Rattle.lane_rounds.specs.Count.{FlowCount}
 use Rattle.endpoint_history.specs.Agent.{missed}
 use Rattle.endpoint_history.specs.Sending.{sends}
 use Rattle.endpoint_history.specs.Lane.{LaneHistory, last_reset}
@@ -16,12 +17,11 @@ use Rattle.trace_text.specs.Trace.{TraceContent}
 use Rattle.trace_run.specs.Run.{Setting, replayed}
 use Rattle.trace_run.specs.Histories.{played_after, agent_after, lane_after}
 use Rattle.trace_run.specs.Rest.{allocated_from}
-use Rattle.replay_rounds.specs.Setting.{Cores}
-use Rattle.replay_rounds.specs.Standing.{RoundsContent, Stands, LaneStands, setting_with}
+use Rattle.replay_rounds.specs.Standing.{RoundsContent, AllRoundsStand, LaneStands, setting_with}
 use Rattle.replay_rounds.specs.Counts.{lane_count, counted, sent_and_missed}
 
 -- the lane in its place stands for its rounds
-pub lane_in : (trace : TraceContent) (cores : Cores) (inside all : RoundsContent) (src : ℕ) (lane : RoundsState) → inside ≡ all → Stands trace cores all → src < all.endpoints → lane ≡ get_or inside.lanes src lane →
+pub lane_in : (trace : TraceContent) (cores : SlotCores) (inside all : RoundsContent) (src : ℕ) (lane : RoundsState) → inside ≡ all → AllRoundsStand trace cores all → src < all.endpoints → lane ≡ get_or inside.lanes src lane →
     LaneStands (setting_with trace cores all) all.collected all.counted src lane
 lane_in trace cores inside all src lane same stands below is =
     stands.lanes src lane (slice_get_read all.lanes all.endpoints src lane (sym stands.wide) below (is ∙ ap (λ (s : RoundsContent). get_or s.lanes src lane) same))

@@ -1,33 +1,31 @@
 -- An endpoint's rounds may be played with what the trace tells of its next round.
 use Rattle.std.proofs.Common.{◌≡◌, ◌≢◌, ◌<◌, ◌≤◌, ◌+◌, ◌*◌, ◌-◌, ◌^◌, ◌&&◌, ℕ, suc, List, [], ◌∷◌, length, cond, Bool, true, false, Option, Some, None, All, refl, sym, ap, ◌∙◌, subst, inl, inr, arith}
-use Rattle.std.specs.Prelude.{◌==◌, nat_lt, nat_le, sum_by, filter, map, replicate, unwrap_or, IfSome}
+use Rattle.std.specs.Prelude.{◌==◌, nat_lt, nat_le, filter, map, replicate, unwrap_or, IfSome}
 use Rattle.std.proofs.lemmas.Bool.{cases_Bool, cases_eq, cases_lt, ne_eqb, le-leb, le-ltb, and_from, cond-false}
 use Rattle.std.proofs.lemmas.List.{length-replicate}
 use Rattle.std.proofs.lemmas.List.Elements.{All-head, All-tail}
 use Rattle.std.proofs.lemmas.List.Sums.{sum_by-cons}
 use Rattle.std.proofs.lemmas.Option.{slice_get_cases}
-use Rattle.ack_window.specs.declared.send_window.Unresolved.{Unresolved}
-use Rattle.ack_window.specs.Sends.{open_numbers}
-use Rattle.ack_window.specs.Versions.{reorder_of, span_of}
-use Rattle.ack_window.specs.Windows.{Sender, HasDone}
 use Rattle.fcp_framing.specs.declared.packet.Told.{Told}
 use Rattle.fcp_framing.specs.Fields.{up_of}
 use Rattle.fcp_framing.specs.Laws.{WereSpelledSo}
 use Rattle.fcp_framing.specs.Spelling.{IsCore}
 use Rattle.fcp_framing.specs.Versions.{IsVersion}
 use Rattle.clos_topology.specs.Network.{endpoints_of}
+use Rattle.clos_topology.specs.NetSlots.{SlotCores}
 use Rattle.endpoint_history.specs.Agent.{Boots}
 use Rattle.endpoint_history.specs.Counts as counts
-use Rattle.endpoint_history.specs.Lane.{LaneHistory, version_of, last_reset, numbers}
-use Rattle.endpoint_history.specs.Packets.{Telling, UpPacket, AreFramedAlike, slots_to, up_packet}
+use Rattle.endpoint_history.specs.Lane.{LaneHistory, last_reset}
+use Rattle.endpoint_history.specs.Packets.{UpPacket, AreFramedAlike, slots_to, up_packet}
 use Rattle.endpoint_history.specs.Rounds.{played}
 use Rattle.endpoint_history.specs.Steps.{agent_of, lane_of}
-use Rattle.endpoint_agent.specs.Standing as agents
-use Rattle.arbiter_lane.specs.State.{AreSlots, AreAllocated, open_to}
+use Rattle.lane_rounds.specs.AgentStanding as agents
+use Rattle.arbiter_lane.specs.State.{AreSlots, AreAllocated}
 use Rattle.arbiter_lane.specs.Standing as lanes
 use Rattle.lane_rounds.specs.Outside.{names}
 use Rattle.lane_rounds.specs.Raw.{Raw}
 use Rattle.lane_rounds.specs.State.{RoundsState, MayAsk, with_each}
+use Rattle.arbiter_lane.proofs.Held.{open_to-is}
 use Rattle.trace_text.specs.Trace.{TraceContent, asked_at, boots_at, fate_at, last_of}
 use Rattle.trace_text.specs.Valid.{IsTrace, IsAskList}
 use Rattle.trace_run.specs.Run.{Setting, told_in, replayed}
@@ -37,7 +35,7 @@ use Rattle.trace_run.specs.Allocations.{since}
 use Rattle.trace_run.specs.Counts.{TellingHasRoom}
 use Rattle.trace_run.specs.Rest.{allocated_from}
 use Rattle.trace_run.specs.Told.{AreOfBatch, WhatIsToldIsOfABatch}
-use Rattle.replay_rounds.specs.Setting.{Cores, byte_of, raw_rows, boots_in, setting_of}
+use Rattle.replay_rounds.specs.Setting.{byte_of, raw_rows, boots_in, setting_of}
 use Rattle.replay_rounds.specs.Standing.{LaneStands}
 use Rattle.replay_rounds.specs.Parts.{EveryRoundMayBePlayed}
 use Rattle.replay_rounds.proofs.Asking.{boots-forget, may-ask}
@@ -75,7 +73,7 @@ last-version versions all = elim (slice_get_cases versions (length versions - 1)
   | inr past ↦ subst (λ (o : Option ℕ). IsVersion (unwrap_or o 1)) (sym past.1) (inl refl)
 ]
 
-epochs-fit : EpochsCountBoots → (trace : TraceContent) (b g : ℕ) (cores : Cores) → IsTrace trace → (round published endpoint : ℕ) (lane : RoundsState) → round < trace.rounds →
+epochs-fit : EpochsCountBoots → (trace : TraceContent) (b g : ℕ) (cores : SlotCores) → IsTrace trace → (round published endpoint : ℕ) (lane : RoundsState) → round < trace.rounds →
     LaneStands (setting_of trace b g cores) round published endpoint lane → lane.agent.epoch + length (boots_at trace round endpoint) < 2 ^ 32
 epochs-fit epochs trace b g cores is round published endpoint lane within stands =
     let setting = setting_of trace b g cores in
@@ -92,7 +90,7 @@ asks-are trace is round endpoint within among =
     let wide = is.sources round [] below in
     is.asks round [] below endpoint [] (omega arith)
 
-asks-may : AskedIsWithinAll → (trace : TraceContent) (b g : ℕ) (cores : Cores) → IsTrace trace → (round endpoint version : ℕ) → round < trace.rounds → endpoint < endpoints_of trace.net →
+asks-may : AskedIsWithinAll → (trace : TraceContent) (b g : ℕ) (cores : SlotCores) → IsTrace trace → (round endpoint version : ℕ) → round < trace.rounds → endpoint < endpoints_of trace.net →
     MayAsk endpoint (endpoints_of trace.net) (with_each Boots (replicate (length (boots_at trace round endpoint)) version) (agent_after (setting_of trace b g cores) round endpoint)) (asked_at trace round endpoint)
 asks-may asked_within trace b g cores is round endpoint version within among =
     let setting = setting_of trace b g cores in
@@ -127,10 +125,6 @@ to-within endpoints dst told below some = elim (cases_lt dst endpoints) [
 ]
 
 -- ---- what is told is counted as allocated
-
-open_to-is : (g : ℕ) (sent : Sender Telling) (history : LaneHistory) (dst : ℕ) → sent.version ≡ version_of history → HasDone sent (numbers g history) → open_to dst sent ≡ counts.open_to g history dst
-open_to-is g sent history dst version done =
-    ap (sum_by (λ (s : Unresolved Telling). slots_to dst s.content.told)) (done.unresolved ∙ ap (λ v. open_numbers (reorder_of v) (span_of v) (numbers g history)) version)
 
 are-allocated : TellingHasRoom → (setting : Setting) → 0 < setting.g → (round published endpoint : ℕ) (lane : RoundsState) → round + 1 ≤ published + 2 * setting.g →
     LaneStands setting round published endpoint lane → All (λ (slot : Told). slot.dst < setting.endpoints) (told_in setting (replayed setting round).batches round endpoint) →

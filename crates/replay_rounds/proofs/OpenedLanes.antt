@@ -8,14 +8,14 @@ use Rattle.greedy_rules.specs.Allocation.{slots_of}
 use Rattle.greedy_rules.specs.SlotTable.{IsSlotOf}
 use Rattle.greedy_rules.specs.Schedule.{first_slot}
 use Rattle.clos_topology.specs.Network.{endpoints_of}
+use Rattle.clos_topology.specs.NetSlots.{SlotCores, AreSlotCores}
 use Rattle.slot_publisher.specs.Window.{Window}
 use Rattle.lane_rounds.specs.State.{RoundsState}
 use Rattle.lane_rounds.specs.Standing.{StandsFor}
 use Rattle.trace_text.specs.Trace.{TraceContent}
 use Rattle.trace_run.specs.Run.{Setting}
 use Rattle.trace_run.specs.Rest.{allocated_from}
-use Rattle.replay_rounds.specs.Setting.{Cores, AreCores}
-use Rattle.replay_rounds.specs.Standing.{RoundsContent, Stands, LaneStands, routed_from, setting_with, slots_between}
+use Rattle.replay_rounds.specs.Standing.{RoundsContent, AllRoundsStand, LaneStands, routed_from, setting_with, slots_between}
 
 pub record IsOpened (all size window endpoint : ℕ) (lane : RoundsState) : Type 0 where
   pub own : lane.lane.endpoint ≡ endpoint
@@ -59,10 +59,10 @@ lane_opened setting endpoint lane is = record {
   stands = is.stands;
 }
 
-pub stands_opened : (trace : TraceContent) (cores : Cores) (b g endpoints : ℕ) (lanes : List RoundsState) (window : Window) → AreCores cores → (0 < b) × (b ≤ 64) → (0 < g) × (g ≤ 16) →
+pub stands_opened : (trace : TraceContent) (cores : SlotCores) (b g endpoints : ℕ) (lanes : List RoundsState) (window : Window) → AreSlotCores cores → (0 < b) × (b ≤ 64) → (0 < g) × (g ≤ 16) →
     endpoints ≡ endpoints_of trace.net → length lanes ≡ endpoints → AreOpened endpoints b g lanes →
     window.endpoints ≡ endpoints → window.batches ≡ g → window.b ≡ b → window.first_batch ≡ 0 → window.count ≡ 0 → window.slots ≡ [] →
-    Stands trace cores (record { endpoints = endpoints; b = b; g = g; collected = 0; published = 0; counted = 0; lanes = lanes; window = window })
+    AllRoundsStand trace cores (record { endpoints = endpoints; b = b; g = g; collected = 0; published = 0; counted = 0; lanes = lanes; window = window })
 stands_opened trace cores b g endpoints lanes window named batch rounds all long opened served room size first count slots =
     let is : RoundsContent = record { endpoints = endpoints; b = b; g = g; collected = 0; published = 0; counted = 0; lanes = lanes; window = window } in
     let setting : Setting = setting_with trace cores is in

@@ -1,21 +1,20 @@
 -- The rounds of a window with the endpoints below a bound: their numbers, that their batches lie below the bound, and the next bound.
-use Rattle.std.proofs.Common.{◌≡◌, ◌<◌, ◌≤◌, ℕ, zero, suc, ◌+◌, Bool, List, [], ◌∷◌, ◌++◌, length, map, Option, Some, None, All, refl, sym, ap, ◌∙◌, subst, arith, add-one, nat_lt, ◌||◌, ◌&&◌, ◌==◌, not, slice_set, IsTrue, IfSome}
-use Rattle.std.specs.List.{flat_map, filter_map, cons_option, range_with_len}
-use Rattle.std.proofs.lemmas.Bool.{lt-ltb, cond_both}
+use Rattle.std.proofs.Common.{◌≡◌, ◌<◌, ℕ, zero, suc, ◌+◌, List, [], ◌∷◌, ◌++◌, length, map, Option, Some, All, refl, sym, ap, ◌∙◌, subst, arith, add-one, slice_set}
+use Rattle.std.specs.List.{flat_map, range_with_len}
 use Rattle.std.proofs.lemmas.Grind.{flat_map-append}
 use Rattle.std.proofs.lemmas.List.{append-nil, map-append}
 use Rattle.std.proofs.lemmas.List.FromFn.{get_or-map-range_with_len, length-map-range_with_len}
 use Rattle.greedy_rules.specs.declared.flows.Entry.{Entry}
 use Rattle.greedy_rules.specs.Batches.{DemandBatch, IsAboveLast}
-use Rattle.endpoint_history.specs.Entries.{entry_of, had, added, is_reset}
-use Rattle.endpoint_history.specs.Lane.{LaneHistory}
+use Rattle.endpoint_history.specs.Entries.{entry_of}
 use Rattle.endpoint_history.specs.Rounds.{Round, entries_by, read, played}
 use Rattle.endpoint_history.specs.Steps.{lane_of}
+use Rattle.lane_rounds.proofs.Entries.{Below, Below-append, Below-more, Below-filter_map, entry-below, above_last}
 use Rattle.trace_text.specs.Trace.{TraceContent}
 use Rattle.trace_run.specs.Run.{Setting, next_rounds, replayed}
 use Rattle.replay_rounds.specs.declared.played.Departure.{Departure}
-use Rattle.replay_rounds.specs.Played.{Played, departures_of}
-use Rattle.replay_rounds.specs.Collecting.{answers_below, entries_in, part_of, played_of, with_endpoint, with_numbers, with_round, AreRoundsFrom, RoundPart}
+use Rattle.replay_rounds.specs.Played.{Played, departures_from}
+use Rattle.replay_rounds.specs.Collecting.{answers_below, entries_recorded, round_part, played_of, with_endpoint, with_numbers, with_round, AreRoundsFrom, RoundPart}
 use Rattle.replay_rounds.specs.Departures.{by_slot}
 use Rattle.replay_rounds.proofs.PlayLemmas.{same_part}
 use Rattle.replay_rounds.proofs.SortLemmas.{sort_front}
@@ -42,79 +41,46 @@ flat_map_more {X} f n =
 
 -- ---- the rounds of a window
 
-pub parts_from : (setting : Setting) (trace : TraceContent) (bound first count : ℕ) → AreRoundsFrom trace first (map (part_of setting trace bound) (range_with_len first count))
+pub parts_from : (setting : Setting) (trace : TraceContent) (bound first count : ℕ) → AreRoundsFrom trace first (map (round_part setting trace bound) (range_with_len first count))
 parts_from setting trace bound first count at d below =
-    let within : at < count = omega (arith, below, length-map-range_with_len (part_of setting trace bound) first count) in
-    let is = get_or-map-range_with_len (part_of setting trace bound) first count at (first + at) d within refl in
+    let within : at < count = omega (arith, below, length-map-range_with_len (round_part setting trace bound) first count) in
+    let is = get_or-map-range_with_len (round_part setting trace bound) first count at (first + at) d within refl in
     (ap (λ (p : RoundPart). p.round) is, ap (λ (p : RoundPart). p.named) is)
 
 -- one endpoint more
 pub parts_more : (setting : Setting) (trace : TraceContent) (bound : ℕ) (numbers : List ℕ)
-    → map (with_endpoint setting trace bound) (map (part_of setting trace bound) numbers) ≡ map (part_of setting trace (bound + 1)) numbers
+    → map (with_endpoint setting trace bound) (map (round_part setting trace bound) numbers) ≡ map (round_part setting trace (bound + 1)) numbers
 parts_more setting trace bound numbers =
-    map_by (with_endpoint setting trace bound) (part_of setting trace bound) (part_of setting trace (bound + 1))
-    (λ number. same_part (with_endpoint setting trace bound (part_of setting trace bound number)) (part_of setting trace (bound + 1) number) refl refl
-    (sym (flat_map_more (entries_in setting number) bound)) refl
+    map_by (with_endpoint setting trace bound) (round_part setting trace bound) (round_part setting trace (bound + 1))
+    (λ number. same_part (with_endpoint setting trace bound (round_part setting trace bound number)) (round_part setting trace (bound + 1) number) refl refl
+    (sym (flat_map_more (entries_recorded setting number) bound)) refl
     (ap (answers_below setting trace number) (sym (add-one bound)))
-    (sort_front (λ (d : Departure). d.slot) (flat_map (departures_of setting number) (range_with_len 0 bound)) (departures_of setting number bound)
-    ∙ ap by_slot (sym (flat_map_more (departures_of setting number) bound)))) numbers
+    (sort_front (λ (d : Departure). d.slot) (flat_map (departures_from setting number) (range_with_len 0 bound)) (departures_from setting number bound)
+    ∙ ap by_slot (sym (flat_map_more (departures_from setting number) bound)))) numbers
 
 -- ---- what is recorded lies below the bound
-
-abbrev Below : ℕ → List Entry → Type 0
-Below bound [] = Unit {0}
-Below bound (entry ∷ entries) = (entry.flow.src < bound) × Below bound entries
-
-Below-append : (bound : ℕ) (xs ys : List Entry) → Below bound xs → Below bound ys → Below bound (xs ++ ys)
-Below-append bound [] ys here there = there
-Below-append bound (x ∷ xs) ys here there = (here.0, Below-append bound xs ys here.1 there)
-
-Below-more : (bound other : ℕ) (xs : List Entry) → bound ≤ other → Below bound xs → Below other xs
-Below-more bound other [] le below = tt
-Below-more bound other (x ∷ xs) le below = (omega (arith, below.0), Below-more bound other xs le below.1)
-
-below-cons : (bound : ℕ) (entry : Option Entry) (entries : List Entry) → IfSome entry (λ e. e.flow.src < bound) → Below bound entries → Below bound (cons_option entry entries)
-below-cons bound None entries here there = there
-below-cons bound (Some entry) entries here there = (here, there)
-
-below-filter_map : (bound : ℕ) (f : ℕ → Option Entry) → ((n : ℕ) → IfSome (f n) (λ entry. entry.flow.src < bound)) → (ns : List ℕ) → Below bound (filter_map f ns)
-below-filter_map bound f each [] = tt
-below-filter_map bound f each (n ∷ ns) = below-cons bound (f n) (filter_map f ns) (each n) (below-filter_map bound f each ns)
-
-entry-below : (endpoint g : ℕ) (history : LaneHistory) (dst : ℕ) → IfSome (entry_of endpoint g history dst) (λ entry. entry.flow.src < endpoint + 1)
-entry-below endpoint g history dst =
-    let clear : Bool = is_reset history && had g history dst in
-    let add : ℕ = added g history dst in
-    cond_both (nat_lt 0 add || clear) (Some (record { flow = record { src = endpoint; dst = dst }; opens = nat_lt 0 add && not (had g history dst); clear = clear; add = add })) None
-    (λ (entry : Option Entry). IfSome entry (λ e. e.flow.src < endpoint + 1)) (λ _. omega arith) (λ _. tt)
 
 entries-below : (endpoint endpoints g : ℕ) (rounds : List Round) → Below (endpoint + 1) (entries_by endpoint endpoints g rounds)
 entries-below endpoint endpoints g [] = tt
 entries-below endpoint endpoints g (round ∷ earlier) =
-    below-filter_map (endpoint + 1) (entry_of endpoint g (lane_of (read endpoints g (length earlier) round (played endpoints g earlier))))
+    Below-filter_map (endpoint + 1) (entry_of endpoint g (lane_of (read endpoints g (length earlier) round (played endpoints g earlier))))
     (entry-below endpoint g (lane_of (read endpoints g (length earlier) round (played endpoints g earlier)))) (range_with_len 0 endpoints)
 
-below-bound : (setting : Setting) (number bound : ℕ) → Below bound (flat_map (entries_in setting number) (range_with_len 0 bound))
+below-bound : (setting : Setting) (number bound : ℕ) → Below bound (flat_map (entries_recorded setting number) (range_with_len 0 bound))
 below-bound setting number zero = tt
 below-bound setting number (suc bound) =
-    let entries = entries_in setting number in
+    let entries = entries_recorded setting number in
     subst (λ (k : ℕ). Below k (flat_map entries (range_with_len 0 k))) (add-one bound)
     (subst (λ (xs : List Entry). Below (bound + 1) xs) (sym (flat_map_more entries bound))
     (Below-append (bound + 1) (flat_map entries (range_with_len 0 bound)) (entries bound)
     (Below-more bound (bound + 1) (flat_map entries (range_with_len 0 bound)) (omega arith) (below-bound setting number bound))
     (entries-below bound setting.endpoints setting.g (next_rounds setting number (replayed setting number) bound))))
 
-above_last : (bound : ℕ) (entries : List Entry) → Below bound entries → IsAboveLast entries (record { src = bound; dst = 0 })
-above_last bound [] below = tt
-above_last bound (x ∷ []) below =
-    subst (λ (b : Bool). IsTrue (b || (x.flow.src == bound && nat_lt x.flow.dst 0))) (sym (lt-ltb x.flow.src bound below.0)) refl
-above_last bound (x ∷ (y ∷ entries)) below = above_last bound (y ∷ entries) below.1
-
 pub parts_above : (setting : Setting) (trace : TraceContent) (bound first count : ℕ)
-    → All (λ part. IsAboveLast part.batch.entries (record { src = bound; dst = 0 })) (map (part_of setting trace bound) (range_with_len first count))
+    → All (λ part. IsAboveLast part.batch.entries (record { src = bound; dst = 0 })) (map (round_part setting trace bound) (range_with_len first count))
 parts_above setting trace bound first count at d below =
-    let within : at < count = omega (arith, below, length-map-range_with_len (part_of setting trace bound) first count) in
-    let is = get_or-map-range_with_len (part_of setting trace bound) first count at (first + at) d within refl in
+    let within : at < count = omega (arith, below, length-map-range_with_len (round_part setting trace bound) first count) in
+    let is = get_or-map-range_with_len (round_part setting trace bound) first count at (first + at) d within refl in
     subst (λ (p : RoundPart). IsAboveLast p.batch.entries (record { src = bound; dst = 0 })) (sym is) (above_last bound _ (below-bound setting (first + at) bound))
 
 -- ---- numbers at their places

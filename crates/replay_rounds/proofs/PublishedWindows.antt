@@ -7,15 +7,15 @@ use Rattle.greedy_rules.specs.declared.flows.Flow.{Flow}
 use Rattle.greedy_rules.specs.SlotTable.{Slots, IsSlotOf}
 use Rattle.greedy_rules.specs.Schedule.{slot_in, first_slot}
 use Rattle.clos_topology.specs.Links.{CoreOf}
-use Rattle.path_workers.specs.CoreTable.{CoreSlots, core_of}
+use Rattle.clos_topology.specs.NetSlots.{SlotCores}
+use Rattle.slot_publisher.specs.CoreTable.{CoreSlots, core_of}
 use Rattle.slot_publisher.specs.Window.{RoutedFlow, Window, NamesCores, with_cores, slots_with_cores}
 use Rattle.lane_rounds.specs.State.{RoundsState}
 use Rattle.trace_text.specs.Trace.{TraceContent}
 use Rattle.trace_text.specs.Valid.{IsTrace}
 use Rattle.trace_run.specs.Run.{Setting}
-use Rattle.replay_rounds.specs.Setting.{Cores}
-use Rattle.replay_rounds.specs.Standing.{RoundsContent, Stands, IsNextWindow, AreOfTable, setting_with, routed_from, slots_between}
-use Rattle.replay_rounds.specs.Publishing.{CountingLaws, IsPublished, LanesStand}
+use Rattle.replay_rounds.specs.Standing.{RoundsContent, AllRoundsStand, IsNextWindow, AreOfTable, setting_with, routed_from, slots_between}
+use Rattle.replay_rounds.specs.Publishing.{CountingLaws, WindowIsPublished, EachLaneStands}
 use Rattle.replay_rounds.specs.Counting.{schedule_of}
 use Rattle.replay_rounds.proofs.SlotCounts.{schedule_length}
 
@@ -28,7 +28,7 @@ same_cores f g (flow ∷ slot) same =
     ∙ ap (λ (rest : List RoutedFlow). record { flow = flow; core = g flow.src } ∷ rest) (same_cores f g slot same)
 
 -- from a place on
-routed_rest : (cores : Cores) (names : ℕ → CoreOf) (all rest : List (List Flow)) (number from : ℕ) →
+routed_rest : (cores : SlotCores) (names : ℕ → CoreOf) (all rest : List (List Flow)) (number from : ℕ) →
     ((place : ℕ) → place < length rest → slot_in all (from + place) ≡ slot_in rest place) →
     ((place source : ℕ) → place < length rest → cores (number + place) source ≡ names (from + place) source) →
     map (λ at. with_cores (names at) (slot_in all at)) (range_with_len from (length rest)) ≡ routed_from cores number rest
@@ -45,14 +45,14 @@ routed_rest cores names all (slot ∷ rest) number from slots of =
     (λ place below. ap (slot_in all) (omega arith) ∙ slots (suc place) (omega arith))
     (λ place source below. ap (λ (n : ℕ). cores n source) (omega arith) ∙ (of (suc place) source (omega arith) ∙ ap (λ (n : ℕ). names n source) (omega arith))))
 
-routed_is : (cores : Cores) (table : CoreSlots) (slots : List (List Flow)) (number : ℕ) → AreOfTable cores number (length slots) table → slots_with_cores slots table ≡ routed_from cores number slots
+routed_is : (cores : SlotCores) (table : CoreSlots) (slots : List (List Flow)) (number : ℕ) → AreOfTable cores number (length slots) table → slots_with_cores slots table ≡ routed_from cores number slots
 routed_is cores table slots number of =
     routed_rest cores (core_of table) slots slots number 0
     (λ place below. ap (slot_in slots) (omega arith))
     (λ place source below. of place source below ∙ ap (λ (n : ℕ). core_of table n source) (omega arith))
 
 -- slots with their cores, place by place
-pub routed_places : (cores : Cores) (slots : List (List Flow)) (number : ℕ) →
+pub routed_places : (cores : SlotCores) (slots : List (List Flow)) (number : ℕ) →
     routed_from cores number slots ≡ map (λ at. with_cores (cores (number + at)) (slot_in slots at)) (range_with_len 0 (length slots))
 routed_places cores slots number =
     sym (routed_rest cores (λ at. cores (number + at)) slots slots number 0
@@ -62,7 +62,7 @@ routed_places cores slots number =
 -- ---- the window that is published
 
 -- a window of rounds that stand is published
-pub is_published : (trace : TraceContent) (cores : Cores) (all : RoundsContent) → Stands trace cores all → all.collected < 2 ^ 32 → IsPublished (setting_with trace cores all) all.collected all.window
+pub is_published : (trace : TraceContent) (cores : SlotCores) (all : RoundsContent) → AllRoundsStand trace cores all → all.collected < 2 ^ 32 → WindowIsPublished (setting_with trace cores all) all.collected all.window
 is_published trace cores all stands few =
     let setting : Setting = setting_with trace cores all in
     let first : ℕ = all.window.first_batch in
@@ -83,8 +83,8 @@ is_published trace cores all stands few =
     }
 
 -- and so do they once the lanes have counted its slots
-pub stands_counted : (trace : TraceContent) (cores : Cores) (all : RoundsContent) (lanes : List RoundsState) → Stands trace cores all → length lanes ≡ length all.lanes →
-    LanesStand (setting_with trace cores all) all.collected all.published lanes → Stands trace cores (record all { counted = all.published; lanes = lanes })
+pub stands_counted : (trace : TraceContent) (cores : SlotCores) (all : RoundsContent) (lanes : List RoundsState) → AllRoundsStand trace cores all → length lanes ≡ length all.lanes →
+    EachLaneStands (setting_with trace cores all) all.collected all.published lanes → AllRoundsStand trace cores (record all { counted = all.published; lanes = lanes })
 stands_counted trace cores all lanes stands long counted = record {
   named = stands.named;
   batch = stands.batch;
@@ -107,22 +107,22 @@ stands_counted trace cores all lanes stands long counted = record {
 
 -- there is a run of which this is the next window
 abbrev pub MayPublish : ℕ → Slots → CoreSlots → RoundsContent → Type 0
-MayPublish count slots table all = (trace : TraceContent) × (cores : Cores) × IsTrace trace × Stands trace cores all × IsNextWindow trace cores all count slots table
+MayPublish count slots table all = (trace : TraceContent) × (cores : SlotCores) × IsTrace trace × AllRoundsStand trace cores all × IsNextWindow trace cores all count slots table
 
 -- so it is once the lanes have counted what was published before
-pub next_counted : (trace : TraceContent) (cores : Cores) (old new : RoundsContent) (count : ℕ) (slots : Slots) (table : CoreSlots) → new ≡ record old { counted = old.published; lanes = new.lanes } →
+pub next_counted : (trace : TraceContent) (cores : SlotCores) (old new : RoundsContent) (count : ℕ) (slots : Slots) (table : CoreSlots) → new ≡ record old { counted = old.published; lanes = new.lanes } →
     IsNextWindow trace cores old count slots table → IsNextWindow trace cores new count slots table
 next_counted trace cores old new count slots table frame next =
     let moved : IsNextWindow trace cores (record old { counted = old.published; lanes = new.lanes }) count slots table = record { allocated = next.allocated; routed = next.routed } in
     subst (λ (all : RoundsContent). IsNextWindow trace cores all count slots table) (sym frame) moved
 
 pub may_publish_counted : (old new : RoundsContent) (count : ℕ) (slots : Slots) (table : CoreSlots) → new ≡ record old { counted = old.published; lanes = new.lanes } →
-    ((trace : TraceContent) (cores : Cores) → Stands trace cores old → Stands trace cores new) → MayPublish count slots table old → MayPublish count slots table new
+    ((trace : TraceContent) (cores : SlotCores) → AllRoundsStand trace cores old → AllRoundsStand trace cores new) → MayPublish count slots table old → MayPublish count slots table new
 may_publish_counted old new count slots table frame stands (trace, cores, is_trace, stood, next) =
     (trace, cores, is_trace, stands trace cores stood, next_counted trace cores old new count slots table frame next)
 
-module _ (laws : CountingLaws) (trace : TraceContent) (cores : Cores) (all : RoundsContent) (count : ℕ) (slots : Slots) (table : CoreSlots)
-    (is_trace : IsTrace trace) (stands : Stands trace cores all) (next : IsNextWindow trace cores all count slots table) where
+module _ (laws : CountingLaws) (trace : TraceContent) (cores : SlotCores) (all : RoundsContent) (count : ℕ) (slots : Slots) (table : CoreSlots)
+    (is_trace : IsTrace trace) (stands : AllRoundsStand trace cores all) (next : IsNextWindow trace cores all count slots table) where
   pub slot_count : length slots.slots ≡ count * all.b
   slot_count =
       let setting : Setting = setting_with trace cores all in
@@ -140,7 +140,7 @@ module _ (laws : CountingLaws) (trace : TraceContent) (cores : Cores) (all : Rou
   pub stands_next : (window : Window) → all.counted ≡ all.published → all.published + count ≤ all.collected → slots.endpoints ≡ all.endpoints → All (IsSlotOf slots.endpoints) slots.slots →
       window.endpoints ≡ all.window.endpoints → window.batches ≡ all.window.batches → window.b ≡ all.window.b → window.first_batch ≡ all.published → window.count ≡ count →
       window.slots ≡ slots_with_cores slots.slots table →
-      Stands trace cores (record all { published = all.published + count; window = window })
+      AllRoundsStand trace cores (record all { published = all.published + count; window = window })
   stands_next window counted behind served each endpoints batches b first counts routed =
       let setting : Setting = setting_with trace cores all in
       record {

@@ -3,10 +3,10 @@ use Rattle.std.proofs.Common.{◌≡◌, ℕ, Bool, true, false, cond, get_or, O
 use Rattle.std.specs.Prelude.{◌==◌, nat_lt, option_map, IfSome, take}
 use Rattle.std.proofs.lemmas.Bool.{eq-eqb}
 use Rattle.std.proofs.lemmas.List.Elements.{All-map}
-use Rattle.ack_window.specs.declared.take_window.Taken.{Taken}
-use Rattle.ack_window.specs.declared.take_window.Taken.TheVariants as taken
-use Rattle.ack_window.specs.Arrivals.{receive_verdict}
-use Rattle.ack_window.specs.Versions.{reorder_of}
+use Rattle.arbiter_lane.specs.Taken.{Taken}
+use Rattle.arbiter_lane.specs.Taken.TheVariants as taken
+use Rattle.arbiter_lane.specs.Arrivals.{receive_verdict}
+use Rattle.arbiter_lane.specs.Versions.{reorder_of}
 use Rattle.fcp_framing.specs.declared.packet.Up.{Up}
 use Rattle.fcp_framing.specs.declared.refusal.FrameRefused.{FrameRefused}
 use Rattle.fcp_framing.specs.declared.refusal.FrameRefused.TheVariants.{Short, Version, Kind, Endpoint, Count, Order, SelfFlow, TooMuch, Mask, Trailing, Epoch, Seq}
@@ -16,7 +16,7 @@ use Rattle.fcp_framing.specs.Refusals as framing
 use Rattle.endpoint_history.specs.Lane.{LaneHistory, epoch_of, version_of, arrived}
 use Rattle.arbiter_lane.specs.declared.refusal.UpRefused.{UpRefused}
 use Rattle.arbiter_lane.specs.declared.refusal.UpRefused.TheVariants as refused
-use Rattle.arbiter_lane.specs.Refusals.{refusal_of_number, refusal_of_packet, refusal_or}
+use Rattle.arbiter_lane.specs.Refusals.{up_refusal_of_number, up_refusal_of_packet, up_refusal_or}
 use Rattle.lane_rounds.specs.Raw.{Raw}
 use Rattle.lane_rounds.specs.Refused.{number_of}
 use Rattle.replay_rounds.specs.Setting.{raw_rows}
@@ -40,7 +40,7 @@ framing-told Trailing = inl (omega arith, omega arith)
 framing-told Epoch = inl (omega arith, omega arith)
 framing-told Seq = inl (omega arith, omega arith)
 
-number-told : (verdict : Taken) → IsTold (refusal_of_number verdict)
+number-told : (verdict : Taken) → IsTold (up_refusal_of_number verdict)
 number-told taken.Fresh = tt
 number-told taken.Repeat = inr (inl (omega arith, omega arith))
 number-told taken.Old = inr (inl (omega arith, omega arith))
@@ -50,14 +50,14 @@ either true a b first second = first
 either false a b first second = second
 
 -- by the lane of the endpoint that a packet names
-packet-told : (endpoint : ℕ) (history : LaneHistory) (up : Up) → up.src ≡ endpoint → IsTold (refusal_of_packet endpoint history up)
+packet-told : (endpoint : ℕ) (history : LaneHistory) (up : Up) → up.src ≡ endpoint → IsTold (up_refusal_of_packet endpoint history up)
 packet-told endpoint history up own = rw (eq-eqb up.src endpoint own) (
     either (nat_lt up.epoch (epoch_of history)) _ _ (inr (inl (omega arith, omega arith)))
     (either (nat_lt (epoch_of history) up.epoch) _ _ (either up.reset None (Some refused.Unsynced) tt (inr (inl (omega arith, omega arith))))
     (either (up.version == version_of history) _ _
     (either up.reset None _ tt (number-told (receive_verdict (reorder_of (version_of history)) (arrived history) up.seq))) (inr (inr refl)))))
 
-or-told : (frame : Option FrameRefused) (later : Option UpRefused) → IsTold later → IsTold (refusal_or frame later)
+or-told : (frame : Option FrameRefused) (later : Option UpRefused) → IsTold later → IsTold (up_refusal_or frame later)
 or-told None later told = told
 or-told (Some frame) later told = framing-told frame
 

@@ -5,7 +5,7 @@ use Rattle.std.proofs.lemmas.Nat.{div_below}
 use Rattle.std.proofs.lemmas.Bool.{cases_lt, eq-eqb, le-ltb}
 use Rattle.std.proofs.lemmas.List.{take-append-drop, length-drop, get_or-drop}
 use Rattle.std.proofs.lemmas.List.Sums.{sum_by_more}
-use Rattle.flow_ledger.specs.FlowCount.{pending}
+use Rattle.lane_rounds.specs.FlowCount.{pending}
 use Rattle.greedy_rules.specs.declared.flows.Flow.{Flow}
 use Rattle.greedy_rules.specs.Batches.{DemandBatch}
 use Rattle.greedy_rules.specs.Slot.{has_flow}
@@ -16,7 +16,7 @@ use Rattle.endpoint_history.specs.Lane.{LaneHistory, last_reset}
 use Rattle.endpoint_history.specs.Counts.{Allocation, recorded, lost, allocated}
 use Rattle.endpoint_history.specs.Rounds.{Round, played}
 use Rattle.endpoint_history.specs.Steps.{lane_of}
-use Rattle.arbiter_lane.specs.declared.line.Line.{Line}
+use Rattle.arbiter_lane.specs.declared.line.LaneLine.{LaneLine}
 use Rattle.lane_rounds.specs.State.{RoundsState}
 use Rattle.lane_rounds.specs.Standing.{StandsFor}
 use Rattle.trace_run.specs.Run.{Setting, replayed}
@@ -155,7 +155,7 @@ calls_are setting collected all places src lane has =
     ∙ ap (λ (g : ℕ). lane_of (played setting.endpoints g ((replayed setting collected).rounds src)).steps) has.g
 
 -- the flow's slot is pending
-pub slot_is_pending : (laws : CountingLaws) (setting : Setting) (collected all place src dst : ℕ) (lane : RoundsState) (line : Line) → all ≤ collected → src < setting.endpoints → dst < setting.endpoints →
+pub slot_is_pending : (laws : CountingLaws) (setting : Setting) (collected all place src dst : ℕ) (lane : RoundsState) (line : LaneLine) → all ≤ collected → src < setting.endpoints → dst < setting.endpoints →
     IsPlace setting all place src (Some dst) → HasCounted setting collected all place src lane →
     lane.lane.last_reset ≤ place / setting.b → slice_get lane.lane.lines dst ≡ Some line → 1 ≤ pending line.count
 slot_is_pending laws setting collected all place src dst lane line within low high is has kept at =
@@ -205,7 +205,7 @@ destination_within setting all place src dst is = sent_within setting.endpoints 
 
 pub may_count : (laws : CountingLaws) (setting : Setting) (collected all place src batch : ℕ) (to : Option ℕ) (lane : RoundsState) → all ≤ collected → src < setting.endpoints → batch ≡ place / setting.b →
     IsPlace setting all place src to → HasCounted setting collected all place src lane →
-    IfSome to (λ dst. dst < lane.lane.endpoints) × IfSome to (λ dst. lane.lane.last_reset ≤ batch → (line : Line) → slice_get lane.lane.lines dst ≡ Some line → 1 ≤ pending line.count)
+    IfSome to (λ dst. dst < lane.lane.endpoints) × IfSome to (λ dst. lane.lane.last_reset ≤ batch → (line : LaneLine) → slice_get lane.lane.lines dst ≡ Some line → 1 ≤ pending line.count)
 may_count laws setting collected all place src batch None lane within low here is has = (tt, tt)
 may_count laws setting collected all place src batch (Some dst) lane within low here is has =
     let high = destination_within setting all place src dst is in (

@@ -12,16 +12,16 @@ use Rattle.greedy_rules.specs.SlotTable.{destination_of}
 use Rattle.greedy_rules.specs.Schedule.{first_slot, slot_in}
 use Rattle.clos_topology.specs.Links.{CoreOf}
 use Rattle.slot_publisher.specs.Window.{RoutedFlow, Window, with_cores, slots_of_batch}
-use Rattle.slot_publisher.specs.Told.{packet_from, slots_told, told_as, told_from}
-use Rattle.flow_ledger.specs.FlowCount.{pending}
+use Rattle.slot_publisher.specs.Told.{packet_sent, slots_told, told_as, told_from}
+use Rattle.lane_rounds.specs.FlowCount.{pending}
 use Rattle.endpoint_history.specs.Counts.{Allocation}
 use Rattle.endpoint_history.specs.Rounds.{Round}
-use Rattle.arbiter_lane.specs.declared.line.Line.{Line}
+use Rattle.arbiter_lane.specs.declared.line.LaneLine.{LaneLine}
 use Rattle.lane_rounds.specs.State.{RoundsState}
 use Rattle.lane_rounds.specs.Standing.{StandsFor}
 use Rattle.trace_run.specs.Run.{Setting}
 use Rattle.replay_rounds.specs.Standing.{slots_between}
-use Rattle.replay_rounds.specs.Publishing.{CountingLaws, IsPublished, with_slot}
+use Rattle.replay_rounds.specs.Publishing.{CountingLaws, WindowIsPublished, with_slot}
 use Rattle.replay_rounds.specs.Counting.{HasCounted, IsPlace, IsRest, MayCount}
 use Rattle.replay_rounds.proofs.Published.{found, routed}
 use Rattle.replay_rounds.proofs.PublishedWindows.{routed_places}
@@ -117,7 +117,7 @@ told_at_place laws setting collected all src batch lane told i below rest =
 -- it may be counted
 pub may_tell : (laws : CountingLaws) (setting : Setting) (collected all src batch : ℕ) (lane : RoundsState) (one : Told) (told : List Told) → MayCount setting collected all src → IsNextTold setting collected all src batch lane one told →
     (lane.is_whole ≡ true) × (one.dst < lane.lane.endpoints) × (batch < lane.lane.round)
-    × (lane.lane.last_reset ≤ batch → (line : Line) → slice_get lane.lane.lines one.dst ≡ Some line → 1 ≤ pending line.count)
+    × (lane.lane.last_reset ≤ batch → (line : LaneLine) → slice_get lane.lane.lines one.dst ≡ Some line → 1 ≤ pending line.count)
 may_tell laws setting collected all src batch lane one told may next =
     let place : ℕ = batch * setting.b + next.offset in
     let its : batch ≡ place / setting.b = sym (div-mul-add batch setting.b next.offset next.below) in
@@ -144,7 +144,7 @@ goes : (core : Option ℕ) (src : ℕ) (dst : Option ℕ) → dst_of (option_map
 goes core src None = refl
 goes core src (Some dst) = refl
 
-pub batch_begins : (laws : CountingLaws) (setting : Setting) (collected : ℕ) (window : Window) (src batch : ℕ) (lane : RoundsState) (told : List Told) → IsPublished setting collected window → src < window.endpoints →
+pub batch_begins : (laws : CountingLaws) (setting : Setting) (collected : ℕ) (window : Window) (src batch : ℕ) (lane : RoundsState) (told : List Told) → WindowIsPublished setting collected window → src < window.endpoints →
     window.first_batch ≤ batch → batch < window.first_batch + window.count → told ≡ slots_told window src batch →
     HasCounted setting collected (window.first_batch + window.count) (batch * setting.b) src lane → IsRest setting collected (window.first_batch + window.count) src batch lane told
 batch_begins laws setting collected window src batch lane told published below from_first before_end told_is has =
@@ -168,14 +168,14 @@ batch_begins laws setting collected window src batch lane told published below f
     ap (λ (xs : List (List RoutedFlow)). take b (drop from xs)) (published.slots ∙ routed_places published.cores slots (first_slot setting.b first)) in
     let long : length ours ≡ b =
     ap length of_table ∙ omega (arith, length-take b (drop from table), length-drop from table, length-map-range_with_len given 0 (length slots)) in
-    let packets : List (Option RoutedFlow) = map (packet_from src) ours in
+    let packets : List (Option RoutedFlow) = map (packet_sent src) ours in
     record {
       offset = 0;
       packets = packets;
-      whole = omega (arith, length-map ours (packet_from src), long);
+      whole = omega (arith, length-map ours (packet_sent src), long);
       is = told_is;
       places = λ k inside.
-          let here : k < b = omega (arith, length-map ours (packet_from src), long) in
+          let here : k < b = omega (arith, length-map ours (packet_sent src), long) in
           let slot : ℕ = from + k in
           let in_slots : slot < length slots = omega arith in
           let read : get_or ours k [] ≡ given slot =
@@ -184,7 +184,7 @@ batch_begins laws setting collected window src batch lane told published below f
           ∙ (get_or-drop from table k []
           ∙ get_or-map-range_with_len given 0 (length slots) slot slot [] in_slots (omega arith))) in
           let to : dst_of (get_or packets k None) ≡ destination_of (slot_in slots slot) src =
-          ap dst_of (get_or-map (packet_from src) ours k [] None (omega arith) ∙ (ap (packet_from src) read ∙ found (names slot) src (slot_in slots slot)))
+          ap dst_of (get_or-map (packet_sent src) ours k [] None (omega arith) ∙ (ap (packet_sent src) read ∙ found (names slot) src (slot_in slots slot)))
           ∙ goes (names slot src) src (destination_of (slot_in slots slot) src) in
           let is = place_is laws setting first all slot src (dst_of (get_or packets k None)) (omega (arith, published.some)) in_slots published.in_range to in
           let batches : batch * setting.b ≡ first * setting.b + place * setting.b = ap (λ (n : ℕ). n * setting.b) at ∙ add-mul first place setting.b in
@@ -193,7 +193,7 @@ batch_begins laws setting collected window src batch lane told published below f
       has = let start : batch * setting.b ≡ batch * setting.b + 0 = omega arith in subst (λ (n : ℕ). HasCounted setting collected all n src lane) start has;
     }
 
-pub may_be_counted : (setting : Setting) (collected : ℕ) (window : Window) (src : ℕ) → IsPublished setting collected window → src < window.endpoints → MayCount setting collected (window.first_batch + window.count) src
+pub may_be_counted : (setting : Setting) (collected : ℕ) (window : Window) (src : ℕ) → WindowIsPublished setting collected window → src < window.endpoints → MayCount setting collected (window.first_batch + window.count) src
 may_be_counted setting collected window src published below =
     let served = published.endpoints in
     record { behind = published.behind; src_below = omega arith }

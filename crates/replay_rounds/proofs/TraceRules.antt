@@ -13,6 +13,7 @@ use Rattle.fcp_framing.specs.Refusals.{first_refusal, refuses_up}
 use Rattle.fcp_framing.specs.Spelling.{IsUp, SpellsUp}
 use Rattle.fcp_framing.specs.declared.packet.Up.{Up}
 use Rattle.clos_topology.specs.Network.{endpoints_of}
+use Rattle.clos_topology.specs.NetSlots.{SlotCores}
 use Rattle.endpoint_history.specs.Packets.{UpPacket, up_packet, framed_up, AreFramedAlike}
 use Rattle.lane_rounds.specs.Outside.{names}
 use Rattle.lane_rounds.specs.Raw.{Raw}
@@ -21,7 +22,7 @@ use Rattle.trace_text.specs.Valid.{IsTrace, amount_for}
 use Rattle.trace_run.specs.Agents.{booted_in}
 use Rattle.trace_run.specs.Recorded.{asked_in}
 use Rattle.trace_run.specs.Recorded as run
-use Rattle.replay_rounds.specs.Setting.{Cores, rows_from, raw_rows, outside_of, setting_of}
+use Rattle.replay_rounds.specs.Setting.{rows_from, raw_rows, outside_of, setting_of}
 
 -- ---- sums over the first of some
 
@@ -107,7 +108,7 @@ raw-rules spelled alike trace is round endpoint =
 
 -- ---- the rules of a trace
 
-pub is_trace_of_run : WereSpelledSo → AreFramedAlike → (trace : TraceContent) (b g : ℕ) (cores : Cores) → IsTrace trace → b ≤ 64 → 0 < g → run.IsTrace (setting_of trace b g cores) trace.rounds
+pub is_trace_of_run : WereSpelledSo → AreFramedAlike → (trace : TraceContent) (b g : ℕ) (cores : SlotCores) → IsTrace trace → b ≤ 64 → 0 < g → run.KeepsTraceRules (setting_of trace b g cores) trace.rounds
 is_trace_of_run spelled alike trace b g cores is batch window = record {
   batch = batch;
   window = window;

@@ -4,36 +4,37 @@ use Rattle.std.specs.List.{range_with_len}
 use Rattle.std.proofs.lemmas.Option.{slice_get-get_or, slice_get_within, get_or_from_slice_get}
 use Rattle.greedy_rules.specs.Schedule.{first_slot}
 use Rattle.clos_topology.specs.Network.{endpoints_of}
+use Rattle.clos_topology.specs.NetSlots.{SlotCores}
 use Rattle.lane_rounds.specs.State.{RoundsState}
 use Rattle.trace_text.specs.Trace.{TraceContent}
 use Rattle.trace_text.specs.Valid.{IsTrace}
 use Rattle.trace_run.specs.Windows as windows
 use Rattle.trace_run.specs.Windows.{InWindows, batch_at}
-use Rattle.replay_rounds.specs.Setting.{Cores, setting_of}
-use Rattle.replay_rounds.specs.Standing.{LaneStands, RoundsContent, Stands, routed_from, slots_between}
-use Rattle.replay_rounds.specs.Played.{answers_in, departures_in, rounds_played}
-use Rattle.replay_rounds.specs.Collecting.{part_of, played_of, published_by, setting_by, LanesStand, MayBeCollected, MayBeTold, RoundPart}
-use Rattle.replay_rounds.specs.Publishing.{IsPublished}
+use Rattle.replay_rounds.specs.Setting.{setting_of}
+use Rattle.replay_rounds.specs.Standing.{LaneStands, RoundsContent, AllRoundsStand, routed_from, slots_between}
+use Rattle.replay_rounds.specs.Played.{raw_answers, departures_in, rounds_played}
+use Rattle.replay_rounds.specs.Collecting.{round_part, played_of, published_by, setting_by, LanesStand, MayBeCollected, MayBeTold, RoundPart}
+use Rattle.replay_rounds.specs.Publishing.{WindowIsPublished}
 use Rattle.replay_rounds.proofs.PartLemmas.{map_by, same_played}
 use Rattle.replay_rounds.proofs.AnswerLemmas.{answers_are}
 use Rattle.replay_rounds.proofs.PublishedWindows.{is_published}
 
 -- ---- what the rounds give
 
-pub rounds_give : (trace : TraceContent) (b g : ℕ) (cores : Cores) (first count : ℕ)
-    → played_of (map (part_of (setting_of trace b g cores) trace (endpoints_of trace.net)) (range_with_len first count)) ≡ rounds_played (setting_of trace b g cores) trace first count
+pub rounds_give : (trace : TraceContent) (b g : ℕ) (cores : SlotCores) (first count : ℕ)
+    → played_of (map (round_part (setting_of trace b g cores) trace (endpoints_of trace.net)) (range_with_len first count)) ≡ rounds_played (setting_of trace b g cores) trace first count
 rounds_give trace b g cores first count =
     let setting = setting_of trace b g cores in
-    let part = part_of setting trace (endpoints_of trace.net) in
+    let part = round_part setting trace (endpoints_of trace.net) in
     let numbers = range_with_len first count in
     same_played (played_of (map part numbers)) (rounds_played setting trace first count)
     (map_by (λ (p : RoundPart). p.batch) part (batch_at setting) (λ number. refl) numbers)
-    (map_by (λ (p : RoundPart). p.answers) part (answers_in setting trace) (λ number. answers_are trace b g cores number) numbers)
+    (map_by (λ (p : RoundPart). p.answers) part (raw_answers setting trace) (λ number. answers_are trace b g cores number) numbers)
     (map_by (λ (p : RoundPart). p.departures) part (departures_in setting) (λ number. refl) numbers)
 
 -- ---- before it
 
-module _ (trace : TraceContent) (cores : Cores) (all : RoundsContent) (stood : Stands trace cores all) where
+module _ (trace : TraceContent) (cores : SlotCores) (all : RoundsContent) (stood : AllRoundsStand trace cores all) where
   -- what speaks of the rounds' sizes speaks of their window's
   by_window : (P : (b published : ℕ) → Type 0) → P all.b all.published → P all.window.b (published_by all.window)
   by_window P holds = subst (λ (b : ℕ). P b (published_by all.window)) (sym stood.size) (subst (λ (published : ℕ). P all.b published) (sym stood.held) holds)
@@ -63,7 +64,7 @@ module _ (trace : TraceContent) (cores : Cores) (all : RoundsContent) (stood : S
   pub may_collect : windows.WhatIsToldIsPublished → IsTrace trace → InWindows all.g trace.rounds all.collected all.published all.window.first_batch
       → MayBeCollected trace all.g cores all.window all.collected (min all.g (trace.rounds - all.collected))
   may_collect law sound within = record {
-    published = by_window (λ b _. IsPublished (setting_of trace b all.g cores) all.collected all.window) (is_published trace cores all stood (omega (arith, within.within, sound.few_rounds)));
+    published = by_window (λ b _. WindowIsPublished (setting_of trace b all.g cores) all.collected all.window) (is_published trace cores all stood (omega (arith, within.within, sound.few_rounds)));
     told = may_tell law sound within;
   }
 
@@ -79,7 +80,7 @@ module _ (trace : TraceContent) (cores : Cores) (all : RoundsContent) (stood : S
 
   pub next_window : (count : ℕ) (lanes : List RoundsState) → all.collected + count ≤ trace.rounds
       → LanesStand (setting_by trace all.g cores all.window) (all.collected + count) (published_by all.window) lanes
-      → Stands trace cores (record { endpoints = all.endpoints; b = all.b; g = all.g; collected = all.collected + count; published = all.published; counted = all.published; lanes = lanes; window = all.window })
+      → AllRoundsStand trace cores (record { endpoints = all.endpoints; b = all.b; g = all.g; collected = all.collected + count; published = all.published; counted = all.published; lanes = lanes; window = all.window })
   next_window count lanes within stand = record {
     named = stood.named;
     batch = stood.batch;
@@ -102,8 +103,8 @@ module _ (trace : TraceContent) (cores : Cores) (all : RoundsContent) (stood : S
   }
 
 -- the rounds as they stand, with what their next window asks for
-pub record Begins (trace : TraceContent) (cores : Cores) (all : RoundsContent) (count : ℕ) (lanes : List RoundsState) : Type 0 where
-  pub stood : Stands trace cores all
+pub record Begins (trace : TraceContent) (cores : SlotCores) (all : RoundsContent) (count : ℕ) (lanes : List RoundsState) : Type 0 where
+  pub stood : AllRoundsStand trace cores all
   pub may : MayBeCollected trace all.g cores all.window all.collected count
   pub stand : LanesStand (setting_by trace all.g cores all.window) all.collected all.counted lanes
   pub counted : (all.window.first_batch ≤ all.counted) × (all.counted ≤ published_by all.window)
@@ -112,9 +113,9 @@ pub record Begins (trace : TraceContent) (cores : Cores) (all : RoundsContent) (
 pub begins : windows.WhatIsToldIsPublished → (trace : TraceContent) → IsTrace trace → (all now : RoundsContent) → all ≡ now
     → InWindows now.g trace.rounds now.collected now.published now.window.first_batch
     → (count : ℕ) → count ≡ min all.g (trace.rounds - all.collected) → (lanes : List RoundsState) → lanes ≡ all.lanes
-    → (cores : Cores) → Stands trace cores now → Begins trace cores all count lanes
+    → (cores : SlotCores) → AllRoundsStand trace cores now → Begins trace cores all count lanes
 begins law trace sound all now is in_windows count count_is lanes lanes_are cores stood_now =
-    let stood = subst (λ (r : RoundsContent). Stands trace cores r) (sym is) stood_now in
+    let stood = subst (λ (r : RoundsContent). AllRoundsStand trace cores r) (sym is) stood_now in
     let within = subst (λ (r : RoundsContent). InWindows r.g trace.rounds r.collected r.published r.window.first_batch) (sym is) in_windows in
     record {
       stood = stood;

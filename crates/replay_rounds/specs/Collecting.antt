@@ -8,6 +8,7 @@ use Rattle.greedy_rules.specs.declared.flows.Entry.{Entry}
 use Rattle.greedy_rules.specs.Batches.{DemandBatch}
 use Rattle.greedy_rules.specs.Schedule.{first_slot}
 use Rattle.clos_topology.specs.Network.{endpoints_of}
+use Rattle.clos_topology.specs.NetSlots.{SlotCores, AreSlotCores, limits_of}
 use Rattle.slot_publisher.specs.Window.{Window}
 use Rattle.endpoint_history.specs.Rounds.{entries_by}
 use Rattle.lane_rounds.specs.Refused.{refused_in}
@@ -18,10 +19,10 @@ use Rattle.trace_run.specs.Run.{Setting, next_rounds, replayed}
 use Rattle.list_facts.specs.Order.{sort_by}
 use Rattle.replay_rounds.specs.declared.named.Named.{Named}
 use Rattle.replay_rounds.specs.declared.played.Departure.{Departure}
-use Rattle.replay_rounds.specs.Setting.{Cores, AreCores, limits_of, raw_rows, setting_of}
+use Rattle.replay_rounds.specs.Setting.{raw_rows, setting_of}
 use Rattle.replay_rounds.specs.Standing.{LaneStands, routed_from, slots_between}
-use Rattle.replay_rounds.specs.Publishing.{IsPublished}
-use Rattle.replay_rounds.specs.Played.{Played, departures_of, lane_before_raw}
+use Rattle.replay_rounds.specs.Publishing.{WindowIsPublished}
+use Rattle.replay_rounds.specs.Played.{Played, departures_from, lane_before_raw}
 use Rattle.replay_rounds.specs.Parts.{events_for}
 use Rattle.replay_rounds.specs.Departures.{by_slot}
 
@@ -85,27 +86,27 @@ blank_round trace number = record {
 }
 
 -- what an endpoint records in a round
-abbrev pub entries_in : Setting → ℕ → ℕ → List Entry
-entries_in setting number endpoint = entries_by endpoint setting.endpoints setting.g (next_rounds setting number (replayed setting number) endpoint)
+abbrev pub entries_recorded : Setting → ℕ → ℕ → List Entry
+entries_recorded setting number endpoint = entries_by endpoint setting.endpoints setting.g (next_rounds setting number (replayed setting number) endpoint)
 
 -- with one endpoint more
 abbrev pub with_endpoint : Setting → TraceContent → ℕ → RoundPart → RoundPart
 with_endpoint setting trace endpoint part = record {
   round = part.round;
-  batch = record { entries = part.batch.entries ++ entries_in setting part.round endpoint; limits = part.batch.limits };
+  batch = record { entries = part.batch.entries ++ entries_recorded setting part.round endpoint; limits = part.batch.limits };
   named = part.named;
   answers = with_numbers (refused_of setting trace part.round endpoint) part.answers;
-  departures = by_slot (part.departures ++ departures_of setting part.round endpoint);
+  departures = by_slot (part.departures ++ departures_from setting part.round endpoint);
 }
 
 -- with the endpoints below a bound
-abbrev pub part_of : Setting → TraceContent → ℕ → ℕ → RoundPart
-part_of setting trace bound number = record {
+abbrev pub round_part : Setting → TraceContent → ℕ → ℕ → RoundPart
+round_part setting trace bound number = record {
   round = number;
-  batch = record { entries = flat_map (entries_in setting number) (range_with_len 0 bound); limits = setting.limits };
+  batch = record { entries = flat_map (entries_recorded setting number) (range_with_len 0 bound); limits = setting.limits };
   named = named_in trace number;
   answers = answers_below setting trace number bound;
-  departures = by_slot (flat_map (departures_of setting number) (range_with_len 0 bound));
+  departures = by_slot (flat_map (departures_from setting number) (range_with_len 0 bound));
 }
 
 -- a list has the rounds from this one on, with the raw packets that name an endpoint
@@ -121,13 +122,13 @@ abbrev pub published_by : Window → ℕ
 published_by window = window.first_batch + window.count
 
 -- the run whose slots a window has
-abbrev pub setting_by : TraceContent → ℕ → Cores → Window → Setting
+abbrev pub setting_by : TraceContent → ℕ → SlotCores → Window → Setting
 setting_by trace g cores window = setting_of trace window.b g cores
 
 -- what is told in a round is allocated, and is published in this window
-pub record MayBeTold (trace : TraceContent) (g : ℕ) (cores : Cores) (window : Window) (number : ℕ) : Type 0 where
+pub record MayBeTold (trace : TraceContent) (g : ℕ) (cores : SlotCores) (window : Window) (number : ℕ) : Type 0 where
   pub sound : IsTrace trace
-  pub named : AreCores cores
+  pub named : AreSlotCores cores
   pub batch : (0 < window.b) × (window.b ≤ 64)
   pub rounds : (0 < g) × (g ≤ 16)
   pub within : number < trace.rounds
@@ -139,14 +140,38 @@ pub record MayBeTold (trace : TraceContent) (g : ℕ) (cores : Cores) (window : 
   pub held : 2 * g ≤ number → (window.first_batch ≤ number - 2 * g) × (number - 2 * g < published_by window)
 
 -- in each of so many rounds from this one on, before which the slots of the window may be counted
-pub record MayBeCollected (trace : TraceContent) (g : ℕ) (cores : Cores) (window : Window) (first count : ℕ) : Type 0 where
-  pub published : IsPublished (setting_by trace g cores window) first window
+pub record MayBeCollected (trace : TraceContent) (g : ℕ) (cores : SlotCores) (window : Window) (first count : ℕ) : Type 0 where
+  pub published : WindowIsPublished (setting_by trace g cores window) first window
   pub told : (number : ℕ) → first ≤ number → number < first + count → MayBeTold trace g cores window number
 
 -- there is a lane for each endpoint, and each stands for its rounds
 pub record LanesStand (setting : Setting) (collected batches : ℕ) (lanes : List RoundsState) : Type 0 where
   pub wide : length lanes ≡ setting.endpoints
   pub each : (endpoint : ℕ) (d : RoundsState) → endpoint < length lanes → LaneStands setting collected batches endpoint (slice_index_or lanes endpoint d)
+
+-- ---- what playing them for the endpoints asks
+
+-- so many rounds from this one on may be played, before which the lanes counted the slots of the batches below `counted`
+pub record MayCollectRounds (trace : TraceContent) (g : ℕ) (cores : SlotCores) (window : Window) (counted first count : ℕ) (lanes : List RoundsState) : Type 0 where
+  -- what is told in each of them is allocated, and is published in the window
+  pub may : MayBeCollected trace g cores window first count
+  -- each lane stands for its rounds before
+  pub stand : LanesStand (setting_by trace g cores window) first counted lanes
+
+-- these rounds, before the first endpoint, may be played for one endpoint after the other
+pub record MayPlayLanes (trace : TraceContent) (g : ℕ) (cores : SlotCores) (window : Window) (counted first : ℕ) (lanes : List RoundsState) (parts : List RoundPart) : Type 0 where
+  pub collect : MayCollectRounds trace g cores window counted first (length parts) lanes
+  -- they are the rounds from the first one on
+  pub blank : parts ≡ map (blank_round trace) (range_with_len first (length parts))
+
+-- these rounds may be played for one endpoint
+pub record MayPlayLane (trace : TraceContent) (g : ℕ) (cores : SlotCores) (window : Window) (counted first endpoint : ℕ) (lane : RoundsState) (parts : List RoundPart) : Type 0 where
+  -- what is told in each of them is allocated, and is published in the window
+  pub may : MayBeCollected trace g cores window first (length parts)
+  -- they are the rounds from the first one on
+  pub rounds : AreRoundsFrom trace first parts
+  -- its lane stands for its rounds before
+  pub stands : LaneStands (setting_by trace g cores window) first counted endpoint lane
 
 -- ---- what rounds give once every endpoint is played
 

@@ -1,6 +1,6 @@
 -- The counts of a flow in the run of a trace, as its lane and its agent keep them. From this project's own profile.
 use Rattle.std.specs.Prelude.{ℕ}
-use Rattle.flow_ledger.specs.declared.FlowCount.{FlowCount}
+use Rattle.lane_rounds.specs.Count.{FlowCount}
 use Rattle.endpoint_history.specs.Agent.{missed}
 use Rattle.endpoint_history.specs.Sending.{sends}
 use Rattle.endpoint_history.specs.Lane.{last_reset}

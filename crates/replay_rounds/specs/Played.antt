@@ -9,7 +9,7 @@ use Rattle.endpoint_history.specs.Lane.{LaneHistory}
 use Rattle.endpoint_history.specs.Sending.{Slot}
 use Rattle.endpoint_history.specs.Rounds.{read, sent_by}
 use Rattle.endpoint_history.specs.Steps.{lane_of}
-use Rattle.arbiter_lane.specs.Refusals.{refusal_of}
+use Rattle.arbiter_lane.specs.Refusals.{up_refusal}
 use Rattle.lane_rounds.specs.Raw.{Raw}
 use Rattle.lane_rounds.specs.Refused.{number_of, with_raw}
 use Rattle.trace_text.specs.Trace.{TraceContent}
@@ -33,11 +33,11 @@ lane_before setting round earlier endpoint = with_raw endpoint setting.endpoints
 -- the number of the refusal by the lane of the endpoint that a raw packet names, as that lane then stands; None where it is accepted
 abbrev pub answer_after : Setting → ℕ → List Raw → Raw → Option ℕ
 answer_after setting round earlier raw =
-    option_map number_of (refusal_of (up_of raw.bytes).src setting.endpoints (lane_before setting round earlier (up_of raw.bytes).src) raw.bytes)
+    option_map number_of (up_refusal (up_of raw.bytes).src setting.endpoints (lane_before setting round earlier (up_of raw.bytes).src) raw.bytes)
 
 -- for each raw packet of a round, in the order of rows
-abbrev pub answers_in : Setting → TraceContent → ℕ → List (Option ℕ)
-answers_in setting trace round = map (λ raw. answer_after setting round (take raw.place (raw_rows trace round)) raw) (raw_rows trace round)
+abbrev pub raw_answers : Setting → TraceContent → ℕ → List (Option ℕ)
+raw_answers setting trace round = map (λ raw. answer_after setting round (take raw.place (raw_rows trace round)) raw) (raw_rows trace round)
 
 -- ---- what is sent
 
@@ -45,12 +45,12 @@ abbrev pub departure : ℕ → Slot → Departure
 departure src sent = record { slot = sent.slot; src = src; dst = sent.dst }
 
 -- by endpoint, and those of each as they rise by slot
-abbrev pub departures_of : Setting → ℕ → ℕ → List Departure
-departures_of setting round src = map (departure src) (sent_by setting.endpoints setting.b setting.g ((replayed setting (round + 1)).rounds src))
+abbrev pub departures_from : Setting → ℕ → ℕ → List Departure
+departures_from setting round src = map (departure src) (sent_by setting.endpoints setting.b setting.g ((replayed setting (round + 1)).rounds src))
 
 -- in the order of slots, and in each slot by source
 abbrev pub departures_in : Setting → ℕ → List Departure
-departures_in setting round = sort_by (λ d. d.slot) (flat_map (departures_of setting round) (range_with_len 0 setting.endpoints))
+departures_in setting round = sort_by (λ d. d.slot) (flat_map (departures_from setting round) (range_with_len 0 setting.endpoints))
 
 -- ---- rounds
 
@@ -64,7 +64,7 @@ pub record Played : Type 0 where
 abbrev pub rounds_played : Setting → TraceContent → ℕ → ℕ → Played
 rounds_played setting trace first count = record {
   batches = map (batch_at setting) (range_with_len first count);
-  answers = map (answers_in setting trace) (range_with_len first count);
+  answers = map (raw_answers setting trace) (range_with_len first count);
   departures = map (departures_in setting) (range_with_len first count);
 }
 
@@ -75,4 +75,4 @@ abbrev pub IsRefusal : ℕ → Type 0
 IsRefusal number = ((1 ≤ number) × (number ≤ 12)) ⊎ (((21 ≤ number) × (number ≤ 24)) ⊎ (number ≡ 26))
 
 abbrev pub EveryRefusalHasANumber : Type 0
-EveryRefusalHasANumber = (setting : Setting) (trace : TraceContent) (round : ℕ) → All (λ answer. IfSome answer IsRefusal) (answers_in setting trace round)
+EveryRefusalHasANumber = (setting : Setting) (trace : TraceContent) (round : ℕ) → All (λ answer. IfSome answer IsRefusal) (raw_answers setting trace round)

@@ -1,25 +1,12 @@
 -- The run of a trace as its setting tells it: what the trace says of each round and endpoint, with batches of b slots, windows of g
 -- rounds and the cores that are named. From this project's own profile.
-use Rattle.std.specs.Prelude.{◌<◌, ℕ, ◌+◌, true, false, List, [], ◌∷◌, length, replicate, Option, unwrap_or, IfSome}
-use Rattle.greedy_rules.specs.declared.limits.Limits.{Limits}
-use Rattle.clos_topology.specs.Network.{Network, endpoints_of}
-use Rattle.clos_topology.specs.Links.{CoreOf}
+use Rattle.std.specs.Prelude.{ℕ, ◌+◌, true, false, List, [], ◌∷◌, length, replicate, Option, unwrap_or}
+use Rattle.clos_topology.specs.Network.{endpoints_of}
+use Rattle.clos_topology.specs.NetSlots.{SlotCores, limits_of}
 use Rattle.trace_text.specs.Trace.{TraceContent, asked_at, fate_at, boots_at, raw_at, last_of}
 use Rattle.lane_rounds.specs.Raw.{Raw}
 use Rattle.lane_rounds.specs.Outside.{packets_in}
-use Rattle.trace_run.specs.Run.{Outside, Setting}
-
--- the limits that a net sets to a slot
-abbrev pub limits_of : Network → Limits
-limits_of net = record { hosts = net.hosts; cores = net.cores }
-
--- for each slot, by its number, the core that each source's packet takes where it leaves its rack
-abbrev pub Cores : Type 0
-Cores = ℕ → CoreOf
-
--- a core is below 64
-abbrev pub AreCores : Cores → Type 0
-AreCores cores = (number source : ℕ) → IfSome (cores number source) (λ core. core < 64)
+use Rattle.trace_run.specs.Run.{FromOutside, Setting}
 
 -- the byte that names a core to an endpoint, 255 where there is none
 abbrev pub byte_of : Option ℕ → ℕ
@@ -37,7 +24,7 @@ raw_rows trace round = rows_from 0 (raw_at trace round)
 abbrev pub boots_in : List ℕ → List ℕ
 boots_in versions = replicate (length versions) (unwrap_or (last_of versions) 1)
 
-abbrev pub outside_of : TraceContent → Outside
+abbrev pub outside_of : TraceContent → FromOutside
 outside_of trace = record {
   boots = λ round endpoint. boots_in (boots_at trace round endpoint);
   asks = λ round endpoint. asked_at trace round endpoint;
@@ -46,7 +33,7 @@ outside_of trace = record {
   raw = λ round endpoint. packets_in endpoint (endpoints_of trace.net) (raw_rows trace round);
 }
 
-abbrev pub setting_of : TraceContent → ℕ → ℕ → Cores → Setting
+abbrev pub setting_of : TraceContent → ℕ → ℕ → SlotCores → Setting
 setting_of trace b g cores = record {
   endpoints = endpoints_of trace.net;
   limits = limits_of trace.net;

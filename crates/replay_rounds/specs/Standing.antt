@@ -5,7 +5,8 @@ use Rattle.greedy_rules.specs.declared.flows.Flow.{Flow}
 use Rattle.greedy_rules.specs.SlotTable.{Slots, IsSlotOf}
 use Rattle.greedy_rules.specs.Schedule.{first_slot, schedule}
 use Rattle.clos_topology.specs.Network.{endpoints_of}
-use Rattle.path_workers.specs.CoreTable.{CoreSlots, core_of}
+use Rattle.clos_topology.specs.NetSlots.{SlotCores, AreSlotCores}
+use Rattle.slot_publisher.specs.CoreTable.{CoreSlots, core_of}
 use Rattle.slot_publisher.specs.Window.{RoutedFlow, Window, with_cores}
 use Rattle.endpoint_history.specs.Counts.{Allocation}
 use Rattle.lane_rounds.specs.State.{RoundsState}
@@ -13,7 +14,7 @@ use Rattle.lane_rounds.specs.Standing as lanes
 use Rattle.trace_text.specs.Trace.{TraceContent}
 use Rattle.trace_run.specs.Run.{Setting, replayed}
 use Rattle.trace_run.specs.Allocations.{AreCounted}
-use Rattle.replay_rounds.specs.Setting.{Cores, AreCores, setting_of}
+use Rattle.replay_rounds.specs.Setting.{setting_of}
 
 -- what contracts see of all endpoints' rounds: how many are collected, the batches of how many are published, and of how many of these
 -- the lanes have counted the slots; a lane for each endpoint; and the window that was published last
@@ -28,11 +29,11 @@ pub record RoundsContent : Type 0 where
   pub window : Window
 
 -- the run with these cores
-abbrev pub setting_with : TraceContent → Cores → RoundsContent → Setting
+abbrev pub setting_with : TraceContent → SlotCores → RoundsContent → Setting
 setting_with trace cores all = setting_of trace all.b all.g cores
 
 -- slots with their cores, the first of this number
-abbrev pub routed_from : Cores → ℕ → List (List Flow) → List (List RoutedFlow)
+abbrev pub routed_from : SlotCores → ℕ → List (List Flow) → List (List RoutedFlow)
 routed_from cores number [] = []
 routed_from cores number (slot ∷ slots) = with_cores (cores number) slot ∷ routed_from cores (number + 1) slots
 
@@ -52,8 +53,8 @@ pub record LaneStands (setting : Setting) (collected batches endpoint : ℕ) (la
   pub counted : AreCounted setting batches 0 endpoint allocations
   pub stands : lanes.StandsFor lane ((replayed setting collected).rounds endpoint) allocations
 
-pub record Stands (trace : TraceContent) (cores : Cores) (all : RoundsContent) : Type 0 where
-  pub named : AreCores cores
+pub record AllRoundsStand (trace : TraceContent) (cores : SlotCores) (all : RoundsContent) : Type 0 where
+  pub named : AreSlotCores cores
   pub batch : (0 < all.b) × (all.b ≤ 64)
   pub rounds : (0 < all.g) × (all.g ≤ 16)
   pub endpoints : all.endpoints ≡ endpoints_of trace.net
@@ -74,10 +75,10 @@ pub record Stands (trace : TraceContent) (cores : Cores) (all : RoundsContent) :
 -- ---- what is published next
 
 -- the cores of the slots from this number on stand in a table, whose place 0 is the first of them
-abbrev pub AreOfTable : Cores → ℕ → ℕ → CoreSlots → Type 0
+abbrev pub AreOfTable : SlotCores → ℕ → ℕ → CoreSlots → Type 0
 AreOfTable cores number count table = (at source : ℕ) → at < count → cores (number + at) source ≡ core_of table at source
 
 -- these are the slots of the next so many batches, with their cores
-pub record IsNextWindow (trace : TraceContent) (cores : Cores) (all : RoundsContent) (count : ℕ) (slots : Slots) (table : CoreSlots) : Type 0 where
+pub record IsNextWindow (trace : TraceContent) (cores : SlotCores) (all : RoundsContent) (count : ℕ) (slots : Slots) (table : CoreSlots) : Type 0 where
   pub allocated : slots.slots ≡ slots_between (setting_with trace cores all) all.published (all.published + count)
   pub routed : AreOfTable cores (first_slot all.b all.published) (count * all.b) table

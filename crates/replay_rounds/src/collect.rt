@@ -3,10 +3,10 @@ ghost use Rattle.std.specs.Prelude.{◌≡◌, ◌<◌, ◌≤◌, ◌+◌, ◌*
 ghost use Rattle.std.specs.List.{range_with_len};
 ghost use Rattle.greedy_rules.specs.Batches.{IsAboveLast};
 ghost use Rattle.clos_topology.specs.Network.{endpoints_of};
-ghost use Rattle.replay_rounds.specs.Setting.{Cores};
+ghost use Rattle.clos_topology.specs.NetSlots.{SlotCores};
 ghost use Rattle.replay_rounds.specs.Played.{rounds_played};
 ghost use Rattle.replay_rounds.specs.Standing.{LaneStands};
-ghost use Rattle.replay_rounds.specs.Collecting.{blank_round, part_of, played_of, published_by, setting_by, with_endpoint, AreRoundsFrom, LanesStand, MayBeCollected};
+ghost use Rattle.replay_rounds.specs.Collecting.{blank_round, round_part, played_of, published_by, setting_by, with_endpoint, LanesStand, MayCollectRounds, MayPlayLane, MayPlayLanes};
 
 use crate::NoMemory;
 use crate::part::{Buffers, RoundInPlay};
@@ -29,18 +29,15 @@ pub(crate) fn collect(
     first: u32,
     count: u32,
 ) -> Result<Played, NoMemory>
-    requires may { (cores : Cores) × MayBeCollected trace.now g cores publisher.now first count
-        × LanesStand (setting_by trace.now g cores publisher.now) first counted lanes.old }
+    requires may { (cores : SlotCores) × MayCollectRounds trace.now g cores publisher.now counted first count lanes.old }
     requires counted { (publisher.now.first_batch ≤ counted) × (counted ≤ published_by publisher.now) }
     requires within { first + count ≤ trace.now.rounds }
     requires few { first + count ≤ 100000 }
-    ensures lanes { OnOk result ((cores : Cores) →
-        MayBeCollected trace.now g cores publisher.now first count →
-        LanesStand (setting_by trace.now g cores publisher.now) first counted lanes.old →
+    ensures lanes { OnOk result ((cores : SlotCores) →
+        MayCollectRounds trace.now g cores publisher.now counted first count lanes.old →
         LanesStand (setting_by trace.now g cores publisher.now) (first + count) (published_by publisher.now) lanes.new) }
-    ensures played { IfOk result (λ played. (cores : Cores) →
-        MayBeCollected trace.now g cores publisher.now first count →
-        LanesStand (setting_by trace.now g cores publisher.now) first counted lanes.old →
+    ensures played { IfOk result (λ played. (cores : SlotCores) →
+        MayCollectRounds trace.now g cores publisher.now counted first count lanes.old →
         played ≡ rounds_played (setting_by trace.now g cores publisher.now) trace.now first count) }
 {
     let mut rounds = open_rounds(alloc, trace, first, count)?;
@@ -85,20 +82,14 @@ fn play_lanes(
     buffers: &mut Buffers,
     rounds: &mut [RoundInPlay],
 ) -> Result<(), NoMemory>
-    requires may { (first : ℕ) × (cores : Cores) × MayBeCollected trace.now g cores publisher.now first (length rounds.old)
-        × LanesStand (setting_by trace.now g cores publisher.now) first counted lanes.old
-        × (rounds.old ≡ map (blank_round trace.now) (range_with_len first (length rounds.old))) }
+    requires may { (first : ℕ) × (cores : SlotCores) × MayPlayLanes trace.now g cores publisher.now counted first lanes.old rounds.old }
     requires counted { (publisher.now.first_batch ≤ counted) × (counted ≤ published_by publisher.now) }
-    ensures lanes { OnOk result ((first : ℕ) (cores : Cores) →
-        MayBeCollected trace.now g cores publisher.now first (length rounds.old) →
-        LanesStand (setting_by trace.now g cores publisher.now) first counted lanes.old →
-        rounds.old ≡ map (blank_round trace.now) (range_with_len first (length rounds.old)) →
+    ensures lanes { OnOk result ((first : ℕ) (cores : SlotCores) →
+        MayPlayLanes trace.now g cores publisher.now counted first lanes.old rounds.old →
         LanesStand (setting_by trace.now g cores publisher.now) (first + length rounds.old) (published_by publisher.now) lanes.new) }
-    ensures rounds { OnOk result ((first : ℕ) (cores : Cores) →
-        MayBeCollected trace.now g cores publisher.now first (length rounds.old) →
-        LanesStand (setting_by trace.now g cores publisher.now) first counted lanes.old →
-        rounds.old ≡ map (blank_round trace.now) (range_with_len first (length rounds.old)) →
-        rounds.new ≡ map (part_of (setting_by trace.now g cores publisher.now) trace.now (endpoints_of trace.now.net)) (range_with_len first (length rounds.old))) }
+    ensures rounds { OnOk result ((first : ℕ) (cores : SlotCores) →
+        MayPlayLanes trace.now g cores publisher.now counted first lanes.old rounds.old →
+        rounds.new ≡ map (round_part (setting_by trace.now g cores publisher.now) trace.now (endpoints_of trace.now.net)) (range_with_len first (length rounds.old))) }
 {
     for endpoint in 0..trace.endpoints() {
         let lane = &mut lanes[endpoint as usize];
@@ -121,21 +112,15 @@ fn play_lane(
     buffers: &mut Buffers,
     rounds: &mut [RoundInPlay],
 ) -> Result<(), NoMemory>
-    requires may { (first : ℕ) × (cores : Cores) × MayBeCollected trace.now g cores publisher.now first (length rounds.old)
-        × AreRoundsFrom trace.now first rounds.old
-        × LaneStands (setting_by trace.now g cores publisher.now) first counted endpoint lane.old }
+    requires may { (first : ℕ) × (cores : SlotCores) × MayPlayLane trace.now g cores publisher.now counted first endpoint lane.old rounds.old }
     requires counted { (publisher.now.first_batch ≤ counted) × (counted ≤ published_by publisher.now) }
     requires endpoint { endpoint < endpoints_of trace.now.net }
     requires above { All (λ part. IsAboveLast part.batch.entries (record { src = endpoint; dst = 0 })) rounds.old }
-    ensures lane { OnOk result ((first : ℕ) (cores : Cores) →
-        MayBeCollected trace.now g cores publisher.now first (length rounds.old) →
-        AreRoundsFrom trace.now first rounds.old →
-        LaneStands (setting_by trace.now g cores publisher.now) first counted endpoint lane.old →
+    ensures lane { OnOk result ((first : ℕ) (cores : SlotCores) →
+        MayPlayLane trace.now g cores publisher.now counted first endpoint lane.old rounds.old →
         LaneStands (setting_by trace.now g cores publisher.now) (first + length rounds.old) (published_by publisher.now) endpoint lane.new) }
-    ensures rounds { OnOk result ((first : ℕ) (cores : Cores) →
-        MayBeCollected trace.now g cores publisher.now first (length rounds.old) →
-        AreRoundsFrom trace.now first rounds.old →
-        LaneStands (setting_by trace.now g cores publisher.now) first counted endpoint lane.old →
+    ensures rounds { OnOk result ((first : ℕ) (cores : SlotCores) →
+        MayPlayLane trace.now g cores publisher.now counted first endpoint lane.old rounds.old →
         rounds.new ≡ map (with_endpoint (setting_by trace.now g cores publisher.now) trace.now endpoint) rounds.old) }
 {
     count_lane(lane, endpoint, publisher, counted);

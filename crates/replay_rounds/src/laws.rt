@@ -1,7 +1,7 @@
 //! What the parts of a window rest on.
 ghost use Rattle.replay_rounds.specs.Played.{EveryRefusalHasANumber};
 ghost use Rattle.replay_rounds.specs.Rules.{EverySettingIsOfATrace};
-ghost use Rattle.replay_rounds.specs.Parts.{EveryRoundMayBePlayed, WhatIsToldIsPublished};
+ghost use Rattle.replay_rounds.specs.Parts.{EveryRoundMayBePlayed, WhatIsToldIsHeld};
 
 use endpoint_history::packets_are_framed_alike;
 use fcp_framing::what_is_read_was_spelled_so;
@@ -14,7 +14,7 @@ use trace_run::{
 /// windows before tells it the slots of the run.
 pub(crate) fn rounds_may_be_played()
     ensures rounds { EveryRoundMayBePlayed }
-    ensures told { WhatIsToldIsPublished }
+    ensures told { WhatIsToldIsHeld }
 {
     agents_boot_and_are_asked();
     packets_are_framed_alike();

@@ -3,7 +3,7 @@ ghost use Rattle.std.specs.Prelude.{◌≡◌, ◌<◌, ◌≤◌, ℕ, ◌+◌,
 ghost use Rattle.std.specs.List.Sorted.{IsNonDecreasingBy};
 ghost use Rattle.greedy_rules.specs.Batches.{IsAboveLast};
 ghost use Rattle.clos_topology.specs.Network.{endpoints_of};
-ghost use Rattle.replay_rounds.specs.Setting.{Cores};
+ghost use Rattle.clos_topology.specs.NetSlots.{SlotCores};
 ghost use Rattle.replay_rounds.specs.Standing.{LaneStands};
 ghost use Rattle.replay_rounds.specs.Collecting.{blank_round, framed_answer, framed_in, named_at, named_in, published_by, setting_by, source_of, with_endpoint, with_numbers, with_round, MayBeTold};
 
@@ -115,16 +115,16 @@ impl RoundInPlay {
         g: u8,
         buffers: &mut Buffers,
     ) -> Result<(), NoMemory>
-        requires may { (cores : Cores) × MayBeTold trace.now g cores publisher.now self.old.round
+        requires may { (cores : SlotCores) × MayBeTold trace.now g cores publisher.now self.old.round
             × LaneStands (setting_by trace.now g cores publisher.now) self.old.round (published_by publisher.now) endpoint lane.old }
         requires endpoint { endpoint < endpoints_of trace.now.net }
         requires named { self.old.named ≡ named_in trace.now self.old.round }
         requires above { IsAboveLast self.old.batch.entries (record { src = endpoint; dst = 0 }) }
-        ensures lane { OnOk result ((cores : Cores) →
+        ensures lane { OnOk result ((cores : SlotCores) →
             MayBeTold trace.now g cores publisher.now self.old.round →
             LaneStands (setting_by trace.now g cores publisher.now) self.old.round (published_by publisher.now) endpoint lane.old →
             LaneStands (setting_by trace.now g cores publisher.now) (self.old.round + 1) (published_by publisher.now) endpoint lane.new) }
-        ensures part { OnOk result ((cores : Cores) →
+        ensures part { OnOk result ((cores : SlotCores) →
             MayBeTold trace.now g cores publisher.now self.old.round →
             LaneStands (setting_by trace.now g cores publisher.now) self.old.round (published_by publisher.now) endpoint lane.old →
             self.new ≡ with_endpoint (setting_by trace.now g cores publisher.now) trace.now endpoint self.old) }

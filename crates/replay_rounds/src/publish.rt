@@ -3,7 +3,7 @@ ghost use Rattle.std.specs.Prelude.{◌≡◌, ◌<◌, ◌≤◌, ◌+◌, ◌*
 ghost use Rattle.trace_run.specs.Run.{Setting};
 ghost use Rattle.replay_rounds.specs.Standing.{LaneStands};
 ghost use Rattle.replay_rounds.specs.Counting.{HasCounted, IsRest, MayCount};
-ghost use Rattle.replay_rounds.specs.Publishing.{CountingLaws, IsPublished, LanesStand};
+ghost use Rattle.replay_rounds.specs.Publishing.{CountingLaws, WindowIsPublished, EachLaneStands};
 
 use fcp_framing::Told;
 use greedy_rules::schedules_go_on;
@@ -16,12 +16,12 @@ pub(crate) fn count_slots(lanes: &mut [LaneRounds], publisher: &Publisher, from:
     requires lanes { length lanes.old ≡ publisher.now.endpoints }
     requires first { publisher.now.first_batch ≤ from }
     requires last { from ≤ publisher.now.first_batch + publisher.now.count }
-    requires published { (setting : Setting) × (collected : ℕ) × IsPublished setting collected publisher.now × LanesStand setting collected from lanes.old }
+    requires published { (setting : Setting) × (collected : ℕ) × WindowIsPublished setting collected publisher.now × EachLaneStands setting collected from lanes.old }
     ensures lanes { length lanes.new ≡ length lanes.old }
     ensures stands { (setting : Setting) (collected : ℕ) →
-        IsPublished setting collected publisher.now →
-        LanesStand setting collected from lanes.old →
-        LanesStand setting collected (publisher.now.first_batch + publisher.now.count) lanes.new }
+        WindowIsPublished setting collected publisher.now →
+        EachLaneStands setting collected from lanes.old →
+        EachLaneStands setting collected (publisher.now.first_batch + publisher.now.count) lanes.new }
 {
     for src in 0..publisher.endpoints() {
         count_lane(&mut lanes[src as usize], src, publisher, from);
@@ -33,9 +33,9 @@ pub(crate) fn count_lane(lane: &mut LaneRounds, src: u16, publisher: &Publisher,
     requires src { src < publisher.now.endpoints }
     requires first { publisher.now.first_batch ≤ from }
     requires last { from ≤ publisher.now.first_batch + publisher.now.count }
-    requires published { (setting : Setting) × (collected : ℕ) × IsPublished setting collected publisher.now × LaneStands setting collected from src lane.old }
+    requires published { (setting : Setting) × (collected : ℕ) × WindowIsPublished setting collected publisher.now × LaneStands setting collected from src lane.old }
     ensures stands { (setting : Setting) (collected : ℕ) →
-        IsPublished setting collected publisher.now →
+        WindowIsPublished setting collected publisher.now →
         LaneStands setting collected from src lane.old →
         LaneStands setting collected (publisher.now.first_batch + publisher.now.count) src lane.new }
 {

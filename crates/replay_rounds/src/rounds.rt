@@ -6,21 +6,19 @@ ghost use Rattle.trace_text.specs.Valid.{IsTrace};
 ghost use Rattle.trace_run.specs.Histories.{lane_after};
 ghost use Rattle.trace_run.specs.Windows.{InWindows};
 ghost use Rattle.clos_topology.specs.Network.{endpoints_of};
+ghost use Rattle.clos_topology.specs.NetSlots.{SlotCores, AreSlotCores};
 ghost use Rattle.slot_publisher.specs.Window.{NamesCores};
-ghost use Rattle.replay_rounds.specs.Setting.{Cores, AreCores};
 ghost use Rattle.replay_rounds.specs.Played.{rounds_played};
-ghost use Rattle.replay_rounds.specs.Standing.{Stands, IsNextWindow, setting_with};
+ghost use Rattle.replay_rounds.specs.Standing.{AllRoundsStand, IsNextWindow, setting_with};
 ghost use Rattle.replay_rounds.specs.Counts.{counted, lane_count, sent_and_missed};
 
 use crate::NoMemory;
 use crate::collect::collect;
 use crate::played::Played;
 use crate::publish::{count_slots, counting_holds};
-use flow_ledger::FlowCount;
 use greedy_rules::{Flow, SlotTable};
-use lane_rounds::LaneRounds;
-use path_workers::CoreTable;
-use slot_publisher::Publisher;
+use lane_rounds::{FlowCount, LaneRounds};
+use slot_publisher::{CoreTable, Publisher};
 use std::alloc::Global;
 use std::marker::Model;
 use trace_run::steps_go_on;
@@ -64,7 +62,7 @@ impl ReplayRounds {
     pub fn open(alloc: Global, trace: &Trace, b: u8, g: u8) -> Result<ReplayRounds, NoMemory>
         requires b { (0 < b) × (b ≤ 64) }
         requires g { (0 < g) × (g ≤ 16) }
-        ensures stands { IfOk result (λ all. (cores : Cores) → AreCores cores → Stands trace.now cores all) }
+        ensures stands { IfOk result (λ all. (cores : SlotCores) → AreSlotCores cores → AllRoundsStand trace.now cores all) }
         ensures b { IfOk result (λ all. all.b ≡ b) }
         ensures g { IfOk result (λ all. all.g ≡ g) }
         ensures collected { IfOk result (λ all. all.collected ≡ 0) }
@@ -106,7 +104,7 @@ impl ReplayRounds {
     /// Plays the next window of `g` rounds, or those that are left; before them the lanes count the slots that are published and not
     /// counted yet. The trace is the one given to `open`; after want of memory the rounds are only to be dropped.
     pub fn collect(&mut self, alloc: Global, trace: &Trace) -> Result<Played, NoMemory>
-        requires stands { (cores : Cores) × Stands trace.now cores self.old }
+        requires stands { (cores : SlotCores) × AllRoundsStand trace.now cores self.old }
         // The batches up to two windows before each of these rounds are published.
         requires windows { InWindows self.old.g trace.now.rounds self.old.collected self.old.published self.old.window.first_batch }
         ensures frame { OnOk result (self.new ≡ record self.old {
@@ -114,9 +112,9 @@ impl ReplayRounds {
           counted = self.old.published;
           lanes = self.new.lanes;
         }) }
-        ensures stands { OnOk result ((cores : Cores) → Stands trace.now cores self.old → Stands trace.now cores self.new) }
-        ensures played { IfOk result (λ played. (cores : Cores) →
-            Stands trace.now cores self.old →
+        ensures stands { OnOk result ((cores : SlotCores) → AllRoundsStand trace.now cores self.old → AllRoundsStand trace.now cores self.new) }
+        ensures played { IfOk result (λ played. (cores : SlotCores) →
+            AllRoundsStand trace.now cores self.old →
             played ≡ rounds_played (setting_with trace.now cores self.old) trace.now self.old.collected (min self.old.g (trace.now.rounds - self.old.collected))) }
     {
         steps_go_on();
@@ -138,9 +136,9 @@ impl ReplayRounds {
 
     /// Lets the lanes count the slots that are published and not counted yet.
     pub fn count_published(&mut self)
-        requires stands { (trace : TraceContent) × (cores : Cores) × Stands trace cores self.old }
+        requires stands { (trace : TraceContent) × (cores : SlotCores) × AllRoundsStand trace cores self.old }
         ensures frame { self.new ≡ record self.old { counted = self.old.published; lanes = self.new.lanes } }
-        ensures stands { (trace : TraceContent) (cores : Cores) → Stands trace cores self.old → Stands trace cores self.new }
+        ensures stands { (trace : TraceContent) (cores : SlotCores) → AllRoundsStand trace cores self.old → AllRoundsStand trace cores self.new }
     {
         let _collected = self.collected();
         count_slots(&mut self.lanes, &self.publisher, self.counted);
@@ -151,7 +149,7 @@ impl ReplayRounds {
     /// lanes count first what they haven't counted.
     pub fn publish(&mut self, count: u16, slots: &SlotTable, cores: &CoreTable)
         // These are the slots of the run's next batches, of rounds that are collected.
-        requires next { (trace : TraceContent) × (named : Cores) × IsTrace trace × Stands trace named self.old × IsNextWindow trace named self.old count slots.now cores.now }
+        requires next { (trace : TraceContent) × (named : SlotCores) × IsTrace trace × AllRoundsStand trace named self.old × IsNextWindow trace named self.old count slots.now cores.now }
         requires collected { self.old.published + count ≤ self.old.collected }
         requires room { count ≤ self.old.g }
         requires served { slots.now.endpoints ≡ self.old.endpoints }
@@ -165,9 +163,9 @@ impl ReplayRounds {
         } }
         ensures first { self.new.window.first_batch ≡ self.old.published }
         ensures count { self.new.window.count ≡ count }
-        ensures stands { (trace : TraceContent) (named : Cores) →
-            IsTrace trace → Stands trace named self.old → IsNextWindow trace named self.old count slots.now cores.now →
-            Stands trace named self.new }
+        ensures stands { (trace : TraceContent) (named : SlotCores) →
+            IsTrace trace → AllRoundsStand trace named self.old → IsNextWindow trace named self.old count slots.now cores.now →
+            AllRoundsStand trace named self.new }
     {
         counting_holds();
         let _slots = slots.slots();
@@ -179,12 +177,12 @@ impl ReplayRounds {
     /// What the flow's lane counts since its last reset; None where no batch has the flow. Of the published slots it has counted those
     /// of the batches before `counted`: all of them after `count_published`.
     pub fn count(&self, flow: Flow) -> Option<FlowCount>
-        requires stands { (trace : TraceContent) × (cores : Cores) × Stands trace cores self.now }
+        requires stands { (trace : TraceContent) × (cores : SlotCores) × AllRoundsStand trace cores self.now }
         requires src { flow.src < self.now.endpoints }
         requires dst { flow.dst < self.now.endpoints }
-        ensures opened { (trace : TraceContent) (cores : Cores) → Stands trace cores self.now →
+        ensures opened { (trace : TraceContent) (cores : SlotCores) → AllRoundsStand trace cores self.now →
             (IsSome result ↔ (had self.now.g (lane_after (setting_with trace cores self.now) self.now.collected flow.src) flow.dst ≡ true)) }
-        ensures counts { IfSome result (λ count. (trace : TraceContent) (cores : Cores) → Stands trace cores self.now →
+        ensures counts { IfSome result (λ count. (trace : TraceContent) (cores : SlotCores) → AllRoundsStand trace cores self.now →
             counted count ≡ lane_count (setting_with trace cores self.now) self.now.collected self.now.counted flow.src flow.dst) }
     {
         self.lanes[flow.src as usize].count(flow.dst)
@@ -192,10 +190,10 @@ impl ReplayRounds {
 
     /// The slots that the flow's source sent in, and those that it missed, since its last boot.
     pub fn totals(&self, flow: Flow) -> (u32, u32)
-        requires stands { (trace : TraceContent) × (cores : Cores) × Stands trace cores self.now }
+        requires stands { (trace : TraceContent) × (cores : SlotCores) × AllRoundsStand trace cores self.now }
         requires src { flow.src < self.now.endpoints }
         requires dst { flow.dst < self.now.endpoints }
-        ensures { (trace : TraceContent) (cores : Cores) → Stands trace cores self.now →
+        ensures { (trace : TraceContent) (cores : SlotCores) → AllRoundsStand trace cores self.now →
             result ≡ sent_and_missed (setting_with trace cores self.now) self.now.collected flow.src flow.dst }
     {
         self.lanes[flow.src as usize].totals(flow.dst)

@@ -2,9 +2,9 @@
 use Rattle.std.specs.Prelude.{◌≡◌, ◌<◌, ◌≤◌, ℕ, ◌+◌, ◌*◌, ◌^◌, List, [], ◌∷◌, ◌++◌, length, map, take, drop, Option, Some, None, All, IfSome, slice_index_or}
 use Rattle.std.specs.List.{flat_map}
 use Rattle.greedy_rules.specs.Schedule.{first_slot}
+use Rattle.clos_topology.specs.NetSlots.{SlotCores}
 use Rattle.report_text.specs.declared.line.Line.{Line}
 use Rattle.report_text.specs.Names.{IsRefusal}
-use Rattle.replay_rounds.specs.Setting.{Cores}
 use Rattle.replay_rounds.specs.Played.{Played}
 use Rattle.window_engine.specs.Scheduled.{cores_from}
 use Rattle.window_engine.specs.Step.{StepContent}
@@ -13,7 +13,7 @@ use Rattle.run_lines.specs.Text.{no_batch, entry_line, batch_lines, refused_line
 -- ---- of a plan
 
 -- the cores that a step names
-abbrev pub cores_of_step : ℕ → StepContent → Cores
+abbrev pub cores_of_step : ℕ → StepContent → SlotCores
 cores_of_step b step = cores_from (first_slot b step.window.span.first) step.window.cores
 
 -- a batch of a step, by its place, with its b slots

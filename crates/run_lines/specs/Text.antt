@@ -4,13 +4,13 @@ use Rattle.greedy_rules.specs.declared.flows.Flow.{Flow}
 use Rattle.greedy_rules.specs.Batches.{DemandBatch}
 use Rattle.greedy_rules.specs.Schedule.{first_slot}
 use Rattle.clos_topology.specs.Network.{endpoints_of}
+use Rattle.clos_topology.specs.NetSlots.{SlotCores}
 use Rattle.report_text.specs.declared.line.Line.{Line}
 use Rattle.report_text.specs.declared.line.Line.TheVariants as line
 pub use Rattle.text_output.specs.Text.{line_text, text_of, entry_line, slot_line, slots_lines}
 use Rattle.trace_text.specs.Trace.{TraceContent}
 use Rattle.trace_run.specs.Run.{Setting}
 use Rattle.replay_rounds.specs.declared.played.Departure.{Departure}
-use Rattle.replay_rounds.specs.Setting.{Cores}
 use Rattle.window_engine.specs.declared.counts.Counts.{Counts}
 use Rattle.window_engine.specs.Batches.{plan_batches}
 use Rattle.window_engine.specs.Counts.{counts_of}
@@ -23,7 +23,7 @@ abbrev pub no_batch : DemandBatch
 no_batch = record { entries = []; limits = record { hosts = 0; cores = 0 } }
 
 -- a batch with its slots
-abbrev pub batch_lines : Cores → ℕ → ℕ → DemandBatch → List (List Flow) → List Line
+abbrev pub batch_lines : SlotCores → ℕ → ℕ → DemandBatch → List (List Flow) → List Line
 batch_lines cores b k batch slots = map (entry_line k) batch.entries ++ slots_lines cores (first_slot b k) slots
 
 -- ---- rounds

@@ -1,8 +1,8 @@
 // The lines of what became of each flow's demand, at the end of a replay.
 ghost use Rattle.std.specs.Prelude.{◌≡◌, ◌<◌, ◌≤◌, ◌+◌, IfSome};
 ghost use Rattle.clos_topology.specs.Network.{endpoints_of};
+ghost use Rattle.clos_topology.specs.NetSlots.{SlotCores};
 ghost use Rattle.trace_text.specs.Valid.{IsTrace};
-ghost use Rattle.replay_rounds.specs.Setting.{Cores};
 ghost use Rattle.window_engine.specs.Replay.{StandsForReplay, run_of};
 ghost use Rattle.text_output.specs.Output.{Passes};
 ghost use Rattle.run_lines.specs.Text.{text_of, flight_of, count_lines_of, counts_of_source, counts_lines};
@@ -56,10 +56,10 @@ fn put_source<K: Sink>(
     src: u16,
 ) -> Result<(), Stop>
     requires accepted { IsTrace trace.now }
-    requires stands { (cores : Cores) × StandsForReplay trace.now cores replay.now }
+    requires stands { (cores : SlotCores) × StandsForReplay trace.now cores replay.now }
     requires done { replay.now.lanes.published ≡ replay.now.rounds }
     requires src { src < endpoints_of trace.now.net }
-    ensures { (cores : Cores) → StandsForReplay trace.now cores replay.now →
+    ensures { (cores : SlotCores) → StandsForReplay trace.now cores replay.now →
         Passes output.old output.new (text_of (counts_of_source (run_of trace.now cores replay.now) trace.now src)) result }
 {
     every_count_has_a_flight();
@@ -77,9 +77,9 @@ pub fn put_counts<K: Sink>(
     replay: &Replay,
 ) -> Result<(), Stop>
     requires accepted { IsTrace trace.now }
-    requires stands { (cores : Cores) × StandsForReplay trace.now cores replay.now }
+    requires stands { (cores : SlotCores) × StandsForReplay trace.now cores replay.now }
     requires done { replay.now.lanes.published ≡ replay.now.rounds }
-    ensures { (cores : Cores) → StandsForReplay trace.now cores replay.now →
+    ensures { (cores : SlotCores) → StandsForReplay trace.now cores replay.now →
         Passes output.old output.new (text_of (counts_lines (run_of trace.now cores replay.now) trace.now)) result }
 {
     for src in 0..trace.endpoints() {

@@ -5,10 +5,10 @@ use Rattle.std.proofs.lemmas.List.Concat.{flat_map-append}
 use Rattle.greedy_rules.specs.declared.flows.Flow.{Flow}
 use Rattle.greedy_rules.specs.Batches.{DemandBatch}
 use Rattle.greedy_rules.specs.Schedule.{schedule}
+use Rattle.clos_topology.specs.NetSlots.{SlotCores}
 use Rattle.report_text.specs.declared.line.Line.{Line}
 use Rattle.trace_text.specs.Trace.{TraceContent}
 use Rattle.window_engine.specs.Batches.{plan_batches}
-use Rattle.replay_rounds.specs.Setting.{Cores}
 use Rattle.run_lines.specs.Text.{text_of, no_batch, batch_lines, line_text}
 use Rattle.run_text.specs.PlanText.{batches_lines}
 use Rattle.run_text.specs.Progress.{window_lines, rounds_lines}
@@ -16,7 +16,7 @@ use Rattle.run_text.specs.Progress.{window_lines, rounds_lines}
 times_more : (n b : ℕ) → suc n * b ≡ b + n * b
 times_more n b = grind arith
 
-batches_lines-append : (cores : Cores) (b k : ℕ) (xs ys : List DemandBatch) (slots : List (List Flow))
+batches_lines-append : (cores : SlotCores) (b k : ℕ) (xs ys : List DemandBatch) (slots : List (List Flow))
     → batches_lines cores b k (xs ++ ys) slots ≡ batches_lines cores b k xs (take (length xs * b) slots) ++ batches_lines cores b (k + length xs) ys (drop (length xs * b) slots)
 batches_lines-append cores b k [] ys slots =
     let none : 0 * b ≡ 0 = omega arith in
@@ -47,7 +47,7 @@ take-plus m n xs =
 places : (k n b : ℕ) → (k + n) * b ≡ k * b + n * b
 places k n b = grind arith
 
-pub front_more : (cores : Cores) (b j k n : ℕ) (batches : List DemandBatch) (slots : List (List Flow)) → k + n ≤ length batches
+pub front_more : (cores : SlotCores) (b j k n : ℕ) (batches : List DemandBatch) (slots : List (List Flow)) → k + n ≤ length batches
     → batches_lines cores b j (take (k + n) batches) (take ((k + n) * b) slots)
     ≡ batches_lines cores b j (take k batches) (take (k * b) slots) ++ batches_lines cores b (j + k) (take n (drop k batches)) (take (n * b) (drop (k * b) slots))
 front_more cores b j k n batches slots within =
@@ -67,7 +67,7 @@ front_more cores b j k n batches slots within =
     ∙ (ap (λ (s : List (List Flow)). batches_lines cores b j xs s ++ batches_lines cores b (j + k) ys (drop (k * b) here)) first
     ∙ ap (λ (s : List (List Flow)). batches_lines cores b j xs (take (k * b) slots) ++ batches_lines cores b (j + k) ys s) rest))))
 
-pub rounds_more : (cores : Cores) (b k n : ℕ) (trace : TraceContent) → k + n ≤ length (plan_batches trace)
+pub rounds_more : (cores : SlotCores) (b k n : ℕ) (trace : TraceContent) → k + n ≤ length (plan_batches trace)
     → text_of (rounds_lines cores b (k + n) trace) ≡ text_of (rounds_lines cores b k trace) ++ text_of (window_lines cores b k n trace)
 rounds_more cores b k n trace within =
     let same : 0 + k ≡ k = omega arith in
@@ -77,7 +77,7 @@ rounds_more cores b k n trace within =
     ∙ flat_map-append line_text (rounds_lines cores b k trace) (window_lines cores b k n trace)
 
 -- all rounds, of which these are done
-pub rounds_whole : (cores : Cores) (b k n all : ℕ) (trace : TraceContent) → k + n ≤ all → all ≤ length (plan_batches trace)
+pub rounds_whole : (cores : SlotCores) (b k n all : ℕ) (trace : TraceContent) → k + n ≤ all → all ≤ length (plan_batches trace)
     → text_of (rounds_lines cores b all trace) ≡ (text_of (rounds_lines cores b k trace) ++ text_of (window_lines cores b k n trace)) ++ text_of (window_lines cores b (k + n) (all - (k + n)) trace)
 rounds_whole cores b k n all trace more within =
     let rest : ℕ = all - (k + n) in
@@ -87,7 +87,7 @@ rounds_whole cores b k n all trace more within =
     ∙ ap (λ (t : List ℕ). t ++ text_of (window_lines cores b (k + n) rest trace)) (rounds_more cores b k n trace (omega arith)))
 
 -- one batch more of a step
-one_batch : (cores : Cores) (b j k : ℕ) (batches : List DemandBatch) (slots : List (List Flow)) → k < length batches
+one_batch : (cores : SlotCores) (b j k : ℕ) (batches : List DemandBatch) (slots : List (List Flow)) → k < length batches
     → batches_lines cores b (j + k) (take 1 (drop k batches)) (take (1 * b) (drop (k * b) slots)) ≡ batch_lines cores b (j + k) (get_or batches k no_batch) (take b (drop (k * b) slots))
 one_batch cores b j k batches slots below =
     let none : DemandBatch = no_batch in
@@ -97,7 +97,7 @@ one_batch cores b j k batches slots below =
     ∙ (append-nil (batch_lines cores b (j + k) (get_or batches k none) (take b (take (1 * b) rest)))
     ∙ ap (batch_lines cores b (j + k) (get_or batches k none)) (ap (λ (m : ℕ). take b (take m rest)) size ∙ take-take b b rest (omega arith)))
 
-pub batches_more : (cores : Cores) (b j k : ℕ) (batches : List DemandBatch) (slots : List (List Flow)) → k < length batches
+pub batches_more : (cores : SlotCores) (b j k : ℕ) (batches : List DemandBatch) (slots : List (List Flow)) → k < length batches
     → text_of (batches_lines cores b j (take (k + 1) batches) (take ((k + 1) * b) slots))
     ≡ text_of (batches_lines cores b j (take k batches) (take (k * b) slots)) ++ text_of (batch_lines cores b (j + k) (get_or batches k no_batch) (take b (drop (k * b) slots)))
 batches_more cores b j k batches slots below =
@@ -105,7 +105,7 @@ batches_more cores b j k batches slots below =
     ap text_of (front_more cores b j k 1 batches slots (omega arith) ∙ ap (λ (ls : List Line). before ++ ls) (one_batch cores b j k batches slots below))
     ∙ flat_map-append line_text before (batch_lines cores b (j + k) (get_or batches k no_batch) (take b (drop (k * b) slots)))
 
-pub batches_whole : (cores : Cores) (b j k : ℕ) (batches : List DemandBatch) (slots : List (List Flow)) → k < length batches → length slots ≡ length batches * b
+pub batches_whole : (cores : SlotCores) (b j k : ℕ) (batches : List DemandBatch) (slots : List (List Flow)) → k < length batches → length slots ≡ length batches * b
     → text_of (batches_lines cores b j batches slots)
     ≡ (text_of (batches_lines cores b j (take k batches) (take (k * b) slots)) ++ text_of (batch_lines cores b (j + k) (get_or batches k no_batch) (take b (drop (k * b) slots))))
     ++ text_of (batches_lines cores b (j + (k + 1)) (take (length batches - (k + 1)) (drop (k + 1) batches)) (take ((length batches - (k + 1)) * b) (drop ((k + 1) * b) slots)))

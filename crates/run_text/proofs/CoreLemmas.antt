@@ -1,4 +1,4 @@
--- Cores for the slots of a plan: those of one window can be put in place of others.
+-- SlotCores for the slots of a plan: those of one window can be put in place of others.
 use Rattle.std.proofs.Common.{◌≡◌, ◌<◌, ◌≤◌, ◌+◌, ◌-◌, ◌*◌, ℕ, suc, List, [], ◌∷◌, ◌++◌, length, get_or, map, take, drop, Option, false, ◌&&◌, nat_lt, nat_le, cond, refl, sym, ap, ◌∙◌, subst, arith, inl, inr}
 use Rattle.std.proofs.lemmas.Bool.{cond-true, cond-false, cases_Bool, and_parts, and_from, ltb-true, leb-true, lt-ltb, le-leb}
 use Rattle.std.proofs.lemmas.Bool.Decides.{nat_tests}
@@ -8,11 +8,11 @@ use Rattle.greedy_rules.specs.Batches.{DemandBatch}
 use Rattle.greedy_rules.specs.Schedule.{first_slot, schedule, slot_in, slot_at}
 use Rattle.clos_topology.specs.Network.{Network}
 use Rattle.clos_topology.specs.Links.{CoreOf, IsClean}
+use Rattle.clos_topology.specs.NetSlots.{SlotCores}
 use Rattle.report_text.specs.declared.line.Line.{Line}
 use Rattle.report_text.specs.declared.line.Line.TheVariants as line
 use Rattle.trace_text.specs.Trace.{TraceContent}
 use Rattle.window_engine.specs.Batches.{plan_batches}
-use Rattle.replay_rounds.specs.Setting.{Cores}
 use Rattle.window_engine.specs.Scheduled.{EverySlotIsScheduled, AreClean}
 use Rattle.window_engine.specs.Step.{window_slots}
 use Rattle.run_text.specs.Progress.{window_lines, rounds_lines}
@@ -31,7 +31,7 @@ in_window low count at slots below =
     let place : low + at ≡ low + 1 + at - 1 = omega arith in
     get_or-take count (drop low slots) at [] (within_window low count at slots below).0 ∙ (get_or-drop low slots at [] ∙ ap (λ (m : ℕ). get_or slots m []) place)
 
-pub clean_in_window : (b first count : ℕ) (trace : TraceContent) (cores : Cores) → EverySlotIsScheduled b trace.net (plan_batches trace) cores → AreClean trace.net cores (first_slot b first) (window_slots b (plan_batches trace) first count)
+pub clean_in_window : (b first count : ℕ) (trace : TraceContent) (cores : SlotCores) → EverySlotIsScheduled b trace.net (plan_batches trace) cores → AreClean trace.net cores (first_slot b first) (window_slots b (plan_batches trace) first count)
 clean_in_window b first count trace cores scheduled at below =
     let low : ℕ = first * b in
     let size : ℕ = count * b in
@@ -41,20 +41,20 @@ clean_in_window b first count trace cores scheduled at below =
     (scheduled number (omega arith) (within_window low size at all below).1).clean
 
 -- some cores for the slots of a window, and others for the other slots
-abbrev pub spliced : ℕ → ℕ → Cores → Cores → Cores
+abbrev pub spliced : ℕ → ℕ → SlotCores → SlotCores → SlotCores
 spliced low count here there number = cond (nat_lt low number && nat_le number (low + count)) (here number) (there number)
 
-pub spliced-here : (low count : ℕ) (here there : Cores) (number : ℕ) → low < number → number ≤ low + count → spliced low count here there number ≡ here number
+pub spliced-here : (low count : ℕ) (here there : SlotCores) (number : ℕ) → low < number → number ≤ low + count → spliced low count here there number ≡ here number
 spliced-here low count here there number above below =
     cond-true (nat_lt low number && nat_le number (low + count)) (here number) (there number) (and_from _ _ (lt-ltb _ _ above) (le-leb _ _ below))
 
-pub spliced-there : (low count : ℕ) (here there : Cores) (number : ℕ) → number ≤ low → spliced low count here there number ≡ there number
+pub spliced-there : (low count : ℕ) (here there : SlotCores) (number : ℕ) → number ≤ low → spliced low count here there number ≡ there number
 spliced-there low count here there number below =
     let before : (nat_lt low number && nat_le number (low + count)) ≡ false = grind (arith, nat_tests) in
     cond-false (nat_lt low number && nat_le number (low + count)) (here number) (there number) before
 
 -- cores that are clean for some slots, in place of those of a schedule
-pub scheduled_between : (b : ℕ) (net : Network) (batches : List DemandBatch) (low size : ℕ) (here there : Cores) → EverySlotIsScheduled b net batches there
+pub scheduled_between : (b : ℕ) (net : Network) (batches : List DemandBatch) (low size : ℕ) (here there : SlotCores) → EverySlotIsScheduled b net batches there
     → ((number : ℕ) → low < number → number ≤ low + size → number ≤ length (schedule b batches) → IsClean net.hosts net.cores (slot_at (schedule b batches) number) (here number))
     → EverySlotIsScheduled b net batches (spliced low size here there)
 scheduled_between b net batches low size here there scheduled clean number positive within =
@@ -70,7 +70,7 @@ scheduled_between b net batches low size here there scheduled clean number posit
     ] in
     record { matching = old.matching; maximal = old.maximal; within_cores = old.within_cores; clean = new }
 
-pub scheduled_spliced : (b first count : ℕ) (trace : TraceContent) (here there : Cores) → EverySlotIsScheduled b trace.net (plan_batches trace) there → AreClean trace.net here (first_slot b first) (window_slots b (plan_batches trace) first count)
+pub scheduled_spliced : (b first count : ℕ) (trace : TraceContent) (here there : SlotCores) → EverySlotIsScheduled b trace.net (plan_batches trace) there → AreClean trace.net here (first_slot b first) (window_slots b (plan_batches trace) first count)
     → EverySlotIsScheduled b trace.net (plan_batches trace) (spliced (first * b) (count * b) here there)
 scheduled_spliced b first count trace here there scheduled clean =
     let all : List (List Flow) = all_slots b trace in
@@ -89,7 +89,7 @@ slot_lines-same f h number [] same = refl
 slot_lines-same f h number (flow ∷ slot) same =
     ap (λ (core : Option ℕ). line.Slot number flow.src flow.dst core ∷ map (slot_line number f) slot) (same flow.src) ∙ ap (λ (ls : List Line). slot_line number h flow ∷ ls) (slot_lines-same f h number slot same)
 
-pub slots_lines-same : (f h : Cores) (number : ℕ) (slots : List (List Flow)) → ((i source : ℕ) → i < length slots → f (number + i) source ≡ h (number + i) source) → slots_lines f number slots ≡ slots_lines h number slots
+pub slots_lines-same : (f h : SlotCores) (number : ℕ) (slots : List (List Flow)) → ((i source : ℕ) → i < length slots → f (number + i) source ≡ h (number + i) source) → slots_lines f number slots ≡ slots_lines h number slots
 slots_lines-same f h number [] same = refl
 slots_lines-same f h number (slot ∷ slots) same =
     let start : number + 0 ≡ number = omega arith in
@@ -102,7 +102,7 @@ slots_lines-same f h number (slot ∷ slots) same =
 next_first : (b k : ℕ) → first_slot b (k + 1) ≡ first_slot b k + b
 next_first b k = grind arith
 
-pub batches_lines-same : (f g : Cores) (b k : ℕ) (batches : List DemandBatch) (slots : List (List Flow)) → ((number : ℕ) → first_slot b k ≤ number → number < first_slot b k + length slots → f number ≡ g number)
+pub batches_lines-same : (f g : SlotCores) (b k : ℕ) (batches : List DemandBatch) (slots : List (List Flow)) → ((number : ℕ) → first_slot b k ≤ number → number < first_slot b k + length slots → f number ≡ g number)
     → batches_lines f b k batches slots ≡ batches_lines g b k batches slots
 batches_lines-same f g b k [] slots same = refl
 batches_lines-same f g b k (batch ∷ batches) slots same =
@@ -112,7 +112,7 @@ batches_lines-same f g b k (batch ∷ batches) slots same =
     ap (λ (lines : List Line). (map (entry_line k) batch.entries ++ lines) ++ batches_lines f b (k + 1) batches (drop b slots)) own
     ∙ ap (λ (lines : List Line). batch_lines g b k batch (take b slots) ++ lines) later
 
-pub window_spliced : (b first count : ℕ) (trace : TraceContent) (here there : Cores) → window_lines (spliced (first * b) (count * b) here there) b first count trace ≡ window_lines here b first count trace
+pub window_spliced : (b first count : ℕ) (trace : TraceContent) (here there : SlotCores) → window_lines (spliced (first * b) (count * b) here there) b first count trace ≡ window_lines here b first count trace
 window_spliced b first count trace here there =
     let low : ℕ = first * b in
     let size : ℕ = count * b in
@@ -120,7 +120,7 @@ window_spliced b first count trace here there =
     batches_lines-same (spliced low size here there) here b first (take count (drop first (plan_batches trace))) slots
     (λ number above below. spliced-here low size here there number (omega arith) (omega (arith, length-take size (drop low (all_slots b trace)))))
 
-pub rounds_spliced : (b k count : ℕ) (trace : TraceContent) (here there : Cores) → rounds_lines (spliced (k * b) (count * b) here there) b k trace ≡ rounds_lines there b k trace
+pub rounds_spliced : (b k count : ℕ) (trace : TraceContent) (here there : SlotCores) → rounds_lines (spliced (k * b) (count * b) here there) b k trace ≡ rounds_lines there b k trace
 rounds_spliced b k count trace here there =
     let low : ℕ = k * b in
     let start : 0 * b ≡ 0 = omega arith in

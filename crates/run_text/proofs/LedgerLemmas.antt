@@ -14,6 +14,7 @@ use Rattle.greedy_rules.specs.Batches.{DemandBatch, IsBatch, entry_of}
 use Rattle.greedy_rules.specs.Balance.{AreInOrder, is_recorded, added_by, added_of}
 use Rattle.greedy_rules.proofs.Facts.{same_flow-refl, same_flow-true, flow_below-not_same}
 use Rattle.clos_topology.specs.Network.{endpoints_of}
+use Rattle.clos_topology.specs.NetSlots.{SlotCores}
 use Rattle.endpoint_history.specs.Entries.{had}
 use Rattle.endpoint_history.specs.Lane.{last_reset}
 use Rattle.endpoint_history.specs.Counts.{recorded, lost}
@@ -26,8 +27,7 @@ use Rattle.trace_run.specs.Applicable.{EveryRunIsApplicable}
 use Rattle.trace_run.specs.Counts.{IsCounted}
 use Rattle.trace_run.specs.Shown.{IsShown, EveryReplayShows}
 use Rattle.trace_run.specs.Windows.{batch_at, collected_after}
-use Rattle.replay_rounds.specs.Setting.{Cores}
-use Rattle.replay_rounds.specs.Played.{answers_in, departures_in}
+use Rattle.replay_rounds.specs.Played.{raw_answers, departures_in}
 use Rattle.replay_rounds.specs.Standing.{slots_between}
 use Rattle.greedy_rules.specs.Schedule.{first_slot, schedule}
 use Rattle.window_engine.specs.declared.counts.Counts.{Counts}
@@ -65,12 +65,12 @@ All-flat P f (k ∷ ks) all = All-append P (f k) (flat_map f ks) (all k) (All-fl
 round_without : (setting : Setting) (trace : TraceContent) (round : ℕ) → All NamesNoCounts (round_lines setting trace round)
 round_without setting trace round =
     let entries : List Line = map (entry_line round) (batch_at setting round).entries in
-    let refusals : List Line = flat_map (refused_line round) (answers_in setting trace round) in
+    let refusals : List Line = flat_map (refused_line round) (raw_answers setting trace round) in
     All-append NamesNoCounts (entries ++ refusals) (map sent_line (departures_in setting round))
-    (All-append NamesNoCounts entries refusals (All-map NamesNoCounts (entry_line round) (batch_at setting round).entries (λ i d below. tt)) (refusals_all NamesNoCounts round (answers_in setting trace round) (λ number. tt)))
+    (All-append NamesNoCounts entries refusals (All-map NamesNoCounts (entry_line round) (batch_at setting round).entries (λ i d below. tt)) (refusals_all NamesNoCounts round (raw_answers setting trace round) (λ number. tt)))
     (All-map NamesNoCounts sent_line (departures_in setting round) (λ i d below. tt))
 
-step_without : (cores : Cores) (setting : Setting) (trace : TraceContent) (step : ℕ) → All NamesNoCounts (step_lines cores setting trace step)
+step_without : (cores : SlotCores) (setting : Setting) (trace : TraceContent) (step : ℕ) → All NamesNoCounts (step_lines cores setting trace step)
 step_without cores setting trace step =
     let here : ℕ = collected_after setting.g trace.rounds step in
     let next : ℕ = collected_after setting.g trace.rounds (suc step) in
@@ -79,12 +79,12 @@ step_without cores setting trace step =
     (All-flat NamesNoCounts (round_lines setting trace) (range_with_len here (next - here)) (round_without setting trace))
     (slots_all NamesNoCounts cores (first_slot setting.b before) (slots_between setting before here) (λ number core_of flow. tt))
 
-steps_without : (cores : Cores) (setting : Setting) (trace : TraceContent) (steps : ℕ) → All NamesNoCounts (steps_lines cores setting trace steps)
+steps_without : (cores : SlotCores) (setting : Setting) (trace : TraceContent) (steps : ℕ) → All NamesNoCounts (steps_lines cores setting trace steps)
 steps_without cores setting trace steps = All-flat NamesNoCounts (step_lines cores setting trace) (range_with_len 0 steps) (step_without cores setting trace)
 
 -- ---- a plan
 
-pub batches_without : (cores : Cores) (b k : ℕ) (batches : List DemandBatch) (slots : List (List Flow)) → All NamesNoCounts (batches_lines cores b k batches slots)
+pub batches_without : (cores : SlotCores) (b k : ℕ) (batches : List DemandBatch) (slots : List (List Flow)) → All NamesNoCounts (batches_lines cores b k batches slots)
 batches_without cores b k [] slots = All-nil NamesNoCounts
 batches_without cores b k (batch ∷ batches) slots =
     let own : List (List Flow) = take b slots in
@@ -100,7 +100,7 @@ plan_flow b batches flow balance =
       | inr other ↦ subst P (sym (cond-false (is_recorded batches flow) _ _ other)) (All-nil IsBalanced)
     ]
 
-pub plan_is_balanced : (cores : Cores) (b : ℕ) (trace : TraceContent) → AllIsAllocatedOrPending b (plan_batches trace) → All IsBalanced (plan_lines cores b trace)
+pub plan_is_balanced : (cores : SlotCores) (b : ℕ) (trace : TraceContent) → AllIsAllocatedOrPending b (plan_batches trace) → All IsBalanced (plan_lines cores b trace)
 plan_is_balanced cores b trace balance =
     let batches : List DemandBatch = plan_batches trace in
     let rounds : List Line = batches_lines cores b 0 batches (schedule b batches) in
@@ -163,9 +163,9 @@ round_adds first round setting trace flow rises =
     let m : Line → ℕ = added_in first flow in
     let es : List Entry = (batch_at setting round).entries in
     let entries : List Line = map (entry_line round) es in
-    let refusals : List Line = flat_map (refused_line round) (answers_in setting trace round) in
+    let refusals : List Line = flat_map (refused_line round) (raw_answers setting trace round) in
     let sends : List Line = map sent_line (departures_in setting round) in
-    let no_refusals : sum_by m refusals ≡ 0 = sum-none m refusals (refusals_all (λ l. m l ≡ 0) round (answers_in setting trace round) (λ number. refl)) in
+    let no_refusals : sum_by m refusals ≡ 0 = sum-none m refusals (refusals_all (λ l. m l ≡ 0) round (raw_answers setting trace round) (λ number. refl)) in
     let no_sends : sum_by m sends ≡ 0 = sum-none m sends (All-map (λ l. m l ≡ 0) sent_line (departures_in setting round) (λ i d below. refl)) in
     omega (arith, sum_by-append m (entries ++ refusals) sends, sum_by-append m entries refusals, no_refusals, no_sends, entries_add first round es flow rises)
 
@@ -252,7 +252,7 @@ all_collected setting trace takes some positive =
     sym (ap (collected_after setting.g trace.rounds) back) ∙ done
 
 -- over the whole text
-text_adds : (cores : Cores) (setting : Setting) (trace : TraceContent) (first : ℕ) (flow : Flow) → EveryRunIsApplicable → ((n : ℕ) → length (replayed setting n).batches ≡ n) → EveryReplayTakesItsSteps → 0 < setting.g → 0 < trace.rounds
+text_adds : (cores : SlotCores) (setting : Setting) (trace : TraceContent) (first : ℕ) (flow : Flow) → EveryRunIsApplicable → ((n : ℕ) → length (replayed setting n).batches ≡ n) → EveryReplayTakesItsSteps → 0 < setting.g → 0 < trace.rounds
     → sum_by (added_in first flow) (replay_lines cores setting trace) ≡ added_from first flow (replayed setting trace.rounds).batches
 text_adds cores setting trace first flow applicable long takes some positive =
     let m : Line → ℕ = added_in first flow in
@@ -275,7 +275,7 @@ text_adds cores setting trace first flow applicable long takes some positive =
       rounds_add first trace.rounds setting trace flow applicable long,
     )
 
-pub ledger_is_kept : (cores : Cores) (setting : Setting) (trace : TraceContent) → setting.endpoints ≡ endpoints_of trace.net → EveryReplayShows → EveryRunIsApplicable → EveryReplayTakesItsSteps → 0 < setting.g → 0 < trace.rounds
+pub ledger_is_kept : (cores : SlotCores) (setting : Setting) (trace : TraceContent) → setting.endpoints ≡ endpoints_of trace.net → EveryReplayShows → EveryRunIsApplicable → EveryReplayTakesItsSteps → 0 < setting.g → 0 < trace.rounds
     → LedgerIsKept setting trace.rounds (replay_lines cores setting trace)
 ledger_is_kept cores setting trace endpoints shows applicable takes some positive =
     let lines : List Line = replay_lines cores setting trace in

@@ -8,12 +8,12 @@ use Rattle.std.proofs.lemmas.List.Sums.{sum_by-cons, sum_by-append}
 use Rattle.greedy_rules.specs.declared.flows.Flow.{Flow}
 use Rattle.greedy_rules.specs.Schedule.{first_slot}
 use Rattle.clos_topology.specs.Links.{CoreOf}
+use Rattle.clos_topology.specs.NetSlots.{SlotCores}
 use Rattle.report_text.specs.declared.line.Line.{Line}
 use Rattle.report_text.specs.declared.line.Line.TheVariants as line
 use Rattle.trace_text.specs.Trace.{TraceContent}
 use Rattle.trace_run.specs.Run.{Setting}
 use Rattle.trace_run.specs.Windows.{collected_after}
-use Rattle.replay_rounds.specs.Setting.{Cores}
 use Rattle.replay_rounds.specs.Standing.{slots_between}
 use Rattle.run_lines.specs.Text.{slot_line, slots_lines, each_destination, each_source, refused_line}
 use Rattle.run_text.specs.ReplayText.{round_lines, rounds_lines, window_lines, step_lines, steps_lines}
@@ -48,7 +48,7 @@ refusals_all P round [] each = All-nil P
 refusals_all P round (None ∷ answers) each = refusals_all P round answers each
 refusals_all P round (Some number ∷ answers) each = All-cons P (line.Refused round number) (flat_map (refused_line round) answers) (each number) (refusals_all P round answers each)
 
-pub slots_all : (P : Line → Type 0) (cores : Cores) (number : ℕ) (slots : List (List Flow)) → ((n : ℕ) (core_of : CoreOf) (flow : Flow) → P (slot_line n core_of flow)) → All P (slots_lines cores number slots)
+pub slots_all : (P : Line → Type 0) (cores : SlotCores) (number : ℕ) (slots : List (List Flow)) → ((n : ℕ) (core_of : CoreOf) (flow : Flow) → P (slot_line n core_of flow)) → All P (slots_lines cores number slots)
 slots_all P cores number [] each = All-nil P
 slots_all P cores number (slot ∷ slots) each =
     All-append P (map (slot_line number (cores number)) slot) (slots_lines cores (number + 1) slots)
@@ -73,7 +73,7 @@ sources_all P lines endpoints each = sources_from P lines endpoints 0 endpoints 
 -- ---- the steps
 
 -- what no slot line adds to is the same over the steps and over the rounds that they collect
-pub steps_sum : (m : Line → ℕ) (cores : Cores) (setting : Setting) (trace : TraceContent) (steps : ℕ) → ((n : ℕ) (core_of : CoreOf) (flow : Flow) → m (slot_line n core_of flow) ≡ 0)
+pub steps_sum : (m : Line → ℕ) (cores : SlotCores) (setting : Setting) (trace : TraceContent) (steps : ℕ) → ((n : ℕ) (core_of : CoreOf) (flow : Flow) → m (slot_line n core_of flow) ≡ 0)
     → sum_by m (steps_lines cores setting trace steps) ≡ sum_by m (rounds_lines setting trace 0 (collected_after setting.g trace.rounds steps))
 steps_sum m cores setting trace zero no_slots = refl
 steps_sum m cores setting trace (suc steps) no_slots =

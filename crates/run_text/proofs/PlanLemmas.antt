@@ -5,12 +5,12 @@ use Rattle.std.proofs.lemmas.List.Concat.{flat_map-append}
 use Rattle.greedy_rules.specs.declared.flows.Flow.{Flow}
 use Rattle.greedy_rules.specs.Batches.{DemandBatch}
 use Rattle.greedy_rules.specs.Schedule.{schedule}
+use Rattle.clos_topology.specs.NetSlots.{SlotCores}
 use Rattle.report_text.specs.declared.line.Line.{Line}
 use Rattle.report_text.specs.declared.line.Line.TheVariants as line
 use Rattle.trace_text.specs.Trace.{TraceContent}
 use Rattle.trace_text.specs.Valid.{IsTrace}
 use Rattle.window_engine.specs.Batches.{plan_batches}
-use Rattle.replay_rounds.specs.Setting.{Cores}
 use Rattle.window_engine.specs.Step.{EveryPlanHasItsSlots}
 use Rattle.run_text.specs.Progress.{rounds_lines}
 use Rattle.run_text.specs.PlanText.{batches_lines, plan_text}
@@ -27,7 +27,7 @@ parts_with_end xs ys trace =
     ∙ (sym (append_assoc (text_of xs) (text_of ys) (text_of end))
     ∙ (ap (λ (t : List ℕ). t ++ text_of end) (sym (flat_map-append line_text xs ys)) ∙ sym (flat_map-append line_text (xs ++ ys) end)))
 
-pub plan_parts : (cores : Cores) (trace : TraceContent) (b : ℕ) → IsTrace trace → EveryPlanHasItsSlots
+pub plan_parts : (cores : SlotCores) (trace : TraceContent) (b : ℕ) → IsTrace trace → EveryPlanHasItsSlots
     → text_of (rounds_lines cores b trace.rounds trace) ++ (text_of (flows_lines b trace) ++ end_text trace) ≡ plan_text cores b trace
 plan_parts cores trace b accepted slots =
     let batches : List DemandBatch = plan_batches trace in

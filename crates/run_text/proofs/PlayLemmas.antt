@@ -1,9 +1,9 @@
 -- A replay whose steps give nothing out: the cores that its steps name so far decide for which cores it stands.
 use Rattle.std.proofs.Common.{◌≡◌, ◌≤◌, ◌+◌, ◌-◌, ◌*◌, ℕ, List, length, None, sym, ap, ◌∙◌, arith}
 use Rattle.greedy_rules.specs.declared.flows.Flow.{Flow}
+use Rattle.clos_topology.specs.NetSlots.{SlotCores, AreSlotCores}
 use Rattle.trace_text.specs.Trace.{TraceContent}
 use Rattle.trace_text.specs.Valid.{IsTrace}
-use Rattle.replay_rounds.specs.Setting.{Cores, AreCores}
 use Rattle.replay_rounds.specs.Standing.{slots_between}
 use Rattle.window_allocation.specs.declared.window.Span.{Span}
 use Rattle.window_engine.specs.Windows.{IsWindowOf}
@@ -18,20 +18,20 @@ use Rattle.run_text.proofs.ReplaySteps.{has_cores_of}
 -- it stands for all cores that agree with some for the slots that are published
 abbrev pub StandsForSome : TraceContent → ReplayState → Type 0
 StandsForSome trace engine =
-    (there : Cores) × AreCores there
-    × ((cores : Cores) → AreCores cores → AgreeAbove 0 (engine.lanes.published * engine.lanes.b) cores there → StandsForReplay trace cores engine)
+    (there : SlotCores) × AreSlotCores there
+    × ((cores : SlotCores) → AreSlotCores cores → AgreeAbove 0 (engine.lanes.published * engine.lanes.b) cores there → StandsForReplay trace cores engine)
 
-pub stands_itself : (trace : TraceContent) (engine : ReplayState) → StandsForSome trace engine → (cores : Cores) × StandsForReplay trace cores engine
+pub stands_itself : (trace : TraceContent) (engine : ReplayState) → StandsForSome trace engine → (cores : SlotCores) × StandsForReplay trace cores engine
 stands_itself trace engine (there, named, stands) = (there, stands there named (agree_self 0 (engine.lanes.published * engine.lanes.b) there))
 
-pub stands_at_first : (trace : TraceContent) (engine : ReplayState) → ((cores : Cores) → AreCores cores → StandsForReplay trace cores engine) → StandsForSome trace engine
+pub stands_at_first : (trace : TraceContent) (engine : ReplayState) → ((cores : SlotCores) → AreSlotCores cores → StandsForReplay trace cores engine) → StandsForSome trace engine
 stands_at_first trace engine stands = (λ number source. None, λ number source. tt, λ cores named agree. stands cores named)
 
 -- and a step later
 pub stands_on : (trace : TraceContent) (old new : ReplayState) (step : ReplayStepContent) → IsTrace trace → StandsForSome trace old → new.lanes.b ≡ old.lanes.b → new.lanes.published ≡ old.lanes.collected
     → step.window.span ≡ record { first = old.lanes.published; count = old.lanes.collected - old.lanes.published }
-    → ((cores : Cores) → StandsForReplay trace cores old → IsWindowOf trace.net old.lanes.b (slots_between (run_of trace cores old) old.lanes.published old.lanes.collected) step.window)
-    → ((cores : Cores) → StandsForReplay trace cores old → HasCoresOf old.lanes.b step cores → StandsForReplay trace cores new)
+    → ((cores : SlotCores) → StandsForReplay trace cores old → IsWindowOf trace.net old.lanes.b (slots_between (run_of trace cores old) old.lanes.published old.lanes.collected) step.window)
+    → ((cores : SlotCores) → StandsForReplay trace cores old → HasCoresOf old.lanes.b step cores → StandsForReplay trace cores new)
     → StandsForSome trace new
 stands_on trace old new step sound (there, named, stands) same published span windows goes_on =
     let b : ℕ = old.lanes.b in
@@ -39,7 +39,7 @@ stands_on trace old new step sound (there, named, stands) same published span wi
     let rounds : ℕ = old.lanes.collected in
     let low : ℕ = first * b in
     let size : ℕ = (rounds - first) * b in
-    let here : Cores = limited (cores_of_replay_step b step) in
+    let here : SlotCores = limited (cores_of_replay_step b step) in
     let all : ℕ = new.lanes.published * new.lanes.b in
     let behind : first ≤ rounds = (stands there named (agree_self 0 low there)).windows.behind in
     let end : low + size ≡ all = places first rounds b behind ∙ (ap (λ (n : ℕ). n * b) (sym published) ∙ ap (λ (n : ℕ). new.lanes.published * n) (sym same)) in

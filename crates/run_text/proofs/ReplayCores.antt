@@ -1,4 +1,4 @@
--- Cores for the slots of a replay: none is 64 or more, and those of one window can be put in place of others.
+-- SlotCores for the slots of a replay: none is 64 or more, and those of one window can be put in place of others.
 use Rattle.std.proofs.Common.{◌≡◌, ◌≢◌, ◌<◌, ◌≤◌, ◌+◌, ◌-◌, ◌*◌, ℕ, List, [], ◌∷◌, length, get_or, take, drop, Option, Some, None, IfSome, ◌&&◌, ◌==◌, nat_lt, nat_le, cond, All, refl, sym, ap, ◌∙◌, subst, arith, inl, inr}
 use Rattle.std.specs.Option.{MatchOption, unwrap_or}
 use Rattle.std.proofs.lemmas.Bool.{cond-true, cond-false, cases_Bool, ltb-true, ltb-false, lt-ltb}
@@ -13,12 +13,13 @@ use Rattle.clos_topology.specs.declared.graph.Edge.{Edge}
 use Rattle.greedy_rules.specs.Limits.{rack_of}
 use Rattle.clos_topology.specs.Links.{CoreOf, IsClean, links, SharesNoLink}
 use Rattle.clos_topology.specs.RackGraph.{rack_edges}
+use Rattle.clos_topology.specs.NetSlots.{SlotCores, AreSlotCores}
 use Rattle.path_workers.specs.Coloured.{NamesNoOther}
 use Rattle.trace_text.specs.Trace.{TraceContent}
 use Rattle.trace_text.specs.Valid.{IsTrace}
 use Rattle.trace_run.specs.Run.{Setting, replayed}
 use Rattle.trace_run.specs.Fronts.{EveryRoundHasABatch, ARunBeginsWithEach}
-use Rattle.replay_rounds.specs.Setting.{Cores, AreCores, byte_of, setting_of}
+use Rattle.replay_rounds.specs.Setting.{byte_of, setting_of}
 use Rattle.replay_rounds.specs.Standing.{slots_between}
 use Rattle.window_engine.specs.Scheduled.{EverySlotIsScheduled, AreClean, HasCores}
 use Rattle.trace_run.specs.Cores.{CoresDecideNothing}
@@ -33,7 +34,7 @@ below_64 None = None
 below_64 (Some core) = cond (nat_lt core 64) (Some core) None
 
 -- the same cores, but for those that are 64 or more
-abbrev pub limited : Cores → Cores
+abbrev pub limited : SlotCores → SlotCores
 limited cores number source = below_64 (cores number source)
 
 below_64-below : (o : Option ℕ) → IfSome (below_64 o) (λ core. core < 64)
@@ -45,7 +46,7 @@ below_64-below (Some core) =
       | inr large ↦ subst P (sym (cond-false (nat_lt core 64) (Some core) None large)) tt
     ]
 
-pub limited-named : (cores : Cores) → AreCores (limited cores)
+pub limited-named : (cores : SlotCores) → AreSlotCores (limited cores)
 limited-named cores number source = below_64-below (cores number source)
 
 pub below_64-same : (o : Option ℕ) → IfSome o (λ core. core < 64) → below_64 o ≡ o
@@ -115,14 +116,14 @@ cores_small hosts cores source slot core_of few clean others = source_small host
 
 -- ---- the batches of a replay
 
-pub same_batches : CoresDecideNothing → (trace : TraceContent) (b g rounds : ℕ) (one other : Cores) → (replayed (setting_of trace b g one) rounds).batches ≡ (replayed (setting_of trace b g other) rounds).batches
+pub same_batches : CoresDecideNothing → (trace : TraceContent) (b g rounds : ℕ) (one other : SlotCores) → (replayed (setting_of trace b g one) rounds).batches ≡ (replayed (setting_of trace b g other) rounds).batches
 same_batches nothing trace b g rounds one other = nothing (setting_of trace b g other) (λ number source. byte_of (one number source)) rounds
 
 pub has_replay_cores : (trace : TraceContent) (b g : ℕ) → CoresDecideNothing → EveryReplayHasCores → IsTrace trace → b ≤ 64 → 0 < g → WithReplayCores b g trace (λ cores. Unit {0})
 has_replay_cores trace b g nothing has sound size some =
-    let none : Cores = λ number source. None in
+    let none : SlotCores = λ number source. None in
     let found : HasCores b trace.net (replay_batches trace b g none) = has b g trace none sound size some in
-    let cores : Cores = limited found.0 in
+    let cores : SlotCores = limited found.0 in
     let Scheduled : List DemandBatch → Type 0 = λ batches. EverySlotIsScheduled b trace.net batches cores in
     let scheduled : Scheduled (replay_batches trace b g none) = λ number positive within.
     let old = found.1 number positive within in
@@ -167,7 +168,7 @@ sum_times k n b = grind arith
 pub places : (first rounds b : ℕ) → first ≤ rounds → first * b + (rounds - first) * b ≡ rounds * b
 places first rounds b le = sum_times first (rounds - first) b ∙ ap (λ (n : ℕ). n * b) (omega arith)
 
-pub spliced_named : (low size number source : ℕ) (here there : Cores) → AreCores here → AreCores there → IfSome (spliced low size here there number source) (λ core. core < 64)
+pub spliced_named : (low size number source : ℕ) (here there : SlotCores) → AreSlotCores here → AreSlotCores there → IfSome (spliced low size here there number source) (λ core. core < 64)
 spliced_named low size number source here there small small' =
     let test = nat_lt low number && nat_le number (low + size) in
     let P : CoreOf → Type 0 = λ core_of. IfSome (core_of source) (λ core. core < 64) in
@@ -177,13 +178,13 @@ spliced_named low size number source here there small small' =
     ]
 
 -- cores of a window in place of others
-pub replay_spliced : (trace : TraceContent) (b g first rounds : ℕ) (here there : Cores) → CoresDecideNothing → ARunBeginsWithEach → EveryRoundHasABatch → FrontsAreFronts → EveryBatchHasItsSlots
-    → first ≤ rounds → rounds ≤ trace.rounds → AreReplayCores b g trace there → AreCores here → AreClean trace.net here (first_slot b first) (slots_between (setting_of trace b g there) first rounds)
+pub replay_spliced : (trace : TraceContent) (b g first rounds : ℕ) (here there : SlotCores) → CoresDecideNothing → ARunBeginsWithEach → EveryRoundHasABatch → FrontsAreFronts → EveryBatchHasItsSlots
+    → first ≤ rounds → rounds ≤ trace.rounds → AreReplayCores b g trace there → AreSlotCores here → AreClean trace.net here (first_slot b first) (slots_between (setting_of trace b g there) first rounds)
     → AreReplayCores b g trace (spliced (first * b) ((rounds - first) * b) here there)
 replay_spliced trace b g first rounds here there nothing begins counts fronts each some within old named clean =
     let low : ℕ = first * b in
     let size : ℕ = (rounds - first) * b in
-    let cores : Cores = spliced low size here there in
+    let cores : SlotCores = spliced low size here there in
     let setting : Setting = setting_of trace b g there in
     let batches : List DemandBatch = replay_batches trace b g there in
     let new : EverySlotIsScheduled b trace.net batches cores =
@@ -199,7 +200,7 @@ replay_spliced trace b g first rounds here there nothing begins counts fronts ea
     }
 
 -- the cores of a whole replay are clean in each part of it
-pub clean_between : (trace : TraceContent) (b g first rounds : ℕ) (there : Cores) → ARunBeginsWithEach → EveryRoundHasABatch → FrontsAreFronts → EveryBatchHasItsSlots
+pub clean_between : (trace : TraceContent) (b g first rounds : ℕ) (there : SlotCores) → ARunBeginsWithEach → EveryRoundHasABatch → FrontsAreFronts → EveryBatchHasItsSlots
     → rounds ≤ trace.rounds → AreReplayCores b g trace there → AreClean trace.net there (first_slot b first) (slots_between (setting_of trace b g there) first rounds)
 clean_between trace b g first rounds there begins counts fronts each within old at below =
     let setting : Setting = setting_of trace b g there in

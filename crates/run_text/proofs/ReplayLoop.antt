@@ -1,10 +1,11 @@
 -- One step of a replay after another, with the cores that they name.
 use Rattle.std.proofs.Common.{◌≡◌, ◌≢◌, ◌<◌, ◌≤◌, ◌+◌, ◌-◌, ℕ, suc, List, ◌++◌, min, refl, sym, ap, ◌∙◌, arith}
 use Rattle.std.specs.List.{flat_map, range_with_len}
+use Rattle.clos_topology.specs.NetSlots.{SlotCores}
 use Rattle.report_text.specs.declared.line.Line.{Line}
 use Rattle.trace_text.specs.Trace.{TraceContent}
 use Rattle.trace_run.specs.Run.{Setting}
-use Rattle.replay_rounds.specs.Setting.{Cores, setting_of}
+use Rattle.replay_rounds.specs.Setting.{setting_of}
 use Rattle.window_engine.specs.Replay.{ReplayState, run_of}
 use Rattle.run_lines.specs.Text.{text_of}
 use Rattle.run_text.specs.ReplayProgress.{next_lines}
@@ -16,26 +17,26 @@ use Rattle.run_text.proofs.NumberedTexts.{numbers_more, numbers_whole}
 use Rattle.run_text.proofs.ReplaySteps.{IsAfter, next_step, more_steps}
 
 -- cores that agree with the spliced ones up to the window's end agree with the others before it, and with its own in it
-pub agree_before : (low size all : ℕ) (cores here there : Cores) → low ≤ all → AgreeAbove 0 all cores (spliced low size here there) → AgreeAbove 0 low cores there
+pub agree_before : (low size all : ℕ) (cores here there : SlotCores) → low ≤ all → AgreeAbove 0 all cores (spliced low size here there) → AgreeAbove 0 low cores there
 agree_before low size all cores here there le agree number above below = agree number above (omega arith) ∙ spliced-there low size here there number (omega (arith, below))
 
-pub agree_in : (low size all : ℕ) (cores here there : Cores) → low + size ≤ all → AgreeAbove 0 all cores (spliced low size here there) → AgreeAbove low size cores here
+pub agree_in : (low size all : ℕ) (cores here there : SlotCores) → low + size ≤ all → AgreeAbove 0 all cores (spliced low size here there) → AgreeAbove low size cores here
 agree_in low size all cores here there le agree number above below = agree number (omega arith) (omega arith) ∙ spliced-here low size here there number above below
 
-pub agree_self : (low size : ℕ) (cores : Cores) → AgreeAbove low size cores cores
+pub agree_self : (low size : ℕ) (cores : SlotCores) → AgreeAbove low size cores cores
 agree_self low size cores number above below = refl
 
 -- the run that a replay stands for is that of its sizes
-pub same_run : (trace : TraceContent) (cores : Cores) (engine : ReplayState) (b g : ℕ) → engine.lanes.b ≡ b → engine.lanes.g ≡ g → run_of trace cores engine ≡ setting_of trace b g cores
+pub same_run : (trace : TraceContent) (cores : SlotCores) (engine : ReplayState) (b g : ℕ) → engine.lanes.b ≡ b → engine.lanes.g ≡ g → run_of trace cores engine ≡ setting_of trace b g cores
 same_run trace cores engine b g size window = ap (λ (n : ℕ). setting_of trace n engine.lanes.g cores) size ∙ ap (λ (n : ℕ). setting_of trace b n cores) window
 
-pub step_here : (trace : TraceContent) (cores : Cores) (engine : ReplayState) (b g steps : ℕ) → IsAfter g trace.rounds steps engine → engine.rounds ≡ trace.rounds → engine.lanes.b ≡ b → engine.lanes.g ≡ g
+pub step_here : (trace : TraceContent) (cores : SlotCores) (engine : ReplayState) (b g steps : ℕ) → IsAfter g trace.rounds steps engine → engine.rounds ≡ trace.rounds → engine.lanes.b ≡ b → engine.lanes.g ≡ g
     → next_lines cores trace engine ≡ step_lines cores (setting_of trace b g cores) trace steps
 step_here trace cores engine b g steps after all size window =
     next_step trace cores engine g steps after all window ∙ ap (λ (s : Setting). step_lines cores s trace steps) (same_run trace cores engine b g size window)
 
 -- one step more
-pub steps_more : (trace : TraceContent) (cores : Cores) (engine : ReplayState) (b g steps : ℕ) → IsAfter g trace.rounds steps engine → engine.rounds ≡ trace.rounds → engine.lanes.b ≡ b → engine.lanes.g ≡ g →
+pub steps_more : (trace : TraceContent) (cores : SlotCores) (engine : ReplayState) (b g steps : ℕ) → IsAfter g trace.rounds steps engine → engine.rounds ≡ trace.rounds → engine.lanes.b ≡ b → engine.lanes.g ≡ g →
     let setting : Setting = setting_of trace b g cores in
     text_of (steps_lines cores setting trace (suc steps)) ≡ text_of (steps_lines cores setting trace steps) ++ text_of (next_lines cores trace engine)
 steps_more trace cores engine b g steps after all size window =
@@ -45,10 +46,10 @@ steps_more trace cores engine b g steps after all size window =
     ∙ (numbers_more (step_lines cores setting trace) steps ∙ ap (λ (ls : List Line). text_of (steps_lines cores setting trace steps) ++ text_of ls) (sym (step_here trace cores engine b g steps after all size window)))
 
 -- what stands after a step where the whole stops
-abbrev pub steps_after : Cores → Setting → TraceContent → ℕ → List ℕ
+abbrev pub steps_after : SlotCores → Setting → TraceContent → ℕ → List ℕ
 steps_after cores setting trace steps = text_of (flat_map (step_lines cores setting trace) (range_with_len (0 + (steps + 1)) (steps_of setting trace - (steps + 1))))
 
-pub steps_stop : (trace : TraceContent) (cores : Cores) (engine : ReplayState) (b g steps : ℕ) → EveryReplayTakesItsSteps → 0 < g → 0 < trace.rounds → IsAfter g trace.rounds steps engine → engine.rounds ≡ trace.rounds → engine.lanes.b ≡ b → engine.lanes.g ≡ g
+pub steps_stop : (trace : TraceContent) (cores : SlotCores) (engine : ReplayState) (b g steps : ℕ) → EveryReplayTakesItsSteps → 0 < g → 0 < trace.rounds → IsAfter g trace.rounds steps engine → engine.rounds ≡ trace.rounds → engine.lanes.b ≡ b → engine.lanes.g ≡ g
     → engine.lanes.published ≢ engine.rounds →
     let setting : Setting = setting_of trace b g cores in
     text_of (steps_lines cores setting trace (steps_of setting trace)) ≡ (text_of (steps_lines cores setting trace steps) ++ text_of (next_lines cores trace engine)) ++ steps_after cores setting trace steps

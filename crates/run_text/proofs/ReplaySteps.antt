@@ -12,6 +12,7 @@ use Rattle.greedy_rules.specs.Batches.{DemandBatch}
 use Rattle.greedy_rules.specs.Schedule.{first_slot, slot_in}
 use Rattle.clos_topology.specs.Network.{Network}
 use Rattle.clos_topology.specs.Links.{CoreOf, IsClean}
+use Rattle.clos_topology.specs.NetSlots.{SlotCores}
 use Rattle.greedy_rules.specs.SlotTable.{Slots}
 use Rattle.path_workers.specs.CoreTable.{CoreSlots, core_of}
 use Rattle.report_text.specs.declared.line.Line.{Line}
@@ -21,8 +22,7 @@ use Rattle.trace_text.specs.Valid.{IsTrace}
 use Rattle.trace_run.specs.Run.{Setting}
 use Rattle.trace_run.specs.Windows.{collected_after, batch_at}
 use Rattle.replay_rounds.specs.declared.played.Departure.{Departure}
-use Rattle.replay_rounds.specs.Setting.{Cores}
-use Rattle.replay_rounds.specs.Played.{Played, rounds_played, answers_in, departures_in, EveryRefusalHasANumber}
+use Rattle.replay_rounds.specs.Played.{Played, rounds_played, raw_answers, departures_in, EveryRefusalHasANumber}
 use Rattle.replay_rounds.specs.Standing.{slots_between}
 use Rattle.window_allocation.specs.declared.window.Span.{Span}
 use Rattle.window_engine.specs.Scheduled.{AreClean, cores_from}
@@ -83,20 +83,20 @@ all_steps g rounds steps engine takes some positive after done =
 -- ---- the text of a step
 
 sent_entries : (first at : ℕ) (setting : Setting) (trace : TraceContent) (batch : DemandBatch) (answers : List (Option ℕ)) (departures : List Departure)
-    → batch ≡ batch_at setting (first + at) → answers ≡ answers_in setting trace (first + at) → departures ≡ departures_in setting (first + at)
+    → batch ≡ batch_at setting (first + at) → answers ≡ raw_answers setting trace (first + at) → departures ≡ departures_in setting (first + at)
     → (map (entry_line (first + at)) batch.entries ++ flat_map (refused_line (first + at)) answers) ++ map sent_line departures ≡ round_lines setting trace (first + at)
 sent_entries first at setting trace batch answers departures batch_is answers_are departures_are =
     let round : ℕ = first + at in
     ap (λ (b : DemandBatch). (map (entry_line round) b.entries ++ flat_map (refused_line round) answers) ++ map sent_line departures) batch_is
     ∙ (ap (λ (a : List (Option ℕ)). (map (entry_line round) (batch_at setting round).entries ++ flat_map (refused_line round) a) ++ map sent_line departures) answers_are
-    ∙ ap (λ (ds : List Departure). (map (entry_line round) (batch_at setting round).entries ++ flat_map (refused_line round) (answers_in setting trace round)) ++ map sent_line ds) departures_are)
+    ∙ ap (λ (ds : List Departure). (map (entry_line round) (batch_at setting round).entries ++ flat_map (refused_line round) (raw_answers setting trace round)) ++ map sent_line ds) departures_are)
 
 -- the rounds that were played
 pub played_text : (setting : Setting) (trace : TraceContent) (first count : ℕ) → played_lines first (rounds_played setting trace first count) count ≡ rounds_lines setting trace first count
 played_text setting trace first count =
     numbers-same (played_round first (rounds_played setting trace first count)) (round_lines setting trace) first count
     (λ at below. sent_entries first at setting trace _ _ _ (get_or-map-range_with_len (batch_at setting) first count at (first + at) no_batch below refl)
-    (get_or-map-range_with_len (answers_in setting trace) first count at (first + at) [] below refl) (get_or-map-range_with_len (departures_in setting) first count at (first + at) [] below refl))
+    (get_or-map-range_with_len (raw_answers setting trace) first count at (first + at) [] below refl) (get_or-map-range_with_len (departures_in setting) first count at (first + at) [] below refl))
 
 played_count : (setting : Setting) (trace : TraceContent) (first count : ℕ) (played : Played) → played ≡ rounds_played setting trace first count → length played.batches ≡ count
 played_count setting trace first count played is = ap (λ (p : Played). length p.batches) is ∙ length-map-range_with_len (batch_at setting) first count
@@ -105,14 +105,14 @@ pub are_played : (setting : Setting) (trace : TraceContent) (first count : ℕ) 
 are_played setting trace first count played names sound within is =
     let many : length played.batches ≡ count = played_count setting trace first count played is in
     record {
-      answers = ap (λ (p : Played). length p.answers) is ∙ (length-map-range_with_len (answers_in setting trace) first count ∙ sym many);
+      answers = ap (λ (p : Played). length p.answers) is ∙ (length-map-range_with_len (raw_answers setting trace) first count ∙ sym many);
       departures = ap (λ (p : Played). length p.departures) is ∙ (length-map-range_with_len (departures_in setting) first count ∙ sym many);
-      named = subst (λ (p : Played). All (All (λ answer. IfSome answer IsRefusal)) p.answers) (sym is) (All-map (All (λ answer. IfSome answer IsRefusal)) (answers_in setting trace) (range_with_len first count) (λ i d below. names setting trace (get_or (range_with_len first count) i d)));
+      named = subst (λ (p : Played). All (All (λ answer. IfSome answer IsRefusal)) p.answers) (sym is) (All-map (All (λ answer. IfSome answer IsRefusal)) (raw_answers setting trace) (range_with_len first count) (λ i d below. names setting trace (get_or (range_with_len first count) i d)));
       numbers = omega (arith, many, within, sound.few_rounds);
     }
 
 -- its slots, with the cores that it names
-pub has_slots : (trace : TraceContent) (cores : Cores) (old : ReplayState) (step : ReplayStepContent) → IsTrace trace → StandsForReplay trace cores old
+pub has_slots : (trace : TraceContent) (cores : SlotCores) (old : ReplayState) (step : ReplayStepContent) → IsTrace trace → StandsForReplay trace cores old
     → step.window.span ≡ record { first = old.lanes.published; count = old.lanes.collected - old.lanes.published }
     → IsWindowOf trace.net old.lanes.b (slots_between (run_of trace cores old) old.lanes.published old.lanes.collected) step.window → HasSlots old.lanes.b step
 has_slots trace cores old step sound stands span window =
@@ -147,16 +147,16 @@ pub window_clean : (net : Network) (b first : ℕ) (slots : List (List Flow)) (w
     → AreClean net (limited (cores_from (first_slot b window.span.first) window.cores)) (first_slot b first) slots
 window_clean net b first slots window few start is at below =
     let n : ℕ = first_slot b window.span.first in
-    let table : Cores = cores_from n window.cores in
+    let table : SlotCores = cores_from n window.cores in
     let from : n + at ≡ first_slot b first + at = ap (λ (k : ℕ). first_slot b k + at) start in
     subst (λ (m : ℕ). IsClean net.hosts net.cores (slot_in slots at) (limited table m)) from (clean_limited net.hosts net.cores (slot_in slots at) (table (n + at)) few (is.clean at below))
 
 -- for cores that agree with these the text is that of the window's slots
-pub window_text : (net : Network) (b first size : ℕ) (slots : List (List Flow)) (window : WindowContent) (cores : Cores) → net.cores ≤ 64 → window.span.first ≡ first → IsWindowOf net b slots window → length slots ≡ size
+pub window_text : (net : Network) (b first size : ℕ) (slots : List (List Flow)) (window : WindowContent) (cores : SlotCores) → net.cores ≤ 64 → window.span.first ≡ first → IsWindowOf net b slots window → length slots ≡ size
     → AgreeAbove (first * b) size cores (limited (cores_from (first_slot b window.span.first) window.cores))
     → slots_lines (cores_from (first_slot b window.span.first) window.cores) (first_slot b window.span.first) window.slots.slots ≡ slots_lines cores (first_slot b first) slots
 window_text net b first size slots window cores few start is long agree =
-    let table : Cores = cores_from (first_slot b window.span.first) window.cores in
+    let table : SlotCores = cores_from (first_slot b window.span.first) window.cores in
     ap (λ (xs : List (List Flow)). slots_lines table (first_slot b window.span.first) xs) is.is
     ∙ (ap (λ (k : ℕ). slots_lines table (first_slot b k) slots) start
     ∙ slots_lines-same table cores (first_slot b first) slots (λ i source below.
@@ -166,7 +166,7 @@ window_text net b first size slots window cores few start is long agree =
     ∙ (sym (window_cores net b first slots window few start is i source below) ∙ sym (ap (λ (core_of : CoreOf). core_of source) (agree number (omega arith) (omega (arith, long, below)))))))
 
 -- and the replay goes on standing for them
-pub has_cores_of : (net : Network) (b first size : ℕ) (slots : List (List Flow)) (step : ReplayStepContent) (cores : Cores) → net.cores ≤ 64 → step.window.span.first ≡ first → IsWindowOf net b slots step.window → length slots ≡ size
+pub has_cores_of : (net : Network) (b first size : ℕ) (slots : List (List Flow)) (step : ReplayStepContent) (cores : SlotCores) → net.cores ≤ 64 → step.window.span.first ≡ first → IsWindowOf net b slots step.window → length slots ≡ size
     → AgreeAbove (first * b) size cores (limited (cores_of_replay_step b step)) → HasCoresOf b step cores
 has_cores_of net b first size slots step cores few start is long agree at source below =
     let number : ℕ = first_slot b first + at in
@@ -175,7 +175,7 @@ has_cores_of net b first size slots step cores few start is long agree at source
     ∙ (ap (λ (core_of : CoreOf). core_of source) (agree number (omega arith) (omega (arith, long, inside))) ∙ window_cores net b first slots step.window few start is at source inside)
 
 -- what a step gives is what comes next in the run
-pub next_text : (trace : TraceContent) (cores : Cores) (old : ReplayState) (step : ReplayStepContent) (size : ℕ) → IsTrace trace
+pub next_text : (trace : TraceContent) (cores : SlotCores) (old : ReplayState) (step : ReplayStepContent) (size : ℕ) → IsTrace trace
     → step.first ≡ old.lanes.collected → step.played ≡ rounds_played (run_of trace cores old) trace old.lanes.collected (next_rounds old) → step.window.span.first ≡ old.lanes.published
     → IsWindowOf trace.net old.lanes.b (slots_between (run_of trace cores old) old.lanes.published old.lanes.collected) step.window
     → length (slots_between (run_of trace cores old) old.lanes.published old.lanes.collected) ≡ size
@@ -194,7 +194,7 @@ next_text trace cores old step size sound first played start window long agree =
     (window_text trace.net b old.lanes.published size (slots_between setting old.lanes.published old.lanes.collected) step.window cores sound.net.most_cores start window long agree))))
 
 -- which step that is
-pub next_step : (trace : TraceContent) (cores : Cores) (old : ReplayState) (g steps : ℕ) → IsAfter g trace.rounds steps old → old.rounds ≡ trace.rounds → old.lanes.g ≡ g → next_lines cores trace old ≡ step_lines cores (run_of trace cores old) trace steps
+pub next_step : (trace : TraceContent) (cores : SlotCores) (old : ReplayState) (g steps : ℕ) → IsAfter g trace.rounds steps old → old.rounds ≡ trace.rounds → old.lanes.g ≡ g → next_lines cores trace old ≡ step_lines cores (run_of trace cores old) trace steps
 next_step trace cores old g steps after all window =
     let setting : Setting = run_of trace cores old in
     let from : ℕ → ℕ → ℕ → List Line = λ first count published. rounds_lines setting trace first count ++ window_lines cores setting published first in

@@ -17,12 +17,12 @@ use Rattle.trace_run.specs.Run.{Setting, replayed}
 use Rattle.trace_run.specs.Sends.{sent_up_to, EverySendIsScheduled, NoSlotIsSentTwice}
 use Rattle.trace_run.specs.Windows.{batch_at, collected_after}
 use Rattle.replay_rounds.specs.declared.played.Departure.{Departure}
-use Rattle.replay_rounds.specs.Setting.{Cores}
-use Rattle.replay_rounds.specs.Played.{answers_in, departure, departures_in, departures_of}
+use Rattle.replay_rounds.specs.Played.{raw_answers, departure, departures_in, departures_from}
 use Rattle.replay_rounds.specs.Standing.{slots_between}
 use Rattle.window_engine.specs.declared.counts.Counts.{Counts}
 use Rattle.window_engine.specs.Replay.{replay_counts}
 use Rattle.clos_topology.specs.Network.{endpoints_of}
+use Rattle.clos_topology.specs.NetSlots.{SlotCores}
 use Rattle.greedy_rules.specs.Schedule.{first_slot}
 use Rattle.run_lines.specs.Text.{entry_line, refused_line, sent_line, count_line, count_lines_of, counts_lines}
 use Rattle.run_text.specs.ReplayText.{round_lines, rounds_lines, window_lines, step_lines, steps_lines, steps_of, replay_lines}
@@ -117,11 +117,11 @@ count_without flow (Some counts) = All-cons IsNoSend (count_line flow counts) []
 
 -- what stands before a round's sends
 abbrev before_sends : Setting → TraceContent → ℕ → List Line
-before_sends setting trace round = map (entry_line round) (batch_at setting round).entries ++ flat_map (refused_line round) (answers_in setting trace round)
+before_sends setting trace round = map (entry_line round) (batch_at setting round).entries ++ flat_map (refused_line round) (raw_answers setting trace round)
 
 without_sends : (setting : Setting) (trace : TraceContent) (round : ℕ) → All IsNoSend (before_sends setting trace round)
 without_sends setting trace round =
-    All-append IsNoSend (map (entry_line round) (batch_at setting round).entries) (flat_map (refused_line round) (answers_in setting trace round)) (All-map IsNoSend (entry_line round) (batch_at setting round).entries (λ i d below. tt)) (refusals_all IsNoSend round (answers_in setting trace round) (λ number. tt))
+    All-append IsNoSend (map (entry_line round) (batch_at setting round).entries) (flat_map (refused_line round) (raw_answers setting trace round)) (All-map IsNoSend (entry_line round) (batch_at setting round).entries (λ i d below. tt)) (refusals_all IsNoSend round (raw_answers setting trace round) (λ number. tt))
 
 -- ---- the sends of a round
 
@@ -159,11 +159,11 @@ other_source slot src e ss other =
 
 -- over the first so many endpoints: none where the source isn't among them, and no more than it sends
 sources_send : (setting : Setting) (round slot src count : ℕ) →
-    let total : ℕ = count_by (is_departure slot src) (flat_map (departures_of setting round) (range_with_len 0 count)) in
+    let total : ℕ = count_by (is_departure slot src) (flat_map (departures_from setting round) (range_with_len 0 count)) in
     (count ≤ src → total ≡ 0) × (total ≤ count_by (is_slot slot) (sends_in setting round src))
 sources_send setting round slot src zero = (λ le. refl, omega arith)
 sources_send setting round slot src (suc count) =
-    let f : ℕ → List Departure = departures_of setting round in
+    let f : ℕ → List Departure = departures_from setting round in
     let p : Departure → Bool = is_departure slot src in
     let (none, few) = sources_send setting round slot src count in
     let one : suc count ≡ count + 1 = omega arith in
@@ -190,7 +190,7 @@ round_sends : (setting : Setting) (trace : TraceContent) (round slot src : ℕ) 
 round_sends setting trace round slot src =
     let p : Line → Bool = is_send_in slot src in
     let before : List Line = before_sends setting trace round in
-    let all : List Departure = flat_map (departures_of setting round) (range_with_len 0 setting.endpoints) in
+    let all : List Departure = flat_map (departures_from setting round) (range_with_len 0 setting.endpoints) in
     let sorted : List Departure = sort_by (λ d. d.slot) all in
     let sent : count_by p (map sent_line sorted) ≡ count_by (is_departure slot src) all = count-map p sent_line sorted ∙ count-sort (is_departure slot src) (λ d. d.slot) all in
     omega (arith, count-append p before (map sent_line sorted), none_counted slot src before (without_sends setting trace round), sent, (sources_send setting round slot src setting.endpoints).1)
@@ -216,16 +216,16 @@ rounds_send setting trace slot src (suc round) =
 round_scheduled : (setting : Setting) (trace : TraceContent) (round rounds : ℕ) → EverySendIsScheduled → 0 < setting.g → round < rounds → All (IsScheduledSend setting rounds) (round_lines setting trace round)
 round_scheduled setting trace round rounds scheduled some below =
     let P : Line → Type 0 = IsScheduledSend setting rounds in
-    let all : List Departure = flat_map (departures_of setting round) (range_with_len 0 setting.endpoints) in
+    let all : List Departure = flat_map (departures_from setting round) (range_with_len 0 setting.endpoints) in
     let one : round + 1 ≡ suc round = omega arith in
-    let own : (src : ℕ) → All (λ d. P (sent_line d)) (departures_of setting round src) = λ src.
+    let own : (src : ℕ) → All (λ d. P (sent_line d)) (departures_from setting round src) = λ src.
     All-map (λ d. P (sent_line d)) (departure src) (sends_in setting round src)
     (All-among (λ s. P (sent_line (departure src s))) (sends_in setting round src) (λ s among.
     let now : Among s (sent_by setting.endpoints setting.b setting.g ((replayed setting (suc round)).rounds src)) =
     subst (λ (n : ℕ). Among s (sent_by setting.endpoints setting.b setting.g ((replayed setting n).rounds src))) one among in
     scheduled setting some (suc round) rounds src (omega (arith, below)) s (Among-later s (sent_up_to setting round src) _ now))) in
     All-append P (before_sends setting trace round) (map sent_line (departures_in setting round)) (none_unscheduled setting rounds (before_sends setting trace round) (without_sends setting trace round))
-    (All-map P sent_line (departures_in setting round) (All-sort (λ d. P (sent_line d)) (λ d. d.slot) all (All-flat (λ d. P (sent_line d)) (departures_of setting round) (range_with_len 0 setting.endpoints) own)))
+    (All-map P sent_line (departures_in setting round) (All-sort (λ d. P (sent_line d)) (λ d. d.slot) all (All-flat (λ d. P (sent_line d)) (departures_from setting round) (range_with_len 0 setting.endpoints) own)))
 
 rounds_scheduled : (setting : Setting) (trace : TraceContent) (first count rounds : ℕ) → EverySendIsScheduled → 0 < setting.g → first + count ≤ rounds → All (IsScheduledSend setting rounds) (rounds_lines setting trace first count)
 rounds_scheduled setting trace first zero rounds scheduled some within = All-nil (IsScheduledSend setting rounds)
@@ -241,7 +241,7 @@ collected_within : (g rounds steps : ℕ) → collected_after g rounds steps ≤
 collected_within g rounds zero = omega arith
 collected_within g rounds (suc steps) = omega (arith, collected_within g rounds steps)
 
-step_scheduled : (cores : Cores) (setting : Setting) (trace : TraceContent) (step : ℕ) → EverySendIsScheduled → 0 < setting.g → All (IsScheduledSend setting trace.rounds) (step_lines cores setting trace step)
+step_scheduled : (cores : SlotCores) (setting : Setting) (trace : TraceContent) (step : ℕ) → EverySendIsScheduled → 0 < setting.g → All (IsScheduledSend setting trace.rounds) (step_lines cores setting trace step)
 step_scheduled cores setting trace step scheduled some =
     let here : ℕ = collected_after setting.g trace.rounds step in
     let next : ℕ = collected_after setting.g trace.rounds (suc step) in
@@ -252,7 +252,7 @@ step_scheduled cores setting trace step scheduled some =
 
 -- ---- the whole text
 
-pub sends_are_scheduled : (cores : Cores) (setting : Setting) (trace : TraceContent) → EverySendIsScheduled → NoSlotIsSentTwice → 0 < setting.g → SendsAreScheduled setting trace.rounds (replay_lines cores setting trace)
+pub sends_are_scheduled : (cores : SlotCores) (setting : Setting) (trace : TraceContent) → EverySendIsScheduled → NoSlotIsSentTwice → 0 < setting.g → SendsAreScheduled setting trace.rounds (replay_lines cores setting trace)
 sends_are_scheduled cores setting trace scheduled once some =
     let P : Line → Type 0 = IsScheduledSend setting trace.rounds in
     let all : ℕ = steps_of setting trace in

@@ -5,11 +5,11 @@ use Rattle.std.proofs.lemmas.List.{length-take, length-drop}
 use Rattle.greedy_rules.specs.declared.flows.Flow.{Flow}
 use Rattle.greedy_rules.specs.Batches.{DemandBatch}
 use Rattle.greedy_rules.specs.Schedule.{first_slot, schedule}
+use Rattle.clos_topology.specs.NetSlots.{SlotCores}
 use Rattle.report_text.specs.declared.line.Line.{Line}
 use Rattle.trace_text.specs.Trace.{TraceContent}
 use Rattle.trace_text.specs.Valid.{IsTrace}
 use Rattle.window_engine.specs.Batches.{plan_batches}
-use Rattle.replay_rounds.specs.Setting.{Cores}
 use Rattle.window_engine.specs.Scheduled.{AreClean}
 use Rattle.window_engine.specs.Standing.{EngineState, Stands, window_of}
 use Rattle.window_engine.specs.Step.{StepContent, IsPlanned, EveryPlanHasItsSlots, window_slots}
@@ -66,34 +66,34 @@ step_text b trace engine step size planned =
     ∙ ap (λ (xs : List (List Flow)). text_of (batches_lines (cores_of_step b step) b engine.collection.rounds (take (window_of engine) (drop engine.collection.rounds (plan_batches trace))) xs)) p.window.is)
 
 -- one window more, with its own cores
-step_parts : (b : ℕ) (trace : TraceContent) (engine : EngineState) (here there : Cores) →
-    let cores : Cores = spliced (engine.collection.rounds * b) (window_of engine * b) here there in
+step_parts : (b : ℕ) (trace : TraceContent) (engine : EngineState) (here there : SlotCores) →
+    let cores : SlotCores = spliced (engine.collection.rounds * b) (window_of engine * b) here there in
     text_of (rounds_lines cores b engine.collection.rounds trace) ++ text_of (window_lines cores b engine.collection.rounds (window_of engine) trace)
     ≡ text_of (rounds_lines there b engine.collection.rounds trace) ++ text_of (window_lines here b engine.collection.rounds (window_of engine) trace)
 step_parts b trace engine here there =
     let n : ℕ = window_of engine in
-    let cores : Cores = spliced (engine.collection.rounds * b) (n * b) here there in
+    let cores : SlotCores = spliced (engine.collection.rounds * b) (n * b) here there in
     ap (λ (ls : List Line). text_of ls ++ text_of (window_lines cores b engine.collection.rounds n trace)) (rounds_spliced b engine.collection.rounds n trace here there)
     ∙ ap (λ (ls : List Line). text_of (rounds_lines there b engine.collection.rounds trace) ++ text_of ls) (window_spliced b engine.collection.rounds n trace here there)
 
-pub rounds_step : (b : ℕ) (trace : TraceContent) (engine : EngineState) (round : ℕ) (here there : Cores) → IsTrace trace → Stands trace engine → EveryPlanHasItsSlots → round ≡ engine.collection.rounds + window_of engine →
-    let cores : Cores = spliced (engine.collection.rounds * b) (window_of engine * b) here there in
+pub rounds_step : (b : ℕ) (trace : TraceContent) (engine : EngineState) (round : ℕ) (here there : SlotCores) → IsTrace trace → Stands trace engine → EveryPlanHasItsSlots → round ≡ engine.collection.rounds + window_of engine →
+    let cores : SlotCores = spliced (engine.collection.rounds * b) (window_of engine * b) here there in
     text_of (rounds_lines cores b round trace) ≡ text_of (rounds_lines there b engine.collection.rounds trace) ++ text_of (window_lines here b engine.collection.rounds (window_of engine) trace)
 rounds_step b trace engine round here there sound stands counts is =
     let n : ℕ = window_of engine in
-    let cores : Cores = spliced (engine.collection.rounds * b) (n * b) here there in
+    let cores : SlotCores = spliced (engine.collection.rounds * b) (n * b) here there in
     let counted = counts b trace sound in
     let within : engine.collection.rounds + n ≤ length (plan_batches trace) = omega (arith, stands.rounds, stands.collected.within, counted.0) in
     ap (λ (k : ℕ). text_of (rounds_lines cores b k trace)) is ∙ (rounds_more cores b engine.collection.rounds n trace within ∙ step_parts b trace engine here there)
 
-pub rounds_stop : (b : ℕ) (trace : TraceContent) (engine : EngineState) (here there : Cores) → IsTrace trace → Stands trace engine → EveryPlanHasItsSlots →
-    let cores : Cores = spliced (engine.collection.rounds * b) (window_of engine * b) here there in
+pub rounds_stop : (b : ℕ) (trace : TraceContent) (engine : EngineState) (here there : SlotCores) → IsTrace trace → Stands trace engine → EveryPlanHasItsSlots →
+    let cores : SlotCores = spliced (engine.collection.rounds * b) (window_of engine * b) here there in
     text_of (rounds_lines cores b trace.rounds trace)
     ≡ (text_of (rounds_lines there b engine.collection.rounds trace) ++ text_of (window_lines here b engine.collection.rounds (window_of engine) trace))
     ++ text_of (window_lines cores b (engine.collection.rounds + window_of engine) (trace.rounds - (engine.collection.rounds + window_of engine)) trace)
 rounds_stop b trace engine here there sound stands counts =
     let n : ℕ = window_of engine in
-    let cores : Cores = spliced (engine.collection.rounds * b) (n * b) here there in
+    let cores : SlotCores = spliced (engine.collection.rounds * b) (n * b) here there in
     let counted = counts b trace sound in
     rounds_whole cores b engine.collection.rounds n trace.rounds trace (omega (arith, stands.rounds, stands.collected.within)) (omega (arith, counted.0))
     ∙ ap (λ (t : List ℕ). t ++ text_of (window_lines cores b (engine.collection.rounds + n) (trace.rounds - (engine.collection.rounds + n)) trace)) (step_parts b trace engine here there)

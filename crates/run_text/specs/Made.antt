@@ -3,12 +3,13 @@
 use Rattle.std.specs.Prelude.{◌≡◌, ℕ, ◌+◌, List, [], ◌∷◌, length, sum_by}
 use Rattle.std.specs.List.{flat_map, filter_map, range_with_len}
 use Rattle.clos_topology.specs.Network.{Network}
+use Rattle.clos_topology.specs.NetSlots.{SlotCores}
 use Rattle.report_text.specs.declared.line.Line.{Line}
 use Rattle.report_text.specs.declared.line.Line.TheVariants as line
 use Rattle.trace_text.specs.Made.{made_trace}
 use Rattle.trace_text.specs.Trace.{TraceContent}
 use Rattle.trace_run.specs.Run.{Setting}
-use Rattle.replay_rounds.specs.Setting.{Cores, setting_of}
+use Rattle.replay_rounds.specs.Setting.{setting_of}
 use Rattle.window_engine.specs.declared.counts.Counts.{Counts}
 use Rattle.window_engine.specs.Replay.{replay_counts}
 use Rattle.run_lines.specs.Text.{text_of, flight_of}
@@ -27,7 +28,7 @@ unfoldable pub trace_of_number : ℕ → TraceContent
 trace_of_number number = made_trace number made_net made_rounds
 
 -- its run
-abbrev pub made_run : ℕ → ℕ → ℕ → Cores → Setting
+abbrev pub made_run : ℕ → ℕ → ℕ → SlotCores → Setting
 made_run number b g cores = setting_of (trace_of_number number) b g cores
 
 -- ---- the sums
@@ -56,7 +57,7 @@ sums_of counts = record {
   missed = sum_by (λ c. c.missed) counts;
 }
 
-abbrev pub made_sums : ℕ → ℕ → ℕ → Cores → Sums
+abbrev pub made_sums : ℕ → ℕ → ℕ → SlotCores → Sums
 made_sums number b g cores = sums_of (counts_of_run (made_run number b g cores) (trace_of_number number).rounds)
 
 -- what is demanded is acknowledged, in flight or pending
@@ -68,5 +69,5 @@ Balances sums = sums.demanded ≡ sums.acknowledged + sums.flight + sums.pending
 abbrev pub made_line : ℕ → Sums → Line
 made_line number sums = line.Made number sums.flows sums.demanded sums.acknowledged sums.flight sums.pending sums.lost sums.sent sums.missed
 
-abbrev pub made_text : ℕ → ℕ → ℕ → Cores → List ℕ
+abbrev pub made_text : ℕ → ℕ → ℕ → SlotCores → List ℕ
 made_text number b g cores = text_of (made_line number (made_sums number b g cores) ∷ [])

@@ -2,9 +2,10 @@
 use Rattle.std.specs.Prelude.{◌≡◌, ◌<◌, ◌≤◌, ℕ, ◌+◌, ◌-◌, ◌*◌, ◌^◌, List, ◌++◌, length, min, Result, OnOk}
 use Rattle.std.specs.List.{flat_map, range_with_len}
 use Rattle.greedy_rules.specs.Schedule.{first_slot}
+use Rattle.clos_topology.specs.NetSlots.{SlotCores}
 use Rattle.report_text.specs.declared.line.Line.{Line}
 use Rattle.trace_text.specs.Trace.{TraceContent}
-use Rattle.replay_rounds.specs.Setting.{Cores, setting_of}
+use Rattle.replay_rounds.specs.Setting.{setting_of}
 use Rattle.replay_rounds.specs.Played.{Played}
 use Rattle.window_engine.specs.Scheduled.{cores_from}
 use Rattle.window_engine.specs.Replay.{ReplayState, ReplayStepContent, StandsForReplay, run_of}
@@ -29,7 +30,7 @@ pub record HasSlots (b : ℕ) (step : ReplayStepContent) : Type 0 where
   pub core_endpoints : step.window.cores.endpoints ≡ step.window.slots.endpoints
 
 -- the cores that a step names
-abbrev pub cores_of_replay_step : ℕ → ReplayStepContent → Cores
+abbrev pub cores_of_replay_step : ℕ → ReplayStepContent → SlotCores
 cores_of_replay_step b step = cores_from (first_slot b step.window.span.first) step.window.cores
 
 -- what a step gives
@@ -40,7 +41,7 @@ step_text_lines b step = played_lines step.first step.played (length step.played
 abbrev pub next_rounds : ReplayState → ℕ
 next_rounds engine = min engine.lanes.g (engine.rounds - engine.lanes.collected)
 
-abbrev pub next_lines : Cores → TraceContent → ReplayState → List Line
+abbrev pub next_lines : SlotCores → TraceContent → ReplayState → List Line
 next_lines cores trace engine =
     rounds_lines (run_of trace cores engine) trace engine.lanes.collected (next_rounds engine)
     ++ window_lines cores (run_of trace cores engine) engine.lanes.published engine.lanes.collected
@@ -49,12 +50,12 @@ next_lines cores trace engine =
 -- those the replay stands on, and the text of the step was passed on
 abbrev pub GivesStep : ℕ → TraceContent → ReplayState → ReplayState → OutputContent → OutputContent → Result (Unit {0}) Stop → Type 0
 GivesStep b trace old new before after result =
-    (there : Cores) → AreReplayCores b old.lanes.g trace there → StandsForReplay trace there old
-    → WithCoresBetween b old.lanes.g trace there old.lanes.published old.lanes.collected (λ here. (cores : Cores)
+    (there : SlotCores) → AreReplayCores b old.lanes.g trace there → StandsForReplay trace there old
+    → WithCoresBetween b old.lanes.g trace there old.lanes.published old.lanes.collected (λ here. (cores : SlotCores)
     → StandsForReplay trace cores old → AgreeAbove (old.lanes.published * b) ((old.lanes.collected - old.lanes.published) * b) cores here
     → OnOk result (StandsForReplay trace cores new) × Passes before after (text_of (next_lines cores trace old)) result)
 
 -- what all steps give, with these cores
-abbrev pub GivesSteps : ℕ → ℕ → TraceContent → ReplayState → OutputContent → OutputContent → Result (Unit {0}) Stop → Cores → Type 0
+abbrev pub GivesSteps : ℕ → ℕ → TraceContent → ReplayState → OutputContent → OutputContent → Result (Unit {0}) Stop → SlotCores → Type 0
 GivesSteps b g trace new before after result cores =
     OnOk result (StandsForReplay trace cores new) × Passes before after (text_of (all_steps_lines cores (setting_of trace b g cores) trace)) result

@@ -1,9 +1,10 @@
 // What `make` does: it makes a trace, replays it and writes one line.
 ghost use Rattle.std.specs.Prelude.{◌≡◌, ◌≤◌, IfOk, OnOk};
 ghost use Rattle.clos_topology.specs.Network.{endpoints_of};
+ghost use Rattle.clos_topology.specs.NetSlots.{SlotCores, AreSlotCores};
 ghost use Rattle.trace_text.specs.Valid.{IsTrace};
 ghost use Rattle.trace_run.specs.Shown.{IsShown};
-ghost use Rattle.replay_rounds.specs.Setting.{Cores, AreCores, setting_of};
+ghost use Rattle.replay_rounds.specs.Setting.{setting_of};
 ghost use Rattle.window_engine.specs.Replay.{StandsForReplay};
 ghost use Rattle.run_text.specs.Made.{made_net, trace_of_number, made_run, made_sums, made_text, counts_of_run, sums_of, Balances};
 ghost use Rattle.run_lines.specs.Content.{sink_content};
@@ -68,9 +69,9 @@ fn play<R: Threads + Wait + Sync, G: Gate + Sync>(
     replay: &mut Replay,
 ) -> Result<(), NoMemory>
     requires accepted { IsTrace trace.now }
-    requires stands { (cores : Cores) → AreCores cores → StandsForReplay trace.now cores replay.old }
+    requires stands { (cores : SlotCores) → AreSlotCores cores → StandsForReplay trace.now cores replay.old }
     requires published { replay.old.lanes.published ≡ 0 }
-    ensures stands { OnOk result ((cores : Cores) × StandsForReplay trace.now cores replay.new) }
+    ensures stands { OnOk result ((cores : SlotCores) × StandsForReplay trace.now cores replay.new) }
     ensures done { OnOk result (replay.new.lanes.published ≡ replay.new.rounds) }
     ensures b { OnOk result (replay.new.lanes.b ≡ replay.old.lanes.b) }
     ensures g { OnOk result (replay.new.lanes.g ≡ replay.old.lanes.g) }
@@ -91,7 +92,7 @@ fn replay_sums<R: Threads + Wait + Sync, G: Gate + Sync>(
 ) -> Result<Sums, NoMemory>
     requires accepted { IsTrace trace.now }
     requires sizes { AreSizes sizes }
-    ensures { IfOk result (λ sums. (cores : Cores) →
+    ensures { IfOk result (λ sums. (cores : SlotCores) →
         sums ≡ sums_of (counts_of_run (setting_of trace.now sizes.b sizes.g cores) trace.now.rounds)) }
 {
     cores_decide_nothing();
@@ -111,7 +112,7 @@ fn put_sums<R: Threads + Wait + Sync, G: Gate + Sync, K: Sink>(
     sink: &mut K,
 ) -> Result<(), Stop>
     requires { AreSizes sizes }
-    ensures { (cores : Cores) →
+    ensures { (cores : SlotCores) →
         Writes (sink_content K.Sink sink.old) (sink_content K.Sink sink.new) (made_text number sizes.b sizes.g cores) result }
 {
     texts_follow();
@@ -134,10 +135,10 @@ pub fn write_made<R: Threads + Wait + Sync, G: Gate + Sync, K: Sink>(
     sink: &mut K,
 ) -> Result<(), Stop>
     requires sizes { AreSizes sizes }
-    ensures writes { (cores : Cores) →
+    ensures writes { (cores : SlotCores) →
         Writes (sink_content K.Sink sink.old) (sink_content K.Sink sink.new) (made_text number sizes.b sizes.g cores) result }
-    ensures balanced { (cores : Cores) → Balances (made_sums number sizes.b sizes.g cores) }
-    ensures shown { (cores : Cores) → IsShown (made_run number sizes.b sizes.g cores) (trace_of_number number).rounds }
+    ensures balanced { (cores : SlotCores) → Balances (made_sums number sizes.b sizes.g cores) }
+    ensures shown { (cores : SlotCores) → IsShown (made_run number sizes.b sizes.g cores) (trace_of_number number).rounds }
 {
     every_flow_is_counted();
     every_replay_shows();

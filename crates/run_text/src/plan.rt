@@ -1,4 +1,5 @@
 ghost use Rattle.std.specs.Prelude.{◌≡◌, ◌≢◌, ◌<◌, ◌≤◌, ◌+◌, All, IfOk, OnOk};
+ghost use Rattle.clos_topology.specs.NetSlots.{SlotCores};
 ghost use Rattle.trace_text.specs.Valid.{IsTrace};
 ghost use Rattle.window_engine.specs.Batches.{plan_batches};
 ghost use Rattle.window_engine.specs.Counts.{AllIsAllocatedOrPending};
@@ -8,7 +9,6 @@ ghost use Rattle.run_lines.specs.Content.{sink_content};
 ghost use Rattle.run_lines.specs.Output.{Passes, Ends, Writes};
 ghost use Rattle.run_lines.specs.Steps.{IsWindow};
 ghost use Rattle.run_lines.specs.Text.{text_of};
-ghost use Rattle.replay_rounds.specs.Setting.{Cores};
 ghost use Rattle.run_text.specs.Ledger.{IsBalanced};
 ghost use Rattle.run_text.specs.PlanText.{plan_lines, plan_text};
 ghost use Rattle.run_text.specs.Progress.{lines_of_step, next_lines, rounds_lines};
@@ -147,7 +147,7 @@ pub fn write_plan<R: Threads + Wait + Sync, G: Gate + Sync, K: Sink>(
     ensures writes { WithCores sizes.b trace.now (λ cores.
         Writes (sink_content K.Sink sink.old) (sink_content K.Sink sink.new) (plan_text cores sizes.b trace.now) result) }
     ensures ledger { AllIsAllocatedOrPending sizes.b (plan_batches trace.now) }
-    ensures balanced { (cores : Cores) → All IsBalanced (plan_lines cores sizes.b trace.now) }
+    ensures balanced { (cores : SlotCores) → All IsBalanced (plan_lines cores sizes.b trace.now) }
 {
     texts_follow();
     every_plan_is_recorded();

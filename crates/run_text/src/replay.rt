@@ -1,7 +1,8 @@
 ghost use Rattle.std.specs.Prelude.{◌≡◌, ◌≢◌, ◌<◌, ◌≤◌, ◌+◌, IfOk, OnOk, ⊤, length};
+ghost use Rattle.clos_topology.specs.NetSlots.{SlotCores, AreSlotCores};
 ghost use Rattle.trace_text.specs.Valid.{IsTrace};
 ghost use Rattle.trace_run.specs.Shown.{IsShown};
-ghost use Rattle.replay_rounds.specs.Setting.{Cores, AreCores, setting_of};
+ghost use Rattle.replay_rounds.specs.Setting.{setting_of};
 ghost use Rattle.window_engine.specs.Replay.{StandsForReplay};
 ghost use Rattle.run_lines.specs.Content.{sink_content};
 ghost use Rattle.run_lines.specs.Output.{Passes, Ends, Writes};
@@ -34,7 +35,7 @@ use window_engine::{Replay, ReplayStep, every_replay_has_cores, every_replay_tak
 /// The replay of a trace, before its first round.
 pub(crate) fn open_replay(alloc: Global, trace: &Trace, sizes: Sizes) -> Result<Replay, NoMemory>
     requires { AreSizes sizes }
-    ensures stands { IfOk result (λ replay. (cores : Cores) → AreCores cores → StandsForReplay trace.now cores replay) }
+    ensures stands { IfOk result (λ replay. (cores : SlotCores) → AreSlotCores cores → StandsForReplay trace.now cores replay) }
     ensures b { IfOk result (λ replay. replay.lanes.b ≡ sizes.b) }
     ensures g { IfOk result (λ replay. replay.lanes.g ≡ sizes.g) }
     ensures collected { IfOk result (λ replay. replay.lanes.collected ≡ 0) }
@@ -86,7 +87,7 @@ fn put_step<R: Threads + Wait + Sync, G: Gate + Sync, K: Sink>(
     output: &mut Output<'_, K>,
 ) -> Result<(), Stop>
     requires accepted { IsTrace trace.now }
-    requires stands { (cores : Cores) × StandsForReplay trace.now cores replay.old }
+    requires stands { (cores : SlotCores) × StandsForReplay trace.now cores replay.old }
     requires more { replay.old.lanes.published ≢ replay.old.rounds }
     requires b { replay.old.lanes.b ≡ b }
     ensures rounds { OnOk result (replay.new.rounds ≡ replay.old.rounds) }
@@ -114,7 +115,7 @@ fn put_steps<R: Threads + Wait + Sync, G: Gate + Sync, K: Sink>(
     output: &mut Output<'_, K>,
 ) -> Result<(), Stop>
     requires accepted { IsTrace trace.now }
-    requires stands { (cores : Cores) → AreCores cores → StandsForReplay trace.now cores replay.old }
+    requires stands { (cores : SlotCores) → AreSlotCores cores → StandsForReplay trace.now cores replay.old }
     requires collected { replay.old.lanes.collected ≡ 0 }
     requires published { replay.old.lanes.published ≡ 0 }
     requires b { replay.old.lanes.b ≡ b }
@@ -174,10 +175,10 @@ pub fn write_replay<R: Threads + Wait + Sync, G: Gate + Sync, K: Sink>(
     requires sizes { AreSizes sizes }
     ensures writes { WithReplayCores sizes.b sizes.g trace.now (λ cores.
         Writes (sink_content K.Sink sink.old) (sink_content K.Sink sink.new) (replay_text cores sizes.b sizes.g trace.now) result) }
-    ensures shown { (cores : Cores) → IsShown (setting_of trace.now sizes.b sizes.g cores) trace.now.rounds }
-    ensures sends { (cores : Cores) → let setting = setting_of trace.now sizes.b sizes.g cores in
+    ensures shown { (cores : SlotCores) → IsShown (setting_of trace.now sizes.b sizes.g cores) trace.now.rounds }
+    ensures sends { (cores : SlotCores) → let setting = setting_of trace.now sizes.b sizes.g cores in
         SendsAreScheduled setting trace.now.rounds (replay_lines cores setting trace.now) }
-    ensures ledger { (cores : Cores) → let setting = setting_of trace.now sizes.b sizes.g cores in
+    ensures ledger { (cores : SlotCores) → let setting = setting_of trace.now sizes.b sizes.g cores in
         LedgerIsKept setting trace.now.rounds (replay_lines cores setting trace.now) }
 {
     texts_follow();

@@ -1,8 +1,8 @@
 // The sums of the counts of a replay's flows.
 ghost use Rattle.std.specs.Prelude.{◌≡◌, ◌<◌, ◌≤◌, ◌+◌, ◌*◌, ℕ, List, [], ◌++◌, IfSome};
 ghost use Rattle.clos_topology.specs.Network.{endpoints_of};
+ghost use Rattle.clos_topology.specs.NetSlots.{SlotCores};
 ghost use Rattle.trace_text.specs.Valid.{IsTrace};
-ghost use Rattle.replay_rounds.specs.Setting.{Cores};
 ghost use Rattle.window_engine.specs.declared.counts.Counts.{Counts};
 ghost use Rattle.window_engine.specs.Replay.{StandsForReplay, run_of};
 ghost use Rattle.run_text.specs.Made.{sums_of, counts_from, counts_of_run, made_line};
@@ -67,11 +67,11 @@ impl Sums {
     /// Adds the counts of one source's flows.
     fn add_source(&mut self, trace: &Trace, replay: &Replay, src: u16)
         requires accepted { IsTrace trace.now }
-        requires stands { (cores : Cores) × StandsForReplay trace.now cores replay.now }
+        requires stands { (cores : SlotCores) × StandsForReplay trace.now cores replay.now }
         requires done { replay.now.lanes.published ≡ replay.now.rounds }
         requires src { src < endpoints_of trace.now.net }
         requires room { AreOfAtMost (src * endpoints_of trace.now.net) self.old }
-        ensures sums { (cores : Cores) (all : List Counts) → StandsForReplay trace.now cores replay.now → self.old ≡ sums_of all →
+        ensures sums { (cores : SlotCores) (all : List Counts) → StandsForReplay trace.now cores replay.now → self.old ≡ sums_of all →
             self.new ≡ sums_of (all ++ counts_from (run_of trace.now cores replay.now) trace.now.rounds src) }
         ensures most { AreOfAtMost ((src + 1) * endpoints_of trace.now.net) self.new }
     {
@@ -102,9 +102,9 @@ impl Sums {
 /// The sums over all flows, once every batch is allocated.
 pub(crate) fn sum_counts(trace: &Trace, replay: &Replay) -> Sums
     requires accepted { IsTrace trace.now }
-    requires stands { (cores : Cores) × StandsForReplay trace.now cores replay.now }
+    requires stands { (cores : SlotCores) × StandsForReplay trace.now cores replay.now }
     requires done { replay.now.lanes.published ≡ replay.now.rounds }
-    ensures { (cores : Cores) → StandsForReplay trace.now cores replay.now →
+    ensures { (cores : SlotCores) → StandsForReplay trace.now cores replay.now →
         result ≡ sums_of (counts_of_run (run_of trace.now cores replay.now) trace.now.rounds) }
 {
     let mut sums = Sums::new();

@@ -10,29 +10,29 @@ use Rattle.greedy_rules.specs.Schedule.{slot_in}
 use Rattle.path_workers.specs.CoreTable.{CoreSlots, core_of}
 use Rattle.list_facts.proofs.Pairs.{AllPairs-head, AllPairs-tail}
 use Rattle.slot_publisher.specs.Window.{RoutedFlow, with_cores, NamesCores}
-use Rattle.slot_publisher.specs.Told.{packet_from}
+use Rattle.slot_publisher.specs.Told.{packet_sent}
 use Rattle.slot_publisher.specs.Places.{Hop, hop_of, packet_by, packets_by}
 
 -- ---- the packet of a source
 
-other_packet : (src endpoint : ℕ) (cell : Option Hop) (packets : List RoutedFlow) → src ≢ endpoint → packet_from endpoint (cons_option (option_map (packet_by src) cell) packets) ≡ packet_from endpoint packets
+other_packet : (src endpoint : ℕ) (cell : Option Hop) (packets : List RoutedFlow) → src ≢ endpoint → packet_sent endpoint (cons_option (option_map (packet_by src) cell) packets) ≡ packet_sent endpoint packets
 other_packet src endpoint None packets other = refl
-other_packet src endpoint (Some hop) packets other = cond-false (src == endpoint) (Some (packet_by src hop)) (packet_from endpoint packets) (ne_eqb src endpoint other)
+other_packet src endpoint (Some hop) packets other = cond-false (src == endpoint) (Some (packet_by src hop)) (packet_sent endpoint packets) (ne_eqb src endpoint other)
 
-this_packet : (src : ℕ) (cell : Option Hop) (packets : List RoutedFlow) → packet_from src packets ≡ None → packet_from src (cons_option (option_map (packet_by src) cell) packets) ≡ option_map (packet_by src) cell
+this_packet : (src : ℕ) (cell : Option Hop) (packets : List RoutedFlow) → packet_sent src packets ≡ None → packet_sent src (cons_option (option_map (packet_by src) cell) packets) ≡ option_map (packet_by src) cell
 this_packet src None packets none = none
-this_packet src (Some hop) packets none = cond-true (src == src) (Some (packet_by src hop)) (packet_from src packets) (eq-eqb src src refl)
+this_packet src (Some hop) packets none = cond-true (src == src) (Some (packet_by src hop)) (packet_sent src packets) (eq-eqb src src refl)
 
-packet_from-none : (cell : ℕ → Option Hop) (src n endpoint : ℕ) → endpoint < src → packet_from endpoint (packets_by cell src n) ≡ None
+packet_from-none : (cell : ℕ → Option Hop) (src n endpoint : ℕ) → endpoint < src → packet_sent endpoint (packets_by cell src n) ≡ None
 packet_from-none cell src zero endpoint low = refl
 packet_from-none cell src (suc n) endpoint low =
     other_packet src endpoint (cell src) (packets_by cell (src + 1) n) (λ same. omega arith) ∙ packet_from-none cell (src + 1) n endpoint (omega arith)
 
-pub packet_from-at : (cell : ℕ → Option Hop) (src n endpoint : ℕ) → src ≤ endpoint → endpoint < src + n → packet_from endpoint (packets_by cell src n) ≡ option_map (packet_by endpoint) (cell endpoint)
+pub packet_from-at : (cell : ℕ → Option Hop) (src n endpoint : ℕ) → src ≤ endpoint → endpoint < src + n → packet_sent endpoint (packets_by cell src n) ≡ option_map (packet_by endpoint) (cell endpoint)
 packet_from-at cell src zero endpoint low high = absurd (omega arith)
 packet_from-at cell src (suc n) endpoint low high = elim (cases_eq src endpoint) [
   | inl here ↦
-      ap (λ (s : ℕ). packet_from s (packets_by cell src (suc n))) (sym here)
+      ap (λ (s : ℕ). packet_sent s (packets_by cell src (suc n))) (sym here)
       ∙ (this_packet src (cell src) (packets_by cell (src + 1) n) (packet_from-none cell (src + 1) n src (omega arith))
       ∙ ap (λ (s : ℕ). option_map (packet_by s) (cell s)) here)
   | inr other ↦ other_packet src endpoint (cell src) (packets_by cell (src + 1) n) other ∙ packet_from-at cell (src + 1) n endpoint (omega arith) (omega arith)

@@ -14,7 +14,7 @@ use Rattle.greedy_rules.specs.Schedule.{slot_in}
 use Rattle.greedy_rules.specs.SlotTable.{Slots, IsSlotOf}
 use Rattle.path_workers.specs.CoreTable.{CoreSlots, core_of}
 use Rattle.slot_publisher.specs.Window.{Window, RoutedFlow, with_cores, slots_with_cores, NamesCores}
-use Rattle.slot_publisher.specs.Told.{packet_from, told_from}
+use Rattle.slot_publisher.specs.Told.{packet_sent, told_from}
 use Rattle.slot_publisher.specs.Places.{Hop, hop_of, hop_in, packet_by, packets_by, count_at, list_at, slots_of_lists, hops_from, ListsArePut, AreLists, IsToldList}
 use Rattle.slot_publisher.proofs.PacketLemmas.{packet_from-at, packets_by-slot, IsHop, hop_is}
 use Rattle.slot_publisher.proofs.ToldLemmas.{hop_in-told, told_src, told_list, map_range}
@@ -127,7 +127,7 @@ lists_as_put slots cores b batches n counts told size count each named put =
 
 -- what is told of an endpoint's slots of a batch is its list
 pub told_in_list : (endpoints b count : ℕ) (counts : List ℕ) (told : List Told) (batch endpoint : ℕ) → 0 < b → batch < count → endpoint < endpoints → AreLists endpoints b (count * endpoints) counts told
-    → told_from 0 (map (packet_from endpoint) (take b (drop (batch * b) (slots_of_lists endpoints b (count * b) counts told)))) ≡ list_at b counts told (batch * endpoints + endpoint)
+    → told_from 0 (map (packet_sent endpoint) (take b (drop (batch * b) (slots_of_lists endpoints b (count * b) counts told)))) ≡ list_at b counts told (batch * endpoints + endpoint)
 unfolding slots_of_lists
 told_in_list endpoints b count counts told batch endpoint some held below are =
     let place : ℕ = batch * b in
@@ -139,16 +139,16 @@ told_in_list endpoints b count counts told batch endpoint some held below are =
     let room : place + b ≤ count * b = fits b count batch held in
     let length-all : length all ≡ count * b = length-map-range_with_len (λ slot. packets_by (held_by slot) 0 endpoints) 0 (count * b) in
     let length-slots : length slots ≡ b = omega (arith, length-take b (drop place all), length-drop place all) in
-    let packets : map (packet_from endpoint) slots ≡ map sent (range_with_len 0 b) =
-    ext_get_or None (map (packet_from endpoint) slots) (map sent (range_with_len 0 b))
-    (length-map slots (packet_from endpoint) ∙ (length-slots ∙ sym (length-map-range_with_len sent 0 b)))
+    let packets : map (packet_sent endpoint) slots ≡ map sent (range_with_len 0 b) =
+    ext_get_or None (map (packet_sent endpoint) slots) (map sent (range_with_len 0 b))
+    (length-map slots (packet_sent endpoint) ∙ (length-slots ∙ sym (length-map-range_with_len sent 0 b)))
     (λ k inside.
-    let here : k < b = omega (arith, length-map slots (packet_from endpoint)) in
+    let here : k < b = omega (arith, length-map slots (packet_sent endpoint)) in
     let slot : get_or slots k [] ≡ packets_by (held_by (place + k)) 0 endpoints =
     get_or-take b (drop place all) k [] here ∙ (get_or-drop place all k []
     ∙ get_or-map-range_with_len (λ slot. packets_by (held_by slot) 0 endpoints) 0 (count * b) (place + k) (place + k) [] (omega arith) (omega arith)) in
-    get_or-map (packet_from endpoint) slots k [] None (omega arith)
-    ∙ (ap (packet_from endpoint) slot
+    get_or-map (packet_sent endpoint) slots k [] None (omega arith)
+    ∙ (ap (packet_sent endpoint) slot
     ∙ (packet_from-at (held_by (place + k)) 0 endpoints endpoint (omega arith) (omega arith)
     ∙ (ap (λ (s : ℕ). option_map (packet_by endpoint) (hop_in (list_at b counts told (s * endpoints + endpoint)) ((place + k) % b))) (div-mul-add batch b k here)
     ∙ (ap (λ (o : ℕ). option_map (packet_by endpoint) (hop_in list o)) (mod-mul-add batch b k here)

@@ -10,7 +10,7 @@ use Rattle.std.proofs.lemmas.Bool.{cond_both, eqb-true, cond-true, cond-false, c
 use Rattle.fcp_framing.specs.declared.packet.Told.{Told}
 use Rattle.fcp_framing.specs.Spelling.{IsCore}
 use Rattle.slot_publisher.specs.Window.{RoutedFlow}
-use Rattle.slot_publisher.specs.Told.{packet_from, told_as, told_from, IsToldOf}
+use Rattle.slot_publisher.specs.Told.{packet_sent, told_as, told_from, IsToldOf}
 use Rattle.slot_publisher.specs.Places.{Hop, packet_by, told_of, hop_in, core_named, IsToldList}
 use Rattle.slot_publisher.proofs.PacketLemmas.{IsHop}
 
@@ -53,19 +53,19 @@ told-rising offset (Some packet ∷ packets) =
 abbrev GoesOut : List RoutedFlow → Type 0
 GoesOut slot = All (λ packet. packet.flow.src ≢ packet.flow.dst) slot
 
-sent_out : (endpoint : ℕ) (slot : List RoutedFlow) → GoesOut slot → IfSome (packet_from endpoint slot) (λ packet. packet.flow.dst ≢ endpoint)
+sent_out : (endpoint : ℕ) (slot : List RoutedFlow) → GoesOut slot → IfSome (packet_sent endpoint slot) (λ packet. packet.flow.dst ≢ endpoint)
 sent_out endpoint [] out = tt
-sent_out endpoint (packet ∷ slot) out = cond_both (packet.flow.src == endpoint) (Some packet) (packet_from endpoint slot) (λ (p : Option RoutedFlow). IfSome p (λ packet. packet.flow.dst ≢ endpoint))
+sent_out endpoint (packet ∷ slot) out = cond_both (packet.flow.src == endpoint) (Some packet) (packet_sent endpoint slot) (λ (p : Option RoutedFlow). IfSome p (λ packet. packet.flow.dst ≢ endpoint))
     (λ here same.
     let source : packet.flow.src ≡ endpoint = eqb-true packet.flow.src endpoint here in
     All-head (λ p. p.flow.src ≢ p.flow.dst) packet slot out (source ∙ sym same))
     (λ _. sent_out endpoint slot (All-tail (λ p. p.flow.src ≢ p.flow.dst) packet slot out))
 
 -- where no packet goes to its own source, no told slot does
-pub told_others : (endpoint : ℕ) (slots : List (List RoutedFlow)) → All GoesOut slots → All (λ told. told.dst ≢ endpoint) (told_from 0 (map (packet_from endpoint) slots))
-told_others endpoint slots out = told_each (λ told. told.dst ≢ endpoint) 0 (map (packet_from endpoint) slots) (λ k below.
-    let inside : k < length slots = omega (arith, length-map slots (packet_from endpoint)) in
-    subst (λ (p : Option RoutedFlow). IfSome p (λ packet. packet.flow.dst ≢ endpoint)) (sym (get_or-map (packet_from endpoint) slots k [] None inside)) (sent_out endpoint (get_or slots k []) (out k [] inside)))
+pub told_others : (endpoint : ℕ) (slots : List (List RoutedFlow)) → All GoesOut slots → All (λ told. told.dst ≢ endpoint) (told_from 0 (map (packet_sent endpoint) slots))
+told_others endpoint slots out = told_each (λ told. told.dst ≢ endpoint) 0 (map (packet_sent endpoint) slots) (λ k below.
+    let inside : k < length slots = omega (arith, length-map slots (packet_sent endpoint)) in
+    subst (λ (p : Option RoutedFlow). IfSome p (λ packet. packet.flow.dst ≢ endpoint)) (sym (get_or-map (packet_sent endpoint) slots k [] None inside)) (sent_out endpoint (get_or slots k []) (out k [] inside)))
 
 -- ---- told are exactly the endpoint's packets
 
@@ -73,13 +73,13 @@ as_told : (n : ℕ) (o : Option RoutedFlow) → IfSome o (λ packet. option_map 
 as_told n None = tt
 as_told n (Some packet) = refl
 
-pub told_only : (endpoint : ℕ) (slots : List (List RoutedFlow)) → All (IsToldOf slots endpoint) (told_from 0 (map (packet_from endpoint) slots))
-told_only endpoint slots = told_each (IsToldOf slots endpoint) 0 (map (packet_from endpoint) slots) (λ k below.
-    let inside : k < length slots = omega (arith, length-map slots (packet_from endpoint)) in
+pub told_only : (endpoint : ℕ) (slots : List (List RoutedFlow)) → All (IsToldOf slots endpoint) (told_from 0 (map (packet_sent endpoint) slots))
+told_only endpoint slots = told_each (IsToldOf slots endpoint) 0 (map (packet_sent endpoint) slots) (λ k below.
+    let inside : k < length slots = omega (arith, length-map slots (packet_sent endpoint)) in
     let first : k ≡ 0 + k = omega arith in
-    subst (λ (n : ℕ). IfSome (get_or (map (packet_from endpoint) slots) k None) (λ packet. IsToldOf slots endpoint (told_as n packet))) first
-    (subst (λ (p : Option RoutedFlow). IfSome p (λ packet. IsToldOf slots endpoint (told_as k packet))) (sym (get_or-map (packet_from endpoint) slots k [] None inside))
-    (as_told k (packet_from endpoint (get_or slots k [])))))
+    subst (λ (n : ℕ). IfSome (get_or (map (packet_sent endpoint) slots) k None) (λ packet. IsToldOf slots endpoint (told_as n packet))) first
+    (subst (λ (p : Option RoutedFlow). IfSome p (λ packet. IsToldOf slots endpoint (told_as k packet))) (sym (get_or-map (packet_sent endpoint) slots k [] None inside))
+    (as_told k (packet_sent endpoint (get_or slots k [])))))
 
 told_at : (offset : ℕ) (packets : List (Option RoutedFlow)) (k : ℕ) (packet : RoutedFlow) → get_or packets k None ≡ Some packet → Contains (told_from offset packets) (told_as (offset + k) packet)
 told_at offset [] k packet here = absurd (cc)
@@ -104,13 +104,13 @@ packet_told : (n : ℕ) (o : Option RoutedFlow) (told : Told) → option_map (to
 packet_told n None told same = absurd (cc)
 packet_told n (Some packet) told same = (packet, refl, cc)
 
-pub told_all : (endpoint : ℕ) (slots : List (List RoutedFlow)) (told : Told) → told.offset < length slots → IsToldOf slots endpoint told → Contains (told_from 0 (map (packet_from endpoint) slots)) told
+pub told_all : (endpoint : ℕ) (slots : List (List RoutedFlow)) (told : Told) → told.offset < length slots → IsToldOf slots endpoint told → Contains (told_from 0 (map (packet_sent endpoint) slots)) told
 told_all endpoint slots told inside is =
-    let found = packet_told told.offset (packet_from endpoint (get_or slots told.offset [])) told is in
+    let found = packet_told told.offset (packet_sent endpoint (get_or slots told.offset [])) told is in
     let first : 0 + told.offset ≡ told.offset = omega arith in
-    subst (Contains (told_from 0 (map (packet_from endpoint) slots))) found.2
-    (subst (λ (n : ℕ). Contains (told_from 0 (map (packet_from endpoint) slots)) (told_as n found.0)) first
-    (told_at 0 (map (packet_from endpoint) slots) told.offset found.0 (get_or-map (packet_from endpoint) slots told.offset [] None inside ∙ found.1)))
+    subst (Contains (told_from 0 (map (packet_sent endpoint) slots))) found.2
+    (subst (λ (n : ℕ). Contains (told_from 0 (map (packet_sent endpoint) slots)) (told_as n found.0)) first
+    (told_at 0 (map (packet_sent endpoint) slots) told.offset found.0 (get_or-map (packet_sent endpoint) slots told.offset [] None inside ∙ found.1)))
 
 -- ---- lists
 
@@ -203,10 +203,10 @@ told_list endpoints hop_at b hops =
     }
 
 -- what is told of so many slots has offsets below their number
-pub told_offsets : (b endpoint : ℕ) (slots : List (List RoutedFlow)) → length slots ≤ b → All (λ told. told.offset < b) (told_from 0 (map (packet_from endpoint) slots))
+pub told_offsets : (b endpoint : ℕ) (slots : List (List RoutedFlow)) → length slots ≤ b → All (λ told. told.offset < b) (told_from 0 (map (packet_sent endpoint) slots))
 told_offsets b endpoint slots size =
-    told_each (λ told. told.offset < b) 0 (map (packet_from endpoint) slots) (λ k below.
-    if_some (λ _. 0 + k < b) (get_or (map (packet_from endpoint) slots) k None) (λ _. omega (arith, length-map slots (packet_from endpoint))))
+    told_each (λ told. told.offset < b) 0 (map (packet_sent endpoint) slots) (λ k below.
+    if_some (λ _. 0 + k < b) (get_or (map (packet_sent endpoint) slots) k None) (λ _. omega (arith, length-map slots (packet_sent endpoint))))
 
 -- what is told of one slot more
 pub told_more : (hop_at : ℕ → Option Hop) (b next : ℕ) → next ≡ b + 1 → told_of hop_at next ≡ told_of hop_at b ++ told_from b (option_map (packet_by 0) (hop_at b) ∷ [])

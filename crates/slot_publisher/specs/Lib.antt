@@ -2,3 +2,4 @@ pub mod Window
 pub mod Told
 pub mod Places
 pub mod Examples
+pub use Rattle.path_workers.specs.CoreTable

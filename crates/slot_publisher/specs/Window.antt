@@ -1,6 +1,6 @@
 -- What contracts see of a publisher: the window that it holds, batch after batch, slot after slot, with the core of every
 -- packet. Timeslots and cores are those of the SIGCOMM 2014 Fastpass paper, windows of batches this project's own profile.
-use Rattle.std.specs.Prelude.{◌<◌, ◌-◌, ◌*◌, ℕ, List, length, map, take, drop, Option, All, IfSome}
+use Rattle.std.specs.Prelude.{◌≡◌, ◌<◌, ◌-◌, ◌*◌, ℕ, List, length, map, take, drop, Option, All, IfSome}
 use Rattle.std.specs.List.{range_with_len}
 use Rattle.greedy_rules.specs.declared.flows.Flow.{Flow}
 use Rattle.greedy_rules.specs.Schedule.{slot_in}
@@ -35,3 +35,14 @@ NamesCores slots cores = (at : ℕ) → at < length slots → All (λ flow. IfSo
 -- the slots of a batch of the window
 abbrev pub slots_of_batch : Window → ℕ → List (List RoutedFlow)
 slots_of_batch window batch = take window.b (drop ((batch - window.first_batch) * window.b) window.slots)
+
+-- a window that holds these slots with their cores, from this batch on, in place of what it held
+pub record HoldsSlots (old : Window) (number : ℕ) (flows : List (List Flow)) (cores : CoreSlots) (new : Window) : Type 0 where
+  -- it serves as before
+  pub endpoints : new.endpoints ≡ old.endpoints
+  pub batches : new.batches ≡ old.batches
+  pub b : new.b ≡ old.b
+  -- its batches begin with this one, and have these slots
+  pub first : new.first_batch ≡ number
+  pub count : new.count * old.b ≡ length flows
+  pub slots : new.slots ≡ slots_with_cores flows cores

@@ -12,4 +12,5 @@ mod publisher;
 
 pub use laws::small_window;
 pub use no_memory::NoMemory;
+pub use path_workers::CoreTable;
 pub use publisher::Publisher;

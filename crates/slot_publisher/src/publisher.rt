@@ -3,8 +3,8 @@ ghost use Rattle.std.specs.List.{cons_option, slice_index_or};
 ghost use Rattle.std.specs.List.Sorted.{IsStrictlyIncreasing};
 ghost use Rattle.fcp_framing.specs.declared.packet.Told.{Told as ToldSlot};
 ghost use Rattle.fcp_framing.specs.Spelling.{IsCore};
-ghost use Rattle.slot_publisher.specs.Window.{slots_with_cores, slots_of_batch, NamesCores};
-ghost use Rattle.slot_publisher.specs.Told.{slots_told, IsToldOf};
+ghost use Rattle.slot_publisher.specs.Window.{HoldsSlots, NamesCores};
+ghost use Rattle.slot_publisher.specs.Told.{AreToldOf};
 ghost use Rattle.slot_publisher.specs.Places.{ListsArePut, ListsTell};
 
 use arrayvec::ArrayVec;
@@ -117,12 +117,7 @@ impl Publisher {
         requires core_slots { length slots.now.slots ≤ cores.now.slots }
         requires core_endpoints { slots.now.endpoints ≤ cores.now.endpoints }
         requires cores { NamesCores slots.now.slots cores.now }
-        ensures endpoints { self.new.endpoints ≡ self.old.endpoints }
-        ensures batches { self.new.batches ≡ self.old.batches }
-        ensures b { self.new.b ≡ self.old.b }
-        ensures first { self.new.first_batch ≡ first_batch }
-        ensures count { self.new.count * self.old.b ≡ length slots.now.slots }
-        ensures slots { self.new.slots ≡ slots_with_cores slots.now.slots cores.now }
+        ensures { HoldsSlots self.old first_batch slots.now.slots cores.now self.new }
     {
         self.first_batch = first_batch;
         self.count = slots.slots() / u16::from(self.b);
@@ -141,19 +136,7 @@ impl Publisher {
         requires endpoint { endpoint < self.now.endpoints }
         requires first { self.now.first_batch ≤ batch }
         requires last { batch < self.now.first_batch + self.now.count }
-        ensures told { result.now ≡ slots_told self.now endpoint batch }
-        ensures most { length result.now ≤ 64 }
-        // These are exactly its slots of the batch.
-        ensures only { All (IsToldOf (slots_of_batch self.now batch) endpoint) result.now }
-        ensures all { (told : ToldSlot) →
-            told.offset < self.now.b →
-            IsToldOf (slots_of_batch self.now batch) endpoint told →
-            Contains result.now told }
-        ensures rising { IsStrictlyIncreasing (map (λ told. told.offset) result.now) }
-        ensures offsets { All (λ told. told.offset < self.now.b) result.now }
-        ensures destinations { All (λ told. told.dst < self.now.endpoints) result.now }
-        ensures cores { All (λ told. IsCore told.core) result.now }
-        ensures others { All (All (λ packet. packet.flow.src ≢ packet.flow.dst)) self.now.slots → All (λ told. told.dst ≢ endpoint) result.now }
+        ensures { AreToldOf self.now endpoint batch result.now }
     {
         let list = (batch - self.first_batch) as usize * self.endpoints as usize
             + endpoint as usize;
@@ -167,17 +150,7 @@ impl Publisher {
         requires first { self.now.first_batch ≤ batch }
         requires last { batch < self.now.first_batch + self.now.count }
         requires empty { into.old.items ≡ [] }
-        ensures told { into.new.items ≡ slots_told self.now endpoint batch }
-        ensures only { All (IsToldOf (slots_of_batch self.now batch) endpoint) into.new.items }
-        ensures all { (told : ToldSlot) →
-            told.offset < self.now.b →
-            IsToldOf (slots_of_batch self.now batch) endpoint told →
-            Contains into.new.items told }
-        ensures rising { IsStrictlyIncreasing (map (λ told. told.offset) into.new.items) }
-        ensures offsets { All (λ told. told.offset < self.now.b) into.new.items }
-        ensures destinations { All (λ told. told.dst < self.now.endpoints) into.new.items }
-        ensures cores { All (λ told. IsCore told.core) into.new.items }
-        ensures others { All (All (λ packet. packet.flow.src ≢ packet.flow.dst)) self.now.slots → All (λ told. told.dst ≢ endpoint) into.new.items }
+        ensures { AreToldOf self.now endpoint batch into.new.items }
     {
         let _ = into.try_extend_from_slice(self.told(endpoint, batch));
     }

@@ -9,7 +9,7 @@ use Rattle.endpoint_history.specs.Agent.{AgentHistory, Boots, Asks, TakesDown, a
 use Rattle.endpoint_history.specs.Lane.{MakesDown}
 use Rattle.endpoint_history.specs.Steps.{Step, OfAgent, OfLane, agent_of}
 use Rattle.endpoint_history.specs.Rounds.{Round, Played, arriving, then_each, begun, posted_down, heard}
-use Rattle.trace_run.specs.Run.{Outside, Setting, replayed}
+use Rattle.trace_run.specs.Run.{FromOutside, Setting, replayed}
 use Rattle.trace_run.specs.Histories.{played_after, agent_after}
 use Rattle.trace_run.specs.Recorded.{asked_in}
 use Rattle.trace_run.proofs.Through.{agent-kept, agent_of-read}
@@ -66,7 +66,7 @@ heard-asked setting rounds endpoint dst =
     let now = heard-asks setting.endpoints setting.g (length ((replayed setting rounds).rounds endpoint)) (round_after setting rounds endpoint) (played_after setting rounds endpoint) dst in
     omega arith
 
-pub asked-grows : (outside : Outside) (rounds all src dst : ℕ) → rounds ≤ all → asked_in outside rounds src dst ≤ asked_in outside all src dst
+pub asked-grows : (outside : FromOutside) (rounds all src dst : ℕ) → rounds ≤ all → asked_in outside rounds src dst ≤ asked_in outside all src dst
 asked-grows outside zero all src dst within = omega arith
 asked-grows outside (suc rounds) zero src dst within = absurd (omega arith)
 asked-grows outside (suc rounds) (suc all) src dst within = elim (cases_eq rounds all) [
@@ -84,7 +84,7 @@ none-asked endpoint (a ∷ asks) apart =
     let push = sum_by-cons (λ (x : ℕ × ℕ). cond (x.0 == endpoint) x.1 0) a asks in
     omega arith
 
-pub none-asked-in : (outside : Outside) (rounds endpoint : ℕ) → ((round : ℕ) → All (λ (a : ℕ × ℕ). a.0 ≢ endpoint) (outside.asks round endpoint)) → asked_in outside rounds endpoint endpoint ≡ 0
+pub none-asked-in : (outside : FromOutside) (rounds endpoint : ℕ) → ((round : ℕ) → All (λ (a : ℕ × ℕ). a.0 ≢ endpoint) (outside.asks round endpoint)) → asked_in outside rounds endpoint endpoint ≡ 0
 none-asked-in outside zero endpoint apart = refl
 none-asked-in outside (suc rounds) endpoint apart =
     let before = none-asked-in outside rounds endpoint apart in

@@ -29,7 +29,7 @@ use Rattle.trace_run.specs.Windows.{batch_at}
 use Rattle.trace_run.specs.Applicable.{IsApplicable, EveryRunIsApplicable}
 use Rattle.trace_run.specs.Rest.{OwedIsAllocatedOrLeft}
 use Rattle.trace_run.specs.Counts.{ToldIsAllocated, ToldFitsSlots}
-use Rattle.trace_run.specs.Recorded.{IsTrace, EveryRunIsRecorded}
+use Rattle.trace_run.specs.Recorded.{KeepsTraceRules, EveryRunIsRecorded}
 use Rattle.trace_run.specs.Premises.{Schedules, Ends}
 use Rattle.trace_run.proofs.Fronts.{run_length, run_begins, later_is, a_run_begins_with_each}
 use Rattle.trace_run.proofs.Rows.{flow_of, rows_rise, entry_of-none}
@@ -48,7 +48,7 @@ total-is g h dst = refl
 slots_bound : (setting : Setting) (rounds : ℕ) → setting.b ≤ 64 → rounds ≤ 100000 → rounds * setting.b ≤ 6400000
 slots_bound setting rounds batch long = let most : rounds * setting.b ≤ 100000 * setting.b = mul-le-mul_right setting.b long in omega arith
 
-made-fair : Schedules → Ends → (setting : Setting) (rounds all endpoint : ℕ) → rounds < all → IsTrace setting all → AreApart (replayed setting rounds).batches →
+made-fair : Schedules → Ends → (setting : Setting) (rounds all endpoint : ℕ) → rounds < all → KeepsTraceRules setting all → AreApart (replayed setting rounds).batches →
     IsFair endpoint 200000000 (packet_up setting.endpoints setting.g (agent_of (heard_after setting rounds endpoint)))
 made-fair s ends setting rounds all endpoint below trace apart =
     packet-fair ends.named setting.endpoints setting.g endpoint 200000000 h
@@ -77,7 +77,7 @@ apart-front : (setting : Setting) (rounds all : ℕ) → rounds ≤ all → AreA
 apart-front setting rounds all within apart =
     subst AreApart (a_run_begins_with_each setting rounds all within) (All-take (λ (x : DemandBatch). All (λ (e : Entry). e.flow.src ≢ e.flow.dst) x.entries) rounds (replayed setting all).batches apart)
 
-sound : Schedules → Ends → (setting : Setting) (last all endpoint : ℕ) → last < all → IsTrace setting all → AreApart (replayed setting last).batches →
+sound : Schedules → Ends → (setting : Setting) (last all endpoint : ℕ) → last < all → KeepsTraceRules setting all → AreApart (replayed setting last).batches →
     (rounds : ℕ) → rounds ≤ suc last → IsSound (IsFair endpoint 200000000) (played_after setting rounds endpoint)
 sound s ends setting last all endpoint below trace apart zero within = record { posted = All-nil (λ (p : Posted UpPacket). IsFair endpoint 200000000 p.packet); taken = tt }
 sound s ends setting last all endpoint below trace apart (suc rounds) within =
@@ -102,7 +102,7 @@ no_entry src dst add had_it reset P had_none add_none = rw (had_none, add_none) 
     either true = tt
     either false = tt
 
-apart-next : Schedules → Ends → EveryRunIsApplicable → ToldIsAllocated → (setting : Setting) (rounds all : ℕ) → rounds < all → IsTrace setting all →
+apart-next : Schedules → Ends → EveryRunIsApplicable → ToldIsAllocated → (setting : Setting) (rounds all : ℕ) → rounds < all → KeepsTraceRules setting all →
     AreApart (replayed setting rounds).batches → AreApart (replayed setting (suc rounds)).batches
 apart-next s ends applicable told_is setting rounds all below trace apart =
     All-push (λ (x : DemandBatch). All (λ (e : Entry). e.flow.src ≢ e.flow.dst) x.entries) (replayed setting rounds).batches (batch_at setting rounds) apart
@@ -133,7 +133,7 @@ apart-next s ends applicable told_is setting rounds all below trace apart =
         nothing_added : owed setting.g (recording setting rounds src) src ≡ 0 → added setting.g (recording setting rounds src) src ≡ 0
         nothing_added none = omega arith
 
-pub apart-all : Schedules → Ends → EveryRunIsApplicable → ToldIsAllocated → (setting : Setting) (rounds all : ℕ) → rounds ≤ all → IsTrace setting all → AreApart (replayed setting rounds).batches
+pub apart-all : Schedules → Ends → EveryRunIsApplicable → ToldIsAllocated → (setting : Setting) (rounds all : ℕ) → rounds ≤ all → KeepsTraceRules setting all → AreApart (replayed setting rounds).batches
 apart-all s ends applicable told_is setting zero all within trace = All-nil (λ (x : DemandBatch). All (λ (e : Entry). e.flow.src ≢ e.flow.dst) x.entries)
 apart-all s ends applicable told_is setting (suc rounds) all within trace =
     apart-next s ends applicable told_is setting rounds all (omega arith) trace (apart-all s ends applicable told_is setting rounds all (omega arith) trace)
@@ -141,7 +141,7 @@ apart-all s ends applicable told_is setting (suc rounds) all within trace =
 -- ---- numbers
 
 -- what is demanded of each flow
-demanded_few : Schedules → Ends → EveryRunIsApplicable → ToldIsAllocated → (setting : Setting) (rounds all src dst : ℕ) → rounds ≤ all → IsTrace setting all →
+demanded_few : Schedules → Ends → EveryRunIsApplicable → ToldIsAllocated → (setting : Setting) (rounds all src dst : ℕ) → rounds ≤ all → KeepsTraceRules setting all →
     recorded (lane_after setting rounds src) dst ≤ 200000000
 demanded_few s ends applicable told_is setting zero all src dst within trace = omega arith
 demanded_few s ends applicable told_is setting (suc rounds) all src dst within trace =
@@ -149,7 +149,7 @@ demanded_few s ends applicable told_is setting (suc rounds) all src dst within t
     let is_sound = sound s ends setting rounds all src (omega arith) trace apart (suc rounds) (omega arith) in
     ends.recorded 200000000 (lane_after setting (suc rounds) src) dst (fair-few src 200000000 (lane_after setting (suc rounds) src) is_sound.taken)
 
-owed_few : Schedules → Ends → EveryRunIsApplicable → ToldIsAllocated → ToldFitsSlots → (setting : Setting) (rounds all src dst : ℕ) → rounds ≤ all → IsTrace setting all →
+owed_few : Schedules → Ends → EveryRunIsApplicable → ToldIsAllocated → ToldFitsSlots → (setting : Setting) (rounds all src dst : ℕ) → rounds ≤ all → KeepsTraceRules setting all →
     owed setting.g (lane_after setting rounds src) dst ≤ 200000000 + rounds * setting.b
 owed_few s ends applicable told_is fits setting rounds all src dst within trace =
     let demanded = demanded_few s ends applicable told_is setting rounds all src dst within trace in
@@ -239,7 +239,7 @@ next-recorded s applicable setting rounds apart few =
     last_apart (y ∷ xs) x all = last_apart xs x (All-tail (λ (z : DemandBatch). All (λ (e : Entry). e.flow.src ≢ e.flow.dst) z.entries) y (xs ++ x ∷ []) all)
 
 module _ (s : Schedules) (ends : Ends) (applicable : EveryRunIsApplicable) (owed_is : OwedIsAllocatedOrLeft) (told_is : ToldIsAllocated) (fits : ToldFitsSlots) where
-  are_recorded : (setting : Setting) (rounds all : ℕ) → rounds ≤ all → IsTrace setting all → AreRecorded setting.endpoints setting.limits (replayed setting rounds).batches
+  are_recorded : (setting : Setting) (rounds all : ℕ) → rounds ≤ all → KeepsTraceRules setting all → AreRecorded setting.endpoints setting.limits (replayed setting rounds).batches
   are_recorded setting zero all within trace = tt
   are_recorded setting (suc rounds) all within trace =
       let long = trace.length in

@@ -15,7 +15,7 @@ use Rattle.greedy_rules.specs.Schedule.{first_slot, schedule}
 use Rattle.endpoint_history.specs.Tellings.{RisesFrom}
 use Rattle.trace_run.specs.Run.{Setting, batch_of, told_at, told_from, told_of, replayed}
 use Rattle.trace_run.specs.Applicable.{EverySlotIsOfTheRun}
-use Rattle.trace_run.specs.Recorded.{IsTrace}
+use Rattle.trace_run.specs.Recorded.{KeepsTraceRules}
 use Rattle.trace_run.specs.Told.{AreOfBatch, WhatIsToldIsOfABatch}
 use Rattle.trace_run.specs.Premises.{Schedules}
 use Rattle.trace_run.proofs.Apart.{AreApart, is_other, other_flows}
@@ -88,7 +88,7 @@ of_slots endpoints b endpoint core slots cores long fair rises =
           (λ place slot dst low high holds is. differ (flow_of endpoint dst) (of_source (λ (f : Flow). IsTrue (is_other f)) slot endpoint dst holds.other is));
     }
 
-pub what_is_told_is_of_a_batch : Schedules → EverySlotIsOfTheRun → ((setting : Setting) (rounds all : ℕ) → rounds ≤ all → IsTrace setting all → AreApart (replayed setting rounds).batches) → WhatIsToldIsOfABatch
+pub what_is_told_is_of_a_batch : Schedules → EverySlotIsOfTheRun → ((setting : Setting) (rounds all : ℕ) → rounds ≤ all → KeepsTraceRules setting all → AreApart (replayed setting rounds).batches) → WhatIsToldIsOfABatch
 what_is_told_is_of_a_batch s in_run apart setting rounds all endpoint within trace cores =
     let batches : List DemandBatch = (replayed setting rounds).batches in
     let k : ℕ = rounds - 2 * setting.g in

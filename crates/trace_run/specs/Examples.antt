@@ -11,7 +11,7 @@ use Rattle.endpoint_history.specs.Agent as agent
 use Rattle.endpoint_history.specs.Sending.{Slot, sent_now, sends, ever_sent}
 use Rattle.endpoint_history.specs.Lane as lane
 use Rattle.endpoint_history.specs.Counts.{slots_in, recorded, acknowledged, lost}
-use Rattle.trace_run.specs.Run.{Outside, Setting, replayed}
+use Rattle.trace_run.specs.Run.{FromOutside, Setting, replayed}
 use Rattle.trace_run.specs.Histories.{agent_after, lane_after}
 use Rattle.trace_run.specs.Rest.{left_after}
 use Rattle.trace_run.specs.Counts.{flight}
@@ -71,23 +71,23 @@ pub record Shows (setting : Setting) (rounds : ℕ) (batches : List (ℕ × Entr
 
 -- ---- traces of two endpoints in one rack, with batches of one slot and windows of one round
 
-abbrev quiet : Outside
+abbrev quiet : FromOutside
 quiet = record { boots = λ r e. []; asks = λ r e. []; up = λ r e. None; down = λ r e. None; raw = λ r e. [] }
 
 -- endpoint 0 asks for one slot to endpoint 1 in round 0
-abbrev asking : Outside
+abbrev asking : FromOutside
 asking = record quiet { asks = λ r e. if r == 0 && e == 0 then (1, 1) ∷ [] else [] }
 
 -- the allocation of round 3, which tells it, is lost
-abbrev losing : Outside
+abbrev losing : FromOutside
 losing = record asking { down = λ r e. if r == 3 && e == 0 then Some Lose else None }
 
 -- it comes three rounds late
-abbrev holding : Outside
+abbrev holding : FromOutside
 holding = record asking { down = λ r e. if r == 3 && e == 0 then Some (Hold 3) else None }
 
 -- of five slots asked for, one is told when endpoint 0 boots in round 4; a request of its first boot comes after that
-abbrev booting : Outside
+abbrev booting : FromOutside
 booting = record quiet {
   boots = λ r e. if r == 4 && e == 0 then 1 ∷ [] else [];
   asks = λ r e. if r == 0 && e == 0 then (1, 5) ∷ [] else (if r == 4 && e == 0 then (1, 1) ∷ [] else []);
@@ -95,12 +95,12 @@ booting = record quiet {
 }
 
 -- in round 2 a forged request of endpoint 1 names 200,000,000 slots to endpoint 0
-abbrev forging : Outside
+abbrev forging : FromOutside
 forging = record asking {
   raw = λ r e. if r == 2 && e == 1 then Requests (record { epoch = 1; version = 1; seq = 9; ack = record { high = 0; mask = 0 }; content = record { dst = 0; total = 200000000 } ∷ [] }) ∷ [] else [];
 }
 
-abbrev pub of_two : Outside → Setting
+abbrev pub of_two : FromOutside → Setting
 of_two outside = record { endpoints = 2; limits = record { hosts = 2; cores = 1 }; b = 1; g = 1; cores = λ slot source. 255; outside = outside }
 
 -- three slots are asked for, with batches of two slots and windows of two rounds

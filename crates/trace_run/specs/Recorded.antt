@@ -5,18 +5,18 @@ use Rattle.greedy_rules.specs.Schedule.{rest}
 use Rattle.greedy_rules.specs.Recorded.{AreRecorded, Applies, MayBeApplied}
 use Rattle.endpoint_history.specs.Packets.{framed_up}
 use Rattle.endpoint_history.specs.Counts.{recorded, owed}
-use Rattle.trace_run.specs.Run.{Outside, Setting, replayed}
+use Rattle.trace_run.specs.Run.{FromOutside, Setting, replayed}
 use Rattle.trace_run.specs.Histories.{lane_after}
 use Rattle.trace_run.specs.Windows.{batch_at}
 
 -- the slots of a flow that are asked for in so many rounds
-abbrev pub asked_in : Outside → ℕ → ℕ → ℕ → ℕ
+abbrev pub asked_in : FromOutside → ℕ → ℕ → ℕ → ℕ
 asked_in outside zero src dst = 0
 asked_in outside (suc rounds) src dst = asked_in outside rounds src dst + sum_by (λ (a : ℕ × ℕ). if a.0 == dst then a.1 else 0) (outside.asks rounds src)
 
 -- a trace of so many rounds: asks are to other endpoints, those of a flow together are few, and the packets of raw rows keep the rules
 -- of upward packets
-pub record IsTrace (setting : Setting) (rounds : ℕ) : Type 0 where
+pub record KeepsTraceRules (setting : Setting) (rounds : ℕ) : Type 0 where
   pub batch : setting.b ≤ 64
   pub window : 0 < setting.g
   pub length : rounds ≤ 100000
@@ -34,4 +34,4 @@ pub record IsRecorded (setting : Setting) (rounds : ℕ) : Type 0 where
   pub owing : (src dst : ℕ) → owed setting.g (lane_after setting rounds src) dst ≤ 200000000 + rounds * setting.b
 
 abbrev pub EveryRunIsRecorded : Type 0
-EveryRunIsRecorded = (setting : Setting) (rounds all : ℕ) → rounds ≤ all → IsTrace setting all → IsRecorded setting rounds
+EveryRunIsRecorded = (setting : Setting) (rounds all : ℕ) → rounds ≤ all → KeepsTraceRules setting all → IsRecorded setting rounds

@@ -13,7 +13,7 @@ use Rattle.endpoint_history.specs.Rounds.{Round, entries_by}
 
 -- what a trace says of each round and endpoint: the boots, each with its version; the asks, as destinations with slots; the fates of
 -- its two packets; and the packets of raw rows that name it and are packets on the wire
-pub record Outside : Type 0 where
+pub record FromOutside : Type 0 where
   pub boots : (round endpoint : ℕ) → List ℕ
   pub asks : (round endpoint : ℕ) → List (ℕ × ℕ)
   pub up : (round endpoint : ℕ) → Option Fate
@@ -28,7 +28,7 @@ pub record Setting : Type 0 where
   pub b : ℕ
   pub g : ℕ
   pub cores : (slot source : ℕ) → ℕ
-  pub outside : Outside
+  pub outside : FromOutside
 
 -- ---- what is told
 

@@ -4,7 +4,7 @@ use Rattle.std.specs.List.Sorted.{IsStrictlyIncreasing}
 use Rattle.fcp_framing.specs.declared.packet.Told.{Told}
 use Rattle.fcp_framing.specs.Spelling.{IsCore}
 use Rattle.trace_run.specs.Run.{Setting, told_in, replayed}
-use Rattle.trace_run.specs.Recorded.{IsTrace}
+use Rattle.trace_run.specs.Recorded.{KeepsTraceRules}
 
 -- an endpoint's slots of one batch of b slots: rising, within the batch and the network, none to itself
 pub record AreOfBatch (endpoints b endpoint : ℕ) (told : List Told) : Type 0 where
@@ -18,5 +18,5 @@ pub record AreOfBatch (endpoints b endpoint : ℕ) (told : List Told) : Type 0 w
 -- what a lane is handed in any round is such, where the bytes that name cores are those of cores or 255
 abbrev pub WhatIsToldIsOfABatch : Type 0
 WhatIsToldIsOfABatch =
-    (setting : Setting) (rounds all endpoint : ℕ) → rounds ≤ all → IsTrace setting all → ((slot source : ℕ) → IsCore (setting.cores slot source)) →
+    (setting : Setting) (rounds all endpoint : ℕ) → rounds ≤ all → KeepsTraceRules setting all → ((slot source : ℕ) → IsCore (setting.cores slot source)) →
     AreOfBatch setting.endpoints setting.b endpoint (told_in setting (replayed setting rounds).batches rounds endpoint)

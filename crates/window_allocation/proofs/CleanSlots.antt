@@ -7,9 +7,10 @@ use Rattle.greedy_rules.specs.Schedule.{schedule, slot_at}
 use Rattle.greedy_rules.specs.Recorded.{EveryRecordedSlot}
 use Rattle.clos_topology.specs.Network.{Network, endpoints_of}
 use Rattle.clos_topology.specs.Links.{CoreOf, IsClean}
+use Rattle.clos_topology.specs.NetSlots.{limits_of}
 use Rattle.edge_colouring.specs.Degrees.{LimitsAreDegrees}
 use Rattle.edge_colouring.specs.Colouring.{EveryMatchingHasCleanCores}
-use Rattle.window_allocation.specs.Nets.{limits_of, AreOfNet}
+use Rattle.window_allocation.specs.Nets.{AreOfNet}
 use Rattle.window_allocation.specs.Scheduled.{EveryRecordHasCores}
 
 -- a slot has some cores that make it clean

@@ -16,9 +16,10 @@ use Rattle.slot_batches.specs.NextList.{IsListBefore}
 use Rattle.alloc_pipeline.specs.Ring.{RingWork, IsSameRing, MayAllocate, pairs_of}
 use Rattle.clos_topology.specs.Network.{Network, endpoints_of}
 use Rattle.clos_topology.specs.Links.{IsClean}
+use Rattle.clos_topology.specs.NetSlots.{limits_of}
 use Rattle.path_workers.specs.Coloured.{NamesNoOther}
 use Rattle.path_workers.specs.CoreTable.{CoreSlots, core_of}
-use Rattle.window_allocation.specs.Nets.{limits_of, AreOfNet}
+use Rattle.window_allocation.specs.Nets.{AreOfNet}
 use Rattle.window_allocation.specs.Standing.{Allocated, HasAllocated}
 use Rattle.window_allocation.specs.Windows.{IsWindowOf}
 use Rattle.window_allocation.proofs.PartLemmas.{parts_may}

@@ -1,13 +1,9 @@
--- Batches of a net as they are recorded, with the limits that it sets to a slot (this project's own profile).
+-- Batches of a net, with the limits that it sets to a slot (this project's own profile).
 use Rattle.std.specs.Prelude.{List}
-use Rattle.greedy_rules.specs.declared.limits.Limits.{Limits}
 use Rattle.greedy_rules.specs.Batches.{DemandBatch}
 use Rattle.greedy_rules.specs.Recorded.{AreRecorded}
 use Rattle.clos_topology.specs.Network.{Network, endpoints_of}
-
--- the limits that a net sets to a slot
-abbrev pub limits_of : Network → Limits
-limits_of net = record { hosts = net.hosts; cores = net.cores }
+use Rattle.clos_topology.specs.NetSlots.{limits_of}
 
 -- batches of a net as they are recorded
 abbrev pub AreOfNet : Network → List DemandBatch → Type 0

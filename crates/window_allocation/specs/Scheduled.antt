@@ -8,8 +8,9 @@ use Rattle.greedy_rules.specs.Matching.{IsMatching, IsMaximal}
 use Rattle.greedy_rules.specs.Schedule.{schedule, slot_in, slot_at, need_before}
 use Rattle.clos_topology.specs.Network.{Network}
 use Rattle.clos_topology.specs.Links.{CoreOf, IsClean}
+use Rattle.clos_topology.specs.NetSlots.{limits_of}
 use Rattle.path_workers.specs.CoreTable.{CoreSlots, core_of}
-use Rattle.window_allocation.specs.Nets.{limits_of, AreOfNet}
+use Rattle.window_allocation.specs.Nets.{AreOfNet}
 
 pub record IsScheduled (net : Network) (need : Flow → ℕ) (slot : List Flow) (core_of : CoreOf) : Type 0 where
   pub matching : IsMatching slot

@@ -15,10 +15,10 @@ use Rattle.greedy_rules.specs.Fronts.{SchedulesGoOn, FrontsAreFronts, EveryBatch
 use Rattle.greedy_rules.specs.Recorded.{EveryFrontIsRecorded}
 use Rattle.alloc_pipeline.specs.Ring.{RingWork}
 use Rattle.clos_topology.specs.Network.{Network, endpoints_of}
+use Rattle.clos_topology.specs.NetSlots.{limits_of}
 use Rattle.trace_text.specs.Trace.{TraceContent}
 use Rattle.trace_text.specs.Valid.{total_asked, IsTrace}
 use Rattle.window_engine.specs.declared.counts.Counts.{Counts}
-use Rattle.window_allocation.specs.Nets.{limits_of}
 use Rattle.window_allocation.specs.Nets.{AreOfNet}
 use Rattle.plan_rounds.specs.Asked.{EveryPlanAddsWhatIsAsked}
 use Rattle.plan_rounds.specs.Batches.{Round, plan_batches, EveryPlanIsRecorded}

@@ -13,6 +13,7 @@ use Rattle.greedy_rules.specs.Schedule.{first_slot, schedule}
 use Rattle.greedy_rules.specs.Allocation.{slots_of}
 use Rattle.greedy_rules.specs.Fronts.{EveryBatchHasItsSlots}
 use Rattle.clos_topology.specs.Links.{CoreOf}
+use Rattle.clos_topology.specs.NetSlots.{SlotCores, AreSlotCores}
 use Rattle.slot_publisher.specs.Window.{RoutedFlow, with_cores}
 use Rattle.endpoint_history.specs.Rounds.{Round}
 use Rattle.lane_rounds.specs.State.{RoundsState}
@@ -21,11 +22,11 @@ use Rattle.trace_text.specs.Trace.{TraceContent}
 use Rattle.trace_run.specs.Run.{Setting, Run, batch_of, told_at, told_from, told_of, told_in, recorded_by, next_rounds, after_round, replayed}
 use Rattle.trace_run.specs.Rest.{allocated_from}
 use Rattle.trace_run.specs.Fronts.{EveryRoundHasABatch}
-use Rattle.replay_rounds.specs.Setting.{Cores, AreCores, byte_of, setting_of}
-use Rattle.replay_rounds.specs.Standing.{RoundsContent, LaneStands, Stands, routed_from, slots_between}
+use Rattle.replay_rounds.specs.Setting.{byte_of, setting_of}
+use Rattle.replay_rounds.specs.Standing.{RoundsContent, LaneStands, AllRoundsStand, routed_from, slots_between}
 
 -- two namings of cores agree on all slots of a smaller number
-abbrev pub AgreeBelow : ℕ → Cores → Cores → Type 0
+abbrev pub AgreeBelow : ℕ → SlotCores → SlotCores → Type 0
 AgreeBelow number one other = (n : ℕ) → n < number → one n ≡ other n
 
 -- ---- what is told
@@ -45,7 +46,7 @@ one_more k b = grind arith
 slot_before : (b k published at : ℕ) → k < published → at < b → first_slot b k + at < first_slot b published
 slot_before b k published at before within = omega (arith, one_more k b, mul-le (suc k) b published b (omega arith) (omega arith))
 
-told_of-same : (trace : TraceContent) (b g published : ℕ) (one other : Cores) (batches : List DemandBatch) (k endpoint : ℕ) → AgreeBelow (first_slot b published) one other → k < published
+told_of-same : (trace : TraceContent) (b g published : ℕ) (one other : SlotCores) (batches : List DemandBatch) (k endpoint : ℕ) → AgreeBelow (first_slot b published) one other → k < published
     → told_of (setting_of trace b g one) batches k endpoint ≡ told_of (setting_of trace b g other) batches k endpoint
 told_of-same trace b g published one other batches k endpoint agree before =
     let slots : List (List Flow) = batch_of b k batches in
@@ -53,7 +54,7 @@ told_of-same trace b g published one other batches k endpoint agree before =
     told_from-same (λ at. byte_of (one (first_slot b k + at) endpoint)) (λ at. byte_of (other (first_slot b k + at) endpoint)) endpoint 0 slots
     (λ at within. ap (λ (core : CoreOf). byte_of (core endpoint)) (agree (first_slot b k + at) (slot_before b k published at before (omega arith))))
 
-told-same : (trace : TraceContent) (b g published : ℕ) (one other : Cores) (batches : List DemandBatch) (round endpoint : ℕ) → AgreeBelow (first_slot b published) one other → round < published + 2 * g
+told-same : (trace : TraceContent) (b g published : ℕ) (one other : SlotCores) (batches : List DemandBatch) (round endpoint : ℕ) → AgreeBelow (first_slot b published) one other → round < published + 2 * g
     → told_in (setting_of trace b g one) batches round endpoint ≡ told_in (setting_of trace b g other) batches round endpoint
 told-same trace b g published one other batches round endpoint agree early =
     elim (cases_Bool (nat_le (2 * g) round)) [
@@ -65,7 +66,7 @@ told-same trace b g published one other batches round endpoint agree early =
 
 -- ---- the run
 
-next_rounds-same : (trace : TraceContent) (b g published : ℕ) (one other : Cores) (round : ℕ) (before : Run) → AgreeBelow (first_slot b published) one other → round < published + 2 * g
+next_rounds-same : (trace : TraceContent) (b g published : ℕ) (one other : SlotCores) (round : ℕ) (before : Run) → AgreeBelow (first_slot b published) one other → round < published + 2 * g
     → next_rounds (setting_of trace b g one) round before ≡ next_rounds (setting_of trace b g other) round before
 next_rounds-same trace b g published one other round before agree early =
     let o = (setting_of trace b g one).outside in
@@ -73,7 +74,7 @@ next_rounds-same trace b g published one other round before agree early =
     ap (λ (told : List Told). record { boots = o.boots round endpoint; asks = o.asks round endpoint; up = o.up round endpoint; down = o.down round endpoint; raw = o.raw round endpoint; told = told } ∷ before.rounds endpoint)
     (told-same trace b g published one other before.batches round endpoint agree early))
 
-pub run-same : (trace : TraceContent) (b g published : ℕ) (one other : Cores) (rounds : ℕ) → AgreeBelow (first_slot b published) one other → rounds ≤ published + 2 * g
+pub run-same : (trace : TraceContent) (b g published : ℕ) (one other : SlotCores) (rounds : ℕ) → AgreeBelow (first_slot b published) one other → rounds ≤ published + 2 * g
     → replayed (setting_of trace b g one) rounds ≡ replayed (setting_of trace b g other) rounds
 run-same trace b g published one other zero agree early = refl
 run-same trace b g published one other (suc rounds) agree early =
@@ -85,7 +86,7 @@ run-same trace b g published one other (suc rounds) agree early =
 
 -- ---- what stands for it
 
-allocated-same : (trace : TraceContent) (b g published : ℕ) (one other : Cores) (rounds batch src dst : ℕ) → AgreeBelow (first_slot b published) one other → rounds ≤ published + 2 * g
+allocated-same : (trace : TraceContent) (b g published : ℕ) (one other : SlotCores) (rounds batch src dst : ℕ) → AgreeBelow (first_slot b published) one other → rounds ≤ published + 2 * g
     → allocated_from (setting_of trace b g one) rounds batch src dst ≡ allocated_from (setting_of trace b g other) rounds batch src dst
 allocated-same trace b g published one other rounds batch src dst agree early =
     ap (λ (run : Run). slots_of (record { src = src; dst = dst }) (drop (batch * b) (schedule b run.batches))) (run-same trace b g published one other rounds agree early)
@@ -95,7 +96,7 @@ counted_few : (test : Bool) (counted published g : ℕ) → counted ≤ publishe
 counted_few true counted published g few some = omega arith
 counted_few false counted published g few some = omega arith
 
-lane-same : (trace : TraceContent) (b g published counted collected : ℕ) (one other : Cores) (endpoint : ℕ) (lane : RoundsState) → AgreeBelow (first_slot b published) one other → counted ≤ published
+lane-same : (trace : TraceContent) (b g published counted collected : ℕ) (one other : SlotCores) (endpoint : ℕ) (lane : RoundsState) → AgreeBelow (first_slot b published) one other → counted ≤ published
     → collected ≤ published + 2 * g → 0 < g → LaneStands (setting_of trace b g one) collected counted endpoint lane → LaneStands (setting_of trace b g other) collected counted endpoint lane
 lane-same trace b g published counted collected one other endpoint lane agree few early some stands =
     record {
@@ -110,13 +111,13 @@ lane-same trace b g published counted collected one other endpoint lane agree fe
       stands = subst (λ (run : Run). lanes.StandsFor lane (run.rounds endpoint) stands.allocations) (run-same trace b g published one other collected agree early) stands.stands;
     }
 
-routed-same : (one other : Cores) (number : ℕ) (slots : List (List Flow)) → AgreeBelow (number + length slots) one other → routed_from one number slots ≡ routed_from other number slots
+routed-same : (one other : SlotCores) (number : ℕ) (slots : List (List Flow)) → AgreeBelow (number + length slots) one other → routed_from one number slots ≡ routed_from other number slots
 routed-same one other number [] agree = refl
 routed-same one other number (slot ∷ slots) agree =
     ap (λ (core : CoreOf). with_cores core slot ∷ routed_from one (number + 1) slots) (agree number (omega arith))
     ∙ ap (λ (routed : List (List RoutedFlow)). with_cores (other number) slot ∷ routed) (routed-same one other (number + 1) slots (λ n below. agree n (omega arith)))
 
-pub between-same : (trace : TraceContent) (b g published : ℕ) (one other : Cores) (first rounds : ℕ) → AgreeBelow (first_slot b published) one other → rounds ≤ published + 2 * g
+pub between-same : (trace : TraceContent) (b g published : ℕ) (one other : SlotCores) (first rounds : ℕ) → AgreeBelow (first_slot b published) one other → rounds ≤ published + 2 * g
     → slots_between (setting_of trace b g one) first rounds ≡ slots_between (setting_of trace b g other) first rounds
 between-same trace b g published one other first rounds agree early =
     ap (λ (run : Run). drop (first * b) (schedule b run.batches)) (run-same trace b g published one other rounds agree early)
@@ -127,8 +128,8 @@ between-length s first rounds batch count =
     let many : length (schedule s.b batches) ≡ rounds * s.b = count s.b 0 [] batches ∙ ap (λ (n : ℕ). n * s.b) (batch s rounds) in
     omega (arith, length-drop (first * s.b) (schedule s.b batches))
 
-pub stands-with : (trace : TraceContent) (one other : Cores) (all : RoundsContent) → EveryRoundHasABatch → EveryBatchHasItsSlots → AgreeBelow (first_slot all.b all.published) one other → AreCores other
-    → all.window.first_batch ≤ all.published → all.collected ≤ all.published + 2 * all.g → Stands trace one all → Stands trace other all
+pub stands-with : (trace : TraceContent) (one other : SlotCores) (all : RoundsContent) → EveryRoundHasABatch → EveryBatchHasItsSlots → AgreeBelow (first_slot all.b all.published) one other → AreSlotCores other
+    → all.window.first_batch ≤ all.published → all.collected ≤ all.published + 2 * all.g → AllRoundsStand trace one all → AllRoundsStand trace other all
 stands-with trace one other all batch count agree named held early stands =
     let b : ℕ = all.b in
     let g : ℕ = all.g in

@@ -10,28 +10,28 @@ use Rattle.greedy_rules.specs.Demands.{item_of, need_in}
 use Rattle.greedy_rules.specs.Schedule.{rest}
 use Rattle.alloc_pipeline.specs.Ring.{RingWork}
 use Rattle.clos_topology.specs.Network.{endpoints_of}
+use Rattle.clos_topology.specs.NetSlots.{SlotCores}
 use Rattle.endpoint_history.specs.Entries.{had}
 use Rattle.trace_text.specs.Trace.{TraceContent}
 use Rattle.trace_run.specs.Run.{Setting, replayed}
 use Rattle.trace_run.specs.Histories.{lane_after}
 use Rattle.trace_run.specs.Rest.{left_after}
-use Rattle.replay_rounds.specs.Setting.{Cores}
 use Rattle.replay_rounds.specs.Counts.{LaneCount, counted, lane_count, sent_and_missed}
 use Rattle.window_engine.specs.declared.counts.Counts.{Counts}
 use Rattle.window_engine.specs.Replay.{ReplayState, StandsForReplay, run_of, replay_counts}
 use Rattle.window_allocation.specs.Needs.{place_of}
 
 -- every batch is allocated, so every round is collected
-pub all_collected : (trace : TraceContent) (cores : Cores) (engine : ReplayState) → StandsForReplay trace cores engine → engine.lanes.published ≡ engine.rounds
+pub all_collected : (trace : TraceContent) (cores : SlotCores) (engine : ReplayState) → StandsForReplay trace cores engine → engine.lanes.published ≡ engine.rounds
     → (engine.lanes.collected ≡ trace.rounds) × (engine.lanes.published ≡ trace.rounds)
 all_collected trace cores engine stands done = (omega (arith, stands.windows.within, stands.windows.behind, stands.rounds), omega (arith, stands.rounds))
 
 -- ---- the needs that are left
 
-pub serves : (trace : TraceContent) (cores : Cores) (engine : ReplayState) → StandsForReplay trace cores engine → engine.allocation.ring.endpoints ≡ engine.lanes.endpoints
+pub serves : (trace : TraceContent) (cores : SlotCores) (engine : ReplayState) → StandsForReplay trace cores engine → engine.allocation.ring.endpoints ≡ engine.lanes.endpoints
 serves trace cores engine stands = ap (λ (ring : RingWork). ring.endpoints) stands.allocated.ring ∙ sym stands.lanes.endpoints
 
-pub left : (trace : TraceContent) (cores : Cores) (engine : ReplayState) (flow : Flow) (pending : ℕ) → StandsForReplay trace cores engine → engine.lanes.published ≡ engine.rounds
+pub left : (trace : TraceContent) (cores : SlotCores) (engine : ReplayState) (flow : Flow) (pending : ℕ) → StandsForReplay trace cores engine → engine.lanes.published ≡ engine.rounds
     → flow.src < engine.lanes.endpoints → flow.dst < engine.lanes.endpoints
     → pending ≡ get_or engine.pending (place_of engine.allocation.ring.endpoints flow.src flow.dst) pending → pending ≡ left_after (run_of trace cores engine) trace.rounds flow.src flow.dst
 left trace cores engine flow pending stands done src dst is =
@@ -51,7 +51,7 @@ left trace cores engine flow pending stands done src dst is =
     ∙ (ap (λ (b : ℕ). need (rest b (replayed s engine.lanes.published).batches)) stands.size
     ∙ ap (λ (m : ℕ). need (rest s.b (replayed s m).batches)) all)))))
 
-pub place_fits : (trace : TraceContent) (cores : Cores) (engine : ReplayState) (place : ℕ) → StandsForReplay trace cores engine → place < engine.allocation.ring.endpoints * engine.allocation.ring.endpoints
+pub place_fits : (trace : TraceContent) (cores : SlotCores) (engine : ReplayState) (place : ℕ) → StandsForReplay trace cores engine → place < engine.allocation.ring.endpoints * engine.allocation.ring.endpoints
     → place < length engine.pending
 place_fits trace cores engine place stands below =
     let ring : engine.allocation.ring.endpoints ≡ endpoints_of trace.net = ap (λ (r : RingWork). r.endpoints) stands.allocated.ring in
@@ -70,7 +70,7 @@ counts_with lane pending totals = record {
   missed = totals.1;
 }
 
-pub tells : (trace : TraceContent) (cores : Cores) (engine : ReplayState) (flow : Flow) (count : FlowCount) (pending : ℕ) (totals : ℕ × ℕ) → StandsForReplay trace cores engine
+pub tells : (trace : TraceContent) (cores : SlotCores) (engine : ReplayState) (flow : Flow) (count : FlowCount) (pending : ℕ) (totals : ℕ × ℕ) → StandsForReplay trace cores engine
     → engine.lanes.published ≡ engine.rounds → flow.src < engine.lanes.endpoints → flow.dst < engine.lanes.endpoints
     → had engine.lanes.g (lane_after (run_of trace cores engine) engine.lanes.collected flow.src) flow.dst ≡ true
     → counted count ≡ lane_count (run_of trace cores engine) engine.lanes.collected engine.lanes.counted flow.src flow.dst

@@ -7,6 +7,7 @@ use Rattle.alloc_pipeline.specs.Ring.{RingWork}
 use Rattle.clos_topology.specs.Network.{Network, endpoints_of}
 use Rattle.clos_topology.specs.Limits.{IsNetwork}
 use Rattle.clos_topology.specs.Links.{IsClean}
+use Rattle.clos_topology.specs.NetSlots.{SlotCores, AreSlotCores}
 use Rattle.path_workers.specs.CoreTable.{core_of}
 use Rattle.lane_rounds.specs.State.{RoundsState}
 use Rattle.slot_publisher.specs.Window.{Window}
@@ -14,7 +15,6 @@ use Rattle.trace_text.specs.Trace.{TraceContent}
 use Rattle.trace_text.specs.Valid.{IsTrace}
 use Rattle.trace_run.specs.Run.{Setting, replayed}
 use Rattle.trace_run.specs.Windows.{InWindows}
-use Rattle.replay_rounds.specs.Setting.{Cores, AreCores}
 use Rattle.replay_rounds.specs.Played.{rounds_played}
 use Rattle.replay_rounds.specs.Standing as lanes
 use Rattle.replay_rounds.specs.Standing.{RoundsContent, slots_between, AreOfTable, IsNextWindow}
@@ -54,17 +54,17 @@ window_names net b slots window sizes shows at source within =
     (subst (λ (k : ℕ). IsClean net.hosts net.cores (slot_in slots at) (core_of window.cores k)) place (shows.clean at below)) (shows.others at below) source
 
 -- these cores are the window's
-abbrev pub HasCores : ReplayState → WindowContent → Cores → Type 0
+abbrev pub HasCores : ReplayState → WindowContent → SlotCores → Type 0
 HasCores engine window cores = AreOfTable cores (first_slot engine.lanes.b window.span.first) (window.span.count * engine.lanes.b) window.cores
 
 -- the window is the next of the run with these cores
-abbrev pub IsNextOf : TraceContent → ReplayState → List RoundsState → WindowContent → Cores → Type 0
+abbrev pub IsNextOf : TraceContent → ReplayState → List RoundsState → WindowContent → SlotCores → Type 0
 IsNextOf trace engine states window cores = IsNextWindow trace cores (collected_more engine.lanes (window_of trace engine) states) window.span.count window.slots window.cores
 
 abbrev pub IsSpanOf : ReplayState → Span → Type 0
 IsSpanOf engine span = span ≡ record { first = engine.lanes.published; count = engine.lanes.collected - engine.lanes.published }
 
-next_with : (trace : TraceContent) (cores : Cores) (engine : ReplayState) (states : List RoundsState) (window : WindowContent) → engine.lanes.published ≤ engine.lanes.collected → IsSpanOf engine window.span
+next_with : (trace : TraceContent) (cores : SlotCores) (engine : ReplayState) (states : List RoundsState) (window : WindowContent) → engine.lanes.published ≤ engine.lanes.collected → IsSpanOf engine window.span
     → window.slots.slots ≡ slots_between (run_of trace cores engine) engine.lanes.published engine.lanes.collected → HasCores engine window cores → IsNextOf trace engine states window cores
 next_with trace cores engine states window behind span is named =
     let m : ℕ = engine.lanes.published in
@@ -76,7 +76,7 @@ next_with trace cores engine states window behind span is named =
     }
 
 -- it is so with the cores for which the replay stands, where they are the window's
-pub next_named : (trace : TraceContent) (cores : Cores) (engine : ReplayState) (states : List RoundsState) (window : WindowContent) → StandsForReplay trace cores engine → IsSpanOf engine window.span
+pub next_named : (trace : TraceContent) (cores : SlotCores) (engine : ReplayState) (states : List RoundsState) (window : WindowContent) → StandsForReplay trace cores engine → IsSpanOf engine window.span
     → IsWindowOf trace.net engine.lanes.b (slots_between (run_of trace cores engine) engine.lanes.published engine.lanes.collected) window → HasCores engine window cores → IsNextOf trace engine states window cores
 next_named trace cores engine states window stands span shows named = next_with trace cores engine states window stands.windows.behind span shows.is named
 
@@ -86,11 +86,11 @@ seen_as span slots cores window span_is slots_are cores_are = λ i. record { spa
 
 -- there is a run for which all endpoints' rounds stand, and of which the window is the next
 abbrev pub MayPublish : RoundsContent → WindowContent → Type 0
-MayPublish all window = (t : TraceContent) × (named : Cores) × IsTrace t × lanes.Stands t named all × IsNextWindow t named all window.span.count window.slots window.cores
+MayPublish all window = (t : TraceContent) × (named : SlotCores) × IsTrace t × lanes.AllRoundsStand t named all × IsNextWindow t named all window.span.count window.slots window.cores
 
 -- and so there are cores for which all endpoints' rounds stand, and with which it is
-pub may_publish : Replays → (trace : TraceContent) (cores : Cores) (engine : ReplayState) (states : List RoundsState) (window : WindowContent) → IsTrace trace → StandsForReplay trace cores engine
-    → lanes.Stands trace cores (collected_more engine.lanes (window_of trace engine) states) → IsSpanOf engine window.span
+pub may_publish : Replays → (trace : TraceContent) (cores : SlotCores) (engine : ReplayState) (states : List RoundsState) (window : WindowContent) → IsTrace trace → StandsForReplay trace cores engine
+    → lanes.AllRoundsStand trace cores (collected_more engine.lanes (window_of trace engine) states) → IsSpanOf engine window.span
     → IsWindowOf trace.net engine.lanes.b (slots_between (run_of trace cores engine) engine.lanes.published engine.lanes.collected) window
     → MayPublish (collected_more engine.lanes (window_of trace engine) states) window
 may_publish laws trace cores engine states window sound stands all span shows =
@@ -99,10 +99,10 @@ may_publish laws trace cores engine states window sound stands all span shows =
     let m : ℕ = engine.lanes.published in
     let r : ℕ = engine.lanes.collected in
     let start : ℕ = first_slot b window.span.first in
-    let named : Cores = with_table cores start (window.span.count * b) window.cores in
+    let named : SlotCores = with_table cores start (window.span.count * b) window.cores in
     let first : window.span.first ≡ m = ap (λ (s : Span). s.first) span in
     let agree : AgreeBelow (first_slot b m) cores named = subst (λ (k : ℕ). AgreeBelow (first_slot b k) cores named) first (table-before cores start (window.span.count * b) window.cores) in
-    let fine : AreCores named = table-named cores start (window.span.count * b) window.cores stands.lanes.named
+    let fine : AreSlotCores named = table-named cores start (window.span.count * b) window.cores stands.lanes.named
     (window_names trace.net b (slots_between (run_of trace cores engine) m r) window sound.net shows) in
     let same = between-same trace b g m cores named m r agree (omega (arith, stands.windows.one_window)) in (
       trace,
@@ -122,8 +122,8 @@ frames old mid new n count collects publishes all =
     ∙ ap (λ (k : ℕ). record old { collected = old.collected + n; published = k; counted = old.published; lanes = new.lanes; window = new.window }) all)
 
 -- what a replay stands for whose parts are these
-stands_parts : Replays → (trace : TraceContent) (cores : Cores) (engine : ReplayState) (counted : ℕ) (states : List RoundsState) (window : Window) (new : ReplayState) → IsTrace trace → StandsForReplay trace cores engine
-    → new.lanes ≡ published_more engine.lanes (window_of trace engine) counted states window → window.first_batch ≡ engine.lanes.published → new.rounds ≡ engine.rounds → lanes.Stands trace cores new.lanes
+stands_parts : Replays → (trace : TraceContent) (cores : SlotCores) (engine : ReplayState) (counted : ℕ) (states : List RoundsState) (window : Window) (new : ReplayState) → IsTrace trace → StandsForReplay trace cores engine
+    → new.lanes ≡ published_more engine.lanes (window_of trace engine) counted states window → window.first_batch ≡ engine.lanes.published → new.rounds ≡ engine.rounds → lanes.AllRoundsStand trace cores new.lanes
     → new.waiting ≡ (rounds_played (run_of trace cores engine) trace engine.lanes.collected (window_of trace engine)).batches
     → HasAllocated trace.net engine.lanes.g (replayed (run_of trace cores engine) engine.lanes.collected).batches new.allocation → new.allocation.b ≡ engine.allocation.b → length new.pending ≡ length engine.pending
     → (new.lanes.published ≡ new.rounds → Needs new.allocation.ring.endpoints new.allocation.list.items new.pending)
@@ -137,7 +137,7 @@ stands_parts laws trace cores engine counted states window new sound stands lane
     let serves : new.allocation.ring.endpoints ≡ endpoints_of trace.net = ap (λ (ring : RingWork). ring.endpoints) allocated.ring in
     record {
       rounds = rounds ∙ stands.rounds;
-      lanes = subst (lanes.Stands trace cores) lanes_are all;
+      lanes = subst (lanes.AllRoundsStand trace cores) lanes_are all;
       size = size ∙ stands.size;
       windows = subst (InWindows engine.lanes.g trace.rounds (r + n) r) (sym first) (laws.steps engine.lanes.g trace.rounds r m engine.lanes.window.first_batch stands.windows);
       waiting = waiting ∙ next_batches s r n laws.batches;
@@ -150,8 +150,8 @@ stands_parts laws trace cores engine counted states window new sound stands lane
           subst (λ (k : ℕ). Needs k new.allocation.list.items new.pending) serves (ended (ap (λ (l : RoundsContent). l.published) lanes_are ∙ (done ∙ sym (rounds ∙ stands.rounds))));
     }
 
-pub stands_after : Replays → (trace : TraceContent) (cores : Cores) (engine new : ReplayState) → IsTrace trace → StandsForReplay trace cores engine
-    → new.lanes ≡ published_more engine.lanes (window_of trace engine) new.lanes.counted new.lanes.lanes new.lanes.window → new.lanes.window.first_batch ≡ engine.lanes.published → new.rounds ≡ engine.rounds → lanes.Stands trace cores new.lanes
+pub stands_after : Replays → (trace : TraceContent) (cores : SlotCores) (engine new : ReplayState) → IsTrace trace → StandsForReplay trace cores engine
+    → new.lanes ≡ published_more engine.lanes (window_of trace engine) new.lanes.counted new.lanes.lanes new.lanes.window → new.lanes.window.first_batch ≡ engine.lanes.published → new.rounds ≡ engine.rounds → lanes.AllRoundsStand trace cores new.lanes
     → new.waiting ≡ (rounds_played (run_of trace cores engine) trace engine.lanes.collected (window_of trace engine)).batches
     → HasAllocated trace.net engine.lanes.g (replayed (run_of trace cores engine) engine.lanes.collected).batches new.allocation → new.allocation.b ≡ engine.allocation.b → length new.pending ≡ length engine.pending
     → (new.lanes.published ≡ new.rounds → Needs new.allocation.ring.endpoints new.allocation.list.items new.pending)
@@ -165,18 +165,18 @@ stands_after laws trace cores engine new sound stands lanes_are first rounds all
 -- what is known of all endpoints' rounds once the window is collected
 pub record Collects (trace : TraceContent) (engine : ReplayState) (mid : RoundsContent) : Type 0 where
   pub frame : mid ≡ collected_more engine.lanes (window_of trace engine) mid.lanes
-  pub stands : (cores : Cores) → lanes.Stands trace cores engine.lanes → lanes.Stands trace cores mid
+  pub stands : (cores : SlotCores) → lanes.AllRoundsStand trace cores engine.lanes → lanes.AllRoundsStand trace cores mid
 
 pub collects_with : (trace : TraceContent) (engine : ReplayState) (mid : RoundsContent) → mid ≡ collected_more engine.lanes (window_of trace engine) mid.lanes
-    → ((cores : Cores) → lanes.Stands trace cores engine.lanes → lanes.Stands trace cores mid) → Collects trace engine mid
+    → ((cores : SlotCores) → lanes.AllRoundsStand trace cores engine.lanes → lanes.AllRoundsStand trace cores mid) → Collects trace engine mid
 collects_with trace engine mid frame stands = record { frame = frame; stands = stands }
 
 -- a window of the run is the next to be published
-pub record IsNextWhole (trace : TraceContent) (cores : Cores) (engine : ReplayState) (window : WindowContent) : Type 0 where
+pub record IsNextWhole (trace : TraceContent) (cores : SlotCores) (engine : ReplayState) (window : WindowContent) : Type 0 where
   pub span : IsSpanOf engine window.span
   pub shows : IsWindowOf trace.net engine.lanes.b (slots_between (run_of trace cores engine) engine.lanes.published engine.lanes.collected) window
 
-pub next_whole : Replays → (trace : TraceContent) (cores : Cores) (engine : ReplayState) (batches : List DemandBatch) (window : WindowContent) → IsTrace trace → StandsForReplay trace cores engine → batches ≡ engine.waiting
+pub next_whole : Replays → (trace : TraceContent) (cores : SlotCores) (engine : ReplayState) (batches : List DemandBatch) (window : WindowContent) → IsTrace trace → StandsForReplay trace cores engine → batches ≡ engine.waiting
     → window.span ≡ record { first = engine.allocation.batches; count = length batches }
     → IsWindowOf engine.allocation.paths.net engine.allocation.b (schedule_from engine.allocation.b engine.allocation.batches engine.allocation.list.items batches) window → IsNextWhole trace cores engine window
 next_whole laws trace cores engine batches window sound stands are span shows =
@@ -186,13 +186,13 @@ next_whole laws trace cores engine batches window sound stands are span shows =
       shows = replay_window laws trace cores engine window sound stands (subst (λ (bs : List DemandBatch). IsWindowOf half.paths.net half.b (schedule_from half.b half.batches half.list.items bs) window) are shows);
     }
 
-pub publish_next : Replays → (trace : TraceContent) (cores : Cores) (engine : ReplayState) (mid : RoundsContent) (window : WindowContent) → IsTrace trace → StandsForReplay trace cores engine → Collects trace engine mid
+pub publish_next : Replays → (trace : TraceContent) (cores : SlotCores) (engine : ReplayState) (mid : RoundsContent) (window : WindowContent) → IsTrace trace → StandsForReplay trace cores engine → Collects trace engine mid
     → IsNextWhole trace cores engine window → MayPublish mid window
 publish_next laws trace cores engine mid window sound stands collects next =
     subst (λ (all : RoundsContent). MayPublish all window) (sym collects.frame)
-    (may_publish laws trace cores engine mid.lanes window sound stands (subst (lanes.Stands trace cores) collects.frame (collects.stands cores stands.lanes)) next.span next.shows)
+    (may_publish laws trace cores engine mid.lanes window sound stands (subst (lanes.AllRoundsStand trace cores) collects.frame (collects.stands cores stands.lanes)) next.span next.shows)
 
-pub publish_fits : (trace : TraceContent) (cores : Cores) (engine : ReplayState) (mid : RoundsContent) (window : WindowContent) → StandsForReplay trace cores engine → Collects trace engine mid → IsNextWhole trace cores engine window
+pub publish_fits : (trace : TraceContent) (cores : SlotCores) (engine : ReplayState) (mid : RoundsContent) (window : WindowContent) → StandsForReplay trace cores engine → Collects trace engine mid → IsNextWhole trace cores engine window
     → (mid.published + window.span.count ≤ mid.collected) × (window.span.count ≤ mid.g)
 publish_fits trace cores engine mid window stands collects next =
     let count : window.span.count ≡ engine.lanes.collected - engine.lanes.published = ap (λ (s : Span). s.count) next.span in
@@ -205,29 +205,29 @@ publish_fits trace cores engine mid window stands collects next =
 pub record Publishes (mid last : RoundsContent) (window : WindowContent) : Type 0 where
   pub frame : last ≡ record mid { published = mid.published + window.span.count; counted = mid.published; lanes = last.lanes; window = last.window }
   pub first : last.window.first_batch ≡ mid.published
-  pub stands : (t : TraceContent) (named : Cores) → IsTrace t → lanes.Stands t named mid → IsNextWindow t named mid window.span.count window.slots window.cores → lanes.Stands t named last
+  pub stands : (t : TraceContent) (named : SlotCores) → IsTrace t → lanes.AllRoundsStand t named mid → IsNextWindow t named mid window.span.count window.slots window.cores → lanes.AllRoundsStand t named last
 
 pub publishes_with : (mid last : RoundsContent) (here window : WindowContent) → here ≡ window → last ≡ record mid { published = mid.published + here.span.count; counted = mid.published; lanes = last.lanes; window = last.window }
     → last.window.first_batch ≡ mid.published
-    → ((t : TraceContent) (named : Cores) → IsTrace t → lanes.Stands t named mid → IsNextWindow t named mid here.span.count here.slots here.cores → lanes.Stands t named last) → Publishes mid last window
+    → ((t : TraceContent) (named : SlotCores) → IsTrace t → lanes.AllRoundsStand t named mid → IsNextWindow t named mid here.span.count here.slots here.cores → lanes.AllRoundsStand t named last) → Publishes mid last window
 publishes_with mid last here window same frame first stands = subst (Publishes mid last) same (record { frame = frame; first = first; stands = stands })
 
-pub lanes_after : (trace : TraceContent) (cores : Cores) (engine : ReplayState) (mid last : RoundsContent) (window : WindowContent) → StandsForReplay trace cores engine → Collects trace engine mid
+pub lanes_after : (trace : TraceContent) (cores : SlotCores) (engine : ReplayState) (mid last : RoundsContent) (window : WindowContent) → StandsForReplay trace cores engine → Collects trace engine mid
     → IsNextWhole trace cores engine window → Publishes mid last window → last ≡ published_more engine.lanes (window_of trace engine) engine.lanes.published last.lanes last.window
 lanes_after trace cores engine mid last window stands collects next publishes =
     let count : window.span.count ≡ engine.lanes.collected - engine.lanes.published = ap (λ (s : Span). s.count) next.span in
     frames engine.lanes mid last (window_of trace engine) window.span.count collects.frame publishes.frame (omega (arith, stands.windows.behind))
 
-pub stands_next : Replays → (trace : TraceContent) (cores : Cores) (engine : ReplayState) (mid last : RoundsContent) (window : WindowContent) (new : ReplayState) → IsTrace trace → StandsForReplay trace cores engine
+pub stands_next : Replays → (trace : TraceContent) (cores : SlotCores) (engine : ReplayState) (mid last : RoundsContent) (window : WindowContent) (new : ReplayState) → IsTrace trace → StandsForReplay trace cores engine
     → Collects trace engine mid → IsNextWhole trace cores engine window → Publishes mid last window → HasCores engine window cores → new.lanes ≡ record last { counted = new.lanes.counted; lanes = new.lanes.lanes }
-    → (lanes.Stands trace cores last → lanes.Stands trace cores new.lanes) → new.rounds ≡ engine.rounds
+    → (lanes.AllRoundsStand trace cores last → lanes.AllRoundsStand trace cores new.lanes) → new.rounds ≡ engine.rounds
     → new.waiting ≡ (rounds_played (run_of trace cores engine) trace engine.lanes.collected (window_of trace engine)).batches
     → HasAllocated trace.net engine.lanes.g (replayed (run_of trace cores engine) engine.lanes.collected).batches new.allocation → new.allocation.b ≡ engine.allocation.b → length new.pending ≡ length engine.pending
     → (new.lanes.published ≡ new.rounds → Needs new.allocation.ring.endpoints new.allocation.list.items new.pending)
     → (new.lanes.published ≡ new.rounds → new.lanes.counted ≡ new.lanes.published) → StandsForReplay trace cores new
 stands_next laws trace cores engine mid last window new sound stands collects next publishes named ends ends_so rounds waiting allocated size pending ended all_counted =
     let states : List RoundsState = mid.lanes in
-    let all : lanes.Stands trace cores mid = collects.stands cores stands.lanes in
+    let all : lanes.AllRoundsStand trace cores mid = collects.stands cores stands.lanes in
     let is : IsNextWindow trace cores mid window.span.count window.slots window.cores =
     subst (λ (x : RoundsContent). IsNextWindow trace cores x window.span.count window.slots window.cores) (sym collects.frame) (next_named trace cores engine states window stands next.span next.shows named) in
     let after = lanes_after trace cores engine mid last window stands collects next publishes in

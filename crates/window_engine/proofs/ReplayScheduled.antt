@@ -1,4 +1,4 @@
--- Cores for every slot of a run, where those of the first slots are named already.
+-- SlotCores for every slot of a run, where those of the first slots are named already.
 use Rattle.std.proofs.Common.{◌≡◌, ◌<◌, ◌≤◌, ℕ, List, get_or, cond, Option, Some, None, All, IfSome, refl, sym, subst, inl, inr, arith}
 use Rattle.std.specs.Prelude.{nat_lt, nat_le, unwrap_or}
 use Rattle.std.proofs.lemmas.Bool.{cases_Bool, cond-true, cond-false, leb-true, ltb-true, lt-ltb, le-leb}
@@ -8,9 +8,10 @@ use Rattle.greedy_rules.specs.Schedule.{schedule, slot_at}
 use Rattle.clos_topology.specs.Network.{Network}
 use Rattle.clos_topology.specs.Limits.{IsNetwork}
 use Rattle.clos_topology.specs.Links.{CoreOf, HasItsCore, IsClean, links, SharesNoLink}
+use Rattle.clos_topology.specs.NetSlots.{SlotCores, AreSlotCores}
 use Rattle.trace_run.specs.Run.{replayed}
 use Rattle.trace_run.specs.Cores.{CoresDecideNothing}
-use Rattle.replay_rounds.specs.Setting.{Cores, AreCores, byte_of, setting_of}
+use Rattle.replay_rounds.specs.Setting.{byte_of, setting_of}
 use Rattle.window_allocation.specs.Scheduled.{EverySlotIsScheduled, EveryRecordHasCores}
 use Rattle.window_engine.specs.Premises.{Replays}
 use Rattle.window_engine.specs.Replay.{AreCleanUpTo, CoresGoOn}
@@ -58,13 +59,13 @@ clean-few net slot named sizes clean =
 
 -- ---- the first ones are kept
 
-abbrev kept : Cores → ℕ → Cores → Cores
+abbrev kept : SlotCores → ℕ → SlotCores → SlotCores
 kept cores reached others number = cond (nat_le number reached) (cores number) (λ source. few (others number source))
 
-kept-first : (cores : Cores) (reached : ℕ) (others : Cores) (number : ℕ) → number ≤ reached → kept cores reached others number ≡ cores number
+kept-first : (cores : SlotCores) (reached : ℕ) (others : SlotCores) (number : ℕ) → number ≤ reached → kept cores reached others number ≡ cores number
 kept-first cores reached others number within = cond-true (nat_le number reached) (cores number) (λ source. few (others number source)) (le-leb number reached within)
 
-kept-named : (cores : Cores) (reached : ℕ) (others : Cores) → AreCores cores → AreCores (kept cores reached others)
+kept-named : (cores : SlotCores) (reached : ℕ) (others : SlotCores) → AreSlotCores cores → AreSlotCores (kept cores reached others)
 kept-named cores reached others named number source =
     let Named : CoreOf → Type 0 = λ of. IfSome (of source) (λ core. core < 64) in
     let later : CoreOf = λ s. few (others number s) in
@@ -73,7 +74,7 @@ kept-named cores reached others named number source =
       | inr after ↦ subst Named (sym (cond-false (nat_le number reached) (cores number) later after)) (few-below (others number source))
     ]
 
-kept-scheduled : (b : ℕ) (net : Network) (batches : List DemandBatch) (cores : Cores) (reached : ℕ) (others : Cores) → IsNetwork net → AreCleanUpTo net (schedule b batches) reached cores
+kept-scheduled : (b : ℕ) (net : Network) (batches : List DemandBatch) (cores : SlotCores) (reached : ℕ) (others : SlotCores) → IsNetwork net → AreCleanUpTo net (schedule b batches) reached cores
     → EverySlotIsScheduled b net batches others → EverySlotIsScheduled b net batches (kept cores reached others)
 kept-scheduled b net batches cores reached others sizes first all number positive within =
     let slot : List Flow = slot_at (schedule b batches) number in
@@ -95,7 +96,7 @@ cores_go_on laws record_has decide b g trace cores reached sound small some name
     let batches : List DemandBatch = (replayed (setting_of trace b g cores) trace.rounds).batches in
     let recorded = laws.recorded (setting_of trace b g cores) trace.rounds trace.rounds (omega arith) (laws.setting trace b g cores sound small some) in
     let found = record_has b trace.net batches recorded.batches in
-    let whole : Cores = kept cores reached found.0 in
+    let whole : SlotCores = kept cores reached found.0 in
     let same = sym (decide (setting_of trace b g cores) (λ number source. byte_of (whole number source)) trace.rounds) in (
       whole,
       kept-named cores reached found.0 named,

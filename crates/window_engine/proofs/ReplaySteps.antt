@@ -9,12 +9,12 @@ use Rattle.greedy_rules.specs.Batches.{DemandBatch}
 use Rattle.greedy_rules.specs.Schedule.{first_slot, schedule_from, rest}
 use Rattle.alloc_pipeline.specs.Ring.{RingWork}
 use Rattle.clos_topology.specs.Network.{Network}
+use Rattle.clos_topology.specs.NetSlots.{SlotCores}
 use Rattle.trace_text.specs.Trace.{TraceContent}
 use Rattle.trace_text.specs.Valid.{IsTrace}
 use Rattle.trace_run.specs.Run.{Setting, replayed}
 use Rattle.trace_run.specs.Fronts.{EveryRoundHasABatch}
 use Rattle.trace_run.specs.Windows.{batch_at}
-use Rattle.replay_rounds.specs.Setting.{Cores}
 use Rattle.replay_rounds.specs.Standing.{slots_between}
 use Rattle.window_allocation.specs.Nets.{AreOfNet}
 use Rattle.window_engine.specs.Premises.{Replays}
@@ -46,7 +46,7 @@ next_batches s first count batches =
     sym (ap (drop first) (more_batches s first count) ∙ drop_at front later first (batches s first))
 
 -- what is known of those that wait
-pub record AreNext (trace : TraceContent) (cores : Cores) (engine : ReplayState) : Type 0 where
+pub record AreNext (trace : TraceContent) (cores : SlotCores) (engine : ReplayState) : Type 0 where
   pub number : length engine.waiting ≡ engine.lanes.collected - engine.lanes.published
   pub done : engine.allocation.batches ≡ engine.lanes.published
   pub whole : (replayed (run_of trace cores engine) engine.lanes.published).batches ++ engine.waiting ≡ (replayed (run_of trace cores engine) engine.lanes.collected).batches
@@ -54,7 +54,7 @@ pub record AreNext (trace : TraceContent) (cores : Cores) (engine : ReplayState)
   pub slots : schedule_from engine.allocation.b engine.allocation.batches engine.allocation.list.items engine.waiting
       ≡ slots_between (run_of trace cores engine) engine.lanes.published engine.lanes.collected
 
-pub are_next : Replays → (trace : TraceContent) (cores : Cores) (engine : ReplayState) → IsTrace trace → StandsForReplay trace cores engine → AreNext trace cores engine
+pub are_next : Replays → (trace : TraceContent) (cores : SlotCores) (engine : ReplayState) → IsTrace trace → StandsForReplay trace cores engine → AreNext trace cores engine
 are_next laws trace cores engine sound stands =
     let s : Setting = run_of trace cores engine in
     let m : ℕ = engine.lanes.published in
@@ -81,27 +81,27 @@ are_next laws trace cores engine sound stands =
 
 -- ---- they may be allocated
 
-most_is : (trace : TraceContent) (cores : Cores) (engine : ReplayState) → StandsForReplay trace cores engine → engine.allocation.ring.batches ≡ engine.lanes.g
+most_is : (trace : TraceContent) (cores : SlotCores) (engine : ReplayState) → StandsForReplay trace cores engine → engine.allocation.ring.batches ≡ engine.lanes.g
 most_is trace cores engine stands = ap (λ (r : RingWork). r.batches) stands.allocated.ring
 
-half_has : (trace : TraceContent) (cores : Cores) (engine : ReplayState) → StandsForReplay trace cores engine
+half_has : (trace : TraceContent) (cores : SlotCores) (engine : ReplayState) → StandsForReplay trace cores engine
     → HasAllocated engine.allocation.paths.net engine.allocation.ring.batches (replayed (run_of trace cores engine) engine.lanes.published).batches engine.allocation
 half_has trace cores engine stands =
     let front : List DemandBatch = (replayed (run_of trace cores engine) engine.lanes.published).batches in
     subst (λ (net : Network). HasAllocated net engine.allocation.ring.batches front engine.allocation) (sym stands.allocated.serves)
     (subst (λ (most : ℕ). HasAllocated trace.net most front engine.allocation) (sym (most_is trace cores engine stands)) stands.allocated)
 
-half_next : Replays → (trace : TraceContent) (cores : Cores) (engine : ReplayState) → IsTrace trace → StandsForReplay trace cores engine
+half_next : Replays → (trace : TraceContent) (cores : SlotCores) (engine : ReplayState) → IsTrace trace → StandsForReplay trace cores engine
     → AreOfNet engine.allocation.paths.net ((replayed (run_of trace cores engine) engine.lanes.published).batches ++ engine.waiting)
 half_next laws trace cores engine sound stands =
     subst (λ (net : Network). AreOfNet net ((replayed (run_of trace cores engine) engine.lanes.published).batches ++ engine.waiting)) (sym stands.allocated.serves)
     (are_next laws trace cores engine sound stands).recorded
 
-pub replay_next : Replays → (trace : TraceContent) (cores : Cores) (engine : ReplayState) → IsTrace trace → StandsForReplay trace cores engine → HasNext engine.waiting engine.allocation
+pub replay_next : Replays → (trace : TraceContent) (cores : SlotCores) (engine : ReplayState) → IsTrace trace → StandsForReplay trace cores engine → HasNext engine.waiting engine.allocation
 replay_next laws trace cores engine sound stands =
     ((replayed (run_of trace cores engine) engine.lanes.published).batches, half_has trace cores engine stands, half_next laws trace cores engine sound stands)
 
-pub few_wait : Replays → (trace : TraceContent) (cores : Cores) (engine : ReplayState) → IsTrace trace → StandsForReplay trace cores engine
+pub few_wait : Replays → (trace : TraceContent) (cores : SlotCores) (engine : ReplayState) → IsTrace trace → StandsForReplay trace cores engine
     → (length engine.waiting ≤ engine.allocation.ring.batches) × (first_slot engine.allocation.b (engine.allocation.batches + length engine.waiting) ≤ 2 ^ 32)
 few_wait laws trace cores engine sound stands =
     let next = are_next laws trace cores engine sound stands in
@@ -112,7 +112,7 @@ few_wait laws trace cores engine sound stands =
     )
 
 -- and then they are
-pub replay_allocated : Replays → (trace : TraceContent) (cores : Cores) (engine : ReplayState) (new : Allocated) → IsTrace trace → StandsForReplay trace cores engine → Goes engine.allocation engine.waiting new
+pub replay_allocated : Replays → (trace : TraceContent) (cores : SlotCores) (engine : ReplayState) (new : Allocated) → IsTrace trace → StandsForReplay trace cores engine → Goes engine.allocation engine.waiting new
     → HasAllocated trace.net engine.lanes.g (replayed (run_of trace cores engine) engine.lanes.collected).batches new
 replay_allocated laws trace cores engine new sound stands goes =
     let next = are_next laws trace cores engine sound stands in
@@ -124,7 +124,7 @@ replay_allocated laws trace cores engine new sound stands goes =
     (subst (λ (bs : List DemandBatch). HasAllocated half.paths.net half.ring.batches bs new) next.whole
     (goes front (half_has trace cores engine stands) (half_next laws trace cores engine sound stands))))
 
-pub replay_window : Replays → (trace : TraceContent) (cores : Cores) (engine : ReplayState) (window : WindowContent) → IsTrace trace → StandsForReplay trace cores engine
+pub replay_window : Replays → (trace : TraceContent) (cores : SlotCores) (engine : ReplayState) (window : WindowContent) → IsTrace trace → StandsForReplay trace cores engine
     → IsWindowOf engine.allocation.paths.net engine.allocation.b (schedule_from engine.allocation.b engine.allocation.batches engine.allocation.list.items engine.waiting) window
     → IsWindowOf trace.net engine.lanes.b (slots_between (run_of trace cores engine) engine.lanes.published engine.lanes.collected) window
 replay_window laws trace cores engine window sound stands shows =
@@ -134,12 +134,12 @@ replay_window laws trace cores engine window sound stands shows =
     (subst (λ (b : ℕ). IsWindowOf half.paths.net b slots window) stands.size
     (subst (λ (xs : List (List Flow)). IsWindowOf half.paths.net half.b xs window) (are_next laws trace cores engine sound stands).slots shows))
 
-pub replay_span : Replays → (trace : TraceContent) (cores : Cores) (engine : ReplayState) (span : Span) → IsTrace trace → StandsForReplay trace cores engine
+pub replay_span : Replays → (trace : TraceContent) (cores : SlotCores) (engine : ReplayState) (span : Span) → IsTrace trace → StandsForReplay trace cores engine
     → span ≡ record { first = engine.allocation.batches; count = length engine.waiting } → span ≡ record { first = engine.lanes.published; count = engine.lanes.collected - engine.lanes.published }
 replay_span laws trace cores engine span sound stands is =
     let next = are_next laws trace cores engine sound stands in
     is ∙ (ap (λ (n : ℕ). record { first = n; count = length engine.waiting }) next.done ∙ ap (λ (n : ℕ). record { first = engine.lanes.published; count = n }) next.number)
 
 -- what stands still does where it is seen otherwise
-pub here_too : (trace : TraceContent) (cores : Cores) (here now : ReplayState) → here ≡ now → StandsForReplay trace cores now → StandsForReplay trace cores here
+pub here_too : (trace : TraceContent) (cores : SlotCores) (here now : ReplayState) → here ≡ now → StandsForReplay trace cores now → StandsForReplay trace cores here
 here_too trace cores here now same stands = subst (StandsForReplay trace cores) (sym same) stands

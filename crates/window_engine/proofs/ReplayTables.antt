@@ -10,9 +10,9 @@ use Rattle.clos_topology.specs.Network.{Network}
 use Rattle.clos_topology.specs.Limits.{IsNetwork}
 use Rattle.clos_topology.specs.Links.{CoreOf, HasItsCore, IsClean}
 use Rattle.clos_topology.specs.RackGraph.{rack_edges}
+use Rattle.clos_topology.specs.NetSlots.{SlotCores, AreSlotCores}
 use Rattle.path_workers.specs.Coloured.{NamesNoOther}
 use Rattle.path_workers.specs.CoreTable.{CoreSlots, core_of}
-use Rattle.replay_rounds.specs.Setting.{Cores, AreCores}
 use Rattle.replay_rounds.specs.Standing.{AreOfTable}
 use Rattle.window_engine.proofs.ReplayCores.{AgreeBelow}
 
@@ -64,15 +64,15 @@ clean_cores net slot named sizes clean others source =
 
 -- ---- a table in the place of the cores of its slots
 
-abbrev pub with_table : Cores → ℕ → ℕ → CoreSlots → Cores
+abbrev pub with_table : SlotCores → ℕ → ℕ → CoreSlots → SlotCores
 with_table cores first count table number =
     cond (nat_lt number first) (cores number) (cond (nat_lt number (first + count)) (core_of table (number - first)) (cores number))
 
-pub table-before : (cores : Cores) (first count : ℕ) (table : CoreSlots) → AgreeBelow first cores (with_table cores first count table)
+pub table-before : (cores : SlotCores) (first count : ℕ) (table : CoreSlots) → AgreeBelow first cores (with_table cores first count table)
 table-before cores first count table number before =
     sym (cond-true (nat_lt number first) (cores number) (cond (nat_lt number (first + count)) (core_of table (number - first)) (cores number)) (lt-ltb number first before))
 
-pub table-there : (cores : Cores) (first count : ℕ) (table : CoreSlots) → AreOfTable (with_table cores first count table) first count table
+pub table-there : (cores : SlotCores) (first count : ℕ) (table : CoreSlots) → AreOfTable (with_table cores first count table) first count table
 table-there cores first count table at source within =
     let number : ℕ = first + at in
     let place : number - first ≡ at = omega arith in
@@ -81,7 +81,7 @@ table-there cores first count table at source within =
     ∙ (ap (λ (named : CoreOf). named source) (cond-true (nat_lt number (first + count)) (core_of table (number - first)) (cores number) (lt-ltb number (first + count) (omega arith)))
     ∙ ap (λ (n : ℕ). core_of table n source) place)
 
-pub table-named : (cores : Cores) (first count : ℕ) (table : CoreSlots) → AreCores cores → ((at source : ℕ) → at < count → IfSome (core_of table at source) (λ core. core < 64)) → AreCores (with_table cores first count table)
+pub table-named : (cores : SlotCores) (first count : ℕ) (table : CoreSlots) → AreSlotCores cores → ((at source : ℕ) → at < count → IfSome (core_of table at source) (λ core. core < 64)) → AreSlotCores (with_table cores first count table)
 table-named cores first count table named those number source =
     let Named : CoreOf → Type 0 = λ of. IfSome (of source) (λ core. core < 64) in
     let inner : CoreOf = cond (nat_lt number (first + count)) (core_of table (number - first)) (cores number) in

@@ -6,6 +6,7 @@ use Rattle.greedy_rules.specs.Batches.{DemandBatch}
 use Rattle.greedy_rules.specs.Schedule.{first_slot, schedule, slot_at}
 use Rattle.clos_topology.specs.Network.{Network, endpoints_of}
 use Rattle.clos_topology.specs.Links.{IsClean}
+use Rattle.clos_topology.specs.NetSlots.{SlotCores, AreSlotCores}
 use Rattle.endpoint_history.specs.Entries.{had}
 use Rattle.endpoint_history.specs.Lane.{last_reset}
 use Rattle.endpoint_history.specs.Counts as lane
@@ -17,7 +18,7 @@ use Rattle.trace_run.specs.Run.{Setting, replayed}
 use Rattle.trace_run.specs.Histories.{agent_after, lane_after}
 use Rattle.trace_run.specs.Rest.{allocated_from, left_after}
 use Rattle.trace_run.specs.Windows.{InWindows, collected_after}
-use Rattle.replay_rounds.specs.Setting.{Cores, AreCores, setting_of}
+use Rattle.replay_rounds.specs.Setting.{setting_of}
 use Rattle.replay_rounds.specs.Played.{Played}
 use Rattle.replay_rounds.specs.Standing as lanes
 use Rattle.replay_rounds.specs.Standing.{RoundsContent, slots_between, AreOfTable}
@@ -36,12 +37,12 @@ pub record ReplayState : Type 0 where
   pub allocation : Allocated
   pub pending : List ℕ
 
-abbrev pub run_of : TraceContent → Cores → ReplayState → Setting
+abbrev pub run_of : TraceContent → SlotCores → ReplayState → Setting
 run_of trace cores engine = setting_of trace engine.lanes.b engine.lanes.g cores
 
-pub record StandsForReplay (trace : TraceContent) (cores : Cores) (engine : ReplayState) : Type 0 where
+pub record StandsForReplay (trace : TraceContent) (cores : SlotCores) (engine : ReplayState) : Type 0 where
   pub rounds : engine.rounds ≡ trace.rounds
-  pub lanes : lanes.Stands trace cores engine.lanes
+  pub lanes : lanes.AllRoundsStand trace cores engine.lanes
   pub size : engine.allocation.b ≡ engine.lanes.b
   pub windows : InWindows engine.lanes.g trace.rounds engine.lanes.collected engine.lanes.published engine.lanes.window.first_batch
   pub waiting : engine.waiting ≡ drop engine.lanes.published (replayed (run_of trace cores engine) engine.lanes.collected).batches
@@ -59,7 +60,7 @@ pub record ReplayStepContent : Type 0 where
   pub window : WindowContent
 
 -- these cores are those of a step, for the slots of its batches of b slots each
-abbrev pub HasCoresOf : ℕ → ReplayStepContent → Cores → Type 0
+abbrev pub HasCoresOf : ℕ → ReplayStepContent → SlotCores → Type 0
 HasCoresOf b step cores = AreOfTable cores (first_slot b step.window.span.first) (step.window.span.count * b) step.window.cores
 
 -- ---- counts
@@ -83,22 +84,22 @@ replay_counts setting rounds flow =
 -- ---- laws
 
 -- each of these slots is clean up to a number, counted from 1
-abbrev pub AreCleanUpTo : Network → List (List Flow) → ℕ → Cores → Type 0
+abbrev pub AreCleanUpTo : Network → List (List Flow) → ℕ → SlotCores → Type 0
 AreCleanUpTo net slots reached cores =
     (number : ℕ) → 0 < number → number ≤ reached → number ≤ length slots → IsClean net.hosts net.cores (slot_at slots number) (cores number)
 
 -- whatever cores are named so far, there are cores by which every slot of the run is scheduled on paths that share no link
 abbrev pub EveryReplayHasCores : Type 0
 EveryReplayHasCores =
-    (b g : ℕ) (trace : TraceContent) (cores : Cores) → IsTrace trace → b ≤ 64 → 0 < g → HasCores b trace.net (replayed (setting_of trace b g cores) trace.rounds).batches
+    (b g : ℕ) (trace : TraceContent) (cores : SlotCores) → IsTrace trace → b ≤ 64 → 0 < g → HasCores b trace.net (replayed (setting_of trace b g cores) trace.rounds).batches
 
 -- and where those named so far make all slots up to a number clean, they are the first of cores that do so for every slot of their own
 -- run
 abbrev pub CoresGoOn : Type 0
 CoresGoOn =
-    (b g : ℕ) (trace : TraceContent) (cores : Cores) (reached : ℕ) → IsTrace trace → b ≤ 64 → 0 < g → AreCores cores →
+    (b g : ℕ) (trace : TraceContent) (cores : SlotCores) (reached : ℕ) → IsTrace trace → b ≤ 64 → 0 < g → AreSlotCores cores →
     AreCleanUpTo trace.net (schedule b (replayed (setting_of trace b g cores) trace.rounds).batches) reached cores →
-    (whole : Cores) × AreCores whole × ((number : ℕ) → number ≤ reached → whole number ≡ cores number)
+    (whole : SlotCores) × AreSlotCores whole × ((number : ℕ) → number ≤ reached → whole number ≡ cores number)
     × EverySlotIsScheduled b trace.net (replayed (setting_of trace b g whole) trace.rounds).batches whole
 
 -- after so many steps `collected_after` rounds are collected, and the batches are published that were collected one step before: all are

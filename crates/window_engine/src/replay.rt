@@ -1,6 +1,7 @@
 ghost use Rattle.std.specs.Prelude.{◌≡◌, ◌≢◌, ◌<◌, ◌≤◌, ◌+◌, ◌*◌, ◌-◌, ◌↔◌, ℕ, List, length, min, IsTrue, IfOk, OnOk, if◌then◌else◌};
 ghost use Rattle.greedy_rules.specs.Batches.{DemandBatch};
 ghost use Rattle.clos_topology.specs.Network.{Network};
+ghost use Rattle.clos_topology.specs.NetSlots.{SlotCores, AreSlotCores};
 ghost use Rattle.window_allocation.specs.Needs.{Needs};
 ghost use Rattle.window_allocation.specs.Standing.{HasAllocated};
 ghost use Rattle.window_allocation.specs.Windows.{IsWindowOf, jobs_for};
@@ -8,9 +9,8 @@ ghost use Rattle.window_allocation.specs.Giving.{MayGive, HandsOn, HasGiven};
 ghost use Rattle.trace_text.specs.Trace.{TraceContent};
 ghost use Rattle.trace_text.specs.Valid.{IsTrace};
 ghost use Rattle.trace_run.specs.Shown.{IsShown};
-ghost use Rattle.replay_rounds.specs.Setting.{Cores, AreCores};
 ghost use Rattle.replay_rounds.specs.Played.{rounds_played};
-ghost use Rattle.replay_rounds.specs.Standing.{Stands, slots_between};
+ghost use Rattle.replay_rounds.specs.Standing.{AllRoundsStand, slots_between};
 ghost use Rattle.window_engine.specs.Replay.{StandsForReplay, HasCoresOf, run_of, replay_counts};
 ghost use Rattle.window_engine.specs.Settings.{IsSetting};
 ghost use Rattle.window_engine.specs.Beside.{MayPlay, HasPlayed};
@@ -149,7 +149,7 @@ impl Replay {
     /// Before the first round of the trace.
     pub fn open(alloc: Global, trace: &Trace, setting: Setting) -> Result<Replay, NoMemory>
         requires sizes { IsSetting setting }
-        ensures stands { IfOk result (λ replay. (cores : Cores) → AreCores cores → StandsForReplay trace.now cores replay) }
+        ensures stands { IfOk result (λ replay. (cores : SlotCores) → AreSlotCores cores → StandsForReplay trace.now cores replay) }
         ensures b { IfOk result (λ replay. replay.lanes.b ≡ setting.b) }
         ensures workers { IfOk result (λ replay. replay.allocation.ring.workers ≡ setting.workers) }
         ensures paths { IfOk result (λ replay. replay.allocation.paths.paths ≡ setting.paths) }
@@ -178,7 +178,7 @@ impl Replay {
 
     /// After the last batch the lanes count its slots, and the needs that are left are written down.
     fn end(&mut self)
-        requires stands { (trace : TraceContent) × (cores : Cores) × Stands trace cores self.old.lanes }
+        requires stands { (trace : TraceContent) × (cores : SlotCores) × AllRoundsStand trace cores self.old.lanes }
         requires allocated { (net : Network) × (most : ℕ) × (batches : List DemandBatch) × HasAllocated net most batches self.old.allocation }
         requires pending { length self.old.pending ≡ self.old.allocation.ring.endpoints * self.old.allocation.ring.endpoints }
         ensures pending { length self.new.pending ≡ length self.old.pending }
@@ -186,7 +186,7 @@ impl Replay {
         ensures rounds { self.new.rounds ≡ self.old.rounds }
         ensures lanes { self.new.lanes ≡ record self.old.lanes { counted = self.new.lanes.counted; lanes = self.new.lanes.lanes } }
         ensures counted { self.new.lanes.published ≡ self.new.rounds → self.new.lanes.counted ≡ self.new.lanes.published }
-        ensures stands { (trace : TraceContent) (cores : Cores) → Stands trace cores self.old.lanes → Stands trace cores self.new.lanes }
+        ensures stands { (trace : TraceContent) (cores : SlotCores) → AllRoundsStand trace cores self.old.lanes → AllRoundsStand trace cores self.new.lanes }
         ensures waiting { self.new.waiting ≡ self.old.waiting }
         ensures allocation { self.new.allocation ≡ self.old.allocation }
     {
@@ -240,7 +240,7 @@ impl Replay {
         gate: &G,
         trace: &Trace,
     ) -> Result<ReplayStep, NoMemory>
-        requires stands { (cores : Cores) × StandsForReplay trace.now cores self.old }
+        requires stands { (cores : SlotCores) × StandsForReplay trace.now cores self.old }
         requires more { self.old.lanes.published ≢ self.old.rounds }
         ensures rounds { OnOk result (self.new.rounds ≡ self.old.rounds) }
         ensures b { OnOk result (self.new.lanes.b ≡ self.old.lanes.b) }
@@ -252,16 +252,16 @@ impl Replay {
         ensures collected { OnOk result (self.new.lanes.collected ≡ self.old.lanes.collected + min self.old.lanes.g (self.old.rounds - self.old.lanes.collected)) }
         ensures published { OnOk result (self.new.lanes.published ≡ self.old.lanes.collected) }
         ensures first { IfOk result (λ step. step.first ≡ self.old.lanes.collected) }
-        ensures played { IfOk result (λ step. (cores : Cores) → StandsForReplay trace.now cores self.old →
+        ensures played { IfOk result (λ step. (cores : SlotCores) → StandsForReplay trace.now cores self.old →
             step.played ≡ rounds_played (run_of trace.now cores self.old) trace.now self.old.lanes.collected (min self.old.lanes.g (self.old.rounds - self.old.lanes.collected))) }
         ensures span { IfOk result (λ step. step.window.span ≡ record { first = self.old.lanes.published; count = self.old.lanes.collected - self.old.lanes.published }) }
-        ensures window { IfOk result (λ step. (cores : Cores) → StandsForReplay trace.now cores self.old →
+        ensures window { IfOk result (λ step. (cores : SlotCores) → StandsForReplay trace.now cores self.old →
             IsWindowOf trace.now.net self.old.lanes.b (slots_between (run_of trace.now cores self.old) self.old.lanes.published self.old.lanes.collected) step.window) }
         ensures jobs { OnOk result (self.new.allocation.paths.jobs ≡ self.old.allocation.paths.jobs + jobs_for (self.old.lanes.collected - self.old.lanes.published) self.old.lanes.b self.old.allocation.paths.paths) }
         // What the rounds collected so far show, whatever cores are named, and that no loss, delay, repeat or boot harms.
-        ensures shown { OnOk result ((cores : Cores) → IsShown (run_of trace.now cores self.old) self.new.lanes.collected) }
+        ensures shown { OnOk result ((cores : SlotCores) → IsShown (run_of trace.now cores self.old) self.new.lanes.collected) }
         // It goes on standing for all cores that are, for these slots, the ones given.
-        ensures stands { IfOk result (λ step. (cores : Cores) → StandsForReplay trace.now cores self.old →
+        ensures stands { IfOk result (λ step. (cores : SlotCores) → StandsForReplay trace.now cores self.old →
             HasCoresOf self.old.lanes.b step cores → StandsForReplay trace.now cores self.new) }
     {
         replays_hold();
@@ -290,11 +290,11 @@ impl Replay {
 
     /// What became of the flow's demand; None where no batch has the flow. Only once every batch is allocated.
     pub fn counts(&self, flow: Flow) -> Option<Counts>
-        requires stands { (trace : TraceContent) × (cores : Cores) × IsTrace trace × StandsForReplay trace cores self.now }
+        requires stands { (trace : TraceContent) × (cores : SlotCores) × IsTrace trace × StandsForReplay trace cores self.now }
         requires done { self.now.lanes.published ≡ self.now.rounds }
         requires src { flow.src < self.now.lanes.endpoints }
         requires dst { flow.dst < self.now.lanes.endpoints }
-        ensures { (trace : TraceContent) (cores : Cores) → IsTrace trace → StandsForReplay trace cores self.now →
+        ensures { (trace : TraceContent) (cores : SlotCores) → IsTrace trace → StandsForReplay trace cores self.now →
             result ≡ replay_counts (run_of trace cores self.now) trace.rounds flow }
     {
         let count = self.lanes.count(flow)?;

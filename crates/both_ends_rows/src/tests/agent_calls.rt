@@ -2,7 +2,7 @@
 ghost use Rattle.std.specs.Prelude.{◌≡◌, ◌≢◌, [], true, None, IfOk, OnOk};
 ghost use Rattle.fcp_framing.specs.Fields.{down_of};
 ghost use Rattle.fcp_framing.specs.Refusals.{first_refusal, refuses_down};
-ghost use Rattle.both_ends_rows.specs.Callers.{IsHeard, MayHear};
+ghost use Rattle.both_ends_rows.specs.Callers.{IsHeard, MayBeHeard};
 
 use super::{Outside, Packets, ROWS, Row, Shown, allocation, is_as_listed, what_comes};
 use arrayvec::ArrayVec;
@@ -71,7 +71,7 @@ impl Caller {
     /// Whether the agent may hear an allocation: it is for endpoint 0, and tells slots two rounds after their batch or later, of a
     /// later batch than those before or under the number of the last one.
     fn may_hear(&self, down: &Down) -> bool
-        ensures { result ≡ true → MayHear self.now.round self.now.batch self.now.number down.now }
+        ensures { result ≡ true → MayBeHeard self.now.round self.now.batch self.now.number down.now }
     {
         let is_next = down.batch > self.batch
             || down.batch == self.batch && down.seq == self.number;
@@ -84,7 +84,7 @@ impl Caller {
     fn read(&self, rt: &impl Abort, bytes: &[u8]) -> Down
         ensures spelled { first_refusal (refuses_down 2 1 bytes.now) ≡ None }
         ensures read { result ≡ down_of bytes.now }
-        ensures may { MayHear self.now.round self.now.batch self.now.number result }
+        ensures may { MayBeHeard self.now.round self.now.batch self.now.number result }
     {
         let mut down = Down::default();
         assert!(rt; decode_down(bytes, 2, 1, &mut down).is_ok());

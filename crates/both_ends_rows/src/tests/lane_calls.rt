@@ -5,7 +5,7 @@ ghost use Rattle.flow_ledger.specs.FlowCount.{pending};
 ghost use Rattle.endpoint_history.specs.Lane.{LaneHistory};
 ghost use Rattle.endpoint_history.specs.Counts.{Allocation, allocated, owed};
 ghost use Rattle.arbiter_lane.specs.Standing.{StandsFor};
-ghost use Rattle.arbiter_lane.specs.declared.line.Line.{Line as LineOf};
+ghost use Rattle.arbiter_lane.specs.declared.line.LaneLine.{LaneLine as LineOf};
 ghost use Rattle.both_ends_rows.specs.Callers.{IsServed};
 
 use super::{Packets, REFUSED, ROWS, Row, Shown, TAKEN, is_as_listed, request, told};

@@ -6,7 +6,7 @@ ghost use Rattle.endpoint_history.specs.Counts.{Allocation, allocated, owed};
 ghost use Rattle.endpoint_history.specs.Rounds.{Round};
 ghost use Rattle.endpoint_history.specs.Steps.{lane_of};
 ghost use Rattle.lane_rounds.specs.Standing.{StandsFor, played_by};
-ghost use Rattle.both_ends_rows.specs.Callers.{IsPlayed, told_of};
+ghost use Rattle.both_ends_rows.specs.Callers.{HasPlayedRounds, told_of};
 
 use super::{Outside, QUIET, REFUSED, ROWS, Row, Shown, TAKEN, told, what_comes};
 use arbiter_lane::conditions_suffice;
@@ -56,7 +56,7 @@ impl Caller {
     /// Before the first round.
     fn open(alloc: Global, endpoint: u16) -> Result<Caller, NoMemory>
         requires { endpoint < 2 }
-        ensures { IfOk result (λ caller. IsPlayed caller.rounds caller.dst caller.round caller.asked caller.before caller.last) }
+        ensures { IfOk result (λ caller. HasPlayedRounds caller.rounds caller.dst caller.round caller.asked caller.before caller.last) }
     {
         Ok(Caller {
             alloc,
@@ -76,7 +76,7 @@ impl Caller {
         events: &Events,
         written: &mut Written,
     ) -> Result<(), NoMemory>
-        requires played { IsPlayed self.old.rounds self.old.dst self.old.round self.old.asked self.old.before self.old.last }
+        requires played { HasPlayedRounds self.old.rounds self.old.dst self.old.round self.old.asked self.old.before self.old.last }
         requires rounds { self.old.round < 99999 }
         requires boots { events.now.boots ≤ 1 }
         requires version { 0 < events.now.boots → IsVersion events.now.version }
@@ -86,7 +86,7 @@ impl Caller {
         requires sent { written.old.sent.items ≡ [] }
         ensures round { self.new.round ≡ self.old.round + 1 }
         ensures last { self.new.last ≡ false }
-        ensures played { OnOk result (IsPlayed self.new.rounds self.new.dst self.new.round self.new.asked self.new.before false) }
+        ensures played { OnOk result (HasPlayedRounds self.new.rounds self.new.dst self.new.round self.new.asked self.new.before false) }
     {
         conditions_suffice();
         let told = told(self.dst, self.before);
@@ -107,10 +107,10 @@ impl Caller {
 
     /// Counts the slot of the batch that was recorded last, where the flow is owed one.
     fn count_slot(&mut self)
-        requires played { IsPlayed self.old.rounds self.old.dst self.old.round self.old.asked self.old.before false }
+        requires played { HasPlayedRounds self.old.rounds self.old.dst self.old.round self.old.asked self.old.before false }
         requires some { 0 < self.old.round }
         requires last { self.old.last ≡ false }
-        ensures { IsPlayed self.new.rounds self.new.dst self.new.round self.new.asked self.new.before self.new.last }
+        ensures { HasPlayedRounds self.new.rounds self.new.dst self.new.round self.new.asked self.new.before self.new.last }
     {
         if is_owed(&self.rounds, self.dst) {
             self.rounds.allocated(self.dst, self.round - 1, 1);
@@ -120,8 +120,8 @@ impl Caller {
 
     /// Plays the next round, and counts the slot of its batch.
     fn play(&mut self, rt: &impl Abort, outside: Outside, raw: RawList) -> Result<Written, NoMemory>
-        requires { IsPlayed self.old.rounds self.old.dst self.old.round self.old.asked self.old.before self.old.last }
-        ensures { IsOk result → IsPlayed self.new.rounds self.new.dst self.new.round self.new.asked self.new.before self.new.last }
+        requires { HasPlayedRounds self.old.rounds self.old.dst self.old.round self.old.asked self.old.before self.old.last }
+        ensures { IsOk result → HasPlayedRounds self.new.rounds self.new.dst self.new.round self.new.asked self.new.before self.new.last }
     {
         assert!(rt; self.round < 99_999 && outside.version <= 2);
         assert!(rt; outside.ask <= 100_000_000 && self.asked <= 100_000_000 - outside.ask);
@@ -147,7 +147,7 @@ impl Caller {
 
     /// Demanded, acknowledged, in flight, pending, lost, sent and missed.
     fn counts(&self) -> [u32; 7]
-        requires { IsPlayed self.now.rounds self.now.dst self.now.round self.now.asked self.now.before self.now.last }
+        requires { HasPlayedRounds self.now.rounds self.now.dst self.now.round self.now.asked self.now.before self.now.last }
     {
         let (sent, missed) = self.rounds.totals(self.dst);
         match self.rounds.count(self.dst) {
@@ -223,8 +223,8 @@ fn play_quietly(
     caller: &mut Caller,
     rounds: u32,
 ) -> Result<(), NoMemory>
-    requires { IsPlayed caller.old.rounds caller.old.dst caller.old.round caller.old.asked caller.old.before caller.old.last }
-    ensures { OnOk result (IsPlayed caller.new.rounds caller.new.dst caller.new.round caller.new.asked caller.new.before caller.new.last) }
+    requires { HasPlayedRounds caller.old.rounds caller.old.dst caller.old.round caller.old.asked caller.old.before caller.old.last }
+    ensures { OnOk result (HasPlayedRounds caller.new.rounds caller.new.dst caller.new.round caller.new.asked caller.new.before caller.new.last) }
 {
     for _ in 0..rounds {
         let written = caller.play(rt, QUIET, RawList::new(alloc))?;

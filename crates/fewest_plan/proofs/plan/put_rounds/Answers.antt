@@ -1,6 +1,6 @@
 use Rattle.std.proofs.Common.{◌≤◌, ◌+◌, ◌*◌, ℕ, refl, arith}
 use Rattle.greedy_rules.specs.Examples.{remaining}
-use Rattle.replay_rounds.specs.Setting.{Cores}
+use Rattle.clos_topology.specs.NetSlots.{SlotCores}
 use Rattle.run_text.proofs.CoreLemmas.{spliced}
 use Rattle.fewest_plan.specs.Standing.{window_of}
 use Rattle.fewest_plan.proofs.CoreLemmas.{scheduled_spliced}
@@ -17,7 +17,7 @@ loop-planner-preserved g c =
     let inside : k + n ≤ trace.rounds = omega (arith, c.loop-planner.invariant.stands.collected.within) in
     let (there, scheduled, passed) = c.loop-planner.invariant.passed in
     let (here, clean, passes) = c.in_ok-put_step.ensures.passes in
-    let cores : Cores = spliced (k * b) (n * b) here there in
+    let cores : SlotCores = spliced (k * b) (n * b) here there in
     record {
       stands = c.in_ok-put_step.ensures.stands;
       size = c.in_ok-put_step.ensures.b;
@@ -38,7 +38,7 @@ returns-in_err-put_step-clause-passes g c =
     let inside : k + n ≤ trace.rounds = omega (arith, c.loop-planner.invariant.stands.collected.within) in
     let (there, scheduled, passed) = c.loop-planner.invariant.passed in
     let (here, clean, passes) = c.in_err-put_step.ensures.passes in
-    let cores : Cores = spliced (k * b) (n * b) here there in (
+    let cores : SlotCores = spliced (k * b) (n * b) here there in (
       cores,
       scheduled_spliced b k n trace here there scheduled clean,
       c.texts_follow.ensures.stopped _ (c.texts_follow.ensures.after passed passes refl) c.from_residual.ensures.1 (rounds_stop b k n trace here there c.requires.accepted (c.every_plan_has_its_slots.ensures remaining) inside),

@@ -2,10 +2,10 @@ use Rattle.std.proofs.Common.{◌≡◌, ℕ, Option, map, take, sym, subst, ref
 use Rattle.std.specs.Prelude.{IsSome}
 use Rattle.loss_world.specs.InTransit.{Held, with_packet, due_in}
 use Rattle.endpoint_history.specs.Lane.{LaneHistory, TakesUp}
-use Rattle.arbiter_lane.specs.State.{LaneState}
+use Rattle.arbiter_lane.specs.State.{LaneState, IsSameLane}
 use Rattle.arbiter_lane.specs.Standing as lanes
 use Rattle.lane_rounds.specs.Standing.{HasCarried, spell_up}
-use Rattle.lane_rounds.specs.Parts.{IsSameLane, IsReadUp, reading, with_at_hand}
+use Rattle.lane_rounds.specs.Parts.{IsReadUp, reading, with_at_hand}
 use Rattle.lane_rounds.proofs.Arriving.{with_each-more, at_hand-comes}
 use Rattle.lane_rounds.proofs.Hearing.{carried-at_hand, read-one}
 use Rattle.lane_rounds.proofs.rounds.read.Goals as goal

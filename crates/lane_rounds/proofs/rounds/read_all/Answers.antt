@@ -30,12 +30,12 @@ loop-length-preserved c =
     let took = c.take_up.ensures in
     record {
       same = record {
-        endpoint = took.endpoint ∙ same.endpoint;
-        endpoints = took.endpoints ∙ same.endpoints;
-        b = took.b ∙ same.b;
-        g = took.g ∙ same.g;
-        round = took.round ∙ same.round;
-        is_made = took.is_made ∙ same.is_made;
+        endpoint = took.same.endpoint ∙ same.endpoint;
+        endpoints = took.same.endpoints ∙ same.endpoints;
+        b = took.same.b ∙ same.b;
+        g = took.same.g ∙ same.g;
+        round = took.same.round ∙ same.round;
+        is_made = took.same.is_made ∙ same.is_made;
       };
       stands = λ history allocations packets stood is each.
           one-more (spell_up was.endpoint) (IsReadUp was.endpoint was.endpoints) (λ heard. lanes.StandsFor lane (reading c.args.round heard history) allocations) (λ heard. lanes.StandsFor new (reading c.args.round heard history) allocations)

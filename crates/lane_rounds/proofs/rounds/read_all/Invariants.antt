@@ -6,8 +6,9 @@ use Rattle.endpoint_history.specs.Lane.{LaneHistory}
 use Rattle.endpoint_history.specs.Counts.{Allocation}
 use Rattle.arbiter_lane.specs.Standing as lanes
 use Rattle.lane_rounds.specs.Standing.{HasCarried, spell_up}
-use Rattle.lane_rounds.specs.Parts.{IsSameLane, IsReadUp, Each, reading}
+use Rattle.lane_rounds.specs.Parts.{IsReadUp, Each, reading}
 use Rattle.lane_rounds.proofs.Arriving.{HaveCome}
+use Rattle.arbiter_lane.specs.State.{IsSameLane}
 use Rattle.lane_rounds.proofs.rounds.read_all.Given as goal
 
 abbrev pub invariant-loop-length : goal.invariant-loop-length

@@ -2,8 +2,8 @@ use Rattle.std.proofs.Common.{List, drop}
 use Rattle.endpoint_history.specs.Lane.{LaneHistory}
 use Rattle.endpoint_history.specs.Counts.{Allocation}
 use Rattle.arbiter_lane.specs.Standing as lanes
-use Rattle.lane_rounds.specs.Parts.{IsSameLane}
 use Rattle.lane_rounds.proofs.Raw.{HasRead}
+use Rattle.arbiter_lane.specs.State.{IsSameLane}
 use Rattle.lane_rounds.proofs.rounds.read_raw.Given as goal
 
 abbrev pub invariant-loop-packet : goal.invariant-loop-packet

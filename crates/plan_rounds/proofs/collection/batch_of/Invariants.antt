@@ -1,5 +1,5 @@
 use Rattle.std.proofs.Common.{◌≡◌, map, take}
-use Rattle.window_allocation.specs.Nets.{limits_of}
+use Rattle.clos_topology.specs.NetSlots.{limits_of}
 use Rattle.plan_rounds.proofs.RoundAsks.{entry_by}
 use Rattle.plan_rounds.proofs.collection.batch_of.Given as goal
 

@@ -4,7 +4,7 @@ use Rattle.std.proofs.lemmas.List.{with_items_is}
 use Rattle.std.proofs.lemmas.List.FromFn.{length-map-range_with_len}
 use Rattle.std.proofs.lemmas.Result.{IfOk-weaker}
 use Rattle.clos_topology.specs.Network.{endpoints_of}
-use Rattle.replay_rounds.specs.Collecting.{blank_round, part_of, played_of, published_by, setting_by, LanesStand, MayBeCollected, RoundPart}
+use Rattle.replay_rounds.specs.Collecting.{blank_round, round_part, played_of, published_by, setting_by, LanesStand, MayCollectRounds, RoundPart}
 use Rattle.replay_rounds.proofs.WindowLemmas.{rounds_give}
 use Rattle.replay_rounds.proofs.collect.collect.Goals as goal
 
@@ -19,14 +19,15 @@ play_lanes-requires c =
     let rounds : List RoundPart = c.deref_mut.result.now in
     let is : rounds ≡ map blank (range_with_len first c.args.count) = c.deref_mut.ensures.value ∙ c.in_ok-rounds.ensures in
     let many : length rounds ≡ c.args.count = ap length is ∙ length-map-range_with_len blank first c.args.count in
-    let (cores, may, stand) = c.requires.may in
+    let (cores, begun) = c.requires.may in
     record {
       may = (
         first,
         cores,
-        subst (λ (n : ℕ). MayBeCollected c.args.trace.now c.args.g cores c.args.publisher.now first n) (sym many) may,
-        stand,
-        is ∙ ap (λ (n : ℕ). map blank (range_with_len first n)) (sym many),
+        record {
+          collect = subst (λ (n : ℕ). MayCollectRounds c.args.trace.now c.args.g cores c.args.publisher.now c.args.counted first n c.args.lanes.now) (sym many) begun;
+          blank = is ∙ ap (λ (n : ℕ). map blank (range_with_len first n)) (sym many);
+        },
       );
       counted = c.requires.counted;
     }
@@ -42,9 +43,9 @@ returns-clause-lanes c =
     let is : rounds ≡ map blank (range_with_len first c.args.count) = c.deref_mut.ensures.value ∙ c.in_ok-rounds.ensures in
     let many : length rounds ≡ c.args.count = ap length is ∙ length-map-range_with_len blank first c.args.count in
     on_ok_always c.gather.result
-    (λ cores may stand.
+    (λ cores begun.
     subst (λ (n : ℕ). LanesStand (setting_by trace g cores window) (first + n) (published_by window) c.play_lanes.new.lanes) many
-    (c.in_ok-play_lanes.ensures.lanes first cores (subst (λ (n : ℕ). MayBeCollected trace g cores window first n) (sym many) may) stand (is ∙ ap (λ (n : ℕ). map blank (range_with_len first n)) (sym many))))
+    (c.in_ok-play_lanes.ensures.lanes first cores (record { collect = subst (λ (n : ℕ). MayCollectRounds trace g cores window c.args.counted first n c.args.lanes.now) (sym many) begun; blank = is ∙ ap (λ (n : ℕ). map blank (range_with_len first n)) (sym many) })))
 
 pub returns-clause-played : goal.returns-clause-played
 returns-clause-played c =
@@ -59,11 +60,11 @@ returns-clause-played c =
     let many : length rounds ≡ c.args.count = ap length is ∙ length-map-range_with_len blank first c.args.count in
     let kept : length after ≡ c.in_ok-rounds.rounds.len = c.play_lanes.auto.rounds ∙ (ap length c.deref_mut.ensures.value ∙ sym c.in_ok-rounds.rounds.ok.0) in
     IfOk-weaker c.gather.result _ _
-    (λ played gathered cores may stand.
+    (λ played gathered cores begun.
     let setting = setting_by trace g cores window in
-    let played_now = c.in_ok-play_lanes.ensures.rounds first cores (subst (λ (n : ℕ). MayBeCollected trace g cores window first n) (sym many) may) stand (is ∙ ap (λ (n : ℕ). map blank (range_with_len first n)) (sym many)) in
+    let played_now = c.in_ok-play_lanes.ensures.rounds first cores (record { collect = subst (λ (n : ℕ). MayCollectRounds trace g cores window c.args.counted first n c.args.lanes.now) (sym many) begun; blank = is ∙ ap (λ (n : ℕ). map blank (range_with_len first n)) (sym many) }) in
     gathered
     ∙ (ap played_of (with_items_is c.in_ok-rounds.rounds after kept ∙ played_now)
-    ∙ (ap (λ (n : ℕ). played_of (map (part_of setting trace (endpoints_of trace.net)) (range_with_len first n))) many
+    ∙ (ap (λ (n : ℕ). played_of (map (round_part setting trace (endpoints_of trace.net)) (range_with_len first n))) many
     ∙ rounds_give trace window.b g cores first c.args.count)))
     c.gather.ensures

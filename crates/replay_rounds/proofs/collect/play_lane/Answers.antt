@@ -14,12 +14,14 @@ play-requires-clause-may c =
     let published = published_by c.args.publisher.now in
     let within : i < length c.args.rounds.now = c.loop-round-test.true in
     let same : slice_index_or c.loop-round.rounds i d ≡ slice_index_or c.args.rounds.now i d = left_at c.loop-round.rounds c.args.rounds.now i d c.loop-round.invariant.left in
-    let (first, cores, may, are, stood) = c.requires.may in
+    let (first, cores, begun) = c.requires.may in
+    let may = begun.may in
+    let are = begun.rounds in
     let number : (slice_index_or c.loop-round.rounds i d).round ≡ first + i = ap (λ (p : RoundPart). p.round) same ∙ (are i d within).0 in (
       cores,
       subst (λ (k : ℕ). MayBeTold c.args.trace.now c.args.g cores c.args.publisher.now k) (sym number) (may.told (first + i) (omega arith) (omega arith)),
       subst (λ (k : ℕ). LaneStands (setting_by c.args.trace.now c.args.g cores c.args.publisher.now) k published c.args.endpoint c.loop-round.lane) (sym number)
-          (c.loop-round.invariant.stands first cores may are (c.count_lane.ensures.stands (setting_by c.args.trace.now c.args.g cores c.args.publisher.now) first may.published stood)),
+          (c.loop-round.invariant.stands first cores may are (c.count_lane.ensures.stands (setting_by c.args.trace.now c.args.g cores c.args.publisher.now) first may.published begun.stands)),
     )
 
 pub play-requires-clause-named : goal.play-requires-clause-named
@@ -28,7 +30,9 @@ play-requires-clause-named c =
     let d : RoundPart = c.round-item.result in
     let within : i < length c.args.rounds.now = c.loop-round-test.true in
     let same : slice_index_or c.loop-round.rounds i d ≡ slice_index_or c.args.rounds.now i d = left_at c.loop-round.rounds c.args.rounds.now i d c.loop-round.invariant.left in
-    let (first, cores, may, are, stood) = c.requires.may in
+    let (first, cores, begun) = c.requires.may in
+    let may = begun.may in
+    let are = begun.rounds in
     let number : (slice_index_or c.loop-round.rounds i d).round ≡ first + i = ap (λ (p : RoundPart). p.round) same ∙ (are i d within).0 in
     ap (λ (p : RoundPart). p.named) same ∙ ((are i d within).1 ∙ ap (named_in c.args.trace.now) (sym number))
 
@@ -69,10 +73,19 @@ loop-round-preserved c =
           (subst (λ (k : ℕ). LaneStands (setting_by trace g cores window) k published endpoint c.loop-round.lane) (sym number) (inv.stands first cores may are stood)));
     }
 
-pub returns-clause-rounds : goal.returns-clause-rounds
-returns-clause-rounds c = λ first cores may are stood.
+pub returns-clause-lane : goal.returns-clause-lane
+returns-clause-lane c = λ first cores begun.
+    let setting = setting_by c.args.trace.now c.args.g cores c.args.publisher.now in
+    let published = published_by c.args.publisher.now in
     let i = c.loop-round.round-index in
-    let counted = c.count_lane.ensures.stands (setting_by c.args.trace.now c.args.g cores c.args.publisher.now) first may.published stood in
-    let all = c.loop-round.invariant.played first cores may are counted in
+    let counted = c.count_lane.ensures.stands setting first begun.may.published begun.stands in
+    let end : i ≡ length c.args.rounds.now = omega (arith, c.loop-round-test.false) in
+    subst (λ (n : ℕ). LaneStands setting (first + n) published c.args.endpoint c.loop-round.lane) end (c.loop-round.invariant.stands first cores begun.may begun.rounds counted)
+
+pub returns-clause-rounds : goal.returns-clause-rounds
+returns-clause-rounds c = λ first cores begun.
+    let i = c.loop-round.round-index in
+    let counted = c.count_lane.ensures.stands (setting_by c.args.trace.now c.args.g cores c.args.publisher.now) first begun.may.published begun.stands in
+    let all = c.loop-round.invariant.played first cores begun.may begun.rounds counted in
     sym (take_all i c.loop-round.rounds (omega (arith, c.loop-round-test.false)))
     ∙ (all ∙ ap (map (with_endpoint (setting_by c.args.trace.now c.args.g cores c.args.publisher.now) c.args.trace.now c.args.endpoint)) (take_all i c.args.rounds.now (omega (arith, c.loop-round-test.false))))

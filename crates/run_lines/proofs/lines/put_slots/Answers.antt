@@ -3,8 +3,8 @@ use Rattle.std.proofs.lemmas.List.{get_or-drop, length-drop}
 use Rattle.greedy_rules.specs.declared.flows.Flow.{Flow}
 use Rattle.greedy_rules.specs.Schedule.{slot_in}
 use Rattle.clos_topology.specs.Links.{CoreOf}
+use Rattle.clos_topology.specs.NetSlots.{SlotCores}
 use Rattle.path_workers.specs.CoreTable.{core_of}
-use Rattle.replay_rounds.specs.Setting.{Cores}
 use Rattle.window_engine.specs.Scheduled.{cores_from}
 use Rattle.run_lines.specs.Text.{text_of, slots_lines}
 use Rattle.text_output.proofs.OutputLemmas.{Passes-after, Passes-broken}
@@ -21,7 +21,7 @@ returns-in_err-put_slot g c =
     let base : ℕ = c.args.base in
     let place : ℕ = c.loop-place.place in
     let at : ℕ = place - from in
-    let cores : Cores = cores_from base c.args.cores.now in
+    let cores : SlotCores = cores_from base c.args.cores.now in
     let own : CoreOf = core_of c.args.cores.now place in
     let below : at < c.args.count = omega arith in
     let within : c.args.count ≤ length slots = omega (arith, length-drop from c.args.table.now.slots, c.requires.count) in
@@ -39,7 +39,7 @@ loop-place-preserved g c =
     let base : ℕ = c.args.base in
     let place : ℕ = c.loop-place.place in
     let at : ℕ = place - from in
-    let cores : Cores = cores_from base c.args.cores.now in
+    let cores : SlotCores = cores_from base c.args.cores.now in
     let own : CoreOf = core_of c.args.cores.now place in
     let within : at < length slots = omega (arith, length-drop from c.args.table.now.slots, c.requires.count) in
     let is : from + at ≡ place = omega arith in

@@ -1,5 +1,5 @@
 use Rattle.std.proofs.Common.{◌*◌, ℕ, refl}
-use Rattle.replay_rounds.specs.Setting.{Cores}
+use Rattle.clos_topology.specs.NetSlots.{SlotCores}
 use Rattle.window_engine.specs.Standing.{window_of}
 use Rattle.run_text.proofs.CoreLemmas.{spliced, scheduled_spliced}
 use Rattle.run_text.proofs.StepLemmas.{rounds_step, rounds_stop}
@@ -13,7 +13,7 @@ loop-engine-preserved g c =
     let n : ℕ = window_of old in
     let (there, scheduled, passed) = c.loop-engine.invariant.passed in
     let (here, clean, passes) = c.in_ok-put_step.ensures.passes in
-    let cores : Cores = spliced (old.collection.rounds * b) (n * b) here there in
+    let cores : SlotCores = spliced (old.collection.rounds * b) (n * b) here there in
     record {
       stands = c.in_ok-put_step.ensures.stands;
       size = c.in_ok-put_step.ensures.b;
@@ -32,7 +32,7 @@ returns-in_err-put_step-clause-passes g c =
     let n : ℕ = window_of old in
     let (there, scheduled, passed) = c.loop-engine.invariant.passed in
     let (here, clean, passes) = c.in_err-put_step.ensures.passes in
-    let cores : Cores = spliced (old.collection.rounds * b) (n * b) here there in (
+    let cores : SlotCores = spliced (old.collection.rounds * b) (n * b) here there in (
       cores,
       scheduled_spliced b old.collection.rounds n trace here there scheduled clean,
       c.texts_follow.ensures.stopped _ (c.texts_follow.ensures.after passed passes refl) c.from_residual.ensures.1 (rounds_stop b trace old here there c.requires.accepted c.loop-engine.invariant.stands c.every_plan_has_its_slots.ensures),

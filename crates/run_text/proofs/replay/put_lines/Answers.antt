@@ -1,8 +1,9 @@
 use Rattle.std.proofs.Common.{◌≡◌, ◌++◌, sym, ap, ◌∙◌, subst, ℕ, List}
+use Rattle.clos_topology.specs.NetSlots.{SlotCores}
 use Rattle.report_text.specs.declared.line.Line.TheVariants as line
 use Rattle.trace_text.specs.Trace.{TraceContent}
 use Rattle.trace_run.specs.Run.{Setting}
-use Rattle.replay_rounds.specs.Setting.{Cores, setting_of}
+use Rattle.replay_rounds.specs.Setting.{setting_of}
 use Rattle.window_engine.specs.Replay.{run_of}
 use Rattle.run_lines.specs.Text.{counts_lines, line_text, text_of}
 use Rattle.run_text.specs.ReplayScheduled.{AreReplayCores, WithReplayCores}
@@ -17,7 +18,7 @@ abbrev rest_of : TraceContent → Setting → List ℕ
 rest_of trace setting = text_of (counts_lines setting trace) ++ end_text trace
 
 -- the steps, for the window that was set, and the rest
-parts : (trace : TraceContent) (cores : Cores) (b n g : ℕ) → n ≡ g → replay_text cores b g trace ≡ text_of (all_steps_lines cores (setting_of trace b n cores) trace) ++ rest_of trace (setting_of trace b g cores)
+parts : (trace : TraceContent) (cores : SlotCores) (b n g : ℕ) → n ≡ g → replay_text cores b g trace ≡ text_of (all_steps_lines cores (setting_of trace b n cores) trace) ++ rest_of trace (setting_of trace b g cores)
 parts trace cores b n g window =
     let setting : Setting = setting_of trace b g cores in
     sym (ap (λ (m : ℕ). text_of (all_steps_lines cores (setting_of trace b m cores) trace) ++ rest_of trace setting) window ∙ parts_with_end (all_steps_lines cores setting trace) (counts_lines setting trace) trace)

@@ -1,6 +1,6 @@
 use Rattle.std.proofs.Common.{◌≡◌, ◌<◌, ◌≤◌, ◌+◌, ◌-◌, ◌*◌, ℕ, List, length, sym, ap, ◌∙◌, subst, arith}
 use Rattle.greedy_rules.specs.declared.flows.Flow.{Flow}
-use Rattle.replay_rounds.specs.Setting.{Cores}
+use Rattle.clos_topology.specs.NetSlots.{SlotCores}
 use Rattle.replay_rounds.specs.Standing.{slots_between}
 use Rattle.window_allocation.specs.declared.window.Span.{Span}
 use Rattle.window_engine.specs.Replay.{run_of}
@@ -55,7 +55,7 @@ returns-clause-passes g c =
     let few = c.requires.accepted.net.most_cores in
     let Gives : ℕ → Type 0 = λ b. GivesStep b trace old c.step.new.self c.args.output.now c.put_lines_of_step.new.output c.put_lines_of_step.result in
     subst Gives c.requires.b (λ there makes stands.
-    let here : Cores = limited (cores_of_replay_step own step) in
+    let here : SlotCores = limited (cores_of_replay_step own step) in
     let slots : List (List Flow) = slots_between (run_of trace there old) first rounds in
     let window = c.in_ok-step.ensures.window there stands in (
       here,

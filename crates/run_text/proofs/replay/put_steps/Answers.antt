@@ -1,7 +1,8 @@
 use Rattle.std.proofs.Common.{◌≡◌, ◌≢◌, ◌<◌, ◌+◌, ◌-◌, ◌*◌, ℕ, suc, min, refl, sym, ap, ◌∙◌, subst, arith, rules}
 use Rattle.trace_run.specs.Run.{Setting}
 use Rattle.greedy_rules.specs.Schedule.{first_slot}
-use Rattle.replay_rounds.specs.Setting.{Cores, setting_of}
+use Rattle.clos_topology.specs.NetSlots.{SlotCores}
+use Rattle.replay_rounds.specs.Setting.{setting_of}
 use Rattle.replay_rounds.specs.Standing.{slots_between}
 use Rattle.window_engine.specs.Scheduled.{AreClean}
 use Rattle.run_lines.specs.Text.{text_of}
@@ -43,7 +44,7 @@ loop-replay-preserved g c =
     let makes' = subst (λ (n : ℕ). AreReplayCores b n trace there) (sym inv.window) makes in
     let (here, named, clean, gives) = c.in_ok-put_step.ensures.passes there makes' stands in
     let clean' = subst (λ (n : ℕ). AreClean trace.net here (first_slot b first) (slots_between (setting_of trace b n there) first rounds)) inv.window clean in
-    let cores : Cores = spliced (first * b) ((rounds - first) * b) here there in
+    let cores : SlotCores = spliced (first * b) ((rounds - first) * b) here there in
     let published = c.in_ok-put_step.ensures.published in
     record {
       rounds = c.in_ok-put_step.ensures.rounds ∙ inv.rounds;
@@ -84,7 +85,7 @@ returns-in_err-put_step-clause-passes g c =
     let makes' = subst (λ (n : ℕ). AreReplayCores b n trace there) (sym inv.window) makes in
     let (here, named, clean, gives) = c.in_err-put_step.ensures.passes there makes' stands in
     let clean' = subst (λ (n : ℕ). AreClean trace.net here (first_slot b first) (slots_between (setting_of trace b n there) first rounds)) inv.window clean in
-    let cores : Cores = spliced (first * b) size here there in
+    let cores : SlotCores = spliced (first * b) size here there in
     let makes_all = replay_spliced trace b w first rounds here there c.cores_decide_nothing.ensures c.runs_go_on.ensures.begins c.runs_go_on.ensures.batches c.schedules_go_on.ensures.front c.schedules_go_on.ensures.count
     stands.windows.behind stands.windows.within makes named clean' in
     let all : ℕ = first * b + size in

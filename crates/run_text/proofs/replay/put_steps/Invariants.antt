@@ -1,5 +1,6 @@
 use Rattle.std.proofs.Common.{◌≡◌, ◌+◌, ◌-◌, ◌*◌, ℕ}
-use Rattle.replay_rounds.specs.Setting.{Cores, AreCores, setting_of}
+use Rattle.clos_topology.specs.NetSlots.{SlotCores, AreSlotCores}
+use Rattle.replay_rounds.specs.Setting.{setting_of}
 use Rattle.window_engine.specs.Replay.{StandsForReplay}
 use Rattle.run_lines.specs.Text.{text_of}
 use Rattle.run_lines.specs.Output.{Passed}
@@ -14,7 +15,7 @@ invariant-loop-replay g l = record {
   size : l.replay.lanes.b ≡ l.b;
   window : l.replay.lanes.g ≡ l.initial.replay.lanes.g;
   passed : (steps : ℕ) × IsAfter l.initial.replay.lanes.g l.trace.rounds steps l.replay × WithReplayCores l.b l.initial.replay.lanes.g l.trace (λ there.
-      (cores : Cores) → AreCores cores → AgreeAbove 0 (l.replay.lanes.published * l.b) cores there →
+      (cores : SlotCores) → AreSlotCores cores → AgreeAbove 0 (l.replay.lanes.published * l.b) cores there →
       StandsForReplay l.trace cores l.replay
       × Passed l.initial.output l.output (text_of (steps_lines cores (setting_of l.trace l.b l.initial.replay.lanes.g cores) l.trace steps)));
 }

@@ -1,5 +1,5 @@
 use Rattle.clos_topology.specs.Network.{endpoints_of}
-use Rattle.window_allocation.specs.Nets.{limits_of}
+use Rattle.clos_topology.specs.NetSlots.{limits_of}
 use Rattle.plan_rounds.specs.Batches.{plan_batches}
 use Rattle.window_engine.proofs.PlanCounts.{plan_balances}
 use Rattle.window_engine.proofs.laws.every_plan_balances.Goals as goal

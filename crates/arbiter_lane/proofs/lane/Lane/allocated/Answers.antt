@@ -1,8 +1,8 @@
 use Rattle.std.proofs.Common.{◌≡◌, ◌<◌, ◌≤◌, ◌∷◌, ℕ, Some, slice_get, get_or, set, sym, ◌∙◌, ap, subst, refl, arith}
 use Rattle.std.proofs.lemmas.Option.{slice_get-get_or}
-use Rattle.arbiter_lane.specs.declared.line.Line.{Line as LineOf}
+use Rattle.arbiter_lane.specs.declared.line.LaneLine.{LaneLine as LineOf}
 use Rattle.arbiter_lane.specs.Lines.{AllocatesSlots}
-use Rattle.arbiter_lane.specs.State.{LaneState, IsSound}
+use Rattle.arbiter_lane.specs.State.{LaneState, IsSoundLane}
 use Rattle.arbiter_lane.specs.Standing.{StandsFor}
 use Rattle.arbiter_lane.specs.contracts.lane.Lane.{the_view}
 use Rattle.arbiter_lane.proofs.Allocating.{counted, allocates_at, room_left, stands-allocated, sound-allocated}
@@ -10,7 +10,7 @@ use Rattle.arbiter_lane.proofs.Marking.{marked-allocated}
 use Rattle.arbiter_lane.proofs.lane.Lane.allocated.Goals as goal
 
 -- the line of the destination
-here : (was now : LaneState) (dst : ℕ) (line : LineOf) → was ≡ now → IsSound was → dst < now.endpoints → line ≡ get_or was.lines dst line → slice_get was.lines dst ≡ Some line
+here : (was now : LaneState) (dst : ℕ) (line : LineOf) → was ≡ now → IsSoundLane was → dst < now.endpoints → line ≡ get_or was.lines dst line → slice_get was.lines dst ≡ Some line
 here was now dst line view_is sound within is =
     let endpoints = ap (λ (l : LaneState). l.endpoints) view_is in
     let as_many = sound.as_many in

@@ -1,28 +1,28 @@
 use Rattle.std.proofs.Common.{◌≡◌, ◌<◌, ℕ, List, get_or, Some, slice_get, sym, ◌∙◌, ap, subst, refl, arith}
 use Rattle.std.proofs.lemmas.Bool.{false≢true}
 use Rattle.std.proofs.lemmas.Option.{slice_get-get_or, get_or_from_slice_get}
-use Rattle.arbiter_lane.specs.declared.line.Line.{Line as LineOf}
+use Rattle.arbiter_lane.specs.declared.line.LaneLine.{LaneLine as LineOf}
 use Rattle.endpoint_history.specs.CountLaws.{CountsAddUp}
 use Rattle.endpoint_history.specs.Counts.{Allocation}
 use Rattle.endpoint_history.specs.Lane.{LaneHistory}
 use Rattle.arbiter_lane.specs.Standing.{StandsFor, FlowIsWithinLedger}
-use Rattle.arbiter_lane.specs.State.{LaneState, IsSound}
+use Rattle.arbiter_lane.specs.State.{LaneState, IsSoundLane}
 use Rattle.arbiter_lane.specs.contracts.lane.Lane.{the_view}
 use Rattle.arbiter_lane.proofs.Held.{told-is-owed}
 use Rattle.arbiter_lane.proofs.lane.Lane.count.Goals as goal
 
 -- the line that is read
-read_line : (was now : LaneState) (dst : ℕ) (line : LineOf) → was ≡ now → IsSound was → dst < now.endpoints → line ≡ get_or was.lines dst line → slice_get now.lines dst ≡ Some line
+read_line : (was now : LaneState) (dst : ℕ) (line : LineOf) → was ≡ now → IsSoundLane was → dst < now.endpoints → line ≡ get_or was.lines dst line → slice_get now.lines dst ≡ Some line
 read_line was now dst line view_is sound within is =
     let endpoints = ap (λ (l : LaneState). l.endpoints) view_is in
     let as_many = sound.as_many in
     subst (λ (l : LaneState). slice_get l.lines dst ≡ Some line) view_is (slice_get-get_or was.lines dst line (omega (arith, within, endpoints, as_many)) ∙ ap Some (sym is))
 
 -- what is told to it is owed
-read_told : CountsAddUp → (was now : LaneState) (dst : ℕ) (line : LineOf) → was ≡ now → IsSound was → slice_get now.lines dst ≡ Some line →
+read_told : CountsAddUp → (was now : LaneState) (dst : ℕ) (line : LineOf) → was ≡ now → IsSoundLane was → slice_get now.lines dst ≡ Some line →
     (history : LaneHistory) (allocations : List Allocation) → StandsFor now history allocations → FlowIsWithinLedger now.g history allocations dst
 read_told sums was now dst line view_is sound here history allocations stands =
-    told-is-owed sums now (subst IsSound view_is sound) history allocations dst line here stands
+    told-is-owed sums now (subst IsSoundLane view_is sound) history allocations dst line here stands
 
 pub returns-then-line-clause-opened : goal.returns-then-line-clause-opened
 returns-then-line-clause-opened c = λ history allocations stands.

@@ -7,7 +7,7 @@ use Rattle.endpoint_history.specs.Packets.{Telling as TellingOf}
 use Rattle.endpoint_history.specs.Packets.{DownPacket, slots_to, framed_down}
 use Rattle.endpoint_history.specs.Lane.{MakesDown, numbers, packet_down}
 use Rattle.arbiter_lane.specs.Lines.{LosesSlots}
-use Rattle.arbiter_lane.specs.Parts.{AreMarked, packet_with, slots_told, lost_by}
+use Rattle.arbiter_lane.specs.Parts.{AreMarked, packet_with, slots_to_tell, lost_by}
 use Rattle.arbiter_lane.specs.State.{LaneState, AreAllocated, AreSlots}
 use Rattle.arbiter_lane.specs.Standing.{StandsFor}
 use Rattle.arbiter_lane.specs.contracts.lane.Lane.{the_view}
@@ -66,7 +66,7 @@ tell-requires-clause-in_flight c = λ dst line here.
     let begun : 0 < was.epoch = above was.epoch c.if-self-eq0.false in
     let allocated = subst (λ (l : LaneState). AreAllocated l c.args.round c.args.told.now.items) (sym c.self.view_is) c.requires.allocated in
     let room = room-for was c.args.round c.args.told.now.items c.self.invariant.0 allocated begun dst line (subst (λ ls. slice_get ls dst ≡ Some line) c.deref_mut.ensures.value here) in
-    let same = ap (slots_to dst) (c.slots_told-told.ensures.slots ∙ ap (λ (l : LaneState). slots_told l c.args.round c.args.told.now.items) (sym c.self.view_is)) in
+    let same = ap (slots_to dst) (c.slots_told-told.ensures.slots ∙ ap (λ (l : LaneState). slots_to_tell l c.args.round c.args.told.now.items) (sym c.self.view_is)) in
     omega (arith, room, same)
 
 pub encode_alloc-requires : goal.encode_alloc-requires
@@ -79,7 +79,7 @@ encode_alloc-requires c =
     let lines = (with_items c.self.inside.lines c.tell.new.lines).items in
     let told =
     told-from was c.args.round slots c.saturating_sub-batch.result c.slots_told-told.result.now c.tell.new.sent lines content
-    (c.saturating_sub-batch.ensures ∙ ap (λ g. c.args.round - 2 * g) c.from.ensures) (c.slots_told-told.ensures.slots ∙ ap (λ (l : LaneState). slots_told l c.args.round slots) (sym c.self.view_is)) c.slots_told-told.ensures.few c.tell.ensures.sent c.tell.ensures.content c.tell.ensures.version c.tell.ensures.newest
+    (c.saturating_sub-batch.ensures ∙ ap (λ g. c.args.round - 2 * g) c.from.ensures) (c.slots_told-told.ensures.slots ∙ ap (λ (l : LaneState). slots_to_tell l c.args.round slots) (sym c.self.view_is)) c.slots_told-told.ensures.few c.tell.ensures.sent c.tell.ensures.content c.tell.ensures.version c.tell.ensures.newest
     (Become-written (λ dst. LosesSlots (lost_by was.sent c.slots_told-told.result.now dst)) c.self.inside.lines c.deref_mut.result.now c.tell.new.lines c.deref_mut.ensures.value c.tell.ensures.lines) in
     let begun : 0 < was.epoch = above was.epoch c.if-self-eq0.false in
     let are = subst (λ (l : LaneState). AreSlots l.endpoints l.b l.endpoint slots) (sym c.self.view_is) c.requires.slots in
@@ -104,7 +104,7 @@ invariant_of-self-2 c =
     let lines = (with_items c.self.inside.lines c.tell.new.lines).items in
     let told =
     told-from was c.args.round slots c.saturating_sub-batch.result c.slots_told-told.result.now c.tell.new.sent lines content
-    (c.saturating_sub-batch.ensures ∙ ap (λ g. c.args.round - 2 * g) c.from.ensures) (c.slots_told-told.ensures.slots ∙ ap (λ (l : LaneState). slots_told l c.args.round slots) (sym c.self.view_is)) c.slots_told-told.ensures.few c.tell.ensures.sent c.tell.ensures.content c.tell.ensures.version c.tell.ensures.newest
+    (c.saturating_sub-batch.ensures ∙ ap (λ g. c.args.round - 2 * g) c.from.ensures) (c.slots_told-told.ensures.slots ∙ ap (λ (l : LaneState). slots_to_tell l c.args.round slots) (sym c.self.view_is)) c.slots_told-told.ensures.few c.tell.ensures.sent c.tell.ensures.content c.tell.ensures.version c.tell.ensures.newest
     (Become-written (λ dst. LosesSlots (lost_by was.sent c.slots_told-told.result.now dst)) c.self.inside.lines c.deref_mut.result.now c.tell.new.lines c.deref_mut.ensures.value c.tell.ensures.lines) in
     let begun : 0 < was.epoch = above was.epoch c.if-self-eq0.false in
     let are = subst (λ (l : LaneState). AreSlots l.endpoints l.b l.endpoint slots) (sym c.self.view_is) c.requires.slots in
@@ -133,7 +133,7 @@ returns-clause-packet c = λ history allocations stood.
     let lines = (with_items c.self.inside.lines c.tell.new.lines).items in
     let told =
     told-from was c.args.round slots c.saturating_sub-batch.result c.slots_told-told.result.now c.tell.new.sent lines content
-    (c.saturating_sub-batch.ensures ∙ ap (λ g. c.args.round - 2 * g) c.from.ensures) (c.slots_told-told.ensures.slots ∙ ap (λ (l : LaneState). slots_told l c.args.round slots) (sym c.self.view_is)) c.slots_told-told.ensures.few c.tell.ensures.sent c.tell.ensures.content c.tell.ensures.version c.tell.ensures.newest
+    (c.saturating_sub-batch.ensures ∙ ap (λ g. c.args.round - 2 * g) c.from.ensures) (c.slots_told-told.ensures.slots ∙ ap (λ (l : LaneState). slots_to_tell l c.args.round slots) (sym c.self.view_is)) c.slots_told-told.ensures.few c.tell.ensures.sent c.tell.ensures.content c.tell.ensures.version c.tell.ensures.newest
     (Become-written (λ dst. LosesSlots (lost_by was.sent c.slots_told-told.result.now dst)) c.self.inside.lines c.deref_mut.result.now c.tell.new.lines c.deref_mut.ensures.value c.tell.ensures.lines) in
     let begun : 0 < was.epoch = above was.epoch c.if-self-eq0.false in
     let stands = subst (λ (l : LaneState). StandsFor l history allocations) (sym c.self.view_is) stood in
@@ -155,7 +155,7 @@ returns-clause-spelled c = λ history allocations stood.
     let lines = (with_items c.self.inside.lines c.tell.new.lines).items in
     let told =
     told-from was c.args.round slots c.saturating_sub-batch.result c.slots_told-told.result.now c.tell.new.sent lines content
-    (c.saturating_sub-batch.ensures ∙ ap (λ g. c.args.round - 2 * g) c.from.ensures) (c.slots_told-told.ensures.slots ∙ ap (λ (l : LaneState). slots_told l c.args.round slots) (sym c.self.view_is)) c.slots_told-told.ensures.few c.tell.ensures.sent c.tell.ensures.content c.tell.ensures.version c.tell.ensures.newest
+    (c.saturating_sub-batch.ensures ∙ ap (λ g. c.args.round - 2 * g) c.from.ensures) (c.slots_told-told.ensures.slots ∙ ap (λ (l : LaneState). slots_to_tell l c.args.round slots) (sym c.self.view_is)) c.slots_told-told.ensures.few c.tell.ensures.sent c.tell.ensures.content c.tell.ensures.version c.tell.ensures.newest
     (Become-written (λ dst. LosesSlots (lost_by was.sent c.slots_told-told.result.now dst)) c.self.inside.lines c.deref_mut.result.now c.tell.new.lines c.deref_mut.ensures.value c.tell.ensures.lines) in
     let begun : 0 < was.epoch = above was.epoch c.if-self-eq0.false in
     let stands = subst (λ (l : LaneState). StandsFor l history allocations) (sym c.self.view_is) stood in
@@ -183,7 +183,7 @@ returns-clause-stands c = λ history allocations stood.
     let lines = (with_items c.self.inside.lines c.tell.new.lines).items in
     let told =
     told-from was c.args.round slots c.saturating_sub-batch.result c.slots_told-told.result.now c.tell.new.sent lines content
-    (c.saturating_sub-batch.ensures ∙ ap (λ g. c.args.round - 2 * g) c.from.ensures) (c.slots_told-told.ensures.slots ∙ ap (λ (l : LaneState). slots_told l c.args.round slots) (sym c.self.view_is)) c.slots_told-told.ensures.few c.tell.ensures.sent c.tell.ensures.content c.tell.ensures.version c.tell.ensures.newest
+    (c.saturating_sub-batch.ensures ∙ ap (λ g. c.args.round - 2 * g) c.from.ensures) (c.slots_told-told.ensures.slots ∙ ap (λ (l : LaneState). slots_to_tell l c.args.round slots) (sym c.self.view_is)) c.slots_told-told.ensures.few c.tell.ensures.sent c.tell.ensures.content c.tell.ensures.version c.tell.ensures.newest
     (Become-written (λ dst. LosesSlots (lost_by was.sent c.slots_told-told.result.now dst)) c.self.inside.lines c.deref_mut.result.now c.tell.new.lines c.deref_mut.ensures.value c.tell.ensures.lines) in
     let begun : 0 < was.epoch = above was.epoch c.if-self-eq0.false in
     let stands = subst (λ (l : LaneState). StandsFor l history allocations) (sym c.self.view_is) stood in

@@ -11,7 +11,7 @@ use Rattle.endpoint_history.specs.Packets.{Resets, Requests, up_packet}
 use Rattle.endpoint_history.specs.Lane.{TakesUp, arrived, numbers}
 use Rattle.arbiter_lane.specs.State.{LaneState, AreSlots}
 use Rattle.arbiter_lane.specs.Standing.{StandsFor}
-use Rattle.arbiter_lane.specs.Refusals.{refusal_of}
+use Rattle.arbiter_lane.specs.Refusals.{up_refusal}
 use Rattle.arbiter_lane.specs.declared.refusal.UpRefused.TheVariants as refused
 use Rattle.arbiter_lane.specs.contracts.lane.Lane.{the_view}
 use Rattle.arbiter_lane.proofs.Held.{Become-written, open-told}
@@ -123,7 +123,7 @@ returns-clause-answer c = λ history allocations stood.
     let up = c.decode_up.new.into in
     c.take_request.ensures.answer (arrived history) stands.arrived
     ∙ (sym (refusal-request was c.args.bytes.now up history allocations (sym c.in_default.ensures.refused) c.in_default.ensures.read c.if-self.false (omega (arith, c.if-self-2.false, c.if-self-3.false)) c.if-self-4.false c.if-self-5.false c.self.invariant.0.heard_version stands)
-    ∙ ap (λ (l : LaneState). refusal_of l.endpoint l.endpoints history c.args.bytes.now) c.self.view_is)
+    ∙ ap (λ (l : LaneState). up_refusal l.endpoint l.endpoints history c.args.bytes.now) c.self.view_is)
 
 pub returns-clause-unchanged : goal.returns-clause-unchanged
 returns-clause-unchanged c =

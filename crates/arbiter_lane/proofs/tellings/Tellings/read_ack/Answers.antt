@@ -8,13 +8,13 @@ use Rattle.ack_window.specs.Versions.{reorder_of, span_of}
 use Rattle.ack_window.specs.Windows.{Sender, HasDone}
 use Rattle.endpoint_history.specs.Packets.{Telling as TellingOf}
 use Rattle.arbiter_lane.specs.Lines.{Become, DecidesSlots, slots_shown, slots_lost}
-use Rattle.arbiter_lane.specs.Places.{Places, decided_with, with_contents}
+use Rattle.arbiter_lane.specs.Places.{TellingPlaces, decided_with, with_contents}
 use Rattle.arbiter_lane.proofs.Carrying.{found-is, goes-on-read}
 use Rattle.arbiter_lane.proofs.Reading.{decided-all, decided-in_flight, one-in_flight}
 use Rattle.arbiter_lane.proofs.tellings.Tellings.read_ack.Goals as goal
 
 -- what the numbers that are found have at their places is what clauses say that is decided
-found-now : (law : SendersGoOnByStep TellingOf) (places read : Places) (sent : Sender (Unit {0})) (now : Sender TellingOf) (ack : Acknowledgement) (found : List (DecidedNumber (Unit {0}))) (events : List (Event TellingOf)) →
+found-now : (law : SendersGoOnByStep TellingOf) (places read : TellingPlaces) (sent : Sender (Unit {0})) (now : Sender TellingOf) (ack : Acknowledgement) (found : List (DecidedNumber (Unit {0}))) (events : List (Event TellingOf)) →
     read ≡ places → found ≡ decided_for sent ack → with_contents places sent ≡ now → HasDone now events →
     map (decided_with read) found ≡ decided_by (reorder_of now.version) (span_of now.version) events ack
 found-now law places read sent now ack found events is_read is_found is_now done =

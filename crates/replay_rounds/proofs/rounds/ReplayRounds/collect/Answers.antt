@@ -17,7 +17,7 @@ collect-requires-clause-may c =
     let count_is : c.min-count.result ≡ min all.g (trace.rounds - all.collected) = omega (arith, c.min-count.ensures, c.from.ensures, c.rounds.ensures.number) in
     let (cores, stood) = c.requires.stands in
     let begun = begins c.steps_go_on.ensures.published trace c.rounds.ensures.sound all c.args.self.now c.self.view_is c.requires.windows c.min-count.result count_is c.deref_mut.result.now c.deref_mut.ensures.value cores stood in
-    (cores, begun.may, begun.stand)
+    (cores, record { may = begun.may; stand = begun.stand })
 
 pub collect-requires-clause-counted : goal.collect-requires-clause-counted
 collect-requires-clause-counted c =
@@ -38,7 +38,7 @@ returns-clause-stands c = λ cores stood.
     let same : (with_items c.self.inside.lanes c.collect.new.lanes).items ≡ c.collect.new.lanes = with_items_is c.self.inside.lanes c.collect.new.lanes kept in
     next_window trace cores all begun.stood count (with_items c.self.inside.lanes c.collect.new.lanes).items begun.within
     (subst (λ (lanes : List RoundsState). LanesStand (setting_by trace all.g cores all.window) (all.collected + count) (published_by all.window) lanes) (sym same)
-    (c.in_ok-played.ensures.lanes cores begun.may begun.stand))
+    (c.in_ok-played.ensures.lanes cores (record { may = begun.may; stand = begun.stand })))
 
 pub returns-clause-played : goal.returns-clause-played
 returns-clause-played c = λ cores stood.
@@ -48,6 +48,6 @@ returns-clause-played c = λ cores stood.
     let count_is : c.min-count.result ≡ min all.g (trace.rounds - all.collected) = omega (arith, c.min-count.ensures, c.from.ensures, c.rounds.ensures.number) in
     let begun = begins c.steps_go_on.ensures.published trace c.rounds.ensures.sound all c.args.self.now c.self.view_is c.requires.windows c.min-count.result count_is c.deref_mut.result.now c.deref_mut.ensures.value cores stood in
     subst (λ (r : RoundsContent). played ≡ rounds_played (setting_with trace cores r) trace r.collected (min r.g (trace.rounds - r.collected))) c.self.view_is
-    (c.in_ok-played.ensures.played cores begun.may begun.stand
+    (c.in_ok-played.ensures.played cores (record { may = begun.may; stand = begun.stand })
     ∙ (ap (λ (n : ℕ). rounds_played (setting_by trace all.g cores all.window) trace all.collected n) count_is
     ∙ ap (λ (b : ℕ). rounds_played (setting_of trace b all.g cores) trace all.collected (min all.g (trace.rounds - all.collected))) begun.stood.size))

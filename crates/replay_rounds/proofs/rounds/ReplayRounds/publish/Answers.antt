@@ -1,5 +1,5 @@
 use Rattle.std.proofs.Common.{◌≡◌, ◌≤◌, ◌+◌, ℕ, sym, ap, ◌∙◌, subst}
-use Rattle.replay_rounds.specs.Standing.{RoundsContent, Stands, IsNextWindow}
+use Rattle.replay_rounds.specs.Standing.{RoundsContent, AllRoundsStand, IsNextWindow}
 use Rattle.replay_rounds.specs.contracts.rounds.ReplayRounds.{the_view}
 use Rattle.replay_rounds.proofs.PublishedWindows.{MayPublish, may_publish_counted, next_counted, names_cores, stands_next, batch_count, whole, has_room}
 use Rattle.replay_rounds.proofs.rounds.ReplayRounds.publish.Goals as goal
@@ -39,7 +39,7 @@ returns-clause-stands c = λ trace named is_trace stood following.
     let old : RoundsContent = c.args.self.now in
     let mid : RoundsContent = c.count_published.new.self in
     let from : was ≡ record old { counted = old.published; lanes = mid.lanes } = c.self.view_is ∙ c.count_published.ensures.frame in
-    let stands : Stands trace named was = subst (Stands trace named) (sym c.self.view_is) (c.count_published.ensures.stands trace named stood) in
+    let stands : AllRoundsStand trace named was = subst (AllRoundsStand trace named) (sym c.self.view_is) (c.count_published.ensures.stands trace named stood) in
     let next : IsNextWindow trace named was c.args.count c.args.slots.now c.args.cores.now =
     subst (λ (s : RoundsContent). IsNextWindow trace named s c.args.count c.args.slots.now c.args.cores.now) (sym c.self.view_is)
     (next_counted trace named old mid c.args.count c.args.slots.now c.args.cores.now c.count_published.ensures.frame following) in
@@ -48,6 +48,6 @@ returns-clause-stands c = λ trace named is_trace stood following.
     let served = c.requires.served ∙ sym (ap (λ (s : RoundsContent). s.endpoints) from) in
     let put = c.put.ensures in
     let counts = batch_count c.counting_holds.ensures trace named was c.args.count c.args.slots.now c.args.cores.now is_trace stands next c.put.new.self.count put.count in
-    subst (λ (n : ℕ). Stands trace named (record was { published = was.published + n; window = c.put.new.self })) (sym c.from.ensures)
+    subst (λ (n : ℕ). AllRoundsStand trace named (record was { published = was.published + n; window = c.put.new.self })) (sym c.from.ensures)
     (stands_next c.counting_holds.ensures trace named was c.args.count c.args.slots.now c.args.cores.now is_trace stands next c.put.new.self counted behind served c.slots-slots.ensures.each
     put.endpoints put.batches put.b put.first counts put.slots)

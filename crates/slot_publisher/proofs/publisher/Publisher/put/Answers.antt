@@ -2,7 +2,7 @@ use Rattle.std.proofs.Common.{◌≡◌, ◌≤◌, ◌*◌, ◌/◌, ℕ, List,
 use Rattle.std.specs.Vec.{with_items}
 use Rattle.std.proofs.lemmas.List.{with_items_is}
 use Rattle.fcp_framing.specs.declared.packet.Told.{Told}
-use Rattle.slot_publisher.specs.Window.{Window}
+use Rattle.slot_publisher.specs.Window.{Window, slots_with_cores}
 use Rattle.slot_publisher.specs.Places.{slots_of_lists, AreLists}
 use Rattle.slot_publisher.proofs.PlaceLemmas.{slots_as_put, lists_as_put, batches_held, few_batches}
 use Rattle.slot_publisher.proofs.publisher.Publisher.put.Goals as goal
@@ -66,8 +66,8 @@ invariant_of-self c =
           (subst (λ (e : ℕ). AreLists e inside.b (count * e) new_counts new_told) (same_endpoints c) lists)),
     )
 
-pub returns-clause-slots : goal.returns-clause-slots
-returns-clause-slots c =
+slots_put : (c : goal.After-self-4-1) → slots_of_lists c.self.inside.endpoints c.self.inside.b (count_of c * c.self.inside.b) (with_items c.self.inside.counts.items c.put_lists.new.counts).items (with_items c.self.inside.told.items c.put_lists.new.told).items ≡ slots_with_cores c.args.slots.now.slots c.args.cores.now
+slots_put c =
     let inside = c.self.inside in
     let slots = c.args.slots.now in
     let count : ℕ = count_of c in
@@ -78,3 +78,13 @@ returns-clause-slots c =
     ∙ (ap (slots_of_lists inside.endpoints inside.b n new_counts) (same_told c)
     ∙ (ap (λ (e : ℕ). slots_of_lists e inside.b n new_counts new_told) (sym (same_endpoints c))
     ∙ slots_as_put slots c.args.cores.now inside.b count n new_counts new_told c.self.invariant.0 refl (held c) c.slots.ensures.each c.requires.cores c.put_lists.ensures))
+
+pub returns : goal.returns
+returns c = record {
+  endpoints = ap (λ (w : Window). w.endpoints) c.self.view_is;
+  batches = ap (λ (w : Window). w.batches) c.self.view_is;
+  b = ap (λ (w : Window). w.b) c.self.view_is;
+  first = refl;
+  count = ap (λ (b : ℕ). count_of c * b) (sym (ap (λ (w : Window). w.b) c.self.view_is)) ∙ held c;
+  slots = slots_put c;
+}

@@ -7,7 +7,7 @@ use Rattle.std.proofs.lemmas.List.Elements.{All-take, All-drop, All-weaker}
 use Rattle.fcp_framing.specs.declared.packet.Told.{Told}
 use Rattle.fcp_framing.specs.Spelling.{IsCore}
 use Rattle.slot_publisher.specs.Window.{Window, RoutedFlow, slots_of_batch}
-use Rattle.slot_publisher.specs.Told.{packet_from, slots_told, IsToldOf}
+use Rattle.slot_publisher.specs.Told.{packet_sent, slots_told, IsToldOf}
 use Rattle.slot_publisher.specs.Places.{list_at, count_at, slots_of_lists, IsToldList}
 use Rattle.slot_publisher.proofs.PlaceLemmas.{told_in_list, slots_in_lists, lists_fit, held_window}
 use Rattle.slot_publisher.proofs.ToldLemmas.{told-rising, told_offsets, told_others, told_only, told_all}
@@ -76,51 +76,38 @@ size c =
     let of : length (take b (drop (batch_of c * b) slots)) ≡ b = omega (arith, length-take b (drop (batch_of c * b) slots), length-drop (batch_of c * b) slots, room, all) in
     rw (← c.self.view_is) of
 
-pub returns-clause-told : goal.returns-clause-told
-returns-clause-told c = told c
-
-pub returns-clause-most : goal.returns-clause-most
-returns-clause-most c =
-    let inside = c.self.inside in
-    let counts : List ℕ = boxed_slice_items inside.counts in
-    let few : count_at counts (place_of c) ≤ inside.b = c.self.invariant.5.few (place_of c) (below c).0 in
-    omega (arith, ap (λ (told : List Told). length told) (list c), length-take (count_at counts (place_of c)) (drop (place_of c * inside.b) (boxed_slice_items inside.told)), few, c.self.invariant.1)
-
-pub returns-clause-only : goal.returns-clause-only
-returns-clause-only c =
-    let slots : List (List RoutedFlow) = slots_of_batch c.args.self.now c.args.batch in
-    subst (All (IsToldOf slots c.args.endpoint)) (sym (told c)) (told_only c.args.endpoint slots)
-
-pub returns-clause-all : goal.returns-clause-all
-returns-clause-all c = λ told' below is.
-    let slots : List (List RoutedFlow) = slots_of_batch c.args.self.now c.args.batch in
-    subst (λ (items : List Told). Contains items told') (sym (told c)) (told_all c.args.endpoint slots told' (omega (arith, below, size c)) is)
-
-pub returns-clause-rising : goal.returns-clause-rising
-returns-clause-rising c =
-    subst (λ (items : List Told). IsStrictlyIncreasing (map (λ (told : Told). told.offset) items)) (sym (told c)) (told-rising 0 (map (packet_from c.args.endpoint) (slots_of_batch c.args.self.now c.args.batch)))
-
-pub returns-clause-offsets : goal.returns-clause-offsets
-returns-clause-offsets c =
-    subst (All (λ (told : Told). told.offset < c.args.self.now.b)) (sym (told c))
-    (told_offsets c.args.self.now.b c.args.endpoint (slots_of_batch c.args.self.now c.args.batch) (omega (arith, size c)))
-
-pub returns-clause-destinations : goal.returns-clause-destinations
-returns-clause-destinations c =
-    let below : All (λ (told : Told). told.dst < c.self.inside.endpoints) (list_of c) =
-    All-weaker (λ (told : Told). (told.dst < c.self.inside.endpoints) × IsCore told.core) (λ (told : Told). told.dst < c.self.inside.endpoints) (λ told names. names.0) (list_of c) (is_list c).names in
-    subst (λ (n : ℕ). All (λ (told : Told). told.dst < n) (given c)) (ap (λ (w : Window). w.endpoints) c.self.view_is)
-    (subst (All (λ (told : Told). told.dst < c.self.inside.endpoints)) (sym (list c)) below)
-
-pub returns-clause-cores : goal.returns-clause-cores
-returns-clause-cores c =
-    subst (All (λ (told : Told). IsCore told.core)) (sym (list c))
-    (All-weaker (λ (told : Told). (told.dst < c.self.inside.endpoints) × IsCore told.core) (λ (told : Told). IsCore told.core) (λ told names. names.1) (list_of c) (is_list c).names)
-
-pub returns-clause-others : goal.returns-clause-others
-returns-clause-others c out =
-    let window = c.args.self.now in
-    let GoesOut : List RoutedFlow → Type 0 = All (λ packet. packet.flow.src ≢ packet.flow.dst) in
-    let place : ℕ = (c.args.batch - window.first_batch) * window.b in
-    subst (All (λ (told : Told). told.dst ≢ c.args.endpoint)) (sym (told c))
-    (told_others c.args.endpoint (slots_of_batch window c.args.batch) (All-take GoesOut window.b (drop place window.slots) (All-drop GoesOut place window.slots out)))
+pub returns : goal.returns
+returns c = record {
+  told = told c;
+  most =
+      let inside = c.self.inside in
+      let counts : List ℕ = boxed_slice_items inside.counts in
+      let few : count_at counts (place_of c) ≤ inside.b = c.self.invariant.5.few (place_of c) (below c).0 in
+      omega (arith, ap (λ (told : List Told). length told) (list c), length-take (count_at counts (place_of c)) (drop (place_of c * inside.b) (boxed_slice_items inside.told)), few, c.self.invariant.1);
+  only =
+      let slots : List (List RoutedFlow) = slots_of_batch c.args.self.now c.args.batch in
+      subst (All (IsToldOf slots c.args.endpoint)) (sym (told c)) (told_only c.args.endpoint slots);
+  all =
+      λ told' below is.
+      let slots : List (List RoutedFlow) = slots_of_batch c.args.self.now c.args.batch in
+      subst (λ (items : List Told). Contains items told') (sym (told c)) (told_all c.args.endpoint slots told' (omega (arith, below, size c)) is);
+  rising = subst (λ (items : List Told). IsStrictlyIncreasing (map (λ (told : Told). told.offset) items)) (sym (told c)) (told-rising 0 (map (packet_sent c.args.endpoint) (slots_of_batch c.args.self.now c.args.batch)));
+  offsets =
+      subst (All (λ (told : Told). told.offset < c.args.self.now.b)) (sym (told c))
+      (told_offsets c.args.self.now.b c.args.endpoint (slots_of_batch c.args.self.now c.args.batch) (omega (arith, size c)));
+  destinations =
+      let below : All (λ (told : Told). told.dst < c.self.inside.endpoints) (list_of c) =
+      All-weaker (λ (told : Told). (told.dst < c.self.inside.endpoints) × IsCore told.core) (λ (told : Told). told.dst < c.self.inside.endpoints) (λ told names. names.0) (list_of c) (is_list c).names in
+      subst (λ (n : ℕ). All (λ (told : Told). told.dst < n) (given c)) (ap (λ (w : Window). w.endpoints) c.self.view_is)
+      (subst (All (λ (told : Told). told.dst < c.self.inside.endpoints)) (sym (list c)) below);
+  cores =
+      subst (All (λ (told : Told). IsCore told.core)) (sym (list c))
+      (All-weaker (λ (told : Told). (told.dst < c.self.inside.endpoints) × IsCore told.core) (λ (told : Told). IsCore told.core) (λ told names. names.1) (list_of c) (is_list c).names);
+  others =
+      λ out.
+      let window = c.args.self.now in
+      let GoesOut : List RoutedFlow → Type 0 = All (λ packet. packet.flow.src ≢ packet.flow.dst) in
+      let place : ℕ = (c.args.batch - window.first_batch) * window.b in
+      subst (All (λ (told : Told). told.dst ≢ c.args.endpoint)) (sym (told c))
+      (told_others c.args.endpoint (slots_of_batch window c.args.batch) (All-take GoesOut window.b (drop place window.slots) (All-drop GoesOut place window.slots out)));
+}

@@ -7,6 +7,6 @@ returns c =
     let it = c.args.self.now in
     let is = c.requires in
     let e = c.take_up.ensures in
-    served-read it.lane it.dst it.round it.before it.last c.take_up.new.self c.args.bytes.now _ is e.endpoint e.endpoints e.b e.g e.round
+    served-read it.lane it.dst it.round it.before it.last c.take_up.new.self c.args.bytes.now _ is e.same.endpoint e.same.endpoints e.same.b e.same.g e.same.round
     (e.answer (history_of is.calls) (allocations_of is.calls) is.stands) e.unchanged
     (λ own. e.stands own (history_of is.calls) (allocations_of is.calls) is.stands)
