@@ -37,22 +37,23 @@ cut-first : (whole : Record) → field (cut whole) 0 ≡ field whole 0
 cut-first [] = refl
 cut-first (f ∷ whole) = refl
 
+-- no row has six fields
+pub too_many : (k : Kind) (n : ℕ) → 6 ≤ n → may_have k n ≡ false
+too_many kind.Net n long = grind (arith, nat_tests)
+too_many kind.Ask n long = grind (arith, nat_tests)
+too_many kind.Lose n long = grind (arith, nat_tests)
+too_many kind.Twice n long = grind (arith, nat_tests)
+too_many kind.Hold n long = grind (arith, nat_tests)
+too_many kind.Boot n long = grind (arith, nat_tests)
+too_many kind.Raw n long = grind (arith, nat_tests)
+too_many kind.Put n long = grind (arith, nat_tests)
+too_many kind.End n long = grind (arith, nat_tests)
+
 -- a row of six fields is as little one as a row of more
 cut-may_have : (k : Kind) (whole : Record) → 6 ≤ length whole → (may_have k (length (cut whole)) ≡ false) × (may_have k (length whole) ≡ false)
 cut-may_have k whole long =
     let six : length (cut whole) ≡ 6 = omega (arith, length-take 6 whole) in
-    (ap (may_have k) six ∙ none k 6 (omega arith), none k (length whole) long)
-  where
-    none : (k : Kind) (n : ℕ) → 6 ≤ n → may_have k n ≡ false
-    none kind.Net n long = grind (arith, nat_tests)
-    none kind.Ask n long = grind (arith, nat_tests)
-    none kind.Lose n long = grind (arith, nat_tests)
-    none kind.Twice n long = grind (arith, nat_tests)
-    none kind.Hold n long = grind (arith, nat_tests)
-    none kind.Boot n long = grind (arith, nat_tests)
-    none kind.Raw n long = grind (arith, nat_tests)
-    none kind.Put n long = grind (arith, nat_tests)
-    none kind.End n long = grind (arith, nat_tests)
+    (ap (may_have k) six ∙ too_many k 6 (omega arith), too_many k (length whole) long)
 
 cut-kind : (command : Command) (before : List Row) (whole : Record) (k : Kind) → 6 ≤ length whole → read_kind command before (cut whole) k ≡ read_kind command before whole k
 unfolding read_kind

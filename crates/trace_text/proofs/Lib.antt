@@ -4,6 +4,7 @@ mod CsvFacts
 mod ReaderFacts
 mod FirstFields
 mod LineFacts
+mod FrontFacts
 mod FieldFacts
 mod ReadFacts
 mod RowFacts

@@ -18,10 +18,10 @@ use Rattle.trace_text.specs.declared.plain_ask.PlainAsk.{PlainAsk}
 use Rattle.trace_text.proofs.CsvFacts.{records_from-next}
 
 -- what a byte leads to
-abbrev after : Record → List ℕ → ℕ → List ℕ → State × Action → Option Read
+abbrev pub after : Record → List ℕ → ℕ → List ℕ → State × Action → Option Read
 after fields here c text r = cond (is_end r.1) (Some (fields_after r.1 fields here, r.0, text)) (next_record default_config r.0 (fields_after r.1 fields here) (field_after r.1 c here) text)
 
-one-byte : (s : State) (fields : Record) (here : List ℕ) (c : ℕ) (text : List ℕ) → next_record default_config s fields here (c ∷ text) ≡ after fields here c text (step default_config s c)
+pub one-byte : (s : State) (fields : Record) (here : List ℕ) (c : ℕ) (text : List ℕ) → next_record default_config s fields here (c ∷ text) ≡ after fields here c text (step default_config s c)
 unfolding next_record
 one-byte s fields here c text = refl
 

@@ -1,6 +1,6 @@
 -- Lines whose fields are plain: read where they stand, each is the record that a reader of comma separated values makes of
 -- it.
-use Rattle.std.specs.Prelude.{◌≡◌, ℕ, ◌==◌, ◌||◌, not, List, [], ◌∷◌, ◌++◌, length, Bool, true, false, Option, Some, None, if◌then◌else◌, codes}
+use Rattle.std.specs.Prelude.{◌≡◌, ◌≢◌, ◌<◌, ◌≤◌, ℕ, ◌==◌, ◌||◌, not, List, [], ◌∷◌, ◌++◌, length, Bool, true, false, Option, Some, None, if◌then◌else◌, codes}
 use Rattle.std.specs.List.{list_all}
 use Rattle.std.specs.Str.{bytes_eq}
 use Rattle.csv.specs.Reading.{default_config, records}
@@ -47,10 +47,15 @@ BeginsWithAsk before ask after = (fields : Record) × IsAskRow ask fields × (be
 abbrev pub BeginsWith : List Record → Record → List Record → Type 0
 BeginsWith before fields after = (whole : Record) × (cut fields ≡ cut whole) × (before ≡ whole ∷ after)
 
+-- the first record begins as these fields do, of which there are more than a row has
+abbrev pub BeginsLong : List Record → Record → Type 0
+BeginsLong before fields = (6 ≤ length fields) × (after : List Record) × BeginsWith before fields after
+
 -- what is found in the records that are left, and what is left then; the fields are the first of a record that is no plain ask
 abbrev pub Finds : Found → List Record → Record → List Record → Type 0
 Finds (found.Ask ask) before fields after = BeginsWithAsk before ask after
 Finds found.Fields before fields after = BeginsWith before fields after
+Finds found.TooMany before fields after = BeginsLong before fields
 Finds found.End before fields after = before ≡ []
 
 -- no byte stands at the front, or one that ends a line
@@ -58,7 +63,22 @@ abbrev pub begins_blank : List ℕ → Bool
 begins_blank [] = true
 begins_blank (c ∷ text) = (c == 10) || (c == 13)
 
--- the records of a reader, or where there is none those of a text
-abbrev pub records_or : Option (List Record) → List ℕ → List Record
-records_or None text = records_in text
-records_or (Some records) text = records
+-- a byte that ends a line, and a text that ends with one
+abbrev pub ends_line : ℕ → Bool
+ends_line c = (c == 10) || (c == 13)
+
+abbrev pub EndsLine : List ℕ → Type 0
+EndsLine text = (body : List ℕ) × (c : ℕ) × (text ≡ body ++ c ∷ []) × (ends_line c ≡ true)
+
+-- the records of a front, of which there are some, are the first of the text
+abbrev pub IsWholeFront : List ℕ → List ℕ → List ℕ → Type 0
+IsWholeFront text front rest = (records_in text ≡ records_in front ++ records_in rest) × (0 < length (records_in front))
+
+-- the last field does not end with a byte that ends a line
+abbrev pub IsClosed : Record → Type 0
+IsClosed fields = (others : Record) (body : List ℕ) (c : ℕ) → ends_line c ≡ true → fields ≢ others ++ (body ++ c ∷ []) ∷ []
+
+-- the records of a reader, where there is one, and behind them those of a text
+abbrev pub records_behind : Option (List Record) → List ℕ → List Record
+records_behind None text = records_in text
+records_behind (Some records) text = records ++ records_in text

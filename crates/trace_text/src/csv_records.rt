@@ -33,20 +33,24 @@ impl<'a> CsvRecords<'a> {
     pub fn open(alloc: Global, text: &'a [u8]) -> Result<Box<CsvRecords<'a>>, NoMemory>
         ensures { IfOk result (λ records. records.value ≡ records_in text.now) }
     {
-        Ok(Box::new(alloc, CsvRecords::new(alloc, text))?)
+        Ok(Box::new(alloc, CsvRecords::new(alloc, text)?)?)
     }
 
-    // The reader takes a byte order mark off the start of what it is given, and is given one, so that the text keeps its own.
-    fn new(alloc: Global, text: &'a [u8]) -> CsvRecords<'a>
-        ensures { result ≡ records_in text.now }
+    // The reader takes a byte order mark off the start of what it is given, and is given one, so that the text keeps its own. It is
+    // given names of no columns, so that it keeps no copy of its first record for them.
+    fn new(alloc: Global, text: &'a [u8]) -> Result<CsvRecords<'a>, NoMemory>
+        ensures { IfOk result (λ records. records ≡ records_in text.now) }
     {
         let marked = b"\xef\xbb\xbf".as_slice().chain(text);
-        CsvRecords {
-            reader: ReaderBuilder::new()
-                .has_headers(false)
-                .flexible(true)
-                .from_reader(alloc, marked),
-            ended: false,
+        let mut reader = ReaderBuilder::new()
+            .flexible(true)
+            .from_reader(alloc, marked);
+        match reader.set_byte_headers(ByteRecord::new(alloc)) {
+            Ok(()) => Ok(CsvRecords {
+                reader,
+                ended: false,
+            }),
+            Err(_) => Err(NoMemory),
         }
     }
 

@@ -1,8 +1,9 @@
 // The fields of a row.
-ghost use Rattle.std.specs.Prelude.{◌≡◌, [], ◌∷◌, ◌++◌, true, false, MatchOption, OnOk};
+ghost use Rattle.std.specs.Prelude.{◌≡◌, [], ◌∷◌, ◌++◌, true, false, nat_lt, length, MatchOption, OnOk};
 ghost use Rattle.csv.specs.Records.{fields_of, partial_of};
 ghost use Rattle.hex.specs.Hex.{is_hex_digit};
 ghost use Rattle.trace_text.specs.Fields.{Record, cut, field, has_number, number_at, is_way, is_up, is_hex};
+ghost use Rattle.trace_text.specs.Lines.{IsClosed};
 
 use crate::number::read_number;
 use csv::ByteRecord;
@@ -21,6 +22,23 @@ pub fn keep(fields: &mut ByteRecord, field: &[u8]) -> Result<(), NoMemory>
         fields.push_field(field)?;
     }
     Ok(())
+}
+
+/// Whether a record has more fields than a row of any kind, also where the last that was read is not all of it.
+pub fn has_too_many(fields: &ByteRecord) -> bool
+    ensures { result ≡ nat_lt 6 (length (fields_of fields.now)) }
+{
+    fields.len() > MOST_FIELDS
+}
+
+/// Whether there is a last field, and it does not end with a byte that ends a line.
+pub fn is_closed(fields: &ByteRecord) -> bool
+    ensures { result ≡ true → IsClosed (fields_of fields.now) }
+{
+    match fields.len() {
+        0 => false,
+        count => !matches!(field(fields, count - 1), [.., b'\n' | b'\r']),
+    }
 }
 
 /// The field at a place, empty where the row is shorter.

@@ -68,6 +68,29 @@ fn field_end(text: &[u8]) -> Option<usize>
     None
 }
 
+/// The text behind the blank lines that it begins with.
+pub fn behind_blank_lines(text: &[u8]) -> &[u8]
+    ensures { records_in result.now ≡ records_in text.now }
+{
+    let mut rest = text;
+    while let Some(more) = behind_line_end(rest) {
+        rest = more;
+    }
+    rest
+}
+
+// The text behind the end of a line with which it begins.
+fn behind_line_end(text: &[u8]) -> Option<&[u8]>
+    ensures shorter { IfSome result (λ rest. length rest.now < length text.now) }
+    ensures same { IfSome result (λ rest. records_in rest.now ≡ records_in text.now) }
+{
+    if !is_blank(text) || text.is_empty() {
+        return None;
+    }
+    let (_, rest) = text.split_at(1);
+    Some(rest)
+}
+
 // Whether a text has no first byte, or one that ends a line.
 fn is_blank(text: &[u8]) -> bool
     ensures { result ≡ begins_blank text.now }

@@ -26,6 +26,7 @@ pub fn read_trace(alloc: Global, bytes: &[u8], command: Command) -> Result<Trace
         match found {
             Found::Ask(ask) => rows.take_ask(command, &ask)?,
             Found::Fields => rows.take(command, &fields)?,
+            Found::TooMany => return Err(rows.refuse_too_many(command, &fields)),
             Found::End => return finish(rows),
         }
     }

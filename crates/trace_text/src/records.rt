@@ -1,26 +1,35 @@
-// The records of a text, one at a time: read where they stand as long as their fields are plain, and by the kit from the
-// first other line on.
-ghost use Rattle.std.specs.Prelude.{◌≡◌, ◌≤◌, length, IfOk};
+// The records of a text, one at a time: read where they stand as long as their fields are plain, and by the kit where they
+// are not, a front of the text after the other.
+ghost use Rattle.std.specs.Prelude.{◌≡◌, ◌<◌, ◌≤◌, ◌++◌, ℕ, List, true, length, IfOk};
 ghost use Rattle.std.specs.Bool.{MatchBool};
 ghost use Rattle.csv.specs.Reading.{strip_bom};
 ghost use Rattle.csv.specs.Records.{fields_of};
 ghost use Rattle.trace_text.specs.Trace.{records_of};
-ghost use Rattle.trace_text.specs.Lines.{Finds};
+ghost use Rattle.trace_text.specs.Lines.{Finds, BeginsLong, records_in};
 ghost use Rattle.trace_text.specs.declared.records.Found.TheVariants as found;
 
 use crate::csv_records::CsvRecords;
-use crate::line::read_line;
+use crate::fields::has_too_many;
+use crate::line::{behind_blank_lines, read_line};
 use crate::plain_ask::{PlainAsk, plain_ask};
+use crate::whole_front::whole_front;
 use csv::ByteRecord;
 use no_memory::NoMemory;
 use std::alloc::Global;
 use std::marker::Model;
 
-/// What a record was found to be: an ask, or fields that were put into a buffer; or that there is none.
+// So many commas has the first part that is read of a long record, and so many more each further part.
+const FIRST_COMMAS: usize = 64;
+
+const MORE_COMMAS: usize = 4_194_304;
+
+/// What a record was found to be: an ask; fields that were put into a buffer; more fields than a row has, of which the first were
+/// put there; or that there is none.
 #[derive(Clone, Copy, Debug, PartialEq, Eq)]
 pub enum Found {
     Ask(PlainAsk),
     Fields,
+    TooMany,
     End,
 }
 
@@ -37,19 +46,19 @@ impl Found {
 #[derive(Drop)]
 pub struct Records<'a> {
     alloc: Global,
-    // Where the next record begins, as long as each line was plain.
+    // Reads the rest of a front that is no plain line.
+    front: Option<Box<CsvRecords<'a>>>,
+    // What stands behind it.
     text: &'a [u8],
-    // Reads on from the first line that was not.
-    others: Option<Box<CsvRecords<'a>>>,
 }
 
 impl<'a> Model for Records<'a> {
     ghost use Rattle.std.specs.Prelude.{List, ℕ, option_map};
-    ghost use Rattle.trace_text.specs.Lines.{records_or};
+    ghost use Rattle.trace_text.specs.Lines.{records_behind};
 
     ghost Value = { List (List (List ℕ)) };
 
-    ghost view = { λ r. records_or (option_map (λ others. others.value) r.others) r.text.now };
+    ghost view = { λ r. records_behind (option_map (λ front. front.value) r.front) r.text.now };
 }
 
 impl<'a> Records<'a> {
@@ -59,8 +68,8 @@ impl<'a> Records<'a> {
     {
         Records {
             alloc,
+            front: None,
             text: without_mark(text),
-            others: None,
         }
     }
 
@@ -69,25 +78,140 @@ impl<'a> Records<'a> {
     pub fn read(&mut self, fields: &mut ByteRecord) -> Result<Found, NoMemory>
         ensures { IfOk result (λ found. Finds found self.old (fields_of fields.new) self.new) }
     {
-        if let Some(others) = &mut self.others {
-            return Ok(Found::of(others.read(fields)?));
+        if let Some(front) = &mut self.front {
+            if front.read(fields)? {
+                return Ok(Found::Fields);
+            }
+            let (found, left) = read_other(self.alloc, self.text, fields)?;
+            *self = left;
+            return Ok(found);
         }
         if let Some((ask, rest)) = plain_ask(self.text) {
             self.text = rest;
             return Ok(Found::Ask(ask));
         }
-        if self.text.is_empty() {
-            return Ok(Found::End);
-        }
-        if let Some(rest) = read_line(self.text, fields)? {
-            self.text = rest;
-            return Ok(Found::Fields);
-        }
-        let mut others = CsvRecords::open(self.alloc, self.text)?;
-        let found = others.read(fields)?;
-        self.others = Some(others);
-        Ok(Found::of(found))
+        let (found, left) = read_other(self.alloc, self.text, fields)?;
+        *self = left;
+        Ok(found)
     }
+}
+
+// Takes the first record of a text, which need not be a plain ask, and answers what is left.
+fn read_other<'a>(
+    alloc: Global,
+    text: &'a [u8],
+    fields: &mut ByteRecord,
+) -> Result<(Found, Records<'a>), NoMemory>
+    ensures { IfOk result (λ r. Finds r.0 (records_in text.now) (fields_of fields.new) r.1) }
+{
+    if let Some(rest) = read_line(text, fields)? {
+        let left = Records {
+            alloc,
+            front: None,
+            text: rest,
+        };
+        return Ok((Found::Fields, left));
+    }
+    let text = behind_blank_lines(text);
+    if text.is_empty() {
+        let left = Records {
+            alloc,
+            front: None,
+            text,
+        };
+        return Ok((Found::End, left));
+    }
+    read_front(alloc, text, fields)
+}
+
+// Takes the first record of a front of a text, and answers what is left.
+fn read_front<'a>(
+    alloc: Global,
+    text: &'a [u8],
+    fields: &mut ByteRecord,
+) -> Result<(Found, Records<'a>), NoMemory>
+    ensures { IfOk result (λ r. Finds r.0 (records_in text.now) (fields_of fields.new) r.1) }
+{
+    let Some((front, rest)) = whole_front(alloc, text, fields)? else {
+        return read_long(alloc, text, fields);
+    };
+    let mut records = CsvRecords::open(alloc, front)?;
+    let found = Found::of(records.read(fields)?);
+    let left = Records {
+        alloc,
+        front: Some(records),
+        text: rest,
+    };
+    Ok((found, left))
+}
+
+// Takes the first record of a text, of which no front shows the end. Where it is seen to have more fields than a row, the rest of
+// it is not looked at.
+fn read_long<'a>(
+    alloc: Global,
+    text: &'a [u8],
+    fields: &mut ByteRecord,
+) -> Result<(Found, Records<'a>), NoMemory>
+    ensures { IfOk result (λ r. Finds r.0 (records_in text.now) (fields_of fields.new) r.1) }
+{
+    *fields = ByteRecord::with_capacity(alloc, text.len(), 0)?;
+    if begins_too_long(alloc, text, fields)? {
+        let left = Records {
+            alloc,
+            front: None,
+            text,
+        };
+        return Ok((Found::TooMany, left));
+    }
+    let mut records = CsvRecords::open(alloc, text)?;
+    let found = Found::of(records.read(fields)?);
+    let left = Records {
+        alloc,
+        front: Some(records),
+        text: b"".as_slice(),
+    };
+    Ok((found, left))
+}
+
+// Whether a part of a text shows that its first record has more fields than a row. Its first fields go into the buffer then.
+fn begins_too_long(alloc: Global, text: &[u8], fields: &mut ByteRecord) -> Result<bool, NoMemory>
+    ensures { IfOk result (λ long. long ≡ true → BeginsLong (records_in text.now) (fields_of fields.new)) }
+{
+    let mut size = next_part(text, 0, FIRST_COMMAS);
+    while size < text.len() {
+        let (part, _) = text.split_at(size);
+        if has_long_record(alloc, part, fields)? {
+            return Ok(true);
+        }
+        size = next_part(text, size, MORE_COMMAS);
+    }
+    Ok(false)
+}
+
+// Where a part ends that goes on from a place and has so many commas more.
+fn next_part(text: &[u8], from: usize, commas: usize) -> usize
+    ensures after { from < length text.now → from < result }
+    ensures within { result ≤ length text.now }
+{
+    let mut seen = 0;
+    for at in from..text.len() {
+        seen += usize::from(text[at] == b',');
+        if seen >= commas {
+            return at + 1;
+        }
+    }
+    text.len()
+}
+
+// Whether the first record of a part of a text has more fields than a row, however the text goes on.
+fn has_long_record(alloc: Global, part: &[u8], fields: &mut ByteRecord) -> Result<bool, NoMemory>
+    ensures { IfOk result (λ long. long ≡ true → (rest : List ℕ) → BeginsLong (records_in (part.now ++ rest)) (fields_of fields.new)) }
+{
+    let mut records = CsvRecords::open(alloc, part)?;
+    if records.read(fields)? {
+        return Ok(has_too_many(fields));
+    }
+    Ok(false)
 }
 
 /// The text behind the byte order mark that it may begin with.

@@ -1,5 +1,5 @@
 // The rows of a trace so far, and the faults that rest on them.
-ghost use Rattle.std.specs.Prelude.{◌≡◌, ◌+◌, ◌*◌, ◌<◌, ◌≤◌, ◌∷◌, [], ◌++◌, List, length, true, ◌==◌, nat_lt, is_some, slice_index, ◌||◌, IfNone, IsSome, OnOk, IfOk};
+ghost use Rattle.std.specs.Prelude.{◌≡◌, ◌+◌, ◌*◌, ◌<◌, ◌≤◌, ◌∷◌, [], ◌++◌, List, length, true, ◌==◌, nat_lt, is_some, slice_index, ◌||◌, IfNone, IsSome, Err, OnOk, IfOk};
 ghost use Rattle.csv.specs.Records.{fields_of};
 ghost use Rattle.clos_topology.specs.Limits.{IsNetwork};
 ghost use Rattle.trace_text.specs.Fields.{Record, bytes_of};
@@ -123,6 +123,36 @@ impl Rows {
             None => Ok(self.push_ask(ask.round, ask.src, ask.dst, ask.slots)?),
             Some(fault) => Err(self.refused(fault)),
         }
+    }
+
+    /// The number and the fault of the next row, which has more fields than a row of any kind.
+    pub fn refuse_too_many(&self, command: Command, fields: &ByteRecord) -> TraceRefused
+        requires stands { Stands self.now }
+        requires room { self.now.count < 4294967295 }
+        requires many { 6 ≤ length (fields_of fields.now) }
+        ensures { (before : List Row) → StandsFor before self.now → TakesRow command before (fields_of fields.now) self.now (Err result) }
+    {
+        self.refused(self.fault_of_too_many(command, fields))
+    }
+
+    // What is wrong with it.
+    #[tactic(auto, using(crate::proofs::FirstFields::too_many), unfolding(crate::specs::Faults::read_row, crate::specs::Faults::read_kind))]
+    fn fault_of_too_many(&self, command: Command, fields: &ByteRecord) -> Fault
+        requires stands { Stands self.now }
+        requires many { 6 ≤ length (fields_of fields.now) }
+        ensures { (before : List Row) → StandsFor before self.now → read_row command before (fields_of fields.now) ≡ Err result }
+    {
+        let name = field(fields, 0);
+        if self.count == 0 && name != b"net".as_slice() {
+            return Fault::NoNet;
+        }
+        let Some(kind) = Kind::of(name) else {
+            return Fault::Kind;
+        };
+        if !command.takes(kind) {
+            return Fault::NotHere;
+        }
+        Fault::Fields
     }
 
     // Why a text whose next row has this fault is not read.

@@ -17,6 +17,43 @@ fn fault_of(alloc: Global, text: &[u8], command: Command) -> Option<(u32, u8)> {
     }
 }
 
+// A record may have more fields than a row, or the end of a line within a field, before or behind rows with quotes.
+#[test]
+fn records_that_are_no_lines_tell_their_fault(rt: HostRuntime) {
+    let cases: [(&[u8], u32, u8); 8] = [
+        (b"net,1,2,1\r\n\r\n\"ask\",0,0,1,1\r\nend,1\r\n", 0, 0),
+        (
+            b"net,1,2,1\n\"ask\",\"0\",0,1,1\nask,0,0,1,1\n\n\n\"end\",1",
+            0,
+            0,
+        ),
+        (b"net,1,2,1\n\"ask\",0,0,1,1\n,,,,,,,,,,\n", 3, 2),
+        (b"net,1,2,1\n\"ask\",0,0,1,1\nend,\"1\n\"\n", 3, 4),
+        (b"net,1,2,1\nend,1\n\"ask,0,0,1,1\n", 3, 2),
+        (
+            b"net,1,2,1\nraw,0,\"\n\",,,,,,,,,,,,,,,,,,,,,,,,,,,,,,,,,,,,,,,,,,,,,,,,,,,,,,,,,,,,,,,,,,,,,,",
+            2,
+            3,
+        ),
+        (
+            b"net,1,2,1\n\"\n\",,,,,,,,,,,,,,,,,,,,,,,,,,,,,,,,,,,,,,,,,,,,,,,,,,,,,,,,,,,,,,,,,,,,,,",
+            2,
+            2,
+        ),
+        (
+            b"\"\n\",,,,,,,,,,,,,,,,,,,,,,,,,,,,,,,,,,,,,,,,,,,,,,,,,,,,,,,,,,,,,,,,,,,,,,",
+            1,
+            1,
+        ),
+    ];
+    for (text, row, number) in cases {
+        assert_eq!(rt;
+            fault_of(rt.alloc(), text, Command::Replay),
+            Some((row, number))
+        );
+    }
+}
+
 #[test]
 fn each_faulty_trace_tells_its_first_row_and_fault(rt: HostRuntime) {
     let cases: [(&[u8], u32, u8); 40] = [

@@ -74,3 +74,12 @@ returns-in-End-clause-refused c =
     let none = rw c.in-End.is at c.in_ok-found.ensures in
     let all = c.loop-rows.invariant.stands.2 ∙ ap (λ l. rows_after c.args.command l before) none ∙ rows_after-none c.args.command before in
     (finished c.args.command c.args.bytes.now before c.loop-rows.rows c.finish.result all c.loop-rows.invariant.stands.1 c.finish.ensures).2
+
+pub returns-in-TooMany-clause-refused : goal.returns-in-TooMany-clause-refused
+returns-in-TooMany-clause-refused c =
+    let before = c.loop-rows.invariant.stands.0 in
+    let stands = c.loop-rows.invariant.stands.1 in
+    let (many, after, (whole, kept, next)) = rw c.in-TooMany.is at c.in_ok-found.ensures in
+    let same = c.loop-rows.invariant.stands.2 ∙ ap (λ l. rows_after c.args.command l before) next in
+    told c.args.command c.args.bytes.now whole after before c.loop-rows.rows c.refuse_too_many.result same
+    (alike-takes c.args.command before (fields_of c.read.new.fields) whole c.loop-rows.rows (Err c.refuse_too_many.result) kept (c.refuse_too_many.ensures before stands))
