@@ -1,4 +1,4 @@
--- SlotCores for the slots of a plan by need: those of one window can be put in place of others.
+-- Cores for the slots of a plan by need: those of one window can be put in place of others.
 use Rattle.std.proofs.Common.{◌≡◌, ◌<◌, ◌≤◌, ◌+◌, ◌-◌, ◌*◌, ℕ, List, length, take, drop, ◌&&◌, nat_lt, nat_le, sym, subst, arith, inl, inr}
 use Rattle.std.proofs.lemmas.Bool.{cond-true, cond-false, cases_Bool, and_parts, ltb-true, leb-true}
 use Rattle.std.proofs.lemmas.List.{length-take, length-drop}

@@ -1,4 +1,4 @@
--- SlotCores for the slots of a replay: none is 64 or more, and those of one window can be put in place of others.
+-- Cores for the slots of a replay: none is 64 or more, and those of one window can be put in place of others.
 use Rattle.std.proofs.Common.{◌≡◌, ◌≢◌, ◌<◌, ◌≤◌, ◌+◌, ◌-◌, ◌*◌, ℕ, List, [], ◌∷◌, length, get_or, take, drop, Option, Some, None, IfSome, ◌&&◌, ◌==◌, nat_lt, nat_le, cond, All, refl, sym, ap, ◌∙◌, subst, arith, inl, inr}
 use Rattle.std.specs.Option.{MatchOption, unwrap_or}
 use Rattle.std.proofs.lemmas.Bool.{cond-true, cond-false, cases_Bool, ltb-true, ltb-false, lt-ltb}

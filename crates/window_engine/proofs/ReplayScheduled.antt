@@ -1,4 +1,4 @@
--- SlotCores for every slot of a run, where those of the first slots are named already.
+-- Cores for every slot of a run, where those of the first slots are named already.
 use Rattle.std.proofs.Common.{◌≡◌, ◌<◌, ◌≤◌, ℕ, List, get_or, cond, Option, Some, None, All, IfSome, refl, sym, subst, inl, inr, arith}
 use Rattle.std.specs.Prelude.{nat_lt, nat_le, unwrap_or}
 use Rattle.std.proofs.lemmas.Bool.{cases_Bool, cond-true, cond-false, leb-true, ltb-true, lt-ltb, le-leb}
