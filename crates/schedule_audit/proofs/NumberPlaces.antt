@@ -19,6 +19,10 @@ outside numbers flow out = cond-false (is_between numbers.endpoints flow) (get_o
 inside : (numbers : Numbers) (flow : Flow) → is_between numbers.endpoints flow ≡ true → number_of numbers flow ≡ get_or numbers.cells (flow.src * numbers.endpoints + flow.dst) 0
 inside numbers flow is = cond-true (is_between numbers.endpoints flow) (get_or numbers.cells (flow.src * numbers.endpoints + flow.dst) 0) 0 is
 
+-- the cell of a flow
+pub number-at : (endpoints : ℕ) (cells : List ℕ) (flow : Flow) → flow.src < endpoints → flow.dst < endpoints → number_of (table endpoints cells) flow ≡ get_or cells (flow.src * endpoints + flow.dst) 0
+number-at endpoints cells flow src dst = inside (table endpoints cells) flow (between endpoints flow src dst)
+
 -- one number is written
 pub number-set : (endpoints : ℕ) (cells : List ℕ) (flow : Flow) (number : ℕ) (other : Flow) → length cells ≡ endpoints * endpoints → flow.src < endpoints → flow.dst < endpoints
     → number_of (table endpoints (set cells (flow.src * endpoints + flow.dst) number)) other ≡ cond (same_flow flow other) number (number_of (table endpoints cells) other)

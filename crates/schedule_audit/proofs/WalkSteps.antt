@@ -1,10 +1,10 @@
 -- A schedule goes by, place after place.
-use Rattle.std.proofs.Common.{◌≡◌, ◌<◌, ◌≤◌, ◌+◌, ◌*◌, ◌^◌, ℕ, zero, suc, List, [], ◌∷◌, ◌++◌, length, take, drop, cond, true, false, Option, Some, None, All, refl, sym, ap, ◌∙◌, subst, inl, inr, arith, append_assoc, append-nil, length-append}
+use Rattle.std.proofs.Common.{◌≡◌, ◌<◌, ◌≤◌, ◌+◌, ◌-◌, ◌*◌, ◌^◌, ℕ, zero, suc, List, [], ◌∷◌, ◌++◌, length, take, drop, cond, true, false, Option, Some, None, All, refl, sym, ap, ◌∙◌, subst, inl, inr, arith, append_assoc, append-nil, length-append}
 use Rattle.std.specs.Prelude.{count_by}
 use Rattle.std.specs.List.{slice_index_or}
 use Rattle.std.proofs.lemmas.Bool.{cases_Bool, cases_lt, cond-true, cond-false}
 use Rattle.std.proofs.lemmas.List.{take_more}
-use Rattle.std.proofs.lemmas.List.Sums.{sum_by-append, sum_by-cons, count_by-le-length}
+use Rattle.std.proofs.lemmas.List.Sums.{sum_by-append, sum_by-cons}
 use Rattle.greedy_rules.proofs.Facts.{same_flow-true}
 use Rattle.std.proofs.lemmas.List.Elements.{All-nil, All-cons, All-append, All-head, All-tail, All-weaker}
 use Rattle.greedy_rules.specs.declared.flows.Flow.{Flow}
@@ -51,23 +51,41 @@ few-more visited place few before order all =
 pub count-append : (flow : Flow) (ps qs : List Place) → count_by (λ place. same_flow place.flow flow) (ps ++ qs) ≡ count_by (λ place. same_flow place.flow flow) ps + count_by (λ place. same_flow place.flow flow) qs
 count-append flow ps qs = sum_by-append (λ (place : Place). cond (same_flow place.flow flow) 1 0) ps qs
 
+count-one : (place : Place) (flow : Flow) → same_flow place.flow flow ≡ true → count_by (λ (p : Place). same_flow p.flow flow) (place ∷ []) ≡ 1
+count-one place flow is = sum_by-cons (λ (p : Place). cond (same_flow p.flow flow) 1 0) place [] ∙ ap (λ b. cond b 1 0 + 0) is
+
+count-none : (place : Place) (flow : Flow) → same_flow place.flow flow ≡ false → count_by (λ (p : Place). same_flow p.flow flow) (place ∷ []) ≡ 0
+count-none place flow is = sum_by-cons (λ (p : Place). cond (same_flow p.flow flow) 1 0) place [] ∙ ap (λ b. cond b 1 0 + 0) is
+
 pub counted : (old new : Numbers) (visited : List Place) (place : Place) → ((flow : Flow) → number_of old flow ≡ count_by (λ p. same_flow p.flow flow) visited)
     → ((other : Flow) → number_of new other ≡ cond (same_flow place.flow other) (number_of old place.flow + 1) (number_of old other)) → (flow : Flow) → number_of new flow ≡ count_by (λ p. same_flow p.flow flow) (visited ++ place ∷ [])
 counted old new visited place are set flow = elim (cases_Bool (same_flow place.flow flow)) [
   | inl is ↦
       set flow ∙ (cond-true (same_flow place.flow flow) (number_of old place.flow + 1) (number_of old flow) is
       ∙ (ap (λ n. n + 1) (ap (λ f. number_of old f) (same_flow-true place.flow flow is) ∙ are flow)
-      ∙ sym (count-append flow visited (place ∷ []) ∙ ap (λ n. count_by (λ p. same_flow p.flow flow) visited + n) (one is))))
+      ∙ sym (count-append flow visited (place ∷ []) ∙ ap (λ n. count_by (λ p. same_flow p.flow flow) visited + n) (count-one place flow is))))
   | inr other ↦
       set flow ∙ (cond-false (same_flow place.flow flow) (number_of old place.flow + 1) (number_of old flow) other
-      ∙ (are flow ∙ sym (count-append flow visited (place ∷ []) ∙ (ap (λ n. count_by (λ p. same_flow p.flow flow) visited + n) (none other) ∙ omega arith))))
+      ∙ (are flow ∙ sym (count-append flow visited (place ∷ []) ∙ (ap (λ n. count_by (λ p. same_flow p.flow flow) visited + n) (count-none place flow other) ∙ omega arith))))
 ]
-  where
-    one : same_flow place.flow flow ≡ true → count_by (λ (p : Place). same_flow p.flow flow) (place ∷ []) ≡ 1
-    one is = sum_by-cons (λ (p : Place). cond (same_flow p.flow flow) 1 0) place [] ∙ ap (λ b. cond b 1 0 + 0) is
 
-    none : same_flow place.flow flow ≡ false → count_by (λ (p : Place). same_flow p.flow flow) (place ∷ []) ≡ 0
-    none is = sum_by-cons (λ (p : Place). cond (same_flow p.flow flow) 1 0) place [] ∙ ap (λ b. cond b 1 0 + 0) is
+-- a flow comes at most once in a slot, and slots count from 1
+pub seldom-more : (visited : List Place) (place : Place) → 0 < place.slot
+    → ((flow : Flow) (slot : ℕ) → AreBefore (slot * 65536 + flow.src) visited → count_by (λ p. same_flow p.flow flow) visited ≤ slot - 1) → AreBefore (order_of place) visited
+    → (flow : Flow) (slot : ℕ) → AreBefore (slot * 65536 + flow.src) (visited ++ place ∷ []) → count_by (λ p. same_flow p.flow flow) (visited ++ place ∷ []) ≤ slot - 1
+seldom-more visited place some seldom before flow slot all = elim (cases_Bool (same_flow place.flow flow)) [
+  | inl is ↦
+      let same : place.flow ≡ flow = same_flow-true place.flow flow is in
+      let src : place.flow.src ≡ flow.src = ap (λ f. f.src) same in
+      let so_far = seldom flow place.slot (subst (λ (f : Flow). AreBefore (place.slot * 65536 + f.src) visited) same before) in
+      let last = end-before (slot * 65536 + flow.src) visited place all in
+      let more = count-append flow visited (place ∷ []) in
+      let one = count-one place flow is in omega (arith, some, src, so_far, last, more, one)
+  | inr other ↦
+      let so_far = seldom flow slot (front-before (slot * 65536 + flow.src) visited (place ∷ []) all) in
+      let more = count-append flow visited (place ∷ []) in
+      let none = count-none place flow other in omega (arith, so_far, more, none)
+]
 
 -- ---- rows
 
@@ -109,13 +127,12 @@ row-step slot src visited row to within is =
         length-take-of [] (suc n) le = absurd (omega arith)
         length-take-of (x ∷ xs) (suc n) le = ap suc (length-take-of xs n (omega arith))
 
--- numbers of slots fit 64 bits
-pub few-slots : (held visited : List Place) (judges : Judges) (place : Place) → place.slot < 2 ^ 32 → place.flow.src < 65536 → AreBefore (order_of place) visited → StandApart held visited judges → (length visited + 1 < 2 ^ 64) × ((flow : Flow) → number_of judges.slots flow + 1 < 2 ^ 64)
-few-slots held visited judges place slot src before stands =
-    let few = stands.few (order_of place) before in (
-      omega (arith, few, slot, src),
-      λ flow. let is = stands.slots flow in let some = count_by-le-length (λ (p : Place). same_flow p.flow flow) visited in omega (arith, few, slot, src, is, some),
-    )
+-- a flow's slots fit 32 bits, and all of them 64
+pub few-slots : (held visited : List Place) (judges : Judges) (place : Place) → 0 < place.slot → place.slot < 2 ^ 32 → place.flow.src < 65536 → AreBefore (order_of place) visited → StandApart held visited judges → (length visited + 1 < 2 ^ 64) × (number_of judges.slots place.flow + 1 < 2 ^ 32)
+few-slots held visited judges place some slot src before stands =
+    let few = stands.few (order_of place) before in
+    let seldom = stands.seldom place.flow place.slot before in
+    let is = stands.slots place.flow in (omega (arith, few, slot, src), omega (arith, seldom, some, slot, is))
 
 -- ---- the flows of a row's cells
 

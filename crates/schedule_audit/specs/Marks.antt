@@ -49,9 +49,15 @@ pub record AreMarked (net : Network) (links : Links) (before : List Path) : Type
   pub fall : AreMarks (fall_of net) links.fall.items before
   pub cores : All (λ path. has_wrong_core net path.place.flow path.core ≡ false) before
 
--- there is a mark for each link
+-- the rack of each endpoint
+pub record AreRacks (net : Network) (racks : List ℕ) : Type 0 where
+  pub count : length racks ≡ endpoints_of net
+  pub each : (endpoint : ℕ) → endpoint < endpoints_of net → (slice_index racks endpoint ≡ rack_of net.hosts endpoint) × (slice_index racks endpoint < net.racks)
+
+-- there is a mark for each link, and a rack for each endpoint
 pub record HaveMarks (net : Network) (links : Links) : Type 0 where
   pub up : length links.up.items ≡ endpoints_of net
   pub down : length links.down.items ≡ endpoints_of net
   pub rise : length links.rise.items ≡ net.racks * net.cores
   pub fall : length links.fall.items ≡ net.racks * net.cores
+  pub racks : AreRacks net links.racks.items

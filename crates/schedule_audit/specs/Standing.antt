@@ -1,9 +1,14 @@
 -- What is kept of records, the latest first, to judge the next one by.
-use Rattle.std.specs.Prelude.{◌≡◌, ◌<◌, ℕ, ◌+◌, ◌*◌, Bool, true, List, [], ◌∷◌, Option, Some, None, if◌then◌else◌}
+use Rattle.std.specs.Prelude.{◌≡◌, ◌<◌, ℕ, zero, suc, ◌+◌, ◌*◌, Bool, true, List, [], ◌∷◌, Option, Some, None, if◌then◌else◌}
 use Rattle.std.specs.List.{slice_index_or}
 use Rattle.greedy_rules.specs.declared.flows.Flow.{Flow}
 use Rattle.schedule_audit.specs.Lines.{Recorded, flow_of, has_record}
 use Rattle.schedule_audit.specs.Misplaced.{record_below, added_since}
+
+-- a cell of the table: one more than its sum, or 0 for none
+abbrev pub sum_in : ℕ → Option ℕ
+sum_in zero = None
+sum_in (suc sum) = Some sum
 
 -- what contracts see of a table with a sum, or none, for each flow
 pub record Sums : Type 0 where

@@ -1,5 +1,5 @@
 -- A schedule that goes by, place after place (this project's own profile).
-use Rattle.std.specs.Prelude.{◌≡◌, ◌<◌, ◌≤◌, ℕ, List, length, map, count_by, All}
+use Rattle.std.specs.Prelude.{◌≡◌, ◌<◌, ◌≤◌, ℕ, ◌+◌, ◌-◌, ◌*◌, List, length, map, count_by, All}
 use Rattle.greedy_rules.specs.declared.flows.Flow.{Flow}
 use Rattle.greedy_rules.specs.Flows.{same_flow}
 use Rattle.clos_topology.specs.Network.{endpoints_of}
@@ -23,6 +23,7 @@ pub record StandApart (held counted : List Place) (judges : Judges) : Type 0 whe
   pub between : judges.slots.endpoints ≡ endpoints_of judges.net
   pub count : judges.places ≡ length counted
   pub few : (order : ℕ) → AreBefore order counted → length counted ≤ order
+  pub seldom : (flow : Flow) (slot : ℕ) → AreBefore (slot * 65536 + flow.src) counted → count_by (λ place. same_flow place.flow flow) counted ≤ slot - 1
 
 -- these places went by
 abbrev pub JudgesStand : List Place → Judges → Type 0

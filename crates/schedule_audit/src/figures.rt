@@ -7,6 +7,7 @@ ghost use Rattle.schedule_audit.specs.Wrong.{Expected, is_bad_flow, is_bad_count
 ghost use Rattle.schedule_audit.specs.Totals.{is_wrong_total, first_total};
 ghost use Rattle.schedule_audit.specs.Summed.{AreFigures};
 
+use crate::flow_counts::FlowCounts;
 use crate::flow_numbers::FlowNumbers;
 use crate::packets::Numbered;
 use crate::totals::Total;
@@ -19,7 +20,7 @@ use std::alloc::Global;
 #[derive(Drop)]
 pub(crate) struct Figures<'a> {
     pub(crate) added: &'a FlowNumbers,
-    pub(crate) slots: &'a FlowNumbers,
+    pub(crate) slots: &'a FlowCounts,
     pub(crate) cleared: &'a FlowNumbers,
     pub(crate) left: &'a FlowNumbers,
     pub(crate) is_short: bool,

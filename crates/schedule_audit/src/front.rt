@@ -29,6 +29,7 @@ fn behind(text: &[u8], at: usize) -> &[u8]
 }
 
 /// The number that a text begins with, which is at most `most` and which this byte ends, and what stands behind that.
+#[inline(always)]
 fn number_before(text: &[u8], end: u8, most: u64) -> Option<(u64, &[u8])>
     requires { most ≤ number_most }
     ensures { IfSome result (λ read. (text.now ≡ decimal read.0 ++ end ∷ read.1.now) × (read.0 ≤ most)) }
@@ -52,14 +53,16 @@ fn number_before(text: &[u8], end: u8, most: u64) -> Option<(u64, &[u8])>
     None
 }
 
-/// The number of an endpoint or a core that a text begins with, which this byte ends, and what stands behind that. Most have up to
-/// three digits, which are read without a loop.
+/// The number that a text begins with, which is at most `most` and which this byte ends, and what stands behind that. Most have up
+/// to four digits, which are read without a loop.
 #[inline(always)]
-fn endpoint_before(text: &[u8], end: u8) -> Option<(u64, &[u8])>
-    ensures { IfSome result (λ read. (text.now ≡ decimal read.0 ++ end ∷ read.1.now) × (read.0 ≤ endpoint_most)) }
+fn field_before(text: &[u8], end: u8, most: u64) -> Option<(u64, &[u8])>
+    requires four { 9999 ≤ most }
+    requires most { most ≤ number_most }
+    ensures { IfSome result (λ read. (text.now ≡ decimal read.0 ++ end ∷ read.1.now) × (read.0 ≤ most)) }
 {
-    if text.len() < 4 {
-        return number_before(text, end, ENDPOINT);
+    if text.len() < 5 {
+        return number_before(text, end, most);
     }
     let one = digit(text[0])?;
     if text[1] == end {
@@ -76,7 +79,11 @@ fn endpoint_before(text: &[u8], end: u8) -> Option<(u64, &[u8])>
     if text[3] == end {
         return Some((three, behind(text, 3)));
     }
-    number_before(text, end, ENDPOINT)
+    let four = three * 10 + digit(text[3])?;
+    if text[4] == end {
+        return Some((four, behind(text, 4)));
+    }
+    number_before(text, end, most)
 }
 
 /// The core that a text begins with, or a hyphen for none, which a line feed ends, and what stands behind that.
@@ -87,7 +94,7 @@ fn core_before(text: &[u8]) -> Option<(Option<u16>, &[u8])>
     if let [b'-', b'\n', rest @ ..] = text {
         return Some((None, rest));
     }
-    let (core, rest) = endpoint_before(text, b'\n')?;
+    let (core, rest) = field_before(text, b'\n', ENDPOINT)?;
     Some((Some(core as u16), rest))
 }
 
@@ -96,9 +103,9 @@ fn front_slot(text: &[u8]) -> Option<(Line, &[u8])>
     ensures spelled { IfSome result (λ read. codes "slot," ++ text.now ≡ line_bytes read.0 ++ 10 ∷ read.1.now) }
     ensures fits { IfSome result (λ read. IsLine read.0) }
 {
-    let (slot, rest) = number_before(text, b',', NUMBER)?;
-    let (src, rest) = endpoint_before(rest, b',')?;
-    let (dst, rest) = endpoint_before(rest, b',')?;
+    let (slot, rest) = field_before(text, b',', NUMBER)?;
+    let (src, rest) = field_before(rest, b',', ENDPOINT)?;
+    let (dst, rest) = field_before(rest, b',', ENDPOINT)?;
     let (core, rest) = core_before(rest)?;
     let line = Line::Slot {
         slot: slot as u32,
@@ -109,13 +116,14 @@ fn front_slot(text: &[u8]) -> Option<(Line, &[u8])>
     Some((line, rest))
 }
 
+#[inline(always)]
 fn front_sent(text: &[u8]) -> Option<(Line, &[u8])>
     ensures spelled { IfSome result (λ read. codes "sent," ++ text.now ≡ line_bytes read.0 ++ 10 ∷ read.1.now) }
     ensures fits { IfSome result (λ read. IsLine read.0) }
 {
-    let (slot, rest) = number_before(text, b',', NUMBER)?;
-    let (src, rest) = endpoint_before(rest, b',')?;
-    let (dst, rest) = endpoint_before(rest, b'\n')?;
+    let (slot, rest) = field_before(text, b',', NUMBER)?;
+    let (src, rest) = field_before(rest, b',', ENDPOINT)?;
+    let (dst, rest) = field_before(rest, b'\n', ENDPOINT)?;
     let line = Line::Sent {
         slot: slot as u32,
         src: src as u16,
@@ -124,15 +132,16 @@ fn front_sent(text: &[u8]) -> Option<(Line, &[u8])>
     Some((line, rest))
 }
 
+#[inline(always)]
 fn front_batch(text: &[u8]) -> Option<(Line, &[u8])>
     ensures spelled { IfSome result (λ read. codes "batch," ++ text.now ≡ line_bytes read.0 ++ 10 ∷ read.1.now) }
     ensures fits { IfSome result (λ read. IsLine read.0) }
 {
-    let (batch, rest) = number_before(text, b',', NUMBER)?;
-    let (src, rest) = endpoint_before(rest, b',')?;
-    let (dst, rest) = endpoint_before(rest, b',')?;
+    let (batch, rest) = field_before(text, b',', NUMBER)?;
+    let (src, rest) = field_before(rest, b',', ENDPOINT)?;
+    let (dst, rest) = field_before(rest, b',', ENDPOINT)?;
     let (clear, rest) = number_before(rest, b',', 1)?;
-    let (add, rest) = number_before(rest, b'\n', NUMBER)?;
+    let (add, rest) = field_before(rest, b'\n', NUMBER)?;
     let line = Line::Batch {
         batch: batch as u32,
         src: src as u16,
@@ -143,15 +152,16 @@ fn front_batch(text: &[u8]) -> Option<(Line, &[u8])>
     Some((line, rest))
 }
 
+#[inline(always)]
 fn front_flow(text: &[u8]) -> Option<(Line, &[u8])>
     ensures spelled { IfSome result (λ read. codes "flow," ++ text.now ≡ line_bytes read.0 ++ 10 ∷ read.1.now) }
     ensures fits { IfSome result (λ read. IsLine read.0) }
 {
-    let (src, rest) = endpoint_before(text, b',')?;
-    let (dst, rest) = endpoint_before(rest, b',')?;
-    let (demanded, rest) = number_before(rest, b',', NUMBER)?;
-    let (allocated, rest) = number_before(rest, b',', NUMBER)?;
-    let (pending, rest) = number_before(rest, b'\n', NUMBER)?;
+    let (src, rest) = field_before(text, b',', ENDPOINT)?;
+    let (dst, rest) = field_before(rest, b',', ENDPOINT)?;
+    let (demanded, rest) = field_before(rest, b',', NUMBER)?;
+    let (allocated, rest) = field_before(rest, b',', NUMBER)?;
+    let (pending, rest) = field_before(rest, b'\n', NUMBER)?;
     let line = Line::Flow {
         src: src as u16,
         dst: dst as u16,

@@ -7,7 +7,7 @@ ghost use Rattle.schedule_audit.specs.Numbered.{Numbered};
 ghost use Rattle.schedule_audit.specs.Judged.{order_of, AreBefore};
 ghost use Rattle.schedule_audit.specs.Walked.{JudgesStand, StandApart, IsSameText};
 
-use crate::flow_numbers::FlowNumbers;
+use crate::flow_counts::FlowCounts;
 use crate::packets::{Numbered, Path, Place};
 use crate::path_lines::PathLines;
 use crate::send_lines::SendLines;
@@ -21,7 +21,7 @@ pub(crate) struct Judges {
     pub(crate) net: Net,
     pub(crate) paths: PathLines,
     pub(crate) sends: SendLines,
-    pub(crate) slots: FlowNumbers,
+    pub(crate) slots: FlowCounts,
     pub(crate) places: u64,
 }
 
@@ -41,7 +41,7 @@ impl Judges {
             net,
             paths: PathLines::open(alloc, &net, paths)?,
             sends: SendLines::open(alloc, sends)?,
-            slots: FlowNumbers::open(alloc, net.endpoints())?,
+            slots: FlowCounts::open(alloc, net.endpoints())?,
             places: 0,
         })
     }
@@ -63,13 +63,13 @@ impl Judges {
     pub(crate) fn count(&mut self, place: Place)
         requires src { place.flow.src < endpoints_of self.old.net }
         requires dst { place.flow.dst < endpoints_of self.old.net }
+        requires slot { 0 < place.slot }
         requires number { place.slot < 2 ^ 32 }
         requires stands { (held : List Place) × (counted : List Place) × AreBefore (order_of place) counted × StandApart held counted self.old }
         ensures stands { (held : List Place) → (counted : List Place) → AreBefore (order_of place) counted → StandApart held counted self.old → StandApart held (counted ++ place ∷ []) self.new }
         ensures text { IsSameText self.old self.new }
     {
-        let before = self.slots.get(place.flow);
-        self.slots.set(place.flow, before + 1);
+        self.slots.count(place.flow);
         self.places += 1;
     }
 }

@@ -6,7 +6,9 @@ ghost use Rattle.greedy_rules.specs.Matching.{AreAmong};
 ghost use Rattle.schedule_audit.specs.FlowNumbers.{number_of};
 ghost use Rattle.schedule_audit.specs.Entered.{Enters, AreSized, LedgerStands};
 
+use crate::flow_counts::FlowCounts;
 use crate::flow_numbers::FlowNumbers;
+use crate::seen_flows::SeenFlows;
 use greedy_rules::{Batch, Entry};
 use no_memory::NoMemory;
 use std::alloc::Global;
@@ -14,7 +16,7 @@ use std::alloc::Global;
 /// For each flow: 1 where a batch has it, what its entries added, and how many slots it had at its last clear.
 #[derive(Drop)]
 pub(crate) struct Ledger {
-    pub(crate) seen: FlowNumbers,
+    pub(crate) seen: SeenFlows,
     pub(crate) added: FlowNumbers,
     pub(crate) cleared: FlowNumbers,
 }
@@ -25,34 +27,34 @@ impl Ledger {
         ensures sized { IfOk result (AreSized endpoints) }
     {
         Ok(Ledger {
-            seen: FlowNumbers::open(alloc, endpoints)?,
+            seen: SeenFlows::open(alloc, endpoints)?,
             added: FlowNumbers::open(alloc, endpoints)?,
             cleared: FlowNumbers::open(alloc, endpoints)?,
         })
     }
 
     /// Enters what a batch records of one flow, which had so many slots before it.
-    fn enter_one(&mut self, entry: Entry, slots: u64)
+    fn enter_one(&mut self, entry: Entry, slots: &FlowCounts)
         requires seen { entry.flow.src < self.old.seen.endpoints }
         requires sized { AreSized self.old.seen.endpoints self.old }
         requires dst { entry.flow.dst < self.old.seen.endpoints }
         requires few { number_of self.old.added entry.flow + entry.add < 2 ^ 64 }
         ensures seen { (other : Flow) → number_of self.new.seen other ≡ (if same_flow entry.flow other then 1 else number_of self.old.seen other) }
         ensures added { (other : Flow) → number_of self.new.added other ≡ (if same_flow entry.flow other then number_of self.old.added entry.flow + entry.add else number_of self.old.added other) }
-        ensures cleared { (other : Flow) → number_of self.new.cleared other ≡ (if entry.clear && same_flow entry.flow other then slots else number_of self.old.cleared other) }
+        ensures cleared { (other : Flow) → number_of self.new.cleared other ≡ (if entry.clear && same_flow entry.flow other then number_of slots.now entry.flow else number_of self.old.cleared other) }
         ensures sized { AreSized self.old.seen.endpoints self.new }
         ensures small { entry.add ≤ 4294967295 }
     {
-        self.seen.set(entry.flow, 1);
+        self.seen.see(entry.flow);
         let before = self.added.get(entry.flow);
         self.added.set(entry.flow, before + u64::from(entry.add));
         if entry.clear {
-            self.cleared.set(entry.flow, slots);
+            self.cleared.set(entry.flow, slots.get(entry.flow));
         }
     }
 
     /// Enters a batch, before which each flow had so many slots.
-    pub(crate) fn enter(&mut self, batch: &Batch, slots: &FlowNumbers)
+    pub(crate) fn enter(&mut self, batch: &Batch, slots: &FlowCounts)
         requires in_range { AreAmong self.old.seen.endpoints batch.now.entries }
         requires sized { AreSized self.old.seen.endpoints self.old }
         requires few { (flow : Flow) → number_of self.old.added flow < 2 ^ 63 }
@@ -61,7 +63,7 @@ impl Ledger {
     {
         for at in 0..batch.len() {
             let entry = batch.entry(at);
-            self.enter_one(entry, slots.get(entry.flow));
+            self.enter_one(entry, slots);
         }
     }
 }

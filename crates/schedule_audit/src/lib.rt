@@ -8,13 +8,15 @@
 //! go by at once (`passing.rt`), slot by slot, before `judges.rt`, and are counted: `path_lines.rt` holds the next `slot` line
 //! against each packet, with the links that were taken in its slot (`links.rt`), and `send_lines.rt` finds the `sent` line of each
 //! among those sorted by slot and source. `ledger.rt` keeps of each flow what was added and how many slots came before its last
-//! clear, in tables of `flow_numbers.rt`; by these `figures.rt` judges the lines that sum the text up. No schedule is kept.
+//! clear, in tables of `flow_numbers.rt`, and which flows came at all (`seen_flows.rt`); the slots of each flow are counted in
+//! `flow_counts.rt`; by these `figures.rt` judges the lines that sum the text up. No schedule is kept.
 #![tactic(auto)]
 
 mod auditor;
 mod collected;
 mod demand;
 mod figures;
+mod flow_counts;
 mod flow_numbers;
 mod front;
 mod judges;
@@ -28,6 +30,7 @@ mod path_lines;
 mod recorded;
 mod rounds;
 mod scanned;
+mod seen_flows;
 mod send_lines;
 mod standing;
 mod sums;

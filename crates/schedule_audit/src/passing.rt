@@ -41,6 +41,7 @@ fn hold_row(judges: &mut Judges, slot: u32, row: &[Option<u16>], endpoints: u16)
 
 /// Counts the packet of a source in a slot, if it sends one.
 fn count_cell(judges: &mut Judges, slot: u32, src: u16, to: Option<u16>)
+    requires slot { 0 < slot }
     requires flows { AreBetween (endpoints_of judges.old.net) (flows_from src (to ∷ [])) }
     requires stands { (held : List Place) × (counted : List Place) × AreBefore (slot * 65536 + src) counted × StandApart held counted judges.old }
     ensures stands { (held : List Place) → (counted : List Place) → AreBefore (slot * 65536 + src) counted → StandApart held counted judges.old → StandApart held (counted ++ in_slot slot (flows_from src (to ∷ []))) judges.new }
@@ -54,6 +55,7 @@ fn count_cell(judges: &mut Judges, slot: u32, src: u16, to: Option<u16>)
 
 /// Counts the packets of a slot, by such a row. A loop of its own, so that the next numbers are fetched while one is.
 fn count_row(judges: &mut Judges, slot: u32, row: &[Option<u16>], endpoints: u16)
+    requires slot { 0 < slot }
     requires row { length row.now ≡ endpoints }
     requires flows { AreBetween (endpoints_of judges.old.net) (flows_from 0 row.now) }
     requires stands { (held : List Place) × (counted : List Place) × AreBefore (slot * 65536) counted × StandApart held counted judges.old }

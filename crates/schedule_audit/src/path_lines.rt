@@ -5,7 +5,7 @@ ghost use Rattle.schedule_audit.specs.Lines.{Place, Path};
 ghost use Rattle.schedule_audit.specs.Marks.{AreUpTo, AreMarked, HaveMarks};
 ghost use Rattle.schedule_audit.specs.Judged.{is_off, first_path, PathsStand};
 
-use crate::links::{Links, has_wrong_core};
+use crate::links::Links;
 use crate::packets::{Numbered, Path, Place, same_place};
 use clos_topology::Net;
 use no_memory::NoMemory;
@@ -34,7 +34,7 @@ fn is_off(links: &mut Links, net: &Net, place: Place, path: Path) -> bool
     if !same_place(place, path.place) {
         return true;
     }
-    if has_wrong_core(net, place.flow, path.core) {
+    if links.has_wrong_core(net, place.flow, path.core) {
         return true;
     }
     let core = path.core;

@@ -10,11 +10,11 @@ ghost use Rattle.schedule_audit.specs.Played.{BeginWith, RoundsStand, ArePlayed}
 ghost use Rattle.schedule_audit.specs.Walked.{IsSameText};
 
 use crate::demand::Demand;
-use crate::flow_numbers::FlowNumbers;
 use crate::judges::Judges;
 use crate::ledger::Ledger;
 use crate::passing::walk;
 use crate::recorded::Recorded;
+use crate::seen_flows::SeenFlows;
 use clos_topology::Net;
 use greedy_rules::{
     Batch, Entry, Limits, every_slot_is_in_range, recorded_batches_may_be_applied, schedules_go_on,
@@ -39,7 +39,7 @@ fn read_batch(
     todo: &[Recorded],
     round: u32,
     limits: Limits,
-    seen: &FlowNumbers,
+    seen: &SeenFlows,
 ) -> Result<Batch, NoMemory>
     requires limits { AreLimits limits }
     requires begins { (entries : List Entry) × (later : List DemandBatch) × BeginWith round seen.now entries later todo.now }

@@ -52,8 +52,7 @@ impl Standing {
         if sum > MOST_ADDED {
             return false;
         }
-        self.sums
-            .set(next.flow.src, next.flow.dst, Some(sum as u32));
+        self.sums.set(next.flow.src, next.flow.dst, sum as u32);
         self.last = Some(next);
         true
     }

@@ -15,4 +15,5 @@ returns-clause-stands c = λ held counted before stands.
       between = stands.between;
       count = stands.count;
       few = stands.few;
+      seldom = stands.seldom;
     }

@@ -15,8 +15,8 @@ returns-in-Some-clause-free c = λ before upto marked.
     leave-free net c.args.self.now p c.in-Some.core before _ _ _ _ c.in-Some.is c.requires.core c.requires.slot upto marked
     c.take-up.ensures.free
     c.take-down.ensures.free
-    (c.take-rise.ensures.free ∙ (ap (λ (n : ℕ). not (get_or c.args.self.now.rise.items n 0 == slot)) c.place_of.ensures.place))
-    (c.take-fall.ensures.free ∙ (ap (λ (n : ℕ). not (get_or c.args.self.now.fall.items n 0 == slot)) c.place_of-in-Some.ensures.place))
+    (c.take-rise.ensures.free ∙ (ap (λ (n : ℕ). not (get_or c.args.self.now.rise.items n 0 == slot)) c.place_of-from.ensures.place))
+    (c.take-fall.ensures.free ∙ (ap (λ (n : ℕ). not (get_or c.args.self.now.fall.items n 0 == slot)) c.place_of-to.ensures.place))
 
 pub returns-in-Some-clause-taken : goal.returns-in-Some-clause-taken
 returns-in-Some-clause-taken c = λ before upto marked.
@@ -24,17 +24,17 @@ returns-in-Some-clause-taken c = λ before upto marked.
     let p = c.args.path in
     let slot = p.place.slot in
     let links = c.args.self.now in
-    let rises : rise_of net p ≡ Some c.place_of.result = ap (λ (o : Option ℕ). link_at net p.place.flow.src o) c.in-Some.is ∙ ap (λ (n : ℕ). Some n) (sym c.place_of.ensures.place) in
-    let falls : fall_of net p ≡ Some c.place_of-in-Some.result = ap (λ (o : Option ℕ). link_at net p.place.flow.dst o) c.in-Some.is ∙ ap (λ (n : ℕ). Some n) (sym c.place_of-in-Some.ensures.place) in
+    let rises : rise_of net p ≡ Some c.place_of-from.result = ap (λ (o : Option ℕ). link_at net p.place.flow.src o) c.in-Some.is ∙ ap (λ (n : ℕ). Some n) (sym c.place_of-from.ensures.place) in
+    let falls : fall_of net p ≡ Some c.place_of-to.result = ap (λ (o : Option ℕ). link_at net p.place.flow.dst o) c.in-Some.is ∙ ap (λ (n : ℕ). Some n) (sym c.place_of-to.ensures.place) in
     record {
       up = subst (λ (ms : List ℕ). AreMarks up_of ms (p ∷ before)) (sym c.take-up.ensures.marks)
           (mark-more up_of links.up.items before p p.place.flow.src refl (omega (arith, c.requires.marks.up, c.requires.src)) upto marked.up);
       down = subst (λ (ms : List ℕ). AreMarks down_of ms (p ∷ before)) (sym c.take-down.ensures.marks)
           (mark-more down_of links.down.items before p p.place.flow.dst refl (omega (arith, c.requires.marks.down, c.requires.dst)) upto marked.down);
       rise = subst (λ (ms : List ℕ). AreMarks (rise_of net) ms (p ∷ before)) (sym c.take-rise.ensures.marks)
-          (mark-more (rise_of net) links.rise.items before p c.place_of.result rises (omega (arith, c.requires.marks.rise, c.place_of.ensures.within)) upto marked.rise);
+          (mark-more (rise_of net) links.rise.items before p c.place_of-from.result rises (omega (arith, c.requires.marks.rise, c.place_of-from.ensures.within)) upto marked.rise);
       fall = subst (λ (ms : List ℕ). AreMarks (fall_of net) ms (p ∷ before)) (sym c.take-fall.ensures.marks)
-          (mark-more (fall_of net) links.fall.items before p c.place_of-in-Some.result falls (omega (arith, c.requires.marks.fall, c.place_of-in-Some.ensures.within)) upto marked.fall);
+          (mark-more (fall_of net) links.fall.items before p c.place_of-to.result falls (omega (arith, c.requires.marks.fall, c.place_of-to.ensures.within)) upto marked.fall);
       cores = All-cons (λ (q : Path). has_wrong_core net q.place.flow q.core ≡ false) p before c.requires.core marked.cores;
     }
 
