@@ -13,7 +13,6 @@ use Rattle.greedy_rules.specs.Schedule.{schedule, schedule_from, rest, rest_from
 use Rattle.greedy_rules.specs.Balance.{is_recorded, added_of}
 use Rattle.greedy_rules.specs.Fronts.{SchedulesGoOn, FrontsAreFronts, EveryBatchHasItsSlots}
 use Rattle.greedy_rules.specs.Recorded.{EveryFrontIsRecorded}
-use Rattle.alloc_pipeline.specs.Ring.{RingWork}
 use Rattle.clos_topology.specs.Network.{Network, endpoints_of}
 use Rattle.clos_topology.specs.NetSlots.{limits_of}
 use Rattle.trace_text.specs.Trace.{TraceContent}
@@ -33,6 +32,7 @@ use Rattle.window_allocation.specs.Giving.{MayGive}
 use Rattle.window_engine.specs.Step.{StepContent, IsPlanned, window_slots}
 use Rattle.window_allocation.specs.Needs.{place_of}
 use Rattle.window_allocation.proofs.WindowLemmas.{HasNext, Goes}
+use Rattle.window_engine.proofs.Rings.{ring_holds, ring_serves}
 
 -- ---- the next window of a plan
 
@@ -86,7 +86,7 @@ stands_next trace old new batches stands g endpoints rounds are collected on all
     let k : ℕ = old.collection.rounds in
     let plan : List DemandBatch = plan_batches trace in
     let so_far : take k plan ++ batches ≡ take new.collection.rounds plan = ap (λ (bs : List DemandBatch). take k plan ++ bs) are ∙ (joined k (window_of old) plan ∙ ap (λ (m : ℕ). take m plan) (sym on)) in
-    let serves : new.allocation.ring.endpoints ≡ endpoints_of trace.net = ap (λ (r : RingWork). r.endpoints) allocated.ring in
+    let serves : new.allocation.ring.endpoints ≡ endpoints_of trace.net = ring_serves _ _ _ _ allocated in
     record {
       window = (omega (arith, stands.window.0), omega (arith, stands.window.1));
       endpoints = endpoints ∙ stands.endpoints;
@@ -108,7 +108,7 @@ pub next_window : (trace : TraceContent) (engine : EngineState) (batches : List 
 next_window trace engine batches count sound stands recorded front are =
     let half : Allocated = engine.allocation in
     let earlier : List DemandBatch = take engine.collection.rounds (plan_batches trace) in
-    let most : half.ring.batches ≡ engine.g = ap (λ (r : RingWork). r.batches) stands.allocated.ring in
+    let most : half.ring.batches ≡ engine.g = ring_holds _ _ _ _ stands.allocated in
     let next : AreOfNet trace.net (earlier ++ batches) =
     subst (λ (bs : List DemandBatch). AreOfNet trace.net (earlier ++ bs)) (sym are) (window_recorded trace engine.collection.rounds count sound recorded front) in (
       earlier,
@@ -123,14 +123,14 @@ unfolding next_window
 next_allocated trace engine batches count new sound stands recorded front are goes =
     let half : Allocated = engine.allocation in
     let it = next_window trace engine batches count sound stands recorded front are in
-    let most : half.ring.batches ≡ engine.g = ap (λ (r : RingWork). r.batches) stands.allocated.ring in
+    let most : half.ring.batches ≡ engine.g = ring_holds _ _ _ _ stands.allocated in
     let all : List DemandBatch = take engine.collection.rounds (plan_batches trace) ++ batches in
     subst (λ (net : Network). HasAllocated net engine.g all new) stands.allocated.serves (subst (λ (m : ℕ). HasAllocated half.paths.net m all new) most (goes it.0 it.1 it.2))
 
 pub pending_room : (trace : TraceContent) (engine : EngineState) (batches : List DemandBatch) (new : Allocated) (pending : List ℕ) → Stands trace engine → HasAllocated trace.net engine.g batches new → length pending ≡ length engine.pending
     → length pending ≡ new.ring.endpoints * new.ring.endpoints
 pending_room trace engine batches new pending stands has same =
-    let serves : new.ring.endpoints ≡ endpoints_of trace.net = ap (λ (r : RingWork). r.endpoints) has.ring in
+    let serves : new.ring.endpoints ≡ endpoints_of trace.net = ring_serves _ _ _ _ has in
     same ∙ (stands.pending_room ∙ sym (ap (λ (m : ℕ). m * m) serves))
 
 pub window_numbers : (trace : TraceContent) (engine : EngineState) (batches : List DemandBatch) (count : ℕ) → IsTrace trace → Stands trace engine → EveryPlanIsRecorded → count ≡ window_of engine
@@ -149,7 +149,7 @@ may_give trace engine batches count sound stands recorded front is are =
     let half : Allocated = engine.allocation in
     let numbers = window_numbers trace engine batches count sound stands recorded is are in
     let fits = window_fits engine (omega (arith, stands.collected.within, stands.rounds)) in
-    let most : half.ring.batches ≡ engine.g = ap (λ (r : RingWork). r.batches) stands.allocated.ring in
+    let most : half.ring.batches ≡ engine.g = ring_holds _ _ _ _ stands.allocated in
     let all : ℕ = half.batches + length batches in
     let few : all ≤ 100000 = omega (arith, numbers.0, numbers.1, is, fits.1, stands.rounds, sound.few_rounds) in
     record {

@@ -1,5 +1,6 @@
 mod Crossing
 mod ReplayBeside
+mod Rings
 pub mod PlanCounts
 pub mod StepCounts
 pub mod EngineLemmas

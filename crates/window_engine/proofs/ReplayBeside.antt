@@ -1,7 +1,6 @@
 -- The two halves of a step of a replay, which run at once: they may be begun, and what each makes is what the step goes on with.
-use Rattle.std.proofs.Common.{◌≡◌, refl, sym, ap, subst, arith}
+use Rattle.std.proofs.Common.{◌≡◌, refl, sym, subst, arith}
 use Rattle.clos_topology.specs.NetSlots.{SlotCores}
-use Rattle.alloc_pipeline.specs.Ring.{RingWork}
 use Rattle.trace_text.specs.Trace.{TraceContent}
 use Rattle.trace_text.specs.Valid.{IsTrace}
 use Rattle.replay_rounds.specs.Played.{Played}
@@ -14,11 +13,12 @@ use Rattle.window_allocation.specs.Standing.{Allocated}
 use Rattle.window_allocation.specs.Windows.{WindowContent}
 use Rattle.window_engine.proofs.ReplaySteps.{few_wait, replay_next}
 use Rattle.window_engine.proofs.ReplayPublish.{Collects, collects_with, IsNextWhole, next_whole}
+use Rattle.window_engine.proofs.Rings.{ring_holds}
 
 pub may_allocate : Replays → (trace : TraceContent) (cores : SlotCores) (engine : ReplayState) → IsTrace trace → StandsForReplay trace cores engine → MayGive engine.allocation engine.waiting
 may_allocate laws trace cores engine sound stands =
     let few = few_wait laws trace cores engine sound stands in
-    let most : engine.allocation.ring.batches ≡ engine.lanes.g = ap (λ (r : RingWork). r.batches) stands.allocated.ring in
+    let most : engine.allocation.ring.batches ≡ engine.lanes.g = ring_holds _ _ _ _ stands.allocated in
     record {
       stands = replay_next laws trace cores engine sound stands;
       count = few.0;

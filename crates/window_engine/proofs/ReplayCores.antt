@@ -5,7 +5,6 @@ use Rattle.std.proofs.lemmas.Bool.{cases_Bool, leb-true}
 use Rattle.std.proofs.Math.Path.{fun_ext}
 use Rattle.std.proofs.lemmas.Nat.{mul-le}
 use Rattle.std.proofs.lemmas.List.{length-take, length-drop}
-use Rattle.fcp_framing.specs.declared.packet.Told.{Told}
 use Rattle.greedy_rules.specs.declared.flows.Flow.{Flow}
 use Rattle.greedy_rules.specs.Batches.{DemandBatch}
 use Rattle.greedy_rules.specs.SlotTable.{IsSlotOf, destination_of}
@@ -37,7 +36,7 @@ told_from-same one other endpoint offset [] same = refl
 told_from-same one other endpoint offset (slot ∷ slots) same =
     let next : told_from one endpoint (offset + 1) slots ≡ told_from other endpoint (offset + 1) slots = told_from-same one other endpoint (offset + 1) slots (λ at below. same at (omega arith)) in
     ap (λ (core : ℕ). told_at offset core (destination_of slot endpoint) ++ told_from one endpoint (offset + 1) slots) (same offset (omega arith))
-    ∙ ap (λ (told : List Told). told_at offset (other offset) (destination_of slot endpoint) ++ told) next
+    ∙ ap (λ told. told_at offset (other offset) (destination_of slot endpoint) ++ told) next
 
 one_more : (k b : ℕ) → suc k * b ≡ k * b + b
 one_more k b = grind arith
@@ -61,7 +60,7 @@ told-same trace b g published one other batches round endpoint agree early =
       | inr first ↦ rw first refl
       | inl late ↦
           let from : 2 * g ≤ round = leb-true (2 * g) round late in
-          ap (λ (told : List Told). cond (nat_le (2 * g) round) told []) (told_of-same trace b g published one other batches (round - 2 * g) endpoint agree (omega arith))
+          ap (λ told. cond (nat_le (2 * g) round) told []) (told_of-same trace b g published one other batches (round - 2 * g) endpoint agree (omega arith))
     ]
 
 -- ---- the run
@@ -71,7 +70,7 @@ next_rounds-same : (trace : TraceContent) (b g published : ℕ) (one other : Slo
 next_rounds-same trace b g published one other round before agree early =
     let o = (setting_of trace b g one).outside in
     fun_ext (λ endpoint.
-    ap (λ (told : List Told). record { boots = o.boots round endpoint; asks = o.asks round endpoint; up = o.up round endpoint; down = o.down round endpoint; raw = o.raw round endpoint; told = told } ∷ before.rounds endpoint)
+    ap (λ told. record { boots = o.boots round endpoint; asks = o.asks round endpoint; up = o.up round endpoint; down = o.down round endpoint; raw = o.raw round endpoint; told = told } ∷ before.rounds endpoint)
     (told-same trace b g published one other before.batches round endpoint agree early))
 
 pub run-same : (trace : TraceContent) (b g published : ℕ) (one other : SlotCores) (rounds : ℕ) → AgreeBelow (first_slot b published) one other → rounds ≤ published + 2 * g

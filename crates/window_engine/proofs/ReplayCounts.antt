@@ -8,7 +8,6 @@ use Rattle.greedy_rules.specs.declared.flows.Flow.{Flow}
 use Rattle.greedy_rules.specs.declared.flows.Item.{Item}
 use Rattle.greedy_rules.specs.Demands.{item_of, need_in}
 use Rattle.greedy_rules.specs.Schedule.{rest}
-use Rattle.alloc_pipeline.specs.Ring.{RingWork}
 use Rattle.clos_topology.specs.Network.{endpoints_of}
 use Rattle.clos_topology.specs.NetSlots.{SlotCores}
 use Rattle.endpoint_history.specs.Entries.{had}
@@ -20,6 +19,7 @@ use Rattle.replay_rounds.specs.Counts.{LaneCount, counted, lane_count, sent_and_
 use Rattle.window_engine.specs.declared.counts.Counts.{Counts}
 use Rattle.window_engine.specs.Replay.{ReplayState, StandsForReplay, run_of, replay_counts}
 use Rattle.window_allocation.specs.Needs.{place_of}
+use Rattle.window_engine.proofs.Rings.{ring_serves}
 
 -- every batch is allocated, so every round is collected
 pub all_collected : (trace : TraceContent) (cores : SlotCores) (engine : ReplayState) → StandsForReplay trace cores engine → engine.lanes.published ≡ engine.rounds
@@ -29,7 +29,7 @@ all_collected trace cores engine stands done = (omega (arith, stands.windows.wit
 -- ---- the needs that are left
 
 pub serves : (trace : TraceContent) (cores : SlotCores) (engine : ReplayState) → StandsForReplay trace cores engine → engine.allocation.ring.endpoints ≡ engine.lanes.endpoints
-serves trace cores engine stands = ap (λ (ring : RingWork). ring.endpoints) stands.allocated.ring ∙ sym stands.lanes.endpoints
+serves trace cores engine stands = ring_serves _ _ _ _ stands.allocated ∙ sym stands.lanes.endpoints
 
 pub left : (trace : TraceContent) (cores : SlotCores) (engine : ReplayState) (flow : Flow) (pending : ℕ) → StandsForReplay trace cores engine → engine.lanes.published ≡ engine.rounds
     → flow.src < engine.lanes.endpoints → flow.dst < engine.lanes.endpoints
@@ -37,7 +37,7 @@ pub left : (trace : TraceContent) (cores : SlotCores) (engine : ReplayState) (fl
 left trace cores engine flow pending stands done src dst is =
     let s : Setting = run_of trace cores engine in
     let n : ℕ = endpoints_of trace.net in
-    let ring : engine.allocation.ring.endpoints ≡ n = ap (λ (r : RingWork). r.endpoints) stands.allocated.ring in
+    let ring : engine.allocation.ring.endpoints ≡ n = ring_serves _ _ _ _ stands.allocated in
     let from : flow.src < n = omega (arith, stands.lanes.endpoints) in
     let to : flow.dst < n = omega (arith, stands.lanes.endpoints) in
     let within : place_of n flow.src flow.dst < n * n = mul-add-lt flow.src n flow.dst n from to in
@@ -54,7 +54,7 @@ left trace cores engine flow pending stands done src dst is =
 pub place_fits : (trace : TraceContent) (cores : SlotCores) (engine : ReplayState) (place : ℕ) → StandsForReplay trace cores engine → place < engine.allocation.ring.endpoints * engine.allocation.ring.endpoints
     → place < length engine.pending
 place_fits trace cores engine place stands below =
-    let ring : engine.allocation.ring.endpoints ≡ endpoints_of trace.net = ap (λ (r : RingWork). r.endpoints) stands.allocated.ring in
+    let ring : engine.allocation.ring.endpoints ≡ endpoints_of trace.net = ring_serves _ _ _ _ stands.allocated in
     omega (arith, stands.pending_room, ap (λ (n : ℕ). n * n) ring)
 
 -- ---- the counts

@@ -3,7 +3,6 @@ use Rattle.std.proofs.Common.{◌≡◌, ◌<◌, ◌≤◌, ◌+◌, ◌-◌, �
 use Rattle.greedy_rules.specs.declared.flows.Flow.{Flow}
 use Rattle.greedy_rules.specs.Batches.{DemandBatch}
 use Rattle.greedy_rules.specs.Schedule.{first_slot, schedule_from, slot_in}
-use Rattle.alloc_pipeline.specs.Ring.{RingWork}
 use Rattle.clos_topology.specs.Network.{Network, endpoints_of}
 use Rattle.clos_topology.specs.Limits.{IsNetwork}
 use Rattle.clos_topology.specs.Links.{IsClean}
@@ -29,6 +28,7 @@ use Rattle.window_allocation.specs.Windows.{WindowContent, IsWindowOf}
 use Rattle.window_engine.proofs.ReplayCores.{AgreeBelow, between-same, stands-with}
 use Rattle.window_engine.proofs.ReplayTables.{clean_cores, with_table, table-before, table-there, table-named}
 use Rattle.window_engine.proofs.ReplaySteps.{next_batches, replay_span, replay_window}
+use Rattle.window_engine.proofs.Rings.{ring_serves}
 
 -- the rounds that the next window collects
 abbrev pub window_of : TraceContent → ReplayState → ℕ
@@ -134,7 +134,7 @@ stands_parts laws trace cores engine counted states window new sound stands lane
     let m : ℕ = engine.lanes.published in
     let r : ℕ = engine.lanes.collected in
     let n : ℕ = window_of trace engine in
-    let serves : new.allocation.ring.endpoints ≡ endpoints_of trace.net = ap (λ (ring : RingWork). ring.endpoints) allocated.ring in
+    let serves : new.allocation.ring.endpoints ≡ endpoints_of trace.net = ring_serves _ _ _ _ allocated in
     record {
       rounds = rounds ∙ stands.rounds;
       lanes = subst (lanes.AllRoundsStand trace cores) lanes_are all;

@@ -7,7 +7,6 @@ use Rattle.greedy_rules.specs.declared.flows.Flow.{Flow}
 use Rattle.greedy_rules.specs.declared.flows.Item.{Item}
 use Rattle.greedy_rules.specs.Batches.{DemandBatch}
 use Rattle.greedy_rules.specs.Schedule.{first_slot, schedule_from, rest}
-use Rattle.alloc_pipeline.specs.Ring.{RingWork}
 use Rattle.clos_topology.specs.Network.{Network}
 use Rattle.clos_topology.specs.NetSlots.{SlotCores}
 use Rattle.trace_text.specs.Trace.{TraceContent}
@@ -23,6 +22,7 @@ use Rattle.window_allocation.specs.Standing.{Allocated, HasAllocated}
 use Rattle.window_allocation.specs.declared.window.Span.{Span}
 use Rattle.window_allocation.specs.Windows.{WindowContent, IsWindowOf}
 use Rattle.window_allocation.proofs.WindowLemmas.{HasNext, Goes}
+use Rattle.window_engine.proofs.Rings.{ring_holds}
 
 -- ---- the batches that wait
 
@@ -82,7 +82,7 @@ are_next laws trace cores engine sound stands =
 -- ---- they may be allocated
 
 most_is : (trace : TraceContent) (cores : SlotCores) (engine : ReplayState) → StandsForReplay trace cores engine → engine.allocation.ring.batches ≡ engine.lanes.g
-most_is trace cores engine stands = ap (λ (r : RingWork). r.batches) stands.allocated.ring
+most_is trace cores engine stands = ring_holds _ _ _ _ stands.allocated
 
 half_has : (trace : TraceContent) (cores : SlotCores) (engine : ReplayState) → StandsForReplay trace cores engine
     → HasAllocated engine.allocation.paths.net engine.allocation.ring.batches (replayed (run_of trace cores engine) engine.lanes.published).batches engine.allocation

@@ -1,6 +1,6 @@
 -- What a replay stands for between its steps: the run of a trace, of which so many rounds are collected and the batches of so many
 -- allocated and published (this project's own profile).
-use Rattle.std.specs.Prelude.{◌≡◌, ◌↔◌, ◌<◌, ◌≤◌, ℕ, ◌+◌, ◌-◌, ◌*◌, ◌/◌, List, drop, length, Option, Some, None, if◌then◌else◌}
+use Rattle.std.specs.Prelude.{◌≡◌, ◌↔◌, ◌<◌, ◌≤◌, ℕ, ◌+◌, ◌-◌, ◌*◌, ◌/◌, List, [], drop, length, Option, Some, None, if◌then◌else◌}
 use Rattle.greedy_rules.specs.declared.flows.Flow.{Flow}
 use Rattle.greedy_rules.specs.Batches.{DemandBatch}
 use Rattle.greedy_rules.specs.Schedule.{first_slot, schedule, slot_at}
@@ -36,6 +36,11 @@ pub record ReplayState : Type 0 where
   pub waiting : List DemandBatch
   pub allocation : Allocated
   pub pending : List ℕ
+
+-- the batches of the rounds that were played last, if some were
+abbrev pub batches_in : Option Played → List DemandBatch
+batches_in None = []
+batches_in (Some played) = played.batches
 
 abbrev pub run_of : TraceContent → SlotCores → ReplayState → Setting
 run_of trace cores engine = setting_of trace engine.lanes.b engine.lanes.g cores

@@ -6,8 +6,9 @@
 //! the one, the tables of the other. What an engine stands for is the record `Stands` (`specs/Standing.antt`), made of one record
 //! a half: `HasCollected` speaks of the trace, `HasAllocated` of the batches that were allocated. `laws.rt` has the laws that the
 //! program cites. `replay.rt` is the engine of `replay`: in each step `window_allocation` gives the batches of the window before
-//! their slots in a thread of its own, beside it `replay_rounds` plays a window, and then the slots are published. Both engines
-//! share that half and nothing else. `replay_laws.rt` has the laws on replays: how many steps there are, and that cores can be
+//! their slots in a thread of its own, beside it `replay_rounds` plays a window, and then the slots are published. What was played
+//! is shared by the step that gives it and by the replay, whose next step allocates its batches. Both engines share that half and
+//! nothing else. `replay_laws.rt` has the laws on replays: how many steps there are, and that cores can be
 //! found for slots that were not reached.
 #![tactic(auto)]
 

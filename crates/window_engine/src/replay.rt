@@ -1,4 +1,5 @@
-ghost use Rattle.std.specs.Prelude.{◌≡◌, ◌≢◌, ◌<◌, ◌≤◌, ◌+◌, ◌*◌, ◌-◌, ◌↔◌, ℕ, List, length, min, IsTrue, IfOk, OnOk, if◌then◌else◌};
+ghost use Rattle.std.specs.Prelude.{◌≡◌, ◌≢◌, ◌<◌, ◌≤◌, ◌+◌, ◌*◌, ◌-◌, ◌↔◌, ℕ, List, length, min, IsTrue, IfOk, OnOk, option_map};
+ghost use Rattle.std.specs.Rc.{rc_value};
 ghost use Rattle.greedy_rules.specs.Batches.{DemandBatch};
 ghost use Rattle.clos_topology.specs.Network.{Network};
 ghost use Rattle.clos_topology.specs.NetSlots.{SlotCores, AreSlotCores};
@@ -11,7 +12,7 @@ ghost use Rattle.trace_text.specs.Valid.{IsTrace};
 ghost use Rattle.trace_run.specs.Shown.{IsShown};
 ghost use Rattle.replay_rounds.specs.Played.{rounds_played};
 ghost use Rattle.replay_rounds.specs.Standing.{AllRoundsStand, slots_between};
-ghost use Rattle.window_engine.specs.Replay.{StandsForReplay, HasCoresOf, run_of, replay_counts};
+ghost use Rattle.window_engine.specs.Replay.{StandsForReplay, HasCoresOf, run_of, replay_counts, batches_in};
 ghost use Rattle.window_engine.specs.Settings.{IsSetting};
 ghost use Rattle.window_engine.specs.Beside.{MayPlay, HasPlayed};
 
@@ -25,6 +26,7 @@ use path_workers::CoreTable;
 use replay_rounds::{Played, ReplayRounds};
 use std::alloc::Global;
 use std::marker::Model;
+use std::rc::Rc;
 use std::sync::Wait;
 use std::thread::{Threads, join_mut};
 use trace_run::every_replay_shows;
@@ -41,21 +43,24 @@ pub struct Replay {
     alloc: Global,
     rounds: u32,
     lanes: ReplayRounds,
-    waiting: Vec<Batch>,
+    // The rounds that were played last, whose batches wait.
+    last: Option<Rc<Played>>,
     allocation: Allocation,
     // By source and then destination, once every batch is allocated.
     pending: Vec<u32>,
 }
 
 impl Model for Replay {
-    ghost use Rattle.window_engine.specs.Replay.{ReplayState};
+    ghost use Rattle.std.specs.Prelude.{option_map};
+    ghost use Rattle.std.specs.Rc.{rc_value};
+    ghost use Rattle.window_engine.specs.Replay.{ReplayState, batches_in};
 
     ghost Value = { ReplayState };
 
     ghost view = { λ r. record {
       rounds = r.rounds;
       lanes = r.lanes;
-      waiting = r.waiting.items;
+      waiting = batches_in (option_map rc_value r.last);
       allocation = r.allocation;
       pending = r.pending.items;
     } };
@@ -65,16 +70,18 @@ impl Model for Replay {
 #[derive(Drop)]
 pub struct ReplayStep {
     first: u32,
-    played: Played,
+    // Shared with the replay, whose next step allocates their batches.
+    played: Rc<Played>,
     window: Window,
 }
 
 impl Model for ReplayStep {
+    ghost use Rattle.std.specs.Rc.{rc_value};
     ghost use Rattle.window_engine.specs.Replay.{ReplayStepContent};
 
     ghost Value = { ReplayStepContent };
 
-    ghost view = { λ s. record { first = s.first; played = s.played; window = s.window } };
+    ghost view = { λ s. record { first = s.first; played = rc_value s.played; window = s.window } };
 }
 
 /// Whether the batches have so many entries that a thread allocates them.
@@ -86,26 +93,14 @@ fn have_many(batches: &[Batch]) -> bool {
     entries >= MANY
 }
 
-/// A copy of each batch.
-fn copied(alloc: Global, batches: &[Batch]) -> Result<Vec<Batch>, NoMemory>
-    ensures { IfOk result (λ copies. copies.items ≡ batches.now) }
+/// The batches of the rounds that were played last, if some were.
+fn batches_of(last: &Option<Rc<Played>>) -> &[Batch]
+    ensures { result.now ≡ batches_in (option_map rc_value last.now) }
 {
-    let mut copies = Vec::with_capacity(alloc, batches.len())?;
-    for batch in batches {
-        copies.push(copy(alloc, batch)?)?;
+    match last {
+        Some(played) => played.batches(),
+        None => &[],
     }
-    Ok(copies)
-}
-
-/// A copy of a batch.
-fn copy(alloc: Global, batch: &Batch) -> Result<Batch, NoMemory>
-    ensures { IfOk result (λ copy. copy ≡ batch.now) }
-{
-    let mut copy = Batch::with_limits(alloc, batch.limits());
-    for at in 0..batch.len() {
-        copy.push(batch.entry(at))?;
-    }
-    Ok(copy)
 }
 
 impl ReplayStep {
@@ -163,7 +158,7 @@ impl Replay {
             alloc,
             rounds: trace.rounds(),
             lanes: ReplayRounds::open(alloc, trace, setting.b, setting.g)?,
-            waiting: Vec::new(alloc),
+            last: None,
             allocation: Allocation::open(
                 alloc,
                 trace.net(),
@@ -213,7 +208,7 @@ impl Replay {
         let alloc = self.alloc;
         let lanes = &mut self.lanes;
         let allocation = &mut self.allocation;
-        let batches = self.waiting.as_slice();
+        let batches = batches_of(&self.last);
         if !have_many(batches) {
             let window = allocation.window(alloc, rt, gate, batches)?;
             return Ok((lanes.collect(alloc, trace)?, window));
@@ -272,11 +267,12 @@ impl Replay {
         let published = window.span().count as u16;
         self.lanes
             .publish(published, window.slots(), window.cores());
-        self.waiting = copied(self.alloc, played.batches())?;
+        let shared = Rc::new(self.alloc, played)?;
+        self.last = Some(shared.clone()?);
         self.end();
         Ok(ReplayStep {
             first,
-            played,
+            played: shared,
             window,
         })
     }

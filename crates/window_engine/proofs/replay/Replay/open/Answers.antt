@@ -26,8 +26,7 @@ returns-clause-stands c cores named =
         full = λ more. inl opened.collected;
         next = λ more. omega (arith, opened.first, opened.published);
       };
-      waiting = c.new.ensures.items
-          ∙ sym (ap (λ n. drop n (replayed run lanes.collected).batches) opened.published ∙ ap (λ n. (replayed run n).batches) opened.collected);
+      waiting = sym (ap (λ n. drop n (replayed run lanes.collected).batches) opened.published ∙ ap (λ n. (replayed run n).batches) opened.collected);
       allocated = subst (λ (batches : List DemandBatch). HasAllocated trace.net lanes.g batches c.in_ok-open-2.field-0) (sym (ap (λ n. (replayed run n).batches) opened.published))
           (subst (λ g. HasAllocated trace.net g [] c.in_ok-open-2.field-0) (sym opened.g) (subst (λ (net : Network). HasAllocated net c.args.setting.g [] c.in_ok-open-2.field-0) c.net.ensures.net half.stands));
       pending_room = sym c.in_ok-vec.field-0.ok.0 ∙ (c.in_ok-vec.ensures.len ∙ ap (λ n. n * n) c.endpoints-endpoints.ensures.number);

@@ -1,5 +1,4 @@
 use Rattle.std.proofs.Common.{◌≤◌, ◌+◌, ◌-◌, ◌*◌, ℕ, length, sym, ap, ◌∙◌, subst, min}
-use Rattle.alloc_pipeline.specs.Ring.{RingWork}
 use Rattle.trace_run.specs.Run.{replayed}
 use Rattle.replay_rounds.specs.Setting.{setting_of}
 use Rattle.replay_rounds.specs.Played.{Played, rounds_played}
@@ -11,6 +10,7 @@ use Rattle.window_allocation.specs.Giving.{HandsOn}
 use Rattle.window_engine.proofs.ReplaySteps.{are_next, replay_allocated}
 use Rattle.window_engine.proofs.ReplayPublish.{MayPublish, seen_as, publishes_with, publish_next, publish_fits, lanes_after, stands_next}
 use Rattle.window_engine.proofs.ReplayBeside.{may_allocate, collects_beside, next_beside}
+use Rattle.window_engine.proofs.Rings.{ring_serves}
 use Rattle.window_engine.proofs.replay.Replay.step.Goals as goal
 
 pub play_beside-requires-clause-may_allocate : goal.play_beside-requires-clause-may_allocate
@@ -28,7 +28,7 @@ publish-requires-clause-next g c =
     let here = ap (λ (e : ReplayState). e.lanes) c.self-2.view_is in
     let collects = collects_beside trace old _ c.self-2.inside.lanes _ here c.in_ok-played.ensures.rounds in
     let next = next_beside laws trace cores old _ _ sound stands c.in_ok-played.ensures.given in
-    subst (MayPublish c.self-2.inside.lanes) (sym (seen_as _ _ _ _ c.span-published.ensures c.slots.ensures c.cores.ensures)) (publish_next laws trace cores old c.self-2.inside.lanes c.in_ok-played.window sound stands collects next)
+    subst (MayPublish c.self-2.inside.lanes) (sym (seen_as _ _ _ _ c.span.ensures c.slots.ensures c.cores.ensures)) (publish_next laws trace cores old c.self-2.inside.lanes c.in_ok-played.window sound stands collects next)
 
 pub publish-requires-clause-collected : goal.publish-requires-clause-collected
 publish-requires-clause-collected g c =
@@ -39,7 +39,7 @@ publish-requires-clause-collected g c =
     let collects = collects_beside trace old _ c.self-2.inside.lanes _ here c.in_ok-played.ensures.rounds in
     let next = next_beside c.replays_hold.ensures trace cores old _ _ c.rounds-rounds.ensures.sound stands c.in_ok-played.ensures.given in
     let fits = publish_fits trace cores old c.self-2.inside.lanes c.in_ok-played.window stands collects next in
-    subst (λ (w : WindowContent). c.self-2.inside.lanes.published + w.span.count ≤ c.self-2.inside.lanes.collected) (sym (seen_as _ _ _ _ c.span-published.ensures c.slots.ensures c.cores.ensures)) fits.0
+    subst (λ (w : WindowContent). c.self-2.inside.lanes.published + w.span.count ≤ c.self-2.inside.lanes.collected) (sym (seen_as _ _ _ _ c.span.ensures c.slots.ensures c.cores.ensures)) fits.0
 
 pub publish-requires-clause-room : goal.publish-requires-clause-room
 publish-requires-clause-room g c =
@@ -50,7 +50,7 @@ publish-requires-clause-room g c =
     let collects = collects_beside trace old _ c.self-2.inside.lanes _ here c.in_ok-played.ensures.rounds in
     let next = next_beside c.replays_hold.ensures trace cores old _ _ c.rounds-rounds.ensures.sound stands c.in_ok-played.ensures.given in
     let fits = publish_fits trace cores old c.self-2.inside.lanes c.in_ok-played.window stands collects next in
-    subst (λ (w : WindowContent). w.span.count ≤ c.self-2.inside.lanes.g) (sym (seen_as _ _ _ _ c.span-published.ensures c.slots.ensures c.cores.ensures)) fits.1
+    subst (λ (w : WindowContent). w.span.count ≤ c.self-2.inside.lanes.g) (sym (seen_as _ _ _ _ c.span.ensures c.slots.ensures c.cores.ensures)) fits.1
 
 pub end-requires-clause-stands : goal.end-requires-clause-stands
 end-requires-clause-stands g c =
@@ -62,7 +62,7 @@ end-requires-clause-stands g c =
     let here = ap (λ (e : ReplayState). e.lanes) c.self-2.view_is in
     let collects = collects_beside trace old _ c.self-2.inside.lanes _ here c.in_ok-played.ensures.rounds in
     let next = next_beside laws trace cores old _ _ sound stands c.in_ok-played.ensures.given in
-    let publishes = publishes_with c.self-2.inside.lanes c.publish.new.self _ _ (seen_as _ _ _ _ c.span-published.ensures c.slots.ensures c.cores.ensures) c.publish.ensures.frame c.publish.ensures.first c.publish.ensures.stands in
+    let publishes = publishes_with c.self-2.inside.lanes c.publish.new.self _ _ (seen_as _ _ _ _ c.span.ensures c.slots.ensures c.cores.ensures) c.publish.ensures.frame c.publish.ensures.first c.publish.ensures.stands in
     let (run, named, is_trace, all, is) = publish_next laws trace cores old c.self-2.inside.lanes c.in_ok-played.window sound stands collects next in
     (run, named, publishes.stands run named is_trace all is)
 
@@ -81,7 +81,7 @@ end-requires-clause-pending g c =
     let old = c.args.self.now in
     let (cores, stands) = c.requires.stands in
     let has = replay_allocated c.replays_hold.ensures trace cores old _ c.rounds-rounds.ensures.sound stands c.in_ok-played.ensures.given.stands in
-    let serves = ap (λ (half : Allocated). half.ring.endpoints) (ap (λ (e : ReplayState). e.allocation) c.self-2.view_is) ∙ ap (λ (ring : RingWork). ring.endpoints) has.ring in
+    let serves = ap (λ (half : Allocated). half.ring.endpoints) (ap (λ (e : ReplayState). e.allocation) c.self-2.view_is) ∙ ring_serves _ _ _ _ has in
     let same = ap (λ (e : ReplayState). length e.pending) c.self-2.view_is ∙ ap (λ (e : ReplayState). length e.pending) c.in_ok-played.ensures.others in
     same ∙ (stands.pending_room ∙ sym (ap (λ (n : ℕ). n * n) serves))
 
@@ -93,7 +93,7 @@ returns-clause-published g c =
     let here = ap (λ (e : ReplayState). e.lanes) c.self-2.view_is in
     let collects = collects_beside trace old _ c.self-2.inside.lanes _ here c.in_ok-played.ensures.rounds in
     let next = next_beside c.replays_hold.ensures trace cores old _ _ c.rounds-rounds.ensures.sound stands c.in_ok-played.ensures.given in
-    let publishes = publishes_with c.self-2.inside.lanes c.publish.new.self _ _ (seen_as _ _ _ _ c.span-published.ensures c.slots.ensures c.cores.ensures) c.publish.ensures.frame c.publish.ensures.first c.publish.ensures.stands in
+    let publishes = publishes_with c.self-2.inside.lanes c.publish.new.self _ _ (seen_as _ _ _ _ c.span.ensures c.slots.ensures c.cores.ensures) c.publish.ensures.frame c.publish.ensures.first c.publish.ensures.stands in
     ap (λ (all : RoundsContent). all.published) c.end.ensures.lanes
     ∙ ap (λ (all : RoundsContent). all.published) (lanes_after trace cores old c.self-2.inside.lanes c.publish.new.self c.in_ok-played.window stands collects next publishes)
 
@@ -101,8 +101,9 @@ pub returns-clause-played : goal.returns-clause-played
 returns-clause-played g c cores stands =
     let trace = c.args.trace.now in
     let old = c.args.self.now in
-    c.in_ok-played.ensures.rounds.played cores stands.lanes
-    ∙ ap (λ (n : ℕ). rounds_played (setting_of trace old.lanes.b old.lanes.g cores) trace old.lanes.collected (min old.lanes.g (n - old.lanes.collected))) (sym stands.rounds)
+    c.in_ok-shared.ensures.ok
+    ∙ (c.in_ok-played.ensures.rounds.played cores stands.lanes
+    ∙ ap (λ (n : ℕ). rounds_played (setting_of trace old.lanes.b old.lanes.g cores) trace old.lanes.collected (min old.lanes.g (n - old.lanes.collected))) (sym stands.rounds))
 
 pub returns-clause-span : goal.returns-clause-span
 returns-clause-span g c =
@@ -138,14 +139,14 @@ returns-clause-stands g c cores stands named =
     let here = ap (λ (e : ReplayState). e.lanes) c.self-2.view_is in
     let collects = collects_beside trace old _ c.self-2.inside.lanes _ here c.in_ok-played.ensures.rounds in
     let next = next_beside laws trace cores old _ _ sound stands c.in_ok-played.ensures.given in
-    let publishes = publishes_with c.self-2.inside.lanes c.publish.new.self _ _ (seen_as _ _ _ _ c.span-published.ensures c.slots.ensures c.cores.ensures) c.publish.ensures.frame c.publish.ensures.first c.publish.ensures.stands in
+    let publishes = publishes_with c.self-2.inside.lanes c.publish.new.self _ _ (seen_as _ _ _ _ c.span.ensures c.slots.ensures c.cores.ensures) c.publish.ensures.frame c.publish.ensures.first c.publish.ensures.stands in
     let batches = (replayed (setting_of trace old.lanes.b old.lanes.g cores) old.lanes.collected).batches in
     let half = c.end.ensures.allocation ∙ ap (λ (e : ReplayState). e.allocation) c.self-2.view_is in
     let has = replay_allocated laws trace cores old _ sound stands c.in_ok-played.ensures.given.stands in
     let pending = ap (λ (e : ReplayState). length e.pending) c.self-2.view_is ∙ ap (λ (e : ReplayState). length e.pending) c.in_ok-played.ensures.others in
     let rounds = ap (λ (e : ReplayState). e.rounds) c.self-2.view_is ∙ ap (λ (e : ReplayState). e.rounds) c.in_ok-played.ensures.others in
     stands_next laws trace cores old c.self-2.inside.lanes c.publish.new.self c.in_ok-played.window c.end.new.self sound stands collects next publishes named c.end.ensures.lanes (c.end.ensures.stands trace cores)
-    (c.end.ensures.rounds ∙ rounds) (c.end.ensures.waiting ∙ (c.in_ok-self-inside.ensures ∙ (c.batches.ensures ∙ ap (λ (p : Played). p.batches) (c.in_ok-played.ensures.rounds.played cores stands.lanes))))
+    (c.end.ensures.rounds ∙ rounds) (c.end.ensures.waiting ∙ ap (λ (p : Played). p.batches) (c.in_ok-clone.ensures.cases ∙ (c.in_ok-shared.ensures.ok ∙ c.in_ok-played.ensures.rounds.played cores stands.lanes)))
     (subst (HasAllocated trace.net old.lanes.g batches) (sym half) has) (ap (λ (a : Allocated). a.b) half ∙ c.in_ok-played.ensures.given.b) (c.end.ensures.pending ∙ pending) c.end.ensures.ended c.end.ensures.counted
 
 pub returns-clause-workers : goal.returns-clause-workers
