@@ -1,9 +1,10 @@
 -- A row of destinations, place by place: the flow of a place, and the edges of the places that are left.
-use Rattle.std.proofs.Common.{◌≡◌, ◌<◌, ◌≤◌, ◌+◌, ℕ, zero, suc, List, [], ◌∷◌, ◌++◌, length, min, get_or, take, drop, Option, Some, None, All, refl, sym, ap, ◌∙◌, subst, arith, inl, inr}
+use Rattle.std.proofs.Common.{◌≡◌, ◌<◌, ◌≤◌, ◌+◌, ◌-◌, ℕ, zero, suc, List, [], ◌∷◌, ◌++◌, length, min, get_or, take, drop, map, Option, Some, None, option_map, All, refl, sym, ap, ◌∙◌, subst, arith, inl, inr}
 use Rattle.std.specs.Option.{IfSome}
+use Rattle.std.specs.List.{cons_option}
 use Rattle.std.proofs.lemmas.Bool.{cases_lt}
 use Rattle.std.proofs.lemmas.Option.{same_Some, none-some}
-use Rattle.std.proofs.lemmas.List.{take_all, drop_more, drop_all, append_assoc, append-nil}
+use Rattle.std.proofs.lemmas.List.{take_all, drop_more, drop_all, append_assoc, append-nil, get_or-map, length-map}
 use Rattle.std.proofs.lemmas.List.Elements.{All-head, All-tail}
 use Rattle.greedy_rules.specs.declared.flows.Flow.{Flow}
 use Rattle.greedy_rules.specs.SlotTable.{flows_from}
@@ -76,3 +77,60 @@ cell_in_net net at row slot is all below = of (get_or row at None) refl
     of : (to : Option ℕ) → get_or row at None ≡ to → IfSome to (λ dst. dst < endpoints_of net)
     of None to_is = tt
     of (Some dst) to_is = (packet_of_place (InNet net) at dst row slot is all below to_is).1
+
+abbrev pub nothing : Flow
+nothing = record { src = 0; dst = 0 }
+
+-- the flow stands at its source, where the row begins with this one
+abbrev StandsFrom : ℕ → List (Option ℕ) → Flow → Type 0
+StandsFrom src row flow = (src ≤ flow.src) × (flow.src - src < length row) × (get_or row (flow.src - src) None ≡ Some flow.dst)
+
+past : (src : ℕ) (to : Option ℕ) (row : List (Option ℕ)) (flow : Flow) → StandsFrom (src + 1) row flow → StandsFrom src (to ∷ row) flow
+past src to row flow stands =
+    let next : flow.src - src ≡ suc (flow.src - (src + 1)) = omega (arith, stands.0) in
+    (omega (arith, stands.0), omega (arith, stands.0, stands.1), ap (λ (n : ℕ). get_or (to ∷ row) n None) next ∙ stands.2)
+
+flow_stands : (src at : ℕ) (row : List (Option ℕ)) (d : Flow) → at < length (flows_from src row) → StandsFrom src row (get_or (flows_from src row) at d)
+flow_stands src at [] d below = absurd (omega (arith, below))
+flow_stands src at (None ∷ row) d below = past src None row (get_or (flows_from (src + 1) row) at d) (flow_stands (src + 1) at row d below)
+flow_stands src zero (Some dst ∷ row) d below =
+    let here : src - src ≡ 0 = omega arith in
+    (omega arith, omega arith, ap (λ (n : ℕ). get_or (Some dst ∷ row) n None) here)
+flow_stands src (suc at) (Some dst ∷ row) d below = past src (Some dst) row (get_or (flows_from (src + 1) row) at d) (flow_stands (src + 1) at row d (omega (arith, below)))
+
+-- a source that sends: a place of the row, and where it sends
+pub record IsSenderAt (row : List (Option ℕ)) (at source : ℕ) : Type 0 where
+  pub flows_below : at < length (flows_from 0 row)
+  pub source_is : source ≡ (get_or (flows_from 0 row) at nothing).src
+  pub below : source < length row
+  pub sends : get_or row source None ≡ Some (get_or (flows_from 0 row) at nothing).dst
+
+pub sender_at : (row : List (Option ℕ)) (senders : List ℕ) (at : ℕ) → senders ≡ map (λ (flow : Flow). flow.src) (flows_from 0 row) → at < length senders → IsSenderAt row at (get_or senders at 0)
+sender_at row senders at is below =
+    let source : Flow → ℕ = λ flow. flow.src in
+    let flows : List Flow = flows_from 0 row in
+    let flow : Flow = get_or flows at nothing in
+    let few : at < length flows = omega (arith, below, ap length is, length-map flows source) in
+    let source_is : get_or senders at 0 ≡ flow.src = ap (λ (xs : List ℕ). get_or xs at 0) is ∙ get_or-map source flows at nothing 0 few in
+    let stands = flow_stands 0 at row nothing few in
+    let place : flow.src - 0 ≡ flow.src = omega arith in
+    record {
+      flows_below = few;
+      source_is = source_is;
+      below = omega (arith, source_is, stands.1);
+      sends = ap (λ (n : ℕ). get_or row n None) (source_is ∙ sym place) ∙ stands.2;
+    }
+
+-- one source more
+pub sender_more : (hosts at source : ℕ) (row : List (Option ℕ)) (edges : List Edge) → IsSenderAt row at source
+    → (edges ++ rack_edges hosts (cons_option (option_map (λ to. record { src = source; dst = to }) (get_or row source None)) [])) ++ rack_edges hosts (drop (at + 1) (flows_from 0 row))
+    ≡ edges ++ rack_edges hosts (drop at (flows_from 0 row))
+sender_more hosts at source row edges is =
+    let flows : List Flow = flows_from 0 row in
+    let flow : Flow = get_or flows at nothing in
+    let rest : List Flow = drop (at + 1) flows in
+    let one : cons_option (option_map (λ to. record { src = source; dst = to }) (get_or row source None)) [] ≡ flow ∷ [] =
+    (λ i. cons_option (option_map (λ to. record { src = is.source_is i; dst = to }) (is.sends i)) []) in
+    ap (λ (fs : List Flow). (edges ++ rack_edges hosts fs) ++ rack_edges hosts rest) one
+    ∙ (append_assoc edges (rack_edges hosts (flow ∷ [])) (rack_edges hosts rest)
+    ∙ (ap (λ (es : List Edge). edges ++ es) (sym (rack_edges-append hosts (flow ∷ []) rest)) ∙ ap (λ (fs : List Flow). edges ++ rack_edges hosts fs) (sym (drop_more flows at nothing is.flows_below))))

@@ -1,6 +1,7 @@
-ghost use Rattle.std.specs.Prelude.{◌≡◌, ◌<◌, ◌≤◌, ◌↔◌, IsTrue, Some, List, [], ◌++◌, ◌+◌, ◌^◌, length, take, option_map, All, IfOk, IfSome, slice_get};
+ghost use Rattle.std.specs.Prelude.{◌≡◌, ◌<◌, ◌≤◌, ◌↔◌, IsTrue, Some, List, [], ◌++◌, ◌+◌, ◌^◌, length, map, take, option_map, All, IfOk, IfSome, slice_get};
 ghost use Rattle.std.specs.List.{cons_option};
 ghost use Rattle.greedy_rules.specs.Schedule.{slot_in};
+ghost use Rattle.greedy_rules.specs.SlotTable.{flows_from};
 ghost use Rattle.greedy_rules.specs.Limits.{rack_of};
 ghost use Rattle.clos_topology.specs.Network.{endpoints_of};
 ghost use Rattle.clos_topology.specs.RackFactor.{IsRackFactor};
@@ -34,6 +35,8 @@ pub struct RackGraph {
     places: Vec<Edge>,
     count: usize,
     room: u16,
+    // Room for the sources that send in a slot.
+    senders: Vec<u16>,
 }
 
 impl Model for RackGraph {
@@ -44,7 +47,7 @@ impl Model for RackGraph {
 
     ghost view = { λ g. record { edges = take g.count g.places.items; room = g.room } };
 
-    ghost invariant = { λ g. (g.count ≤ g.room) × (g.room ≤ vec_len g.places) × (g.room < 2 ^ 16) };
+    ghost invariant = { λ g. (g.count ≤ g.room) × (g.room ≤ vec_len g.places) × (g.room ≤ vec_len g.senders) × (g.room < 2 ^ 16) };
 }
 
 impl RackGraph {
@@ -57,6 +60,7 @@ impl RackGraph {
             places: vec![in alloc; BLANK; endpoints as usize]?,
             count: 0,
             room: endpoints,
+            senders: vec![in alloc; 0; endpoints as usize]?,
         })
     }
 
@@ -71,15 +75,12 @@ impl RackGraph {
     {
         prove!(slot < slots.slots());
         prove!(net.endpoints() <= self.room);
-        let factor = net.rack_factor();
         let row = slots.row(slot);
         let sources = row.len().min(net.endpoints() as usize);
-        let places = &mut self.places[..];
-        let mut count = 0;
-        for (source, destination) in row[..sources].iter().enumerate() {
-            count = add(places, count, net, factor, source as u16, *destination);
-        }
-        self.count = count;
+        let row = &row[..sources];
+        let senders = &mut self.senders[..];
+        let sending = note_senders(row, senders);
+        self.count = add_all(&mut self.places, net, row, &self.senders[..sending]);
     }
 
     pub fn len(&self) -> usize
@@ -106,8 +107,40 @@ impl RackGraph {
     }
 }
 
+/// Writes the sources of a row that send, and answers how many these are. There is no branch on whether one sends, as that is
+/// hard to foresee.
+fn note_senders(row: &[Option<u16>], senders: &mut [u16]) -> usize
+    requires room { length row.now ≤ length senders.old }
+    requires few { length row.now < 2 ^ 16 }
+    ensures within { result ≤ length row.now }
+    ensures senders { take result senders.new ≡ map (λ flow. flow.src) (flows_from 0 row.now) }
+{
+    let mut count = 0;
+    for (source, destination) in row.iter().enumerate() {
+        senders[count] = source as u16;
+        count += usize::from(destination.is_some());
+    }
+    count
+}
+
+/// Writes the edges of what these sources of a row send, which are all that send, and answers how many there are.
+fn add_all(places: &mut [Edge], net: &Net, row: &[Option<u16>], senders: &[u16]) -> usize
+    requires senders { senders.now ≡ map (λ flow. flow.src) (flows_from 0 row.now) }
+    requires endpoints { All (λ flow. (flow.src < endpoints_of net.now) × (flow.dst < endpoints_of net.now)) (flows_from 0 row.now) }
+    requires room { length senders.now ≤ length places.old }
+    ensures within { result ≤ length senders.now }
+    ensures edges { take result places.new ≡ rack_edges net.now.hosts (flows_from 0 row.now) }
+{
+    let factor = net.rack_factor();
+    let mut count = 0;
+    for source in senders {
+        count = add(places, count, net, factor, *source, row[*source as usize]);
+    }
+    count
+}
+
 /// Writes the edge of what the source sends behind so many edges, if it sends between racks, and answers how many there are now.
-/// The place behind them is written in either case.
+/// Where it sends at all, the place behind them is written.
 fn add(
     places: &mut [Edge],
     count: usize,
@@ -123,12 +156,15 @@ fn add(
     ensures count { result ≤ count + 1 }
     ensures edges { take result places.new ≡ take count places.old ++ rack_edges net.now.hosts (cons_option (option_map (λ to. record { src = source; dst = to }) destination) []) }
 {
+    let Some(to) = destination else {
+        return count;
+    };
     let left = net.rack_by(factor, source);
-    let right = net.rack_by(factor, destination.unwrap_or(0));
+    let right = net.rack_by(factor, to);
     places[count] = Edge {
         source,
         left,
         right,
     };
-    count + usize::from(destination.is_some() & (left != right))
+    count + usize::from(left != right)
 }

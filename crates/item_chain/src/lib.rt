@@ -1,10 +1,10 @@
 //! Lists of nodes, which go from one list to another without a copy or an allocation.
 //!
 //! `item_chain` has `Chain`, a list whose nodes go from one chain to another without a copy. `parts.rt` and `nodes.rt` have the
-//! six small functions over raw pointers, proved by hand; `lib.rt` the calls.
+//! eight small functions over raw pointers, proved by hand; `lib.rt` the calls.
 #![tactic(auto)]
 
-ghost use Rattle.std.specs.Prelude.{◌≡◌, ◌+◌, ◌^◌, ◌<◌, [], ◌∷◌, ◌++◌, length, take, drop, replicate, slice_index_or, OnOk, OnErr};
+ghost use Rattle.std.specs.Prelude.{◌≡◌, ◌+◌, ◌^◌, ◌<◌, ◌≤◌, [], ◌∷◌, ◌++◌, length, take, drop, replicate, slice_index_or, OnOk, OnErr};
 ghost use Rattle.std.specs.Borrow.{sem};
 ghost use Rattle.item_chain.specs.Lent.{lends_front};
 
@@ -19,8 +19,8 @@ use parts::Parts;
 use std::alloc::Global;
 use std::marker::Model;
 
-/// A list of values, each in a node of its own, which no other list has. No call depends on its length but for `fill`, and no
-/// other takes memory.
+/// A list of values, each in a node of its own, which no other list has. No call depends on its length, and none but `fill` takes
+/// memory. `fill`, `move_reading` and `move_writing` depend on how many nodes they add or move.
 pub struct Chain<T: Copy> {
     nodes: Nodes<T>,
     len: usize,
@@ -91,11 +91,44 @@ impl<T: Copy> Chain<T> {
         ensures rest { self.new ≡ drop 1 self.old }
         ensures moved { to.new ≡ to.old ++ take 1 self.old }
     {
-        let mut first = self.nodes.split_first();
+        let first = self.nodes.split_first();
         self.len -= 1;
-        to.nodes.follow(&mut first, to.len);
-        to.len += 1;
-        first.end();
+        to.take_in(first, 1);
+    }
+
+    /// Moves the front nodes, as many as there are places, to the back of `to`, whose length stays within 64 bits, and copies their
+    /// values to these places.
+    pub fn move_reading(&mut self, values: &mut [T], to: &mut Chain<T>)
+        requires some { length values.old ≤ length self.old }
+        requires fits { length to.old + length values.old < 2 ^ 64 }
+        ensures rest { self.new ≡ drop (length values.old) self.old }
+        ensures moved { to.new ≡ to.old ++ take (length values.old) self.old }
+        ensures values { values.new ≡ take (length values.old) self.old }
+    {
+        let len = values.len();
+        if len == 0 {
+            return;
+        }
+        let front = self.nodes.split_reading(values);
+        self.len -= len;
+        to.take_in(front, len);
+    }
+
+    /// Moves the front nodes, as many as there are values, to the back of `to`, whose length stays within 64 bits, and writes these
+    /// values into them.
+    pub fn move_writing(&mut self, values: &[T], to: &mut Chain<T>)
+        requires some { length values.now ≤ length self.old }
+        requires fits { length to.old + length values.now < 2 ^ 64 }
+        ensures rest { self.new ≡ drop (length values.now) self.old }
+        ensures moved { to.new ≡ to.old ++ values.now }
+    {
+        let len = values.len();
+        if len == 0 {
+            return;
+        }
+        let front = self.nodes.split_writing(values);
+        self.len -= len;
+        to.take_in(front, len);
     }
 
     /// Moves all nodes of `other` to the back; the length stays within 64 bits.
@@ -121,6 +154,19 @@ impl<T: Copy> Chain<T> {
         self.nodes.front_mut()
     }
 
+    /// Adds these nodes, so many, at the back.
+    fn take_in(&mut self, nodes: Nodes<T>, len: usize)
+        requires some { 0 < len }
+        requires len { len ≡ length nodes.items }
+        requires fits { length self.old + len < 2 ^ 64 }
+        ensures { self.new ≡ self.old ++ nodes.items }
+    {
+        let mut more = nodes;
+        self.nodes.follow(&mut more, self.len);
+        self.len += len;
+        more.end();
+    }
+
     /// Adds a node of its own with this value at the back.
     fn push(&mut self, value: T) -> Result<(), NoMemory>
         requires { length self.old + 1 < 2 ^ 64 }
@@ -129,10 +175,7 @@ impl<T: Copy> Chain<T> {
     {
         match Box::new(self.alloc, Node::of(value)) {
             Ok(node) => {
-                let mut one = Nodes::single(Parts::of(node));
-                self.nodes.follow(&mut one, self.len);
-                self.len += 1;
-                one.end();
+                self.take_in(Nodes::single(Parts::of(node)), 1);
                 Ok(())
             }
             Err(_) => Err(NoMemory),
@@ -173,6 +216,26 @@ mod tests {
         list.move_front(&mut spare);
         list.move_front(&mut spare);
         assert_eq!(rt; *list.front_mut(), 9);
+        Ok(())
+    }
+
+    #[test]
+    fn values_are_read_and_written_as_nodes_move(rt: HostRuntime) -> Result<(), Fail> {
+        let mut spare: Chain<u32> = Chain::new(rt.alloc());
+        let mut list: Chain<u32> = Chain::new(rt.alloc());
+        spare.fill(4, 7)?;
+        spare.move_writing(&[1, 2, 3], &mut list);
+        spare.move_writing(&[], &mut list);
+        assert_eq!(rt; (list.len(), spare.len()), (3, 1));
+        let mut values = [0; 2];
+        list.move_reading(&mut values, &mut spare);
+        assert_eq!(rt; values, [1, 2]);
+        assert_eq!(rt; (list.len(), spare.len()), (1, 3));
+        assert_eq!(rt; *list.front_mut(), 3);
+        spare.append(&mut list);
+        let mut all = [0; 4];
+        spare.move_reading(&mut all, &mut list);
+        assert_eq!(rt; all, [7, 1, 2, 3]);
         Ok(())
     }
 }

@@ -2,10 +2,16 @@
 ghost use Rattle.std.specs.Prelude.{◌≡◌, ◌+◌, ◌<◌, ◌≤◌, ◌^◌, [], ◌∷◌, ◌++◌, length, take, drop};
 ghost use Rattle.greedy_rules.specs.Demands.{opened};
 
-use arrayvec::ArrayVec;
-use greedy_rules::{Batch, DemandList, Entry, Item};
+use greedy_rules::{Batch, DemandList, Entry, Flow, Item};
 use item_chain::Chain;
 use std::alloc::Global;
+
+// What a place holds until an item is read into it.
+pub(crate) const BLANK: Item = Item {
+    flow: Flow { src: 0, dst: 0 },
+    need: 0,
+    last: 0,
+};
 
 /// The item in the front node.
 pub(crate) fn front(chain: &mut Chain<Item>) -> Item
@@ -16,17 +22,6 @@ pub(crate) fn front(chain: &mut Chain<Item>) -> Item
     *chain.front_mut()
 }
 
-/// Writes the item into the front node of those that are loose, and moves that node on.
-pub(crate) fn put(loose: &mut Chain<Item>, item: Item, to: &mut Chain<Item>)
-    requires some { 0 < length loose.old }
-    requires fits { length to.old + 1 < 2 ^ 64 }
-    ensures to { to.new ≡ to.old ++ item ∷ [] }
-    ensures loose { length loose.new + 1 ≡ length loose.old }
-{
-    *loose.front_mut() = item;
-    loose.move_front(to);
-}
-
 /// A chain of these items, in nodes of those that are loose.
 pub(crate) fn chain_of(alloc: Global, loose: &mut Chain<Item>, items: &[Item]) -> Chain<Item>
     requires nodes { length items.now ≤ length loose.old }
@@ -35,9 +30,7 @@ pub(crate) fn chain_of(alloc: Global, loose: &mut Chain<Item>, items: &[Item]) -
     ensures loose { length loose.new + length items.now ≡ length loose.old }
 {
     let mut chain = Chain::new(alloc);
-    for item in items {
-        put(loose, *item, &mut chain);
-    }
+    loose.move_writing(items, &mut chain);
     chain
 }
 
@@ -66,22 +59,14 @@ pub(crate) fn open_nodes(spare: &mut Chain<Item>, loose: &mut Chain<Item>, batch
 }
 
 /// Copies the items out of their nodes, which lie loose then.
-pub(crate) fn read_all(
-    from: &mut Chain<Item>,
-    loose: &mut Chain<Item>,
-    items: &mut ArrayVec<Item, 64>,
-)
-    requires few { length from.old ≤ 64 }
-    requires none { items.old.items ≡ [] }
+pub(crate) fn read_all(from: &mut Chain<Item>, loose: &mut Chain<Item>, items: &mut [Item])
+    requires all { length items.old ≡ length from.old }
     requires fits { length loose.old + length from.old < 2 ^ 64 }
-    ensures items { items.new.items ≡ from.old }
+    ensures items { items.new ≡ from.old }
     ensures from { from.new ≡ [] }
     ensures loose { length loose.new ≡ length loose.old + length from.old }
 {
-    for _ in 0..from.len() {
-        items.push(front(from));
-        from.move_front(loose);
-    }
+    from.move_reading(items, loose);
 }
 
 /// Appends the items to the list, which has room for them; their nodes lie loose then.
@@ -93,8 +78,10 @@ pub(crate) fn append_all(from: &mut Chain<Item>, loose: &mut Chain<Item>, list: 
     ensures from { from.new ≡ [] }
     ensures loose { length loose.new ≡ length loose.old + length from.old }
 {
-    for _ in 0..from.len() {
-        list.push(front(from));
-        from.move_front(loose);
+    let mut places = [BLANK; 64];
+    while from.len() > 0 {
+        let items = &mut places[..from.len().min(64)];
+        from.move_reading(items, loose);
+        list.append(items);
     }
 }

@@ -6,9 +6,8 @@ ghost use Rattle.slot_batches.specs.Settled.{settled, slots_filled};
 ghost use Rattle.slot_batches.specs.Pieces.{part_of, next_piece};
 
 use crate::array_stage::ArrayStage;
-use crate::chains::{front, open_nodes, read_all};
+use crate::chains::{BLANK, front, open_nodes, read_all};
 use crate::piece::Piece;
-use arrayvec::ArrayVec;
 use greedy_rules::{Batch, DemandList, Item, SlotTable};
 use item_chain::Chain;
 use no_memory::NoMemory;
@@ -94,9 +93,10 @@ impl Stage {
             MayBeFed batch.now.entries (endpoints_of self.old) (first_slot_of self.old) (fed ++ from.old) →
             Stands batch.now (fed ++ from.old) false given self.new }
     {
-        let mut items = ArrayVec::new();
-        read_all(from, &mut self.loose, &mut items);
-        self.arrays.feed_items(batch, &items);
+        let mut places = [BLANK; 64];
+        let items = &mut places[..from.len()];
+        read_all(from, &mut self.loose, items);
+        self.arrays.feed_items(batch, items);
     }
 
     /// Ends the list: the slots are filled, and all of the list that they leave is settled.

@@ -12,7 +12,7 @@ returns-clause-stands c = λ fed given with may.
     let inside = c.self.inside in
     let was = subst (λ (s : StageState). Stands batch fed false given s) (sym c.self.view_is) with in
     let feedable = subst (λ (s : StageState). MayBeFed batch.entries (endpoints_of s) (first_slot_of s) (fed ++ list)) (sym c.self.view_is) may in
-    let is : c.deref.result.now ≡ list = c.deref.ensures.0 ∙ c.read_all.ensures.items in
+    let is : c.read_all.new.items ≡ list = c.read_all.ensures.items in
     record {
       arrays = subst (λ (xs : List Item). ArrayStands batch (fed ++ xs) false given c.feed_items.new.self) is
           (c.feed_items.ensures.stands fed given was.arrays (subst (λ (xs : List Item). MayBeFed batch.entries (array_endpoints inside.arrays) (array_first inside.arrays) (fed ++ xs)) (sym is) feedable));
