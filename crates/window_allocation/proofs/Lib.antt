@@ -1,5 +1,6 @@
 pub mod Weaving
 pub mod Places
+pub mod IdleFronts
 pub mod SlotWords
 pub mod ReachLemmas
 pub mod Choice

@@ -1,7 +1,7 @@
 -- A list walked item by item, with the words of those that go ahead; and what it says of the slots, batch by batch.
-use Rattle.std.proofs.Common.{◌≡◌, ◌<◌, ◌≤◌, ◌+◌, ◌-◌, ◌*◌, ℕ, List, [], ◌∷◌, ◌++◌, length, get_or, take, drop, filter, Bool, true, false, not, ◌&&◌, ◌||◌, ◌==◌, nat_lt, All, sym, ap, ◌∙◌, subst, arith, inl, inr, ◌⊎◌}
+use Rattle.std.proofs.Common.{◌≡◌, ◌<◌, ◌≤◌, ◌+◌, ◌-◌, ◌*◌, ℕ, zero, suc, List, [], ◌∷◌, ◌++◌, length, get_or, take, drop, filter, Bool, true, false, not, ◌&&◌, ◌||◌, ◌==◌, nat_lt, All, refl, sym, ap, ◌∙◌, subst, arith, inl, inr, ◌⊎◌}
 use Rattle.std.specs.List.{list_any}
-use Rattle.std.proofs.lemmas.Bool.{cases_order, cases_Bool, cond_both, cond-true, cond-false, eq-eqb, eqb-true, and_from, and_parts, or_cases, or_left, or_right, lt-ltb, ltb-true, both_ways, not_from_false}
+use Rattle.std.proofs.lemmas.Bool.{cases_lt, cases_order, cases_Bool, cond_both, cond-true, cond-false, eq-eqb, eqb-true, and_from, and_parts, or_cases, or_left, or_right, lt-ltb, ltb-true, both_ways, not_from_false}
 use Rattle.std.proofs.lemmas.Nat.{mul-le}
 use Rattle.std.proofs.lemmas.List.{drop_more, drop_all, get_or_default, get_or-take, get_or-drop, length-take, length-drop, drop-drop}
 use Rattle.std.proofs.lemmas.List.Elements.{filter_passes}
@@ -165,6 +165,75 @@ module _ (b count : ℕ) (slots : List (List Flow)) (list : List Item) (aside : 
               rest = λ rest_out. walked.rest (subst (Out now) (sym split) ((λ is_aside. item_out), rest_out));
             }
       ]
+
+  -- an item that was not picked
+  one_on : (at next : ℕ) (old noted : EndWords) (batches : List DemandBatch) (d : Item) → at < length list → drop served list ≡ once_served list → OpenNew list batches → IsWalked b count slots list aside served places at next old
+      → ((ahead : Flow → Bool) → AreAhead b slots ahead old → ((at == served) ≡ true → OpenAhead ahead batches) → AreAhead b slots ahead noted) → (nat_lt next (length places) && (get_or places next 0 == at)) ≡ false
+      → IsNamed noted count (get_or list at d) → IsWalked b count slots list aside served places (at + 1) next noted
+  one_on at next old noted batches d inside parts opens walked noting other named =
+      walked_on at next next (get_or list at d) old noted noted false batches (drop_more list at d inside) (λ from. served_from list served at d parts inside from) opens walked noting (sym other) (λ is. absurd (cc)) (λ _. refl)
+      (λ is. absurd (cc)) (λ _. refl) (λ _. named)
+
+  -- a run of items of which none was picked
+  run_on : (n at next : ℕ) (old noted : EndWords) (batches : List DemandBatch) (d : Item) → at + n < length list → drop served list ≡ once_served list → OpenNew list batches → IsWalked b count slots list aside served places at next old
+      → ((ahead : Flow → Bool) → AreAhead b slots ahead old → ((at == served) ≡ true → OpenAhead ahead batches) → AreAhead b slots ahead noted)
+      → ((other : ℕ) → at ≤ other → other < at + suc n → (nat_lt next (length places) && (get_or places next 0 == other)) ≡ false)
+      → ((other : ℕ) → at ≤ other → other < at + suc n → IsNamed noted count (get_or list other d)) → IsWalked b count slots list aside served places (at + suc n) next noted
+  run_on zero at next old noted batches d within parts opens walked noting others named =
+      one_on at next old noted batches d (omega (arith, within)) parts opens walked noting (others at (omega arith) (omega arith)) (named at (omega arith) (omega arith))
+  run_on (suc n) at next old noted batches d within parts opens walked noting others named =
+      let one = one_on at next old noted batches d (omega (arith, within)) parts opens walked noting (others at (omega arith) (omega arith)) (named at (omega arith) (omega arith)) in
+      let there : at + 1 + suc n ≡ at + suc (suc n) = omega arith in
+      subst (λ (k : ℕ). IsWalked b count slots list aside served places k next noted) there
+      (run_on n (at + 1) next noted noted batches d (omega (arith, within)) parts opens one (λ ahead was _. was) (λ other from below. others other (omega (arith, from)) (omega (arith, below)))
+      (λ other from below. named other (omega (arith, from)) (omega (arith, below))))
+
+  -- so, and one that was picked behind them, if there is one
+  pub gap_walked : (at end next then step : ℕ) (old noted new : EndWords) (is_picked : Bool) (batches : List DemandBatch) (d : Item) → at ≤ end → (is_picked ≡ false → at < end) → end ≤ length list → (is_picked ≡ true → end < length list)
+      → drop served list ≡ once_served list → OpenNew list batches → IsWalked b count slots list aside served places at next old
+      → ((ahead : Flow → Bool) → AreAhead b slots ahead old → ((at == served) ≡ true → OpenAhead ahead batches) → AreAhead b slots ahead noted)
+      → ((other : ℕ) → at ≤ other → other < end → (nat_lt next (length places) && (get_or places next 0 == other)) ≡ false)
+      → ((other : ℕ) → at ≤ other → other < end → IsNamed noted count (get_or list other d))
+      → (is_picked ≡ true → (nat_lt next (length places) && (get_or places next 0 == end)) ≡ true) → (is_picked ≡ true → step ≡ 1) → (is_picked ≡ false → step ≡ 0) → then ≡ next + step
+      → (is_picked ≡ true → (ahead : Flow → Bool) → AreAhead b slots ahead noted → ahead (get_or list end d).flow ≡ true → AreAhead b slots ahead new)
+      → (is_picked ≡ false → new ≡ noted) → IsWalked b count slots list aside served places (end + step) then new
+  gap_walked at end next then step old noted new is_picked batches d from some within inside parts opens walked noting others named here one none then_is adding same =
+      let Walked : ℕ → ℕ → EndWords → Type 0 = IsWalked b count slots list aside served places in
+      let before : at < end → Walked end next noted = λ less.
+      let n : ℕ = end - at - 1 in
+      let there : at + suc n ≡ end = omega (arith, less) in
+      subst (λ (k : ℕ). Walked k next noted) there
+      (run_on n at next old noted batches d (omega (arith, less, within)) parts opens walked noting (λ other up below. others other up (omega (arith, below, there))) (λ other up below. named other up (omega (arith, below, there)))) in
+      elim (cases_Bool is_picked) [
+        | inl is ↦
+            let item : Item = get_or list end d in
+            let last : (words : EndWords) → Walked end next words → ((ahead : Flow → Bool) → AreAhead b slots ahead words → ((end == served) ≡ true → OpenAhead ahead batches) → AreAhead b slots ahead noted) → Walked (end + 1) (next + 1) new =
+            λ words reached noting_then.
+            walked_on end next (next + 1) item words noted new true batches (drop_more list end d (inside is)) (λ up. served_from list served end d parts (inside is) up) opens reached noting_then (sym (here is))
+            (λ _. refl) (λ not_it. absurd (cc)) (λ _. adding is) (λ not_it. absurd (cc)) (λ not_it. absurd (cc)) in
+            let whole : Walked (end + 1) (next + 1) new = elim (cases_lt at end) [
+              | inl less ↦ last noted (before less) (λ ahead was _. was)
+              | inr least ↦
+                  let same_place : at ≡ end = omega (arith, from, least) in
+                  last old (subst (λ (k : ℕ). Walked k next old) same_place walked)
+                  (subst (λ (k : ℕ). (ahead : Flow → Bool) → AreAhead b slots ahead old → ((k == served) ≡ true → OpenAhead ahead batches) → AreAhead b slots ahead noted) same_place noting)
+            ] in
+            subst (λ (k : ℕ). Walked (end + k) then new) (sym (one is)) (subst (λ (k : ℕ). Walked (end + 1) k new) (sym (then_is ∙ ap (λ (k : ℕ). next + k) (one is))) whole)
+        | inr not_it ↦
+            let whole : Walked end next new = subst (Walked end next) (sym (same not_it)) (before (some not_it)) in
+            let there : end ≡ end + step = omega (arith, none not_it) in
+            let then_there : next ≡ then = omega (arith, none not_it, then_is) in
+            subst (λ (k : ℕ). Walked k then new) there (subst (λ (k : ℕ). Walked end k new) then_there whole)
+      ]
+
+-- what holds of all items of a part of a list holds of each
+pub each_of_part : (P : Item → Type 0) (at m : ℕ) (list : List Item) (d : Item) → All P (take m (drop at list)) → at + m ≤ length list → (other : ℕ) → at ≤ other → other < at + m → P (get_or list other d)
+each_of_part P at m list d all within other from below =
+    let k : ℕ = other - at in
+    let under : k < m = omega (arith, from, below) in
+    let there : at + k ≡ other = omega (arith, from) in
+    subst P (get_or-take m (drop at list) k d under ∙ (get_or-drop at list k d ∙ ap (λ (n : ℕ). get_or list n d) there))
+    (all k d (omega (arith, under, within, length-take m (drop at list), length-drop at list)))
 
 -- ---- the same, slot by slot
 

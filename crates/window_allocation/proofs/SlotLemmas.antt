@@ -1,13 +1,14 @@
 -- The slots of one table, put into empty places of another, flow by flow.
-use Rattle.std.proofs.Common.{◌≡◌, ◌<◌, ◌≤◌, ◌+◌, ◌-◌, ℕ, zero, suc, List, [], ◌∷◌, ◌++◌, length, get_or, set, take, drop, replicate, Option, Some, None, nat_lt, All, AllPairs, IfSome, refl, sym, ap, ◌∙◌, subst, arith, inl, inr}
-use Rattle.std.proofs.lemmas.Bool.{cond-true, cond-false, cases_Bool, ltb-true, lt-ltb, eq-eqb, ne_eqb}
-use Rattle.std.proofs.lemmas.List.{append-nil, append_assoc, length-append, length-take, get_or_at, set_at, set-set, set-get_or, get_or-set_same, take_more, take-append-drop}
-use Rattle.std.proofs.lemmas.List.Elements.{All-nil, All-cons, All-head, All-tail, All-weaker}
+use Rattle.std.proofs.Common.{◌||◌, Bool, true, false, is_some, ◌≡◌, ◌<◌, ◌≤◌, ◌+◌, ◌-◌, ℕ, zero, suc, List, [], ◌∷◌, ◌++◌, length, get_or, set, take, drop, replicate, Option, Some, None, nat_lt, All, IfSome, refl, sym, ap, ◌∙◌, subst, arith}
+use Rattle.std.specs.List.{fold}
+use Rattle.std.proofs.lemmas.Bool.{cond-true, lt-ltb, eq-eqb, ne_eqb}
+use Rattle.std.proofs.lemmas.List.{append-nil, append_assoc, length-append, length-take, length-take-le, take_at, drop_at, get_or_at, set_at, set-set, set-get_or, get_or-set_same, take_more, take-append-drop}
+use Rattle.std.proofs.lemmas.List.Elements.{All-nil, All-cons, All-head, All-tail, All-append, All-weaker}
 use Rattle.greedy_rules.specs.declared.flows.Flow.{Flow}
 use Rattle.greedy_rules.specs.Slot.{slot_with}
 use Rattle.greedy_rules.specs.Schedule.{slot_in}
-use Rattle.greedy_rules.specs.SlotTable.{destination_of, flows_from}
-use Rattle.greedy_rules.proofs.Facts.{before, sent, before-none, before-all, before_more, this_source, other_source, sent_flow}
+use Rattle.greedy_rules.specs.SlotTable.{destination_of, flows_from, AreCells}
+use Rattle.greedy_rules.proofs.Facts.{this_source, other_source}
 
 -- a source above all of a slot's sends nothing, and comes last
 pub sends_nothing : (source : ℕ) (slot : List Flow) → All (λ flow. flow.src < source) slot → destination_of slot source ≡ None
@@ -22,37 +23,98 @@ comes_last flow (next ∷ slot) below =
     cond-true (nat_lt next.src flow.src) (next ∷ slot_with flow slot) (flow ∷ (next ∷ slot)) (lt-ltb _ _ (All-head (λ (f : Flow). f.src < flow.src) next slot below))
     ∙ ap (λ (fs : List Flow). next ∷ fs) (comes_last flow slot (All-tail (λ (f : Flow). f.src < flow.src) next slot below))
 
--- the flows of the sources below one
-pub before-below : (source : ℕ) (slot : List Flow) → All (λ flow. flow.src < source) (before source slot)
-before-below source [] = All-nil (λ (f : Flow). f.src < source)
-before-below source (flow ∷ slot) =
-    let P : Flow → Type 0 = λ f. f.src < source in
-    let rest : All P (before source slot) = before-below source slot in
-    elim (cases_Bool (nat_lt flow.src source)) [
-      | inl is ↦ subst (All P) (sym (cond-true (nat_lt flow.src source) (flow ∷ before source slot) (before source slot) is)) (All-cons P flow (before source slot) (ltb-true _ _ is) rest)
-      | inr not ↦ subst (All P) (sym (cond-false (nat_lt flow.src source) (flow ∷ before source slot) (before source slot) not)) rest
-    ]
+-- a row in parts: the flows of its first places, and of those behind them
+flows_append : (src : ℕ) (xs ys : List (Option ℕ)) → flows_from src (xs ++ ys) ≡ flows_from src xs ++ flows_from (src + length xs) ys
+flows_append src [] ys = let here : src ≡ src + 0 = omega arith in ap (λ (n : ℕ). flows_from n ys) here
+flows_append src (None ∷ xs) ys =
+    let on : src + 1 + length xs ≡ src + suc (length xs) = omega arith in
+    flows_append (src + 1) xs ys ∙ ap (λ (n : ℕ). flows_from (src + 1) xs ++ flows_from n ys) on
+flows_append src (Some dst ∷ xs) ys =
+    let on : src + 1 + length xs ≡ src + suc (length xs) = omega arith in
+    ap (λ (fs : List Flow). record { src = src; dst = dst } ∷ fs) (flows_append (src + 1) xs ys ∙ ap (λ (n : ℕ). flows_from (src + 1) xs ++ flows_from n ys) on)
 
-sent_is : (source : ℕ) (dst : Option ℕ) → flows_from source (dst ∷ []) ≡ sent source dst
-sent_is source None = refl
-sent_is source (Some dst) = refl
+flows_below : (src : ℕ) (cells : List (Option ℕ)) → All (λ flow. flow.src < src + length cells) (flows_from src cells)
+flows_below src [] = All-nil (λ (f : Flow). f.src < src + 0)
+flows_below src (None ∷ cells) = All-weaker (λ (f : Flow). f.src < src + 1 + length cells) (λ (f : Flow). f.src < src + suc (length cells)) (λ flow below. omega (arith, below)) (flows_from (src + 1) cells) (flows_below (src + 1) cells)
+flows_below src (Some dst ∷ cells) =
+    All-cons (λ (f : Flow). f.src < src + suc (length cells)) (record { src = src; dst = dst }) (flows_from (src + 1) cells) (omega arith)
+    (All-weaker (λ (f : Flow). f.src < src + 1 + length cells) (λ (f : Flow). f.src < src + suc (length cells)) (λ flow below. omega (arith, below)) (flows_from (src + 1) cells) (flows_below (src + 1) cells))
 
--- nothing was put into the slot so far
-pub none_put : (slots : List (List Flow)) (place : ℕ) (slot : List Flow) → slot_in slots place ≡ [] → slots ≡ set slots place (before 0 slot)
-none_put slots place slot empty =
-    let none : List Flow = [] in
-    sym (set-get_or slots place none)
-    ∙ ap (set slots place) (empty ∙ sym (before-none 0 slot (λ k d below. omega arith)))
+-- whether a place has a destination, or one before it had
+abbrev or_sends : Bool → Option ℕ → Bool
+or_sends sends to = sends || is_some to
 
-pub slot_so_far : (old slots : List (List Flow)) (place source : ℕ) (slot : List Flow) → place < length old → slots ≡ set old place (before source slot) → slot_in slots place ≡ before source slot
-slot_so_far old slots place source slot within is =
-    let none : List Flow = [] in
-    ap (λ (xs : List (List Flow)). get_or xs place none) is ∙ get_or-set_same old place (before source slot) none within
+stays_true : (row : List (Option ℕ)) → fold or_sends true row ≡ true
+stays_true [] = refl
+stays_true (to ∷ row) = stays_true row
 
--- what a source of the slot sends goes to an endpoint
-pub dst_within : (endpoints source : ℕ) (slot : List Flow) (to : Option ℕ) → All (λ flow. (flow.src < endpoints) × (flow.dst < endpoints)) slot → to ≡ destination_of slot source → IfSome to (λ dst. dst < endpoints)
-dst_within endpoints source slot None all is = tt
-dst_within endpoints source slot (Some dst) all is = (sent_flow (λ (flow : Flow). (flow.src < endpoints) × (flow.dst < endpoints)) slot source dst all (sym is)).1
+-- places in which nobody sends have no flows
+pub no_flows : (src : ℕ) (row : List (Option ℕ)) → fold or_sends false row ≡ false → flows_from src row ≡ []
+no_flows src [] none = refl
+no_flows src (None ∷ row) none = no_flows (src + 1) row none
+no_flows src (Some dst ∷ row) none = let both : true ≡ false = sym (stays_true row) ∙ none in absurd (cc)
+
+-- where the flows of a row go to endpoints, its places name these
+pub cells_within : (endpoints n src : ℕ) (cells : List (Option ℕ)) → endpoints ≤ n → All (λ flow. (flow.src < endpoints) × (flow.dst < endpoints)) (flows_from src cells) → AreCells n cells
+cells_within endpoints n src [] le all = All-nil (λ (cell : Option ℕ). IfSome cell (λ dst. dst < n))
+cells_within endpoints n src (None ∷ cells) le all = All-cons (λ (cell : Option ℕ). IfSome cell (λ dst. dst < n)) None cells tt (cells_within endpoints n (src + 1) cells le all)
+cells_within endpoints n src (Some dst ∷ cells) le all =
+    let P : Flow → Type 0 = λ flow. (flow.src < endpoints) × (flow.dst < endpoints) in
+    let first = All-head P (record { src = src; dst = dst }) (flows_from (src + 1) cells) all in
+    All-cons (λ (cell : Option ℕ). IfSome cell (λ (to : ℕ). to < n)) (Some dst) cells (omega (arith, first.1, le))
+    (cells_within endpoints n (src + 1) cells le (All-tail P (record { src = src; dst = dst }) (flows_from (src + 1) cells) all))
+
+-- a slot that gets the flows of some places behind its own
+pub got : (old slots : List (List Flow)) (place : ℕ) (slot : List Flow) → place < length old → slots ≡ set old place slot → slot_in slots place ≡ slot
+got old slots place slot within is = let none : List Flow = [] in ap (λ (xs : List (List Flow)). get_or xs place none) is ∙ get_or-set_same old place slot none within
+
+pub got_none : (slots : List (List Flow)) (place : ℕ) → slots ≡ set slots place (slot_in slots place ++ [])
+got_none slots place = let none : List Flow = [] in sym (set-get_or slots place none) ∙ ap (set slots place) (sym (append-nil (slot_in slots place)))
+
+pub got_more : (old slots next : List (List Flow)) (place : ℕ) (slot more whole : List Flow) → place < length old → slots ≡ set old place slot → next ≡ set slots place (slot_in slots place ++ more) → slot ++ more ≡ whole → next ≡ set old place whole
+got_more old slots next place slot more whole within so_far is all =
+    is
+    ∙ (ap (λ (fs : List Flow). set slots place (fs ++ more)) (got old slots place slot within so_far)
+    ∙ (ap (λ (xs : List (List Flow)). set xs place (slot ++ more)) so_far ∙ (set-set old place slot (slot ++ more) ∙ ap (set old place) all)))
+
+-- the flows of one place more
+pub one_more : (front : List Flow) (first at : ℕ) (few : List (Option ℕ)) (d : Option ℕ) → at < length few
+    → (front ++ flows_from first (take at few)) ++ flows_from (first + at) (get_or few at d ∷ []) ≡ front ++ flows_from first (take (at + 1) few)
+one_more front first at few d below =
+    let here : first + length (take at few) ≡ first + at = omega (arith, length-take-le at few (omega arith)) in
+    append_assoc front (flows_from first (take at few)) (flows_from (first + at) (get_or few at d ∷ []))
+    ∙ ap (λ (fs : List Flow). front ++ fs)
+    (ap (λ (n : ℕ). flows_from first (take at few) ++ flows_from n (get_or few at d ∷ [])) (sym here) ∙ (sym (flows_append first (take at few) (get_or few at d ∷ [])) ∙ ap (flows_from first) (sym (take_more few at d below))))
+
+-- all that a slot has after the first places comes below the next one
+pub below_next : (front : List Flow) (first at : ℕ) (few : List (Option ℕ)) → at ≤ length few → All (λ flow. flow.src < first) front → All (λ flow. flow.src < first + at) (front ++ flows_from first (take at few))
+below_next front first at few within below =
+    let here : first + length (take at few) ≡ first + at = omega (arith, length-take-le at few within) in
+    All-append (λ (f : Flow). f.src < first + at) front (flows_from first (take at few)) (All-weaker (λ (f : Flow). f.src < first) (λ (f : Flow). f.src < first + at) (λ flow low. omega (arith, low)) front below)
+    (subst (λ (n : ℕ). All (λ (f : Flow). f.src < n) (flows_from first (take at few))) here (flows_below first (take at few)))
+
+-- the next places of a row
+pub record IsCut (at : ℕ) (row few left : List (Option ℕ)) : Type 0 where
+  pub left_is : drop (at + length few) row ≡ left
+  pub flows : flows_from 0 (take at row) ++ flows_from at few ≡ flows_from 0 (take (at + length few) row)
+  pub below : All (λ flow. flow.src < at) (flows_from 0 (take at row))
+  pub few_is : few ≡ take (length few) (drop at row)
+
+pub cut : (at : ℕ) (row rest few left : List (Option ℕ)) → at ≤ length row → drop at row ≡ rest → rest ≡ few ++ left → IsCut at row few left
+cut at row rest few left within rest_is split =
+    let front : List (Option ℕ) = take at row in
+    let here : drop at row ≡ few ++ left = rest_is ∙ split in
+    let long : length front ≡ at = length-take-le at row within in
+    let there : 0 + length front ≡ at = omega (arith, long) in
+    let whole : row ≡ (front ++ few) ++ left = sym (take-append-drop at row) ∙ (ap (λ (xs : List (Option ℕ)). front ++ xs) here ∙ sym (append_assoc front few left)) in
+    let count : length (front ++ few) ≡ at + length few = omega (arith, length-append front few, long) in
+    let taken : take (at + length few) row ≡ front ++ few = ap (take (at + length few)) whole ∙ take_at (front ++ few) left (at + length few) count in
+    record {
+      left_is = ap (drop (at + length few)) whole ∙ drop_at (front ++ few) left (at + length few) count;
+      flows = sym (ap (flows_from 0) taken ∙ (flows_append 0 front few ∙ ap (λ (n : ℕ). flows_from 0 front ++ flows_from n few) there));
+      below = subst (λ (n : ℕ). All (λ (f : Flow). f.src < n) (flows_from 0 front)) there (flows_below 0 front);
+      few_is = sym (take_at few left (length few) refl) ∙ ap (take (length few)) (sym here);
+    }
 
 none_before : (k src : ℕ) (cells : List (Option ℕ)) → src < k → destination_of (flows_from k cells) src ≡ None
 none_before k src [] low = refl
@@ -71,22 +133,6 @@ cell_from k (suc i) src (Some dst ∷ cells) d is below =
 -- what stands at a source's place of a row is where it sends
 pub cell_is : (at : ℕ) (cells : List (Option ℕ)) (slot : List Flow) (d : Option ℕ) → at < length cells → flows_from 0 cells ≡ slot → get_or cells at d ≡ destination_of slot at
 cell_is at cells slot d below is = cell_from 0 at at cells d (omega arith) below ∙ ap (λ (flows : List Flow). destination_of flows at) is
-
--- what one source more sends was put
-pub more_put : (old slots next : List (List Flow)) (place source : ℕ) (slot : List Flow) (to : Option ℕ) → place < length old → AllPairs (λ f g. f.src < g.src) slot → slots ≡ set old place (before source slot) → to ≡ destination_of slot source
-    → next ≡ set slots place (slot_in slots place ++ flows_from source (to ∷ [])) → next ≡ set old place (before (source + 1) slot)
-more_put old slots next place source slot to within rises so_far to_is next_is =
-    let sends : List Flow = flows_from source (to ∷ []) in
-    let whole : before source slot ++ sends ≡ before (source + 1) slot =
-    ap (λ (fs : List Flow). before source slot ++ fs) (sent_is source to ∙ ap (sent source) to_is) ∙ sym (before_more source slot rises) in
-    next_is
-    ∙ (ap (λ (fs : List Flow). set slots place (fs ++ sends)) (slot_so_far old slots place source slot within so_far)
-    ∙ (ap (λ (xs : List (List Flow)). set xs place (before source slot ++ sends)) so_far
-    ∙ (set-set old place (before source slot) (before source slot ++ sends) ∙ ap (set old place) whole)))
-
-pub all_put : (old slots : List (List Flow)) (place source endpoints : ℕ) (slot : List Flow) → endpoints ≤ source → All (λ flow. (flow.src < endpoints) × (flow.dst < endpoints)) slot → slots ≡ set old place (before source slot) → slots ≡ set old place slot
-all_put old slots place source endpoints slot done all is =
-    is ∙ ap (set old place) (before-all source slot (All-weaker (λ (flow : Flow). (flow.src < endpoints) × (flow.dst < endpoints)) (λ (flow : Flow). flow.src < source) (λ flow in_range. omega (arith, in_range.0)) slot all))
 
 -- ---- slot by slot
 

@@ -51,7 +51,7 @@ pub none_left : {X : Type 0} (xs : List X) → length xs ≡ 0 → xs ≡ []
 none_left [] none = refl
 none_left (x ∷ xs) none = absurd (omega arith)
 
-parts_in_order : (xs : List Item) → IsInOrder xs → xs ≡ never_served xs ++ once_served xs
+pub parts_in_order : (xs : List Item) → IsInOrder xs → xs ≡ never_served xs ++ once_served xs
 parts_in_order [] up = refl
 parts_in_order (x ∷ xs) up =
     elim (cases_Bool (was_served x)) [

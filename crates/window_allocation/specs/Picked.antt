@@ -1,5 +1,5 @@
 -- What of a window's demand list is set aside, and the memory for the rest (this project's own profile).
-use Rattle.std.specs.Prelude.{◌≡◌, ◌≤◌, ℕ, ◌+◌, ◌*◌, List, [], ◌∷◌, length, Bool, true, false, All, ◌==◌, ◌&&◌, not, if◌then◌else◌, vec_capacity}
+use Rattle.std.specs.Prelude.{◌≡◌, ◌≤◌, ℕ, ◌+◌, ◌*◌, List, [], ◌∷◌, length, take, Bool, true, false, All, ◌==◌, ◌&&◌, not, if◌then◌else◌, vec_capacity}
 use Rattle.greedy_rules.specs.declared.flows.Item.{Item}
 use Rattle.slot_batches.specs.Marks.{WindowMarks, has_mark}
 use Rattle.slot_batches.specs.Woven.{picked, stays, places_from}
@@ -28,3 +28,9 @@ pub record IsReached (marks : WindowMarks) (list found : List Item) (places : Li
   pub at : places ≡ places_from aside 0 list
   pub are : found ≡ picked aside list
   pub unmarked : All (λ item. aside item ≡ true → has_mark marks item.flow ≡ false) list
+
+-- so many items at the front of the list are set aside, and at the front of what is woven from it as well
+pub record StaysInFront (aside : Item → Bool) (count : ℕ) (list whole : List Item) : Type 0 where
+  pub within : (count ≤ length list) × (count ≤ length whole)
+  pub all : All (λ item. aside item ≡ true) (take count list)
+  pub stays : take count whole ≡ take count list

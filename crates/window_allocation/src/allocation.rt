@@ -30,6 +30,8 @@ pub struct Allocation {
     // How many batches are done.
     batches: u32,
     list: DemandList,
+    // So many items at its front need no slot.
+    idle: usize,
     ring: WindowRing,
     paths: Paths,
 }
@@ -37,12 +39,13 @@ pub struct Allocation {
 impl Model for Allocation {
     ghost use Rattle.std.specs.Prelude.{◌≡◌};
     ghost use Rattle.window_allocation.specs.Standing.{Allocated};
+    ghost use Rattle.window_allocation.specs.Idle.{HasIdleFront};
 
     ghost Value = { Allocated };
 
     ghost view = { λ a. record { b = a.b; batches = a.batches; list = a.list; ring = a.ring; paths = a.paths } };
 
-    ghost invariant = { λ a. a.ring.endpoints ≡ a.endpoints };
+    ghost invariant = { λ a. (a.ring.endpoints ≡ a.endpoints) × HasIdleFront a.idle a.list.items };
 }
 
 impl Allocation {
@@ -71,6 +74,7 @@ impl Allocation {
             endpoints,
             batches: 0,
             list: DemandList::open(alloc, flows)?,
+            idle: 0,
             ring: WindowRing::open(alloc, workers, endpoints, u16::from(g), b)?,
             paths: Paths::open(alloc, net, paths, u16::from(g) * u16::from(b))?,
         })
@@ -143,7 +147,15 @@ impl Allocation {
         every_window_is_ready();
         let count = batches.len() as u16 * u16::from(self.b);
         let mut slots = SlotTable::open(alloc, count, self.endpoints)?;
-        self.ring.allocate(rt, gate, &mut self.list, self.batches, batches, &mut slots);
+        self.ring.allocate(
+            rt,
+            gate,
+            &mut self.list,
+            &mut self.idle,
+            self.batches,
+            batches,
+            &mut slots,
+        );
         let mut cores = CoreTable::open(alloc, count, self.endpoints)?;
         self.paths.colour_slots(rt, gate, &slots, &mut cores);
         let span = Span {

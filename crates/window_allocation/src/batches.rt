@@ -4,7 +4,8 @@ ghost use Rattle.window_allocation.specs.Idle.{AreIdle};
 
 use greedy_rules::{Batch, Item};
 
-/// Up to so many items, three pieces of a list, a window is played whole: to part it would save less than a run costs.
+/// Up to so many items, three pieces of a list, all batches are played at once that may change something: to part these would
+/// save less than a run costs.
 const SHORT: usize = 192;
 
 /// The bits of all that the items need: none only where no item needs a slot.
@@ -65,15 +66,50 @@ pub(crate) fn stays_short(items: &[Item], batches: &[Batch]) -> bool {
     most <= SHORT
 }
 
-/// How many batches are played at once: all where the list stays short, and else all up to the first without entries that comes
-/// behind one with entries.
-pub(crate) fn count_run(items: &[Item], batches: &[Batch]) -> usize
+/// How many slots the items need.
+fn needed(items: &[Item]) -> u32 {
+    let mut slots: u32 = 0;
+    for item in items {
+        slots = slots.saturating_add(item.need);
+    }
+    slots
+}
+
+/// How many slots the batch adds.
+fn added(batch: &Batch) -> u32 {
+    let mut slots: u32 = 0;
+    for at in 0..batch.len() {
+        slots = slots.saturating_add(batch.entry(at).add);
+    }
+    slots
+}
+
+/// How many batches of `b` slots may change something, for all that the needs tell: the last of them has entries, or the flows may
+/// need a slot by then though each slot serves but one of them.
+fn count_busy(items: &[Item], batches: &[Batch], b: u8) -> usize
+    ensures { result ≤ length batches.now }
+{
+    let mut left = needed(items);
+    let mut count = 0;
+    for at in 0..batches.len() {
+        left = left.saturating_add(added(&batches[at]));
+        if left > 0 || !batches[at].is_empty() {
+            count = at + 1;
+        }
+        left = left.saturating_sub(u32::from(b));
+    }
+    count
+}
+
+/// How many batches are played at once: all that may change something where the list stays short, and else all up to the first
+/// without entries that comes behind one with entries.
+pub(crate) fn count_run(items: &[Item], batches: &[Batch], b: u8) -> usize
     requires { 0 < length batches.now }
     ensures some { 0 < result }
     ensures count { result ≤ length batches.now }
 {
     if stays_short(items, batches) {
-        return batches.len();
+        return count_busy(items, batches, b).max(1);
     }
     for count in 1..batches.len() {
         if batches[count].is_empty() && !batches[count - 1].is_empty() {

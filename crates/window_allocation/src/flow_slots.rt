@@ -74,8 +74,9 @@ impl FlowSlots {
     {
         // The flows of a slot rise by source.
         let _slots = out.slots();
+        let row = out.row(slot);
         for src in 0..self.endpoints {
-            if let Some(dst) = out.to(slot, src) {
+            if let Some(dst) = row[src as usize] {
                 self.note_flow(slot, src, dst);
             }
         }

@@ -8,6 +8,7 @@ ghost use Rattle.window_allocation.specs.Picked.{IsReached};
 
 use crate::end_words::EndWords;
 use crate::flow_slots::{first_slots, of_first_batch};
+use crate::marked::has_mark;
 use crate::weave::first_served;
 use greedy_rules::{Batch, DemandList, Entry, Flow, Item};
 use no_memory::NoMemory;
@@ -73,22 +74,6 @@ impl EntryBits {
             }
         }
     }
-}
-
-/// Whether the flow may have an entry in the window.
-fn has_mark(marks: &FlowMarks, flow: Flow) -> bool
-    ensures { result ≡ false → has_mark_in marks.now flow ≡ false }
-{
-    if marks.is_empty() {
-        return false;
-    }
-    let item = Item {
-        flow,
-        need: 0,
-        last: 0,
-    };
-    let mut places = [0; 1];
-    marks.note_busy(&[item], &mut places) > 0
 }
 
 /// The lowest `need` of the slots.

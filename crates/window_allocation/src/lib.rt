@@ -6,14 +6,16 @@
 //! says what it stands for, the batches that it has done, wherever they come from, and `specs/Giving.antt` what a window asks and
 //! gives (`window.rt`). `specs/Handed.antt` says what the ring was handed of it. `runs.rt` hands the ring what may change:
 //! `batches.rt` counts the batches that change nothing, which are passed over, and those of a run, which are played together.
-//! `picked.rt` finds the items that need a slot or may have an entry in the window, and notes their places; where these are
-//! little of the list the batches run over them alone. Else `guess.rt` guesses which items the batches can choose, these run over
-//! those, and `reach.rt` tests by the slots that came out that none of the others would be chosen: `end_words.rt` has the slots
-//! of each endpoint as words, `flow_slots.rt` those of each flow (`proofs/ReachLemmas.antt`, `proofs/Choice.antt`,
-//! `proofs/PartLemmas.antt`); where one would, they run over the whole list. `weave.rt` puts the list together again from place
-//! to place, the items that were set aside between two of them at once (`proofs/Places.antt` says why that is the list). A run
-//! that comes behind other batches is played into a table of its own, whose slots `table.rt` puts behind theirs. `needs.rt`
-//! writes down the demand that is left. `proofs/Crossing.antt`: all of it may go to a thread.
+//! `picked.rt` finds the items that need a slot or may have an entry in the window (`marked.rt`), and notes their places; where
+//! these are little of the list the batches run over them alone. So many items at the list's front are known to need nothing from
+//! the window before (`specs/Idle.antt`, `proofs/IdleFronts.antt`), and are looked at only where an entry may be one of theirs.
+//! Else `guess.rt` guesses which items the batches can choose, these run over those, and `reach.rt` tests by the slots that came
+//! out that none of the others would be chosen: `end_words.rt` has the slots of each endpoint as words, `flow_slots.rt` those of
+//! each flow (`proofs/ReachLemmas.antt`, `proofs/Choice.antt`, `proofs/PartLemmas.antt`); where one would, they run over the whole
+//! list. `weave.rt` puts the list together again from place to place, the items that were set aside between two of them at once
+//! (`proofs/Places.antt` says why that is the list). A run that comes behind other batches is played into a table of its own,
+//! whose slots `table.rt` puts behind theirs. `needs.rt` writes down the demand that is left. `proofs/Crossing.antt`: all of it may
+//! go to a thread.
 #![tactic(auto)]
 
 mod allocation;
@@ -23,6 +25,7 @@ mod flow_slots;
 mod guess;
 mod in_place;
 mod laws;
+mod marked;
 mod needs;
 mod picked;
 mod reach;

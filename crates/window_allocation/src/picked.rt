@@ -1,12 +1,13 @@
 //! What of a window's demand list its batches run over, while the rest is set aside.
-ghost use Rattle.std.specs.Prelude.{◌≡◌, ◌<◌, ◌≤◌, ◌+◌, ◌*◌, ◌^◌, [], ◌++◌, Bool, length, true, false, IfOk, All, vec_len, vec_capacity};
+ghost use Rattle.std.specs.Prelude.{◌≡◌, ◌<◌, ◌≤◌, ◌+◌, ◌*◌, ◌^◌, [], ◌++◌, Bool, length, take, true, false, IfOk, All, vec_len, vec_capacity};
 ghost use Rattle.greedy_rules.specs.declared.flows.Flow.{Flow};
 ghost use Rattle.greedy_rules.specs.declared.flows.Item.{Item};
 ghost use Rattle.slot_batches.specs.Feeding.{IsInOrder};
 ghost use Rattle.slot_batches.specs.Marks.{has_mark};
 ghost use Rattle.slot_batches.specs.Woven.{picked as picked_of, woven, OnlyOpen, places_from};
 ghost use Rattle.greedy_rules.specs.Demands.{HasEachFlowOnce};
-ghost use Rattle.window_allocation.specs.Picked.{is_aside as is_aside_in, HasRoomFor, IsReached};
+ghost use Rattle.window_allocation.specs.Idle.{HasIdleFront};
+ghost use Rattle.window_allocation.specs.Picked.{is_aside as is_aside_in, HasRoomFor, IsReached, StaysInFront};
 ghost use Rattle.window_allocation.specs.Reach.{OpenNew, AreOut};
 
 use crate::batches::{needs_of, stays_short};
@@ -14,6 +15,7 @@ use crate::end_words::EndWords;
 use crate::flow_slots::FlowSlots;
 use crate::guess::{EntryBits, pick_reached};
 use crate::in_place::weave_in_place;
+use crate::marked::have_mark;
 use crate::reach::are_out;
 use crate::weave::{first_served, weave_lists};
 use greedy_rules::{Batch, DemandList, Item, SlotTable};
@@ -24,11 +26,17 @@ use std::alloc::Global;
 /// How many windows pass before it is tried again to pick few items of a list of which many may change.
 const PAUSE: u8 = 15;
 
-/// Whether all these items are set aside, where that is seen of their needs alone.
+/// Whether all these items are set aside.
 fn need_nothing(items: &[Item], marks: &FlowMarks) -> bool
     ensures { result ≡ true → All (λ item. is_aside_in marks.now item ≡ true) items.now }
 {
-    marks.is_empty() && needs_of(items) == 0
+    if needs_of(items) > 0 {
+        return false;
+    }
+    if marks.is_empty() {
+        return true;
+    }
+    !have_mark(items, marks)
 }
 
 /// Appends the items at these places, and where they stand in the list, the first item's place being `from`.
@@ -87,14 +95,28 @@ fn pick_few(
     true
 }
 
-/// Picks the items that are not set aside, in their order, and their places, where they are no more than `most`.
+/// From where on the items are looked at, of which so many at the front need nothing.
+fn first_looked_at(items: &[Item], idle: usize, marks: &FlowMarks) -> usize
+    requires { HasIdleFront idle items.now }
+    ensures within { result ≤ length items.now }
+    ensures aside { All (λ item. is_aside_in marks.now item ≡ true) (take result items.now) }
+{
+    let _ = items;
+    if marks.is_empty() { idle } else { 0 }
+}
+
+/// Picks the items that are not set aside, in their order, and their places, where they are no more than `most`. Those before
+/// the first one that is looked at are set aside.
 fn pick_items(
     items: &[Item],
+    first: usize,
     marks: &FlowMarks,
     most: usize,
     found: &mut DemandList,
     places: &mut Vec<usize>,
 ) -> bool
+    requires first { first ≤ length items.now }
+    requires aside { All (λ item. is_aside_in marks.now item ≡ true) (take first items.now) }
     requires room { most ≤ length found.old.items + found.old.spare }
     requires places_room { most ≤ vec_capacity places.old }
     ensures items { result ≡ true → found.new.items ≡ picked_of (is_aside_in marks.now) items.now }
@@ -104,8 +126,8 @@ fn pick_items(
 {
     found.clear();
     places.clear();
-    let mut from = 0;
-    for few in items.chunks(64) {
+    let mut from = first;
+    for few in items[first..].chunks(64) {
         if !pick_few(few, from, marks, most, found, places) {
             return false;
         }
@@ -171,8 +193,9 @@ impl Picked {
     }
 
     /// Picks the items of the list that need a slot or may have an entry in one of the batches, unless they are more than an
-    /// eighth of it; where they were, some windows pass before that is looked at again.
-    pub(crate) fn pick(&mut self, list: &[Item], batches: &[Batch]) -> bool
+    /// eighth of it; where they were, some windows pass before that is looked at again. So many items at the front need nothing.
+    pub(crate) fn pick(&mut self, list: &[Item], idle: usize, batches: &[Batch]) -> bool
+        requires idle { HasIdleFront idle list.now }
         requires room { length list.now ≤ length self.old.items.items + self.old.items.spare }
         requires places_room { length list.now ≤ vec_capacity self.old.places }
         ensures items { result ≡ true → self.new.items.items ≡ picked_of (is_aside_in self.new.marks) list.now }
@@ -188,8 +211,10 @@ impl Picked {
             self.pause -= 1;
             return false;
         }
+        let first = first_looked_at(list, idle, &self.marks);
         let picked = pick_items(
             list,
+            first,
             &self.marks,
             list.len() / 8,
             &mut self.items,
@@ -265,6 +290,21 @@ impl Picked {
         let b = u16::from(b);
         self.slots.note(out, batches.len() as u16 * b);
         are_out(&mut self.words, &self.slots, list, &self.places, batches, b)
+    }
+
+    /// How many items at the front of the list, all of them set aside, are at its front as well once it is put together again.
+    pub(crate) fn staying_front(&self, list: &[Item]) -> usize
+        requires list_order { IsInOrder list.now }
+        requires order { IsInOrder self.now.items.items }
+        ensures { (aside : Item → Bool) → self.now.places.items ≡ places_from aside 0 list.now → StaysInFront aside result list.now (woven aside list.now self.now.items.items) }
+    {
+        if first_served(self.items.items()) > 0 {
+            return 0;
+        }
+        if self.places.is_empty() {
+            return list.len();
+        }
+        self.places[0]
     }
 
     /// Puts the list together again by a copy of all its items.

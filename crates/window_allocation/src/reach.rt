@@ -72,13 +72,54 @@ fn is_out(words: &EndWords, item: &Item, all: u64) -> bool
     words.either(item.flow) == all
 }
 
-/// Whether this is the next of the places.
-fn is_next(places: &[usize], next: usize, at: usize) -> bool
-    ensures { result ≡ (nat_lt next (length places.now) && (slice_index_or places.now next 0 == at)) }
+/// Whether each of the items is out.
+fn all_out(words: &EndWords, items: &[Item], count: u16, b: u16, all: u64) -> bool
+    requires { (at : ℕ) → at < count * b → has_slot all at ≡ true }
+    ensures { result ≡ true → All (IsNamed words.now (count * b)) items.now }
+{
+    for item in items {
+        if !is_out(words, item, all) {
+            return false;
+        }
+    }
+    true
+}
+
+/// Where a walk from this place on stops: at the first item that was served, or at the list's end.
+fn stop_from(at: usize, served: usize, len: usize) -> usize
+    requires inside { at < len }
+    requires served { served ≤ len }
+    ensures behind { at < result }
+    ensures within { result ≤ len }
+{
+    if at < served { served } else { len }
+}
+
+/// Items that were not picked end at this place, where one stands that was, if so.
+#[derive(Clone, Copy)]
+struct Gap {
+    end: usize,
+    picked: bool,
+}
+
+/// The items that were not picked from this place on, up to the next that was, or to `stop`.
+fn gap_from(places: &[usize], next: usize, at: usize, stop: usize) -> Gap
+    requires { at < stop }
+    ensures from { at ≤ result.end }
+    ensures within { result.end ≤ stop }
+    ensures picked { result.picked ≡ true → (result.end < stop) × ((nat_lt next (length places.now) && (slice_index_or places.now next 0 == result.end)) ≡ true) }
+    ensures none { result.picked ≡ false → at < result.end }
+    ensures others { (other : ℕ) → at ≤ other → other < result.end → (nat_lt next (length places.now) && (slice_index_or places.now next 0 == other)) ≡ false }
 {
     match places.get(next) {
-        Some(place) => *place == at,
-        None => false,
+        Some(place) if at <= *place && *place < stop => Gap {
+            end: *place,
+            picked: true,
+        },
+        _ => Gap {
+            end: stop,
+            picked: false,
+        },
     }
 }
 
@@ -91,27 +132,24 @@ fn note_picked(words: &mut EndWords, slots: &FlowSlots, item: &Item, count: u16,
     words.add(item.flow, slots.earliest(item.flow, count, b));
 }
 
-/// Lets the words name where the item is served first, if it was picked, and answers whether else it is out.
-fn pass(
+/// Lets the words name where the item at this place is served first, where this is so.
+fn note_picked_if(
+    here: bool,
     words: &mut EndWords,
     slots: &FlowSlots,
-    item: &Item,
-    picked: bool,
+    list: &[Item],
+    at: usize,
     count: u16,
     b: u16,
-    all: u64,
-) -> bool
+)
     requires few { count * b ≤ 64 }
-    requires all { (at : ℕ) → at < count * b → has_slot all at ≡ true }
-    ensures noted { picked ≡ true → (all : List (List Flow)) (ahead : Flow → Bool) → ShowSlots slots.now.endpoints (count * b) all slots.now.words.items → AreAhead b all ahead words.old → ahead item.now.flow ≡ true → AreAhead b all ahead words.new }
-    ensures same { picked ≡ false → words.new ≡ words.old }
-    ensures out { picked ≡ false → result ≡ true → IsNamed words.old (count * b) item.now }
+    requires within { here ≡ true → at < length list.now }
+    ensures noted { here ≡ true → (none : Item) (all : List (List Flow)) (ahead : Flow → Bool) → ShowSlots slots.now.endpoints (count * b) all slots.now.words.items → AreAhead b all ahead words.old → ahead (slice_index_or list.now at none).flow ≡ true → AreAhead b all ahead words.new }
+    ensures same { here ≡ false → words.new ≡ words.old }
 {
-    if picked {
-        note_picked(words, slots, item, count, b);
-        return true;
+    if here {
+        note_picked(words, slots, &list[at], count, b);
     }
-    is_out(words, item, all)
 }
 
 /// Whether each item of the list that needs a slot and was not picked, these being the places of those that were, is kept out of
@@ -135,13 +173,16 @@ pub(crate) fn are_out(
     let all = first_slots(count * b);
     let served = first_served(list);
     let mut next = 0;
-    for at in 0..list.len() {
+    let mut at = 0;
+    while at < list.len() {
         note_opened_if(at == served, words, slots, batches, count, b);
-        let picked = is_next(places, next, at);
-        if !pass(words, slots, &list[at], picked, count, b, all) {
+        let gap = gap_from(places, next, at, stop_from(at, served, list.len()));
+        if !all_out(words, &list[at..gap.end], count, b, all) {
             return false;
         }
-        next += usize::from(picked);
+        note_picked_if(gap.picked, words, slots, list, gap.end, count, b);
+        at = gap.end + usize::from(gap.picked);
+        next += usize::from(gap.picked);
     }
     true
 }

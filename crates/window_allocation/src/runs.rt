@@ -2,6 +2,7 @@
 ghost use Rattle.std.specs.Prelude.{◌≡◌, ◌<◌, ◌≤◌, ◌+◌, ◌-◌, ◌*◌, [], ◌++◌, length, take, drop, replicate, IfOk};
 ghost use Rattle.greedy_rules.specs.Schedule.{schedule_from, rest_from};
 ghost use Rattle.alloc_pipeline.specs.Ring.{IsRing as MayBeOpened, IsSameRing, MayAllocate, moved_by, pairs_of};
+ghost use Rattle.window_allocation.specs.Idle.{HasIdleFront};
 ghost use Rattle.window_allocation.specs.Picked.{HasRoomFor, IsReached};
 ghost use Rattle.window_allocation.specs.Ready.{AnyPartMayBeApplied, MaySetAside};
 ghost use Rattle.ring_core.specs.Windows.{window_of};
@@ -68,22 +69,34 @@ impl WindowRing {
         })
     }
 
-    /// Gives the batches their slots, as the ring does.
+    /// Gives the batches their slots, as the ring does. So many items at the front of the list are known to need none.
     pub(crate) fn allocate<R: Threads + Wait + Sync, G: Gate + Sync>(
         &mut self,
         rt: &R,
         gate: &G,
         list: &mut DemandList,
+        idle: &mut usize,
         first_batch: u32,
         batches: &[Batch],
         out: &mut SlotTable,
     )
         requires may { MayAllocate self.old first_batch list.old batches.now out.old }
+        requires idle { HasIdleFront idle.old list.old.items }
         requires parts { AnyPartMayBeApplied self.old.endpoints self.old.b first_batch list.old.items batches.now }
         ensures allocates { GivesSlots self.old self.new first_batch list.old list.new batches.now out.old out.new }
+        ensures idle { HasIdleFront idle.new list.new.items }
         ensures handed { ComeOfRing self.old.b first_batch self.old.workers list.old.items batches.now (schedule_from self.old.b first_batch list.old.items batches.now) self.old.moved self.new.moved }
     {
-        self.runs.allocate_window(rt, gate, &mut self.picked, list, first_batch, batches, out);
+        self.runs.allocate_window(
+            rt,
+            gate,
+            &mut self.picked,
+            list,
+            idle,
+            first_batch,
+            batches,
+            out,
+        );
     }
 }
 
@@ -104,17 +117,20 @@ impl Runs {
         gate: &G,
         picked: &mut Picked,
         list: &mut DemandList,
+        idle: &mut usize,
         first_batch: u32,
         batches: &[Batch],
         out: &mut SlotTable,
     )
         requires table { HasRunTable self.old }
         requires memory { HasRoomFor self.old.ring.endpoints picked.old }
+        requires idle { HasIdleFront idle.old list.old.items }
         requires may { MayAllocate self.old.ring first_batch list.old batches.now out.old }
         requires parts { AnyPartMayBeApplied self.old.ring.endpoints self.old.ring.b first_batch list.old.items batches.now }
         ensures table { HasRunTable self.new }
         ensures memory { HasRoomFor self.old.ring.endpoints picked.new }
         ensures allocates { GivesSlots self.old.ring self.new.ring first_batch list.old list.new batches.now out.old out.new }
+        ensures idle { HasIdleFront idle.new list.new.items }
         ensures handed { ComeOfRing self.old.ring.b first_batch self.old.ring.workers list.old.items batches.now (schedule_from self.old.ring.b first_batch list.old.items batches.now) self.old.ring.moved self.new.ring.moved }
     {
         if batches.is_empty() {
@@ -123,14 +139,17 @@ impl Runs {
         }
         every_batch_leaves_a_list();
         flows_fit_pairs();
-        if !picked.pick(list.items(), batches) {
+        if !picked.pick(list.items(), *idle, batches) {
+            *idle = 0;
             self.allocate_unpicked(rt, gate, picked, list, first_batch, batches, out);
             return;
         }
         items_may_be_set_aside();
         every_batch_balances();
         self.allocate_runs(rt, gate, &mut picked.items, first_batch, batches, out);
+        let front = picked.staying_front(list.items());
         picked.weave_into(list);
+        *idle = front;
     }
 
     /// The batches over what of the list they can choose, where that is not much of it and a guess finds it, and else over the
@@ -269,7 +288,7 @@ impl Runs {
         if idle > 0 {
             return idle;
         }
-        let run = count_run(list.items(), batches);
+        let run = count_run(list.items(), batches, self.b);
         self.play_behind(rt, gate, passed, list, first_batch, &batches[..run], out);
         run
     }

@@ -1,9 +1,13 @@
 //! The slots of a run of batches come behind those of the batches before it.
-ghost use Rattle.std.specs.Prelude.{◌≡◌, ◌<◌, ◌≤◌, ◌+◌, ◌-◌, [], ◌∷◌, ◌++◌, length, take, drop, replicate, All, IfSome, slice_set};
+ghost use Rattle.std.specs.Prelude.{◌≡◌, ◌<◌, ◌≤◌, ◌+◌, ◌-◌, [], ◌∷◌, ◌++◌, ◌||◌, length, take, drop, replicate, false, is_some, All, IfSome, slice_set};
+ghost use Rattle.std.specs.List.{fold};
 ghost use Rattle.greedy_rules.specs.Schedule.{slot_in};
-ghost use Rattle.greedy_rules.specs.SlotTable.{flows_from};
+ghost use Rattle.greedy_rules.specs.SlotTable.{flows_from, AreCells};
 
 use greedy_rules::SlotTable;
+
+/// So many places of a row are passed over at once where none of them has a destination.
+const FEW: usize = 32;
 
 /// Puts the first `count` slots of a table into those from place `to` on, which are empty.
 pub(crate) fn put_slots(from: &SlotTable, count: u16, out: &mut SlotTable, to: u16)
@@ -35,9 +39,47 @@ fn put_slot(from: &SlotTable, slot: u16, out: &mut SlotTable, to: u16)
     if from.is_idle(slot) {
         return;
     }
-    let row = from.row(slot);
-    for src in 0..from.endpoints() {
-        put_flow(out, to, src, row[src as usize]);
+    put_row(out, to, from.row(slot));
+}
+
+/// Makes the slot, which is empty, the one that the row holds.
+fn put_row(out: &mut SlotTable, slot: u16, row: &[Option<u16>])
+    requires slot { slot < length out.old.slots }
+    requires whole { length row.now ≤ out.old.endpoints }
+    requires cells { AreCells out.old.endpoints row.now }
+    requires empty { slot_in out.old.slots slot ≡ [] }
+    ensures slots { out.new.slots ≡ slice_set out.old.slots slot (flows_from 0 row.now) }
+    ensures endpoints { out.new.endpoints ≡ out.old.endpoints }
+{
+    let mut src = 0;
+    for few in row.chunks(FEW) {
+        put_few(out, slot, src, few);
+        src += few.len();
+    }
+}
+
+/// Whether one of these sources sends. There is no early end, so many places are read at once.
+fn has_sender(few: &[Option<u16>]) -> bool
+    ensures { result ≡ fold (λ sends to. sends || is_some to) false few.now }
+{
+    few.iter().fold(false, |sends, to| sends | to.is_some())
+}
+
+/// Lets some sources, the first of them above all that send in the slot, send where these places say.
+fn put_few(out: &mut SlotTable, slot: u16, first: usize, few: &[Option<u16>])
+    requires slot { slot < length out.old.slots }
+    requires src { first + length few.now ≤ out.old.endpoints }
+    requires dst { AreCells out.old.endpoints few.now }
+    requires below { All (λ flow. flow.src < first) (slot_in out.old.slots slot) }
+    ensures slots { out.new.slots ≡ slice_set out.old.slots slot (slot_in out.old.slots slot ++ flows_from first few.now) }
+    ensures endpoints { out.new.endpoints ≡ out.old.endpoints }
+{
+    let _endpoints = out.endpoints();
+    if !has_sender(few) {
+        return;
+    }
+    for at in 0..few.len() {
+        put_flow(out, slot, (first + at) as u16, few[at]);
     }
 }
 

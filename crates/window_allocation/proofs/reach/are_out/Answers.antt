@@ -1,14 +1,15 @@
 use mir.Val.{bool_byte}
-use Rattle.std.proofs.Common.{inl, inr, ◌≡◌, ◌<◌, ◌+◌, ◌*◌, ℕ, List, length, get_or, true, false, ap, ◌∙◌, arith}
+use Rattle.std.proofs.Common.{inl, inr, ◌≡◌, ◌<◌, ◌≤◌, ◌+◌, ◌-◌, ◌*◌, ℕ, List, length, get_or, true, false, sym, ap, ◌∙◌, arith}
 use Rattle.std.proofs.lemmas.Bool.{cases_Bool}
-use Rattle.std.proofs.lemmas.List.{drop_more}
 use Rattle.greedy_rules.specs.declared.flows.Item.{Item}
-use Rattle.window_allocation.proofs.ReachLemmas.{served_from, at_first, at_last, walked_on}
+use Rattle.window_allocation.specs.Reach.{IsNamed}
+use Rattle.window_allocation.proofs.ReachLemmas.{each_of_part, at_first, at_last, gap_walked}
 use Rattle.window_allocation.proofs.reach.are_out.Goals as goal
 
 pub loop-at-init : goal.loop-at-init
 loop-at-init c = record {
   below = omega arith;
+  within = omega arith;
   walked = λ aside all are show new. at_first c.args.b (length c.args.batches.now * c.args.b) all c.args.list.now aside c.first_served-served.result c.args.places.now c.clear.new.self are (λ ahead. c.clear.ensures c.args.b all ahead);
 }
 
@@ -17,21 +18,29 @@ loop-at-preserved c =
     let list : List Item = c.args.list.now in
     let at : ℕ = c.loop-at.at in
     let next : ℕ = c.loop-at.next in
-    let inside : at < length list = omega (arith, c.loop-at-test.true) in
+    let end : ℕ = c.gap_from-gap.result.end in
+    let picked = c.gap_from-gap.result.picked in
     let nothing : Item = record { flow = record { src = 0; dst = 0 }; need = 0; last = 0 } in
-    let item : Item = get_or list at nothing in
-    let one : c.is_next-picked.result ≡ true → c.from-next.result ≡ 1 = λ is. c.from-next.ensures ∙ ap bool_byte is in
-    let none : c.is_next-picked.result ≡ false → c.from-next.result ≡ 0 = λ is. c.from-next.ensures ∙ ap bool_byte is in
+    let count : ℕ = length c.args.batches.now * c.args.b in
+    let one : picked ≡ true → c.from.result ≡ 1 = λ is. c.from.ensures ∙ ap bool_byte is in
+    let none : picked ≡ false → c.from.result ≡ 0 = λ is. c.from.ensures ∙ ap bool_byte is in
+    let both : c.from-next.result ≡ c.from.result = c.from-next.ensures ∙ sym c.from.ensures in
+    let from : at ≤ end = c.gap_from-gap.ensures.from in
+    let within : end ≤ length list = omega (arith, c.gap_from-gap.ensures.within, c.stop_from.ensures.within) in
+    let inside : picked ≡ true → end < length list = λ is. omega (arith, (c.gap_from-gap.ensures.picked is).0, c.stop_from.ensures.within) in
+    let names : (other : ℕ) → at ≤ other → other < at + (end - at) → IsNamed c.note_opened_if.new.words count (get_or list other nothing) =
+    each_of_part (IsNamed c.note_opened_if.new.words count) at (end - at) list nothing (c.all_out.ensures c.if-not-all_out.false) (omega (arith, from, within)) in
     record {
-      below = elim (cases_Bool c.is_next-picked.result) [
-        | inl is ↦ omega (arith, one is, c.loop-at.invariant.below)
-        | inr is ↦ omega (arith, none is, c.loop-at.invariant.below)
+      below = omega (arith, both, from, c.loop-at.invariant.below);
+      within = elim (cases_Bool picked) [
+        | inl is ↦ omega (arith, one is, inside is)
+        | inr is ↦ omega (arith, none is, within)
       ];
       walked = λ aside all are show new.
-          walked_on c.args.b (length c.args.batches.now * c.args.b) all list aside c.first_served-served.result c.args.places.now at next (next + c.from-next.result) item c.loop-at.words c.note_opened_if.new.words c.pass.new.words
-          c.is_next-picked.result c.args.batches.now (drop_more list at nothing inside) (λ from. served_from list c.first_served-served.result at nothing c.first_served-served.ensures.once inside from) new
-          (c.loop-at.invariant.walked aside all are show new) (λ ahead was opens. c.note_opened_if.ensures all ahead show was opens) c.is_next-picked.ensures (λ is. ap (λ (n : ℕ). next + n) (one is))
-          (λ is. omega (arith, none is)) (λ is ahead was goes. c.pass.ensures.noted is all ahead show was goes) (λ is. c.pass.ensures.same is) (λ is. c.pass.ensures.out is c.if-not-pass.false);
+          gap_walked c.args.b count all list aside c.first_served-served.result c.args.places.now at end next (next + c.from-next.result) c.from.result c.loop-at.words c.note_opened_if.new.words c.note_picked_if.new.words picked
+          c.args.batches.now nothing from c.gap_from-gap.ensures.none within inside c.first_served-served.ensures.once new (c.loop-at.invariant.walked aside all are show new)
+          (λ ahead was opens. c.note_opened_if.ensures all ahead show was opens) c.gap_from-gap.ensures.others (λ other up below. names other up (omega (arith, from, below)))
+          (λ is. (c.gap_from-gap.ensures.picked is).1) one none (ap (λ (n : ℕ). next + n) both) (λ is ahead was goes. c.note_picked_if.ensures.noted is nothing all ahead show was goes) c.note_picked_if.ensures.same;
     }
 
 pub returns : goal.returns

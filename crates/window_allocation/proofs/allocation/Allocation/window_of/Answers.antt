@@ -17,7 +17,7 @@ allocate-requires-clause-may g c κs within =
     let (earlier, has, recorded) = subst (HasNext batches) (sym c.self.view_is) c.requires.stands in
     let is_ready = c.every_window_is_ready.ensures _ _ earlier batches _ has recorded in
     may_allocate _ earlier batches _ c.in_ok-slots.slots c.from.result has is_ready (subst (λ (it : Allocated). length batches ≤ it.ring.batches) (sym c.self.view_is) c.requires.count)
-    (subst (λ (it : Allocated). first_slot it.b (it.batches + length batches) ≤ 2 ^ 32) (sym c.self.view_is) c.requires.numbers) c.from.ensures (c.in_ok-slots.ensures.endpoints ∙ sym c.self.invariant) c.in_ok-slots.ensures.slots
+    (subst (λ (it : Allocated). first_slot it.b (it.batches + length batches) ≤ 2 ^ 32) (sym c.self.view_is) c.requires.numbers) c.from.ensures (c.in_ok-slots.ensures.endpoints ∙ sym c.self.invariant.0) c.in_ok-slots.ensures.slots
 
 pub allocate-requires-clause-parts : goal.allocate-requires-clause-parts
 allocate-requires-clause-parts g c κs within =
@@ -72,7 +72,7 @@ pub returns-clause-window : goal.returns-clause-window
 returns-clause-window g c =
     let batches : List DemandBatch = c.args.batches.now in
     let it = told batches _ _ c.in_ok-slots.slots.slots c.allocate.new.out.slots c.from.result c.every_window_is_ready.ensures c.self.view_is c.requires.stands c.from.ensures c.in_ok-slots.ensures.slots c.allocate.ensures.allocates.slots in
-    let serves : c.self.inside.endpoints ≡ endpoints_of c.self.inside.paths.net = sym c.self.invariant ∙ ring_endpoints _ _ it.earlier _ it.has in
+    let serves : c.self.inside.endpoints ≡ endpoints_of c.self.inside.paths.net = sym c.self.invariant.0 ∙ ring_endpoints _ _ it.earlier _ it.has in
     let places : length batches * c.from.result ≡ length batches * c.self.inside.b = ap (λ (m : ℕ). length batches * m) c.from.ensures in
     subst (λ (half : Allocated). IsWindowOf half.paths.net half.b (schedule_from half.b half.batches half.list.items batches) (record { span = record { first = c.self.inside.batches; count = length batches }; slots = c.allocate.new.out; cores = c.colour_slots.new.out })) c.self.view_is
     (window_of c.self.inside.paths.net c.self.inside.b c.self.inside.batches (length batches) (schedule_from c.self.inside.b c.self.inside.batches c.self.inside.list.items batches) c.allocate.new.out c.colour_slots.new.out

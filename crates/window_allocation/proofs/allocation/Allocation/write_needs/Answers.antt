@@ -8,4 +8,4 @@ pub write_needs-requires-clause-below : goal.write_needs-requires-clause-below
 write_needs-requires-clause-below c =
     let (net, most, batches, has) = c.requires.stands in
     let Has : Allocated → Type 0 = λ half. HasAllocated net most batches half in
-    subst (λ (n : ℕ). AreBelow n c.self.inside.list.items) c.self.invariant (list_below net most batches _ (subst Has (sym c.self.view_is) has) c.recorded_batches_may_be_applied.ensures.all)
+    subst (λ (n : ℕ). AreBelow n c.self.inside.list.items) c.self.invariant.0 (list_below net most batches _ (subst Has (sym c.self.view_is) has) c.recorded_batches_may_be_applied.ensures.all)

@@ -5,9 +5,11 @@ use Rattle.greedy_rules.specs.declared.flows.Flow.{Flow}
 use Rattle.greedy_rules.specs.Schedule.{first_slot, rest_from}
 use Rattle.slot_batches.specs.Woven.{woven, places_from}
 use Rattle.slot_batches.specs.NextList.{IsListBefore}
+use Rattle.window_allocation.specs.Idle.{HasIdleFront}
 use Rattle.window_allocation.specs.Picked.{is_aside}
 use Rattle.window_allocation.proofs.RunLemmas.{few_items, left_before}
 use Rattle.window_allocation.proofs.PickedLemmas.{few_found, picked_window}
+use Rattle.window_allocation.proofs.IdleFronts.{idle_front}
 use Rattle.window_allocation.proofs.HandedLemmas.{none_played, all_played, come_of_ring, come_of_all}
 use Rattle.window_allocation.proofs.runs.Runs.allocate_window.Goals as goal
 
@@ -16,6 +18,7 @@ pick-requires g c =
     let ring = c.args.self.now.ring in
     let few = few_found ring.endpoints ring.b c.flows_fit_pairs.ensures c.every_batch_leaves_a_list.ensures.flows c.args.first_batch c.args.list.now.items c.args.batches.now (omega (arith, eqb-false _ _ (sym c.is_empty.ensures ∙ c.if-is_empty.false))) c.requires.may.may in
     record {
+      idle = subst (HasIdleFront c.args.idle.now) (sym c.items.ensures) c.requires.idle;
       room = omega (arith, few, ap length c.items.ensures, c.requires.memory.items);
       places_room = omega (arith, few, ap length c.items.ensures, c.requires.memory.places);
     }
@@ -87,6 +90,14 @@ returns-clause-allocates g c =
       endpoints = done.endpoints;
       same = done.same;
     }
+
+pub returns-clause-idle : goal.returns-clause-idle
+returns-clause-idle g c =
+    let aside = is_aside c.pick.new.self.marks in
+    let list = c.args.list.now.items in
+    let placed = c.pick.ensures.places c.if-not-pick.false ∙ ap (places_from aside 0) c.items.ensures in
+    idle_front c.pick.new.self.marks c.staying_front-front.result list c.items-2.result.now c.allocate_runs.new.list.items c.weave_into.new.list.items c.items-2.ensures (c.weave_into.ensures.items aside placed)
+    (c.staying_front-front.ensures aside (placed ∙ sym (ap (places_from aside 0) c.items-2.ensures)))
 
 pub returns-clause-handed : goal.returns-clause-handed
 returns-clause-handed g c =

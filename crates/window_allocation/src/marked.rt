@@ -1,0 +1,33 @@
+//! Whether items may have an entry in the batches of a window, by its marks.
+ghost use Rattle.std.specs.Prelude.{◌≡◌, false, All};
+ghost use Rattle.slot_batches.specs.Marks.{has_mark as has_mark_in};
+
+use greedy_rules::{Flow, Item};
+use slot_batches::FlowMarks;
+
+/// Whether the flow may have an entry in the window.
+pub(crate) fn has_mark(marks: &FlowMarks, flow: Flow) -> bool
+    ensures { result ≡ false → has_mark_in marks.now flow ≡ false }
+{
+    if marks.is_empty() {
+        return false;
+    }
+    let item = Item {
+        flow,
+        need: 0,
+        last: 0,
+    };
+    let mut places = [0; 1];
+    marks.note_busy(&[item], &mut places) > 0
+}
+
+/// Whether one of the items may have an entry in the window. There is no early end, so many items are looked at at once.
+pub(crate) fn have_mark(items: &[Item], marks: &FlowMarks) -> bool
+    ensures { result ≡ false → All (λ item. has_mark_in marks.now item.flow ≡ false) items.now }
+{
+    let mut some = false;
+    for item in items {
+        some |= has_mark(marks, item.flow);
+    }
+    some
+}
