@@ -1,5 +1,5 @@
 -- What a reader of comma separated values finds in a front of a text it finds in the text.
-use Rattle.std.proofs.Common.{◌≡◌, ◌≢◌, ℕ, zero, suc, ◌+◌, ◌<◌, ◌≤◌, List, [], ◌∷◌, ◌++◌, length, get_or, take, drop, Bool, true, false, cond, Option, Some, None, refl, sym, ap, subst, ◌∙◌, ◌⊎◌, inl, inr, arith, append-nil, length-append}
+use Rattle.std.proofs.Common.{◌≡◌, ◌≢◌, ℕ, zero, suc, ◌+◌, ◌<◌, ◌≤◌, List, [], ◌∷◌, ◌++◌, length, get_or, drop, Bool, true, false, cond, Option, Some, None, refl, sym, ap, subst, ◌∙◌, ◌⊎◌, inl, inr, arith, append-nil, length-append}
 use Rattle.std.specs.Prelude.{◌==◌, ◌||◌}
 use Rattle.std.specs.Bool.{MatchBool}
 use Rattle.std.proofs.Math.Seq.{get_or-append_seam}
@@ -20,7 +20,7 @@ use Rattle.trace_text.proofs.CsvFacts.{next-facts, records_from-next, records_fr
 use Rattle.trace_text.proofs.LineFacts.{after, one-byte}
 
 -- the states that the default settings reach, and those within a record
-abbrev is_reached : State → Bool
+abbrev pub is_reached : State → Bool
 is_reached st.InComment = false
 is_reached st.InEscape = false
 is_reached s = true
@@ -281,7 +281,7 @@ alike s t xs ys p q same = by (next_record default_config t [] [] ys) refl same
     by (Some r) e f = records_from-next s xs r p f ∙ sym (records_from-next t ys r q e)
 
 -- between two records all states read alike
-between : (s : State) (xs : List ℕ) → is_reached s ≡ true → ends_at_end s ≡ false → records_from default_config (length xs + 1) s xs ≡ records_in xs
+pub between : (s : State) (xs : List ℕ) → is_reached s ≡ true → ends_at_end s ≡ false → records_from default_config (length xs + 1) s xs ≡ records_in xs
 between st.StartRecord xs r e = refl
 between st.StartField xs r e = absurd (false≢true (sym e))
 between st.InField xs r e = absurd (false≢true (sym e))

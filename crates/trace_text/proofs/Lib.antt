@@ -5,6 +5,8 @@ mod ReaderFacts
 mod FirstFields
 mod LineFacts
 mod FrontFacts
+mod EndFacts
+mod HeadFacts
 mod FieldFacts
 mod ReadFacts
 mod RowFacts

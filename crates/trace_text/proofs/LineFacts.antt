@@ -1,5 +1,5 @@
--- Lines of plain fields, as the machine that reads comma separated values takes them: a field at a time.
-use Rattle.std.proofs.Common.{◌≡◌, ◌≢◌, ℕ, ◌+◌, ◌≤◌, List, [], ◌∷◌, ◌++◌, length, Bool, true, false, cond, Option, Some, None, refl, sym, ap, ◌∙◌, arith, append-nil, length-append}
+-- Plain fields, as the machine that reads comma separated values takes them: a field at a time.
+use Rattle.std.proofs.Common.{◌≡◌, ◌≢◌, ℕ, List, [], ◌∷◌, ◌++◌, length, Bool, true, false, cond, Option, Some, None, refl, sym, ap, ◌∙◌, arith, append-nil}
 use Rattle.std.specs.Prelude.{◌==◌, ◌&&◌, ◌||◌, not}
 use Rattle.std.specs.List.{list_all}
 use Rattle.std.specs.Char.{is_ascii_digit}
@@ -13,7 +13,7 @@ use Rattle.csv.specs.declared.parser.State.TheVariants as st
 use Rattle.csv.specs.declared.parser.Action.{Action}
 use Rattle.csv.specs.declared.parser.Action.TheVariants as act
 use Rattle.trace_text.specs.Fields.{Record, is_number, number_of}
-use Rattle.trace_text.specs.Lines.{is_plain, begins_blank, ends, records_in, IsFieldBefore, IsNumberBefore, IsAskRow, BeginsWithAsk}
+use Rattle.trace_text.specs.Lines.{is_plain, begins_blank, records_in, IsAskRow}
 use Rattle.trace_text.specs.declared.plain_ask.PlainAsk.{PlainAsk}
 use Rattle.trace_text.proofs.CsvFacts.{records_from-next}
 
@@ -41,36 +41,28 @@ no-quote false false feed return x y plain = refl
 in-field : (c : ℕ) → is_plain c ≡ true → in_field default_config c ≡ (st.InField, act.Copy)
 in-field c plain = plain-choice (c == 44) (c == 34) (c == 10) (c == 13) _ _ _ plain
 
-start-field : (c : ℕ) → is_plain c ≡ true → start_field default_config c ≡ (st.InField, act.Copy)
+pub start-field : (c : ℕ) → is_plain c ≡ true → start_field default_config c ≡ (st.InField, act.Copy)
 start-field c plain = no-quote (c == 44) (c == 34) (c == 10) (c == 13) _ _ plain ∙ in-field c plain
 
-both : (a b : Bool) → (a && b) ≡ true → (a ≡ true) × (b ≡ true)
+pub both : (a b : Bool) → (a && b) ≡ true → (a ≡ true) × (b ≡ true)
 both true b e = (refl, e)
 both false b e = absurd (false≢true e)
 
-more-bytes : (fields : Record) (here field text : List ℕ) → list_all is_plain field ≡ true → next_record default_config st.InField fields here (field ++ text) ≡ next_record default_config st.InField fields (here ++ field) text
+pub more-bytes : (fields : Record) (here field text : List ℕ) → list_all is_plain field ≡ true → next_record default_config st.InField fields here (field ++ text) ≡ next_record default_config st.InField fields (here ++ field) text
 more-bytes fields here [] text plain = ap (λ h. next_record default_config st.InField fields h text) (sym (append-nil here))
 more-bytes fields here (c ∷ field) text plain =
     let p = both (is_plain c) (list_all is_plain field) plain in
     one-byte st.InField fields here c (field ++ text) ∙ ap (after fields here c (field ++ text)) (in-field c p.0) ∙ more-bytes fields (here ++ c ∷ []) field text p.1
     ∙ ap (λ h. next_record default_config st.InField fields h text) (append_assoc here (c ∷ []) field)
 
--- a field and the comma after it, and a last field and the line feed after it
-field-comma : (fields : Record) (field text : List ℕ) → list_all is_plain field ≡ true
+-- a field and the comma after it
+pub field-comma : (fields : Record) (field text : List ℕ) → list_all is_plain field ≡ true
     → next_record default_config st.StartField fields [] (field ++ 44 ∷ text) ≡ next_record default_config st.StartField (fields ++ field ∷ []) [] text
 unfolding next_record
 field-comma fields [] text plain = refl
 field-comma fields (c ∷ field) text plain =
     let p = both (is_plain c) (list_all is_plain field) plain in
     one-byte st.StartField fields [] c (field ++ 44 ∷ text) ∙ ap (after fields [] c (field ++ 44 ∷ text)) (start-field c p.0) ∙ more-bytes fields (c ∷ []) field (44 ∷ text) p.1
-
-field-feed : (fields : Record) (field text : List ℕ) → list_all is_plain field ≡ true
-    → next_record default_config st.StartField fields [] (field ++ 10 ∷ text) ≡ Some (fields ++ field ∷ [], st.StartRecord, text)
-unfolding next_record
-field-feed fields [] text plain = refl
-field-feed fields (c ∷ field) text plain =
-    let p = both (is_plain c) (list_all is_plain field) plain in
-    one-byte st.StartField fields [] c (field ++ 10 ∷ text) ∙ ap (after fields [] c (field ++ 10 ∷ text)) (start-field c p.0) ∙ more-bytes fields (c ∷ []) field (10 ∷ text) p.1
 
 -- a record begins as its first field does
 pub begins-field : (text : List ℕ) → begins_blank text ≡ false → next_record default_config st.StartRecord [] [] text ≡ next_record default_config st.StartField [] [] text
@@ -97,12 +89,12 @@ digits-plain (c ∷ digits) all =
     let rest = digits-plain digits p.1 in
     rw (here, rest) refl
 
-number-plain : (digits : List ℕ) → is_number digits ≡ true → list_all is_plain digits ≡ true
+pub number-plain : (digits : List ℕ) → is_number digits ≡ true → list_all is_plain digits ≡ true
 unfolding is_number
 number-plain digits number = digits-plain digits (both _ (list_all is_ascii_digit digits) (both _ _ number).0).1
 
 -- the fields of an ask
-ask-fields : (ask : PlainAsk) (a b c d : List ℕ) → is_number a ≡ true → is_number b ≡ true → is_number c ≡ true → is_number d ≡ true
+pub ask-fields : (ask : PlainAsk) (a b c d : List ℕ) → is_number a ≡ true → is_number b ≡ true → is_number c ≡ true → is_number d ≡ true
     → ask.round ≡ number_of a → ask.src ≡ number_of b → ask.dst ≡ number_of c → ask.slots ≡ number_of d
     → IsAskRow ask ((97 ∷ 115 ∷ 107 ∷ []) ∷ a ∷ b ∷ c ∷ d ∷ [])
 ask-fields ask a b c d p q r s e f g h = record {
@@ -113,27 +105,9 @@ ask-fields ask a b c d p q r s e f g h = record {
   row = rw (e, f, g, h) refl;
 }
 
-name-field : (text : List ℕ) → next_record default_config st.StartRecord [] [] (97 ∷ 115 ∷ 107 ∷ 44 ∷ text) ≡ next_record default_config st.StartField ((97 ∷ 115 ∷ 107 ∷ []) ∷ []) [] text
+pub name-field : (text : List ℕ) → next_record default_config st.StartRecord [] [] (97 ∷ 115 ∷ 107 ∷ 44 ∷ text) ≡ next_record default_config st.StartField ((97 ∷ 115 ∷ 107 ∷ []) ∷ []) [] text
 unfolding next_record
 name-field text = refl
-
--- an ask of four plain numbers
-pub ask-line : (text numbers rest second third fourth : List ℕ) (ask : PlainAsk) → text ≡ 97 ∷ 115 ∷ 107 ∷ 44 ∷ numbers → IsNumberBefore numbers 44 ask.round second → IsNumberBefore second 44 ask.src third
-    → IsNumberBefore third 44 ask.dst fourth → IsNumberBefore fourth 10 ask.slots rest → BeginsWithAsk (records_in text) ask (records_in rest)
-ask-line text numbers rest second third fourth ask named round src dst slots = (
-  name ∷ round.0 ∷ src.0 ∷ dst.0 ∷ slots.0 ∷ [],
-  ask-fields ask round.0 src.0 dst.0 slots.0 round.2 src.2 dst.2 slots.2 round.3 src.3 dst.3 slots.3,
-  record-more text rest _
-      (ap (next_record default_config st.StartRecord [] []) named ∙ name-field numbers
-      ∙ ap (next_record default_config st.StartField (name ∷ []) []) round.1 ∙ field-comma (name ∷ []) round.0 second (number-plain round.0 round.2)
-      ∙ ap (next_record default_config st.StartField (name ∷ round.0 ∷ []) []) src.1 ∙ field-comma (name ∷ round.0 ∷ []) src.0 third (number-plain src.0 src.2)
-      ∙ ap (next_record default_config st.StartField (name ∷ round.0 ∷ src.0 ∷ []) []) dst.1 ∙ field-comma (name ∷ round.0 ∷ src.0 ∷ []) dst.0 fourth (number-plain dst.0 dst.2)
-      ∙ ap (next_record default_config st.StartField (name ∷ round.0 ∷ src.0 ∷ dst.0 ∷ []) []) slots.1
-      ∙ field-feed (name ∷ round.0 ∷ src.0 ∷ dst.0 ∷ []) slots.0 rest (number-plain slots.0 slots.2)),
-)
-  where
-    name : List ℕ
-    name = 97 ∷ 115 ∷ 107 ∷ []
 
 -- a text with a byte order mark, and one without
 pub marked : (text rest : List ℕ) → text ≡ 239 ∷ 187 ∷ 191 ∷ rest → rest ≡ strip_bom text
@@ -154,16 +128,6 @@ unmarked (a ∷ b ∷ c ∷ rest) other = by (is_bom a b c) refl
         let third : c ≡ 191 = grind (arith, nat_tests) in
         absurd (other rest (rw (first, second, third) refl))
     by false e = refl
-
--- the fields of a line, one by one
-pub field-more : (fields : Record) (text field rest : List ℕ) → IsFieldBefore text field false rest → next_record default_config st.StartField fields [] text ≡ next_record default_config st.StartField (fields ++ field ∷ []) [] rest
-field-more fields text field rest before = ap (next_record default_config st.StartField fields []) before.1 ∙ field-comma fields field rest before.0
-
-pub field-last : (fields : Record) (text field rest : List ℕ) → IsFieldBefore text field true rest → next_record default_config st.StartField fields [] text ≡ Some (fields ++ field ∷ [], st.StartRecord, rest)
-field-last fields text field rest before = ap (next_record default_config st.StartField fields []) before.1 ∙ field-feed fields field rest before.0
-
-pub shorter : (text field rest : List ℕ) (last : Bool) → IsFieldBefore text field last rest → length rest + 1 ≤ length text
-shorter text field rest last before = rw before.1 (omega (arith, length-append field (ends last ∷ rest)))
 
 -- a text of no bytes has no record
 pub none-in-empty : (text : List ℕ) → (length text == 0) ≡ true → records_in text ≡ []

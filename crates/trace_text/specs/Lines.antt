@@ -1,6 +1,7 @@
--- Lines whose fields are plain: read where they stand, each is the record that a reader of comma separated values makes of
+-- Lines whose fields are plain or stand between quotes: read where they stand, each is the record that a reader of comma separated values makes of
 -- it.
-use Rattle.std.specs.Prelude.{◌≡◌, ◌≢◌, ◌<◌, ◌≤◌, ℕ, ◌==◌, ◌||◌, not, List, [], ◌∷◌, ◌++◌, length, Bool, true, false, Option, Some, None, if◌then◌else◌, codes}
+use Rattle.std.specs.Prelude.{◌≡◌, ◌≢◌, ◌⊎◌, ◌+◌, ◌-◌, ◌*◌, ◌<◌, ◌≤◌, ℕ, ◌==◌, ◌||◌, not, List, [], ◌∷◌, ◌++◌, length, take, drop, Bool, true, false, Option, Some, None, codes}
+use Rattle.std.specs.Char.{is_ascii_digit}
 use Rattle.std.specs.List.{list_all}
 use Rattle.std.specs.Str.{bytes_eq}
 use Rattle.csv.specs.Reading.{default_config, records}
@@ -19,17 +20,57 @@ records_in text = records default_config text
 abbrev pub is_plain : ℕ → Bool
 is_plain c = not ((c == 44) || (c == 34) || (c == 10) || (c == 13))
 
--- the byte that ends a field, the last of its line or another
-abbrev pub ends : Bool → ℕ
-ends last = if last then 10 else 44
+-- no quote
+abbrev pub is_unquoted : ℕ → Bool
+is_unquoted c = not (c == 34)
 
--- the text begins with a plain field, the byte that ends it, and the rest
+-- a byte that ends a line
+abbrev pub ends_line : ℕ → Bool
+ends_line c = (c == 10) || (c == 13)
+
+-- a byte that ends a field, the last of its line or another
+abbrev pub ends_field : Bool → ℕ → Bool
+ends_field true c = ends_line c
+ends_field false c = c == 44
+
+-- the text begins with a plain field, a byte that ends it, and the rest
+abbrev pub IsPlainBefore : List ℕ → List ℕ → Bool → List ℕ → Type 0
+IsPlainBefore text field last rest = (e : ℕ) × (list_all is_plain field ≡ true) × (ends_field last e ≡ true) × (text ≡ field ++ e ∷ rest)
+
+-- the text goes on with a field without quotes, the quote that closes it, a byte that ends it, and the rest
+abbrev pub IsQuotedBefore : List ℕ → List ℕ → Bool → List ℕ → Type 0
+IsQuotedBefore text field last rest = (e : ℕ) × (list_all is_unquoted field ≡ true) × (ends_field last e ≡ true) × (text ≡ field ++ 34 ∷ e ∷ rest)
+
+-- the text begins with a plain field or one between quotes, a byte that ends it, and the rest
 abbrev pub IsFieldBefore : List ℕ → List ℕ → Bool → List ℕ → Type 0
-IsFieldBefore text field last rest = (list_all is_plain field ≡ true) × (text ≡ field ++ ends last ∷ rest)
+IsFieldBefore text field last rest = IsPlainBefore text field last rest ⊎ ((quoted : List ℕ) × (text ≡ 34 ∷ quoted) × IsQuotedBefore quoted field last rest)
 
 -- the text begins with a number, the byte that ends it, and the rest
 abbrev pub IsNumberBefore : List ℕ → ℕ → ℕ → List ℕ → Type 0
 IsNumberBefore text end n rest = (digits : List ℕ) × (text ≡ digits ++ end ∷ rest) × (is_number digits ≡ true) × (n ≡ number_of digits)
+
+-- the text begins with a number and a byte that ends its line, and the rest has the records of what stands behind
+abbrev pub IsLastNumberBefore : List ℕ → ℕ → List ℕ → Type 0
+IsLastNumberBefore text n rest = (e : ℕ) × (behind : List ℕ) × IsNumberBefore text e n behind × (ends_line e ≡ true) × (records_in rest ≡ records_in behind)
+
+-- the text begins with a byte that ends a line, and the rest has the records of what stands behind
+abbrev pub IsEndBefore : List ℕ → List ℕ → Type 0
+IsEndBefore text rest = (e : ℕ) × (behind : List ℕ) × (text ≡ e ∷ behind) × (ends_line e ≡ true) × (records_in rest ≡ records_in behind)
+
+-- a number stands at a place of the text, and has at most three digits: what stands at the next place is behind it
+abbrev pub IsNumberAt : List ℕ → ℕ → ℕ → ℕ → Type 0
+IsNumberAt text at n next = (digits : List ℕ) × (drop at text ≡ digits ++ drop next text) × (is_number digits ≡ true) × (n ≡ number_of digits) × (next ≤ at + 3)
+
+-- a byte at a place is one digit more of a number, or ends it there
+abbrev pub IsLonger : ℕ → ℕ → ℕ → ℕ → ℕ → Type 0
+IsLonger byte n more at next = ((more ≡ n) × (next ≡ at)) ⊎ ((digit : ℕ) × (is_ascii_digit byte ≡ true) × (byte ≡ 48 + digit) × (digit < 10) × (more ≡ n * 10 + digit) × (next ≡ at + 1))
+
+-- the front of an ask of this round, up to the comma behind the round
+abbrev pub head_digits : List ℕ → List ℕ
+head_digits head = take (length head - 5) (drop 4 head)
+
+abbrev pub IsAskHead : List ℕ → ℕ → Type 0
+IsAskHead head round = (head ≡ codes "ask," ++ (head_digits head ++ 44 ∷ [])) × (is_number (head_digits head) ≡ true) × (round ≡ number_of (head_digits head))
 
 -- a row whose fields say this ask
 pub record IsAskRow (ask : PlainAsk) (fields : Record) : Type 0 where
@@ -63,10 +104,7 @@ abbrev pub begins_blank : List ℕ → Bool
 begins_blank [] = true
 begins_blank (c ∷ text) = (c == 10) || (c == 13)
 
--- a byte that ends a line, and a text that ends with one
-abbrev pub ends_line : ℕ → Bool
-ends_line c = (c == 10) || (c == 13)
-
+-- a text that ends with a byte that ends a line
 abbrev pub EndsLine : List ℕ → Type 0
 EndsLine text = (body : List ℕ) × (c : ℕ) × (text ≡ body ++ c ∷ []) × (ends_line c ≡ true)
 

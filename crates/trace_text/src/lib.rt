@@ -1,16 +1,17 @@
 //! Traces: what was asked for in each round, read from a text of rows, or the first faulty row.
 //!
-//! `trace_text` turns text into a trace in one forward pass. `records.rt` gives one record at a time: an ask of four plain
-//! numbers is read where it stands (`plain_ask.rt`), another line of plain fields is cut at its commas (`line.rt`), and where
-//! a line has a quote or a carriage return, the kit's `csv` reads a front of the text that holds whole records (`csv_records.rt`,
-//! `whole_front.rt`), so that a record takes no more memory than a front. A record of which no front shows the end is read by
-//! growing parts, until it is seen to have more fields than a row. Of a plain line the first six fields are kept: they tell what a row is as all do. `taken_row.rt` reads the fields (a net at once as
+//! `trace_text` turns text into a trace in one forward pass. `records.rt` gives one record at a time: an ask of four numbers is
+//! read where it stands (`plain_ask.rt`), most by the head that they share with the ask before, another line whose fields are
+//! plain or stand between quotes is cut at its commas (`line.rt`), and where a line has another quote, the kit's `csv` reads a
+//! front of the text that holds whole records (`csv_records.rt`, `whole_front.rt`), so that a record takes no more memory than a
+//! front. A record of which no front shows the end is read by growing parts, until it is seen to have more fields than a row. Of
+//! a line the first six fields are kept: they tell what a row is as all do. `taken_row.rt` reads the fields (a net at once as
 //! `clos_topology`'s `Net`, which has the limits; a raw packet stays in hexadecimal until it is kept), `rows.rt` judges the row
 //! against the rows so far and keeps it, `events.rt` has fates, boots and raw packets, `order.rt` sorts by rank and finds a part
 //! of what is sorted, for any type with a rank, `flow_sums.rt` makes one ask a flow of the asks of a round, in order and without
-//! a sort, as they are read, so that no other ask is kept, `trace.rt` answers. `make.rt` draws a trace. `packets.rt` keeps packets one behind the other, each under a number: raw
-//! packets under their round, packets that are put under their endpoint (`puts.rt`). `proofs/Crossing.antt`: a trace may be read
-//! in several threads.
+//! a sort, as they are read, so that no other ask is kept, `trace.rt` answers. `make.rt` draws a trace. `packets.rt` keeps packets
+//! one behind the other, each under a number: raw packets under their round, packets that are put under their endpoint
+//! (`puts.rt`). `proofs/Crossing.antt`: a trace may be read in several threads.
 #![tactic(auto)]
 
 mod ask;

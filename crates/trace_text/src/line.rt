@@ -1,15 +1,15 @@
-// Lines whose fields are plain, taken apart at their commas.
-ghost use Rattle.std.specs.Prelude.{◌≡◌, ◌<◌, ◌⊎◌, true, length, take, slice_index, IfOk, IfSome};
+// Lines whose fields are plain or stand between quotes, taken apart at their commas.
+ghost use Rattle.std.specs.Prelude.{◌≡◌, ◌≢◌, ◌+◌, ◌<◌, ◌⊎◌, true, length, take, slice_index, IfOk, IfSome};
 ghost use Rattle.std.specs.List.{list_all};
 ghost use Rattle.csv.specs.Records.{fields_of};
-ghost use Rattle.trace_text.specs.Lines.{records_in, BeginsWith, is_plain, begins_blank, IsFieldBefore};
+ghost use Rattle.trace_text.specs.Lines.{records_in, BeginsWith, is_plain, is_unquoted, begins_blank, ends_line, IsFieldBefore, IsPlainBefore, IsQuotedBefore};
 
 use crate::fields::keep;
 use csv::ByteRecord;
 use no_memory::NoMemory;
 
-/// Takes the first line of a text as a record, and answers what stands behind it; None for a blank line, and for one that
-/// has a quote or a carriage return. The last line may lack its line feed. Of a line with many fields the first are kept.
+/// Takes the first line of a text as a record, and answers what stands behind it; None for a blank line, and for one with another
+/// quote than those round a field. The last line may lack its end. Of a line with many fields the first are kept.
 pub fn read_line<'a>(text: &'a [u8], fields: &mut ByteRecord) -> Result<Option<&'a [u8]>, NoMemory>
     ensures { IfOk result (λ line. IfSome line (λ rest. BeginsWith (records_in text.now) (fields_of fields.new) (records_in rest.now))) }
 {
@@ -21,7 +21,7 @@ pub fn read_line<'a>(text: &'a [u8], fields: &mut ByteRecord) -> Result<Option<&
     while let Some((field, is_last, more)) = first_field(rest) {
         keep(fields, field)?;
         if is_last {
-            return Ok(Some(more));
+            return Ok(Some(behind_blank_line(more)));
         }
         rest = more;
     }
@@ -44,28 +44,77 @@ fn is_plain_field(text: &[u8]) -> bool
     true
 }
 
-// The plain field that a text begins with, whether it is the last of its line, and what stands behind the byte that ends it.
+// The field that a text begins with, whether it is the last of its line, and what stands behind the byte that ends it.
 fn first_field(text: &[u8]) -> Option<(&[u8], bool, &[u8])>
     ensures { IfSome result (λ r. IsFieldBefore text.now r.0.now r.1 r.2.now) }
 {
-    let at = field_end(text)?;
-    Some((&text[..at], text[at] == b'\n', &text[at + 1..]))
+    match text {
+        [b'"', quoted @ ..] => quoted_field(quoted),
+        _ => plain_field(text),
+    }
 }
 
-// Where the comma or the line feed stands that ends a plain field.
+// The same of a plain field.
+fn plain_field(text: &[u8]) -> Option<(&[u8], bool, &[u8])>
+    ensures { IfSome result (λ r. IsPlainBefore text.now r.0.now r.1 r.2.now) }
+{
+    let at = field_end(text)?;
+    Some((&text[..at], text[at] != b',', &text[at + 1..]))
+}
+
+// Where the comma or the end of a line stands that ends a plain field.
 fn field_end(text: &[u8]) -> Option<usize>
     ensures within { IfSome result (λ at. at < length text.now) }
     ensures plain { IfSome result (λ at. list_all is_plain (take at text.now) ≡ true) }
-    ensures end { IfSome result (λ at. (slice_index text.now at ≡ 44) ⊎ (slice_index text.now at ≡ 10)) }
+    ensures end { IfSome result (λ at. (slice_index text.now at ≡ 44) ⊎ (ends_line (slice_index text.now at) ≡ true)) }
 {
     for at in 0..text.len() {
         match text[at] {
-            b',' | b'\n' => return Some(at),
-            b'"' | b'\r' => return None,
+            b',' | b'\n' | b'\r' => return Some(at),
+            b'"' => return None,
             _ => {}
         }
     }
     None
+}
+
+// The same of a field that is read from behind the quote that opens it.
+fn quoted_field(text: &[u8]) -> Option<(&[u8], bool, &[u8])>
+    ensures { IfSome result (λ r. IsQuotedBefore text.now r.0.now r.1 r.2.now) }
+{
+    let at = quote(text)?;
+    let (field, rest) = text.split_at(at);
+    match rest {
+        [_, b',', rest @ ..] => Some((field, false, rest)),
+        [_, b'\n' | b'\r', rest @ ..] => Some((field, true, rest)),
+        _ => None,
+    }
+}
+
+// Where the first quote stands, if it does in the first line.
+fn quote(text: &[u8]) -> Option<usize>
+    ensures within { IfSome result (λ at. at < length text.now) }
+    ensures before { IfSome result (λ at. list_all is_unquoted (take at text.now) ≡ true) }
+    ensures here { IfSome result (λ at. slice_index text.now at ≡ 34) }
+{
+    for at in 0..text.len() {
+        match text[at] {
+            b'"' => return Some(at),
+            b'\n' | b'\r' => return None,
+            _ => {}
+        }
+    }
+    None
+}
+
+/// The text behind the blank line that it may begin with, as it does between a carriage return and a line feed.
+pub fn behind_blank_line(text: &[u8]) -> &[u8]
+    ensures { records_in result.now ≡ records_in text.now }
+{
+    match behind_line_end(text) {
+        Some(rest) => rest,
+        None => text,
+    }
 }
 
 /// The text behind the blank lines that it begins with.

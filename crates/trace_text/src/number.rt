@@ -4,12 +4,12 @@ ghost use Rattle.std.specs.Char.{is_ascii_digit};
 ghost use Rattle.std.specs.List.{list_all};
 ghost use Rattle.std.specs.Str.Parse.{digits_value};
 ghost use Rattle.trace_text.specs.Fields.{has_shape, is_number, number_of};
-ghost use Rattle.trace_text.specs.Lines.{IsNumberBefore};
+ghost use Rattle.trace_text.specs.Lines.{IsLonger, IsNumberBefore, IsNumberAt};
 
 const MOST_DIGITS: usize = 10;
 
-// So many bytes have a number of three digits and the byte that ends it.
-const SHORT: usize = 4;
+// The byte that writes 0.
+const ZERO: u32 = 48;
 
 /// The number that a field writes: plain decimal without a leading zero, up to the greatest u32.
 pub fn read_number(text: &[u8]) -> Option<u32>
@@ -39,35 +39,18 @@ fn has_shape(text: &[u8]) -> bool
 }
 
 /// The number that a text begins with, as a field writes one, and what stands behind the byte that ends it.
-#[inline(always)]
 pub fn number_before(text: &[u8], end: u8) -> Option<(u32, &[u8])>
     ensures { IfSome result (λ r. IsNumberBefore text.now end r.0 r.1.now) }
 {
-    match short_number_before(text, end) {
-        Some(found) => Some(found),
-        None => long_number_before(text, end),
-    }
-}
-
-// The same, where the number has at most three digits, as most have.
-#[inline(always)]
-fn short_number_before(text: &[u8], end: u8) -> Option<(u32, &[u8])>
-    ensures { IfSome result (λ r. IsNumberBefore text.now end r.0 r.1.now) }
-{
-    if text.len() < SHORT {
-        return None;
-    }
-    let first = digit_more(text, 0, 0)?;
-    if text[1] == end {
-        return number_at_front(text, 1, first);
-    }
-    let second = digit_more(text, 1, first)?;
-    if text[2] == end {
-        return number_at_front(text, 2, second);
-    }
-    let third = digit_more(text, 2, second)?;
-    if text[3] == end {
-        return number_at_front(text, 3, third);
+    let mut value: u64 = 0;
+    for at in 0..text.len() {
+        if text[at] == end {
+            return number_at_front(text, at, value);
+        }
+        value = digit_more(text, at, value)?;
+        if value > u64::from(u32::MAX) {
+            return None;
+        }
     }
     None
 }
@@ -90,23 +73,6 @@ fn digit_more(text: &[u8], at: usize, value: u64) -> Option<u64>
     Some(value * 10 + u64::from(byte - b'0'))
 }
 
-// The same of a number of any length.
-fn long_number_before(text: &[u8], end: u8) -> Option<(u32, &[u8])>
-    ensures { IfSome result (λ r. IsNumberBefore text.now end r.0 r.1.now) }
-{
-    let mut value: u64 = 0;
-    for at in 0..text.len() {
-        if text[at] == end {
-            return number_at_front(text, at, value);
-        }
-        value = digit_more(text, at, value)?;
-        if value > u64::from(u32::MAX) {
-            return None;
-        }
-    }
-    None
-}
-
 // The number of the digits before a place, if they have its shape, and what stands behind the byte there.
 #[inline(always)]
 fn number_at_front(text: &[u8], at: usize, value: u64) -> Option<(u32, &[u8])>
@@ -120,4 +86,66 @@ fn number_at_front(text: &[u8], at: usize, value: u64) -> Option<(u32, &[u8])>
         return None;
     }
     Some((value as u32, &text[at + 1..]))
+}
+
+/// The number that stands at a place, and the place behind its digits, of which there are at most three; 0 has one.
+#[inline(always)]
+pub fn short_number(text: &[u8], at: usize) -> Option<(u32, usize)>
+    requires { at + 3 ≤ length text.now }
+    ensures { IfSome result (λ r. IsNumberAt text.now at r.0 r.1) }
+{
+    let Some(first) = digit_above_0(text[at]) else {
+        return zero(text, at);
+    };
+    let Some(second) = digit(text[at + 1]) else {
+        return Some((first, at + 1));
+    };
+    Some(longer(text, at + 2, first * 10 + second))
+}
+
+// The number with the digit that stands at a place, if one does, and the place behind it. There is no branch, since nothing tells
+// ahead how long a number is.
+#[inline(always)]
+fn longer(text: &[u8], at: usize, number: u32) -> (u32, usize)
+    requires within { at < length text.now }
+    requires small { number ≤ 99 }
+    ensures { IsLonger (slice_index text.now at) number result.0 at result.1 }
+{
+    let digit = text[at].wrapping_sub(b'0');
+    let more = digit < 10;
+    (
+        number + u32::from(more) * (number * 9 + u32::from(digit)),
+        at + usize::from(more),
+    )
+}
+
+// The same of the number 0.
+#[inline(always)]
+fn zero(text: &[u8], at: usize) -> Option<(u32, usize)>
+    requires { at < length text.now }
+    ensures { IfSome result (λ r. IsNumberAt text.now at r.0 r.1) }
+{
+    let number = digit(text[at])?;
+    if number > 0 {
+        return None;
+    }
+    Some((number, at + 1))
+}
+
+// The number that a byte writes, if it is a digit.
+#[inline(always)]
+fn digit(byte: u8) -> Option<u32>
+    ensures { IfSome result (λ digit. (is_ascii_digit byte ≡ true) × (byte ≡ 48 + digit) × (digit < 10)) }
+{
+    let digit = u32::from(byte).wrapping_sub(ZERO);
+    if digit < 10 { Some(digit) } else { None }
+}
+
+// The same of a digit above 0.
+#[inline(always)]
+fn digit_above_0(byte: u8) -> Option<u32>
+    ensures { IfSome result (λ digit. (is_ascii_digit byte ≡ true) × (byte ≡ 48 + digit) × (digit < 10) × (0 < digit)) }
+{
+    let more = u32::from(byte).wrapping_sub(ZERO + 1);
+    if more < 9 { Some(more + 1) } else { None }
 }

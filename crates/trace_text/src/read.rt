@@ -22,6 +22,10 @@ pub fn read_trace(alloc: Global, bytes: &[u8], command: Command) -> Result<Trace
     let mut fields = ByteRecord::new(alloc);
     let mut rows = Rows::new(alloc)?;
     loop {
+        if let Some(ask) = records.next_ask() {
+            rows.take_ask(command, &ask)?;
+            continue;
+        }
         let found = records.read(&mut fields)?;
         match found {
             Found::Ask(ask) => rows.take_ask(command, &ask)?,

@@ -1,17 +1,17 @@
-// The records of a text, one at a time: read where they stand as long as their fields are plain, and by the kit where they
-// are not, a front of the text after the other.
-ghost use Rattle.std.specs.Prelude.{◌≡◌, ◌<◌, ◌≤◌, ◌++◌, ℕ, List, true, length, IfOk};
+// The records of a text, one at a time: read where they stand as long as their fields are plain or stand between quotes, and by
+// the kit where they do not, a front of the text after the other.
+ghost use Rattle.std.specs.Prelude.{◌≡◌, ◌<◌, ◌≤◌, ◌++◌, ℕ, List, true, length, IfOk, MatchOption};
 ghost use Rattle.std.specs.Bool.{MatchBool};
 ghost use Rattle.csv.specs.Reading.{strip_bom};
 ghost use Rattle.csv.specs.Records.{fields_of};
 ghost use Rattle.trace_text.specs.Trace.{records_of};
-ghost use Rattle.trace_text.specs.Lines.{Finds, BeginsLong, records_in};
+ghost use Rattle.trace_text.specs.Lines.{BeginsWithAsk, Finds, BeginsLong, records_in};
 ghost use Rattle.trace_text.specs.declared.records.Found.TheVariants as found;
 
 use crate::csv_records::CsvRecords;
 use crate::fields::has_too_many;
 use crate::line::{behind_blank_lines, read_line};
-use crate::plain_ask::{PlainAsk, plain_ask};
+use crate::plain_ask::{AskHead, PlainAsk, plain_ask, quoted_ask};
 use crate::whole_front::whole_front;
 use csv::ByteRecord;
 use no_memory::NoMemory;
@@ -50,6 +50,8 @@ pub struct Records<'a> {
     front: Option<Box<CsvRecords<'a>>>,
     // What stands behind it.
     text: &'a [u8],
+    // The head of the latest plain ask, since most have that of the ask before.
+    head: Option<AskHead<'a>>,
 }
 
 impl<'a> Model for Records<'a> {
@@ -66,15 +68,54 @@ impl<'a> Records<'a> {
         ensures records { result ≡ records_of text.now }
         ensures few { length result ≤ length text.now }
     {
+        Records::at(alloc, without_mark(text))
+    }
+
+    // The records of a text.
+    fn at(alloc: Global, text: &'a [u8]) -> Records<'a>
+        ensures { result ≡ records_in text.now }
+    {
         Records {
             alloc,
             front: None,
-            text: without_mark(text),
+            text,
+            head: None,
         }
+    }
+
+    // Those that a reader of a front has left, and those of the text behind it.
+    fn behind(alloc: Global, front: Box<CsvRecords<'a>>, text: &'a [u8]) -> Records<'a>
+        ensures { result ≡ front.entry.value ++ records_in text.now }
+    {
+        Records {
+            alloc,
+            front: Some(front),
+            text,
+            head: None,
+        }
+    }
+
+    /// Takes the next record, where it is seen to be an ask with the head of the latest plain one, as most asks are.
+    #[inline(always)]
+    pub fn next_ask(&mut self) -> Option<PlainAsk>
+        ensures { MatchOption result (self.new ≡ self.old) (λ ask. BeginsWithAsk self.old ask self.new) }
+    {
+        if self.front.is_some() {
+            return None;
+        }
+        let Some(head) = &self.head else {
+            return None;
+        };
+        let Some((ask, rest)) = head.ask(self.text) else {
+            return None;
+        };
+        self.text = rest;
+        Some(ask)
     }
 
     /// Takes the next record, where there is one; the first fields of one that is no plain ask go into the buffer, and those
     /// behind them maybe too. Memory for a record is all that can be wanting.
+    #[inline(never)]
     pub fn read(&mut self, fields: &mut ByteRecord) -> Result<Found, NoMemory>
         ensures { IfOk result (λ found. Finds found self.old (fields_of fields.new) self.new) }
     {
@@ -86,7 +127,12 @@ impl<'a> Records<'a> {
             *self = left;
             return Ok(found);
         }
-        if let Some((ask, rest)) = plain_ask(self.text) {
+        if let Some((ask, head, rest)) = plain_ask(self.text) {
+            self.head = Some(head);
+            self.text = rest;
+            return Ok(Found::Ask(ask));
+        }
+        if let Some((ask, rest)) = quoted_ask(self.text) {
             self.text = rest;
             return Ok(Found::Ask(ask));
         }
@@ -104,22 +150,12 @@ fn read_other<'a>(
 ) -> Result<(Found, Records<'a>), NoMemory>
     ensures { IfOk result (λ r. Finds r.0 (records_in text.now) (fields_of fields.new) r.1) }
 {
-    if let Some(rest) = read_line(text, fields)? {
-        let left = Records {
-            alloc,
-            front: None,
-            text: rest,
-        };
-        return Ok((Found::Fields, left));
-    }
     let text = behind_blank_lines(text);
     if text.is_empty() {
-        let left = Records {
-            alloc,
-            front: None,
-            text,
-        };
-        return Ok((Found::End, left));
+        return Ok((Found::End, Records::at(alloc, text)));
+    }
+    if let Some(rest) = read_line(text, fields)? {
+        return Ok((Found::Fields, Records::at(alloc, rest)));
     }
     read_front(alloc, text, fields)
 }
@@ -137,12 +173,7 @@ fn read_front<'a>(
     };
     let mut records = CsvRecords::open(alloc, front)?;
     let found = Found::of(records.read(fields)?);
-    let left = Records {
-        alloc,
-        front: Some(records),
-        text: rest,
-    };
-    Ok((found, left))
+    Ok((found, Records::behind(alloc, records, rest)))
 }
 
 // Takes the first record of a text, of which no front shows the end. Where it is seen to have more fields than a row, the rest of
@@ -156,21 +187,11 @@ fn read_long<'a>(
 {
     *fields = ByteRecord::with_capacity(alloc, text.len(), 0)?;
     if begins_too_long(alloc, text, fields)? {
-        let left = Records {
-            alloc,
-            front: None,
-            text,
-        };
-        return Ok((Found::TooMany, left));
+        return Ok((Found::TooMany, Records::at(alloc, text)));
     }
     let mut records = CsvRecords::open(alloc, text)?;
     let found = Found::of(records.read(fields)?);
-    let left = Records {
-        alloc,
-        front: Some(records),
-        text: b"".as_slice(),
-    };
-    Ok((found, left))
+    Ok((found, Records::behind(alloc, records, b"".as_slice())))
 }
 
 // Whether a part of a text shows that its first record has more fields than a row. Its first fields go into the buffer then.

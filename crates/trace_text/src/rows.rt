@@ -102,6 +102,7 @@ impl Rows {
     }
 
     /// Takes the next row, or tells its number and fault.
+    #[inline(never)]
     pub fn take(&mut self, command: Command, fields: &ByteRecord) -> Result<(), TraceRefused>
         requires stands { Stands self.old }
         requires room { self.old.count < 4294967295 }
@@ -114,6 +115,7 @@ impl Rows {
     }
 
     /// Takes an ask that is the next row, or tells the row's number and fault.
+    #[inline(always)]
     pub fn take_ask(&mut self, command: Command, ask: &PlainAsk) -> Result<(), TraceRefused>
         requires stands { Stands self.old }
         requires room { self.old.count < 4294967295 }
@@ -167,6 +169,7 @@ impl Rows {
     }
 
     // What is wrong with an ask that is the next row.
+    #[inline(always)]
     #[tactic(auto, unfolding(crate::specs::Faults::read_row, crate::specs::Faults::read_kind))]
     fn judge_ask(&self, command: Command, ask: &PlainAsk) -> Option<Fault>
         requires { Stands self.now }
@@ -227,6 +230,7 @@ impl Rows {
         None
     }
 
+    #[inline(always)]
     #[tactic(auto, unfolding(crate::specs::Faults::checked))]
     fn ask_fault(&self, round: u32, src: u32, dst: u32, slots: u32) -> Option<Fault>
         requires { Stands self.now }
@@ -383,6 +387,7 @@ impl Rows {
         Ok(())
     }
 
+    #[inline(always)]
     fn push_ask(&mut self, round: u32, src: u32, dst: u32, slots: u32) -> Result<(), NoMemory>
         requires stands { Stands self.old }
         requires allowed { IsAllowed self.old (taken.Ask round src dst slots) }

@@ -1,7 +1,9 @@
-use Rattle.std.proofs.Common.{◌≡◌, ℕ, List, [], ◌∷◌, ◌++◌, true, sym, ◌∙◌, subst}
+use Rattle.std.proofs.Common.{◌≡◌, ℕ, List, [], ◌∷◌, ◌++◌, true, sym, ap, ◌∙◌, subst}
 use Rattle.std.specs.List.{list_all}
-use Rattle.trace_text.proofs.LineFacts.{begins-field, field-end, field-last, field-more, record-more}
+use Rattle.trace_text.proofs.EndFacts.{Ended, field-last, field-more, record-ended}
+use Rattle.trace_text.proofs.LineFacts.{begins-field, field-end, record-more}
 use Rattle.csv.specs.Records.{fields_of}
+use Rattle.trace_text.specs.Fields.{Record}
 use Rattle.trace_text.specs.Lines.{BeginsWith, is_plain, records_in}
 use Rattle.trace_text.proofs.FirstFields.{cut-twice}
 use Rattle.trace_text.proofs.line.read_line.Goals as goal
@@ -20,7 +22,8 @@ returns-then-is_last c =
     let taken = rw c.if-is_last.true at c.in-Some.ensures in (
       whole ++ field ∷ [],
       cut-twice (fields_of c.keep.new.fields) (whole ++ field ∷ []) (c.in_ok-keep.ensures.fields whole kept),
-      record-more c.args.text.now more (whole ++ field ∷ []) (same ∙ field-last whole c.loop-field.rest.now field more taken),
+      record-ended c.args.text.now more (whole ++ field ∷ []) (subst (Ended (whole ++ field ∷ []) more) (sym same) (field-last whole c.loop-field.rest.now field more taken))
+          ∙ ap (λ (l : List Record). (whole ++ field ∷ []) ∷ l) (sym c.behind_blank_line.ensures),
     )
 
 pub loop-field-preserved : goal.loop-field-preserved

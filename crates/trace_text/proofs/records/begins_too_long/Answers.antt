@@ -1,4 +1,4 @@
-use Rattle.std.proofs.Common.{◌≡◌, ◌++◌, true, refl, sym, ap, subst, ◌∙◌}
+use Rattle.std.proofs.Common.{◌≡◌, ◌++◌, sym, subst}
 use Rattle.csv.specs.Records.{fields_of}
 use Rattle.trace_text.specs.Lines.{BeginsLong, records_in}
 use Rattle.trace_text.proofs.records.begins_too_long.Goals as goal

@@ -9,4 +9,4 @@ returns-clause-few c =
     let text = strip_bom c.args.text.now in
     let few = length-records_from (length text + 1) st.StartRecord text refl in
     let short = length-strip_bom c.args.text.now in
-    rw c.without_mark.ensures (omega arith)
+    rw (c.at.ensures, c.without_mark.ensures) (omega arith)
