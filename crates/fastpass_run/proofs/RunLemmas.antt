@@ -22,7 +22,7 @@ use Rattle.text_output.specs.declared.output.Stop.TheVariants.{Write, Memory}
 use Rattle.fastpass_run.specs.Failures.{failure_of_stop, failure_of_trace}
 use Rattle.fastpass_run.specs.Outside.{Outside, Growth, IsUnwritten}
 use Rattle.fastpass_run.specs.Rows.{Rows, of_trace, of_script, fault_in, first_faulty, rows_of_input, rows_of, AsksToRead, IsReadAs}
-use Rattle.fastpass_run.specs.Run.{Ending, EndsBy, Performs, HasWords, HasFaultyRow, Gives, Completes, TellsFaults, TellsExcess, status_of}
+use Rattle.fastpass_run.specs.Run.{Ending, EndsBy, Performs, HasWords, HasFaultyRow, GivesBytes, Completes, TellsFaults, TellsExcess, status_of}
 use Rattle.fastpass_run.specs.Transfer.{Takes, input_limit}
 use Rattle.fastpass_run.specs.Words.{Asked, asked_of}
 use Rattle.fastpass_run.specs.Words.Asked.{writes, plans_by_need, audits, takes_over}
@@ -113,7 +113,7 @@ was_read one rows old new bytes faulty same told (taken, took, ended, few, is) =
       read = ap (λ (r : Rows). first_faulty r bytes) (sym same) ∙ (ap (first_faulty one) all ∙ is);
     }
 
-performed : (grew : Growth) (words : List (List ℕ)) (old new : Outside) (rows : Rows) (bytes : List ℕ) → Performs grew words old new → Gives words old rows bytes → WasRead rows bytes None
+performed : (grew : Growth) (words : List (List ℕ)) (old new : Outside) (rows : Rows) (bytes : List ℕ) → Performs grew words old new → GivesBytes words old rows bytes → WasRead rows bytes None
 performed grew words old new rows bytes (inl plans) gives =
     let (taken, took, ended, few, is) = plans.read in
     was_read (of_trace Plan) rows old new bytes None (the_rows words (writes plans.asked) (of_trace Plan) rows plans.accepted (ap rows_of_input plans.command) gives.accepted) gives.told (taken, took, ended, few, ap fault_in is)
@@ -134,7 +134,7 @@ performed grew words old new rows bytes (inr (inr (inr (inr (inr (inr takeover))
     let (taken, took, ended, few, is) = takeover.read in
     was_read of_script rows old new bytes None (the_rows words takes_over of_script rows takeover.accepted refl gives.accepted) gives.told (taken, took, ended, few, ap fault_in is)
 
-faulty : (words : List (List ℕ)) (old new : Outside) (row : ℕ) (fault : Fault) (rows : Rows) (bytes : List ℕ) → HasFaultyRow words old new row fault → Gives words old rows bytes
+faulty : (words : List (List ℕ)) (old new : Outside) (row : ℕ) (fault : Fault) (rows : Rows) (bytes : List ℕ) → HasFaultyRow words old new row fault → GivesBytes words old rows bytes
     → WasRead rows bytes (Some (record { row = row; fault = fault }))
 faulty words old new row fault rows bytes has gives =
     let (asked, accepted, reads) = has.accepted in

@@ -20,7 +20,7 @@ use Rattle.run_text.specs.PlanText.{plan_lines, plan_text}
 use Rattle.run_text.specs.ReplayText.{replay_lines, replay_text}
 use Rattle.run_text.specs.Ledger.{IsBalanced, LedgerIsKept}
 use Rattle.run_text.specs.Sends.{SendsAreScheduled}
-use Rattle.run_text.specs.Made.{trace_of_number, made_run, made_sums, made_text, Balances}
+use Rattle.run_text.specs.Made.{trace_of_number, made_run, made_sums, made_text, SumsBalance}
 use Rattle.fastpass_run.specs.Audits.{Audits, HasBadLine, AuditEnds}
 use Rattle.fastpass_run.specs.ByNeed.{PlansByNeed}
 use Rattle.fastpass_run.specs.Receives.{Receives}
@@ -53,7 +53,7 @@ pub record Plans (grew : Growth) (words : List (List ℕ)) (old new : Outside) :
   pub balanced : All IsBalanced (plan_lines cores asked.b trace)
 
 -- The output grew by the replay of a trace, with cores that make each slot of the schedule clean.
-pub record Replays (grew : Growth) (words : List (List ℕ)) (old new : Outside) : Type 0 where
+pub record RunsReplay (grew : Growth) (words : List (List ℕ)) (old new : Outside) : Type 0 where
   pub asked : AskedOfTrace
   pub accepted : asked_of words ≡ Some (writes asked)
   pub command : asked.input ≡ Read Replay
@@ -79,13 +79,13 @@ pub record Makes (grew : Growth) (words : List (List ℕ)) (old new : Outside) :
   pub command : asked.input ≡ Made number
   pub unread : IsUnread old new
   pub written : (cores : SlotCores) → grew old.sink.held new.sink.held (made_text number asked.b asked.g cores)
-  pub balanced : (cores : SlotCores) → Balances (made_sums number asked.b asked.g cores)
+  pub balanced : (cores : SlotCores) → SumsBalance (made_sums number asked.b asked.g cores)
   pub shown : (cores : SlotCores) → IsShown (made_run number asked.b asked.g cores) (trace_of_number number).rounds
 
 -- the output grew so by the text that the words ask for
 abbrev pub Performs : Growth → List (List ℕ) → Outside → Outside → Type 0
 Performs grew words old new =
-    Plans grew words old new ⊎ (PlansByNeed grew words old new ⊎ (Replays grew words old new ⊎ (Makes grew words old new
+    Plans grew words old new ⊎ (PlansByNeed grew words old new ⊎ (RunsReplay grew words old new ⊎ (Makes grew words old new
     ⊎ (Audits grew words old new ⊎ (Receives grew words old new ⊎ TakesOver grew words old new)))))
 
 -- nothing was written, or a front of the text that the words ask for
@@ -148,25 +148,25 @@ EndsBy words old new (Err (failure.Bad line)) = HasBadLine words old new line ×
 -- ---- when a run may end so
 
 -- the words ask for these bytes to be read as such rows, and nothing else is in the source
-pub record Gives (words : List (List ℕ)) (old : Outside) (rows : Rows) (bytes : List ℕ) : Type 0 where
+pub record GivesBytes (words : List (List ℕ)) (old : Outside) (rows : Rows) (bytes : List ℕ) : Type 0 where
   pub accepted : AsksToRead words rows
   pub told : old.left ≡ Some bytes
 
 -- an accepted text within the limit: it is done, or a read or a write failed, or memory is wanting
 abbrev pub Completes : List (List ℕ) → Outside → ℕ → Type 0
 Completes words old status =
-    (rows : Rows) (bytes : List ℕ) → Gives words old rows bytes → length bytes ≤ input_limit → first_faulty rows bytes ≡ None
+    (rows : Rows) (bytes : List ℕ) → GivesBytes words old rows bytes → length bytes ≤ input_limit → first_faulty rows bytes ≡ None
     → IsAmong status (0 ∷ 3 ∷ 4 ∷ 5 ∷ [])
 
 -- a text within the limit that has a faulty row: so says the status, or a read failed, or memory is wanting
 abbrev pub TellsFaults : List (List ℕ) → Outside → ℕ → Type 0
 TellsFaults words old status =
-    (rows : Rows) (bytes : List ℕ) (faulty : FaultyRow) → Gives words old rows bytes → length bytes ≤ input_limit → first_faulty rows bytes ≡ Some faulty
+    (rows : Rows) (bytes : List ℕ) (faulty : FaultyRow) → GivesBytes words old rows bytes → length bytes ≤ input_limit → first_faulty rows bytes ≡ Some faulty
     → IsAmong status (2 ∷ 3 ∷ 5 ∷ [])
 
 -- more bytes than the limit: the same
 abbrev pub TellsExcess : List (List ℕ) → Outside → ℕ → Type 0
-TellsExcess words old status = (rows : Rows) (bytes : List ℕ) → Gives words old rows bytes → input_limit < length bytes → IsAmong status (6 ∷ 3 ∷ 5 ∷ [])
+TellsExcess words old status = (rows : Rows) (bytes : List ℕ) → GivesBytes words old rows bytes → input_limit < length bytes → IsAmong status (6 ∷ 3 ∷ 5 ∷ [])
 
 -- a number makes the trace: nothing is read, and it is done, or a write failed, or memory is wanting
 abbrev pub ReadsNothing : List (List ℕ) → Outside → Outside → ℕ → Type 0
@@ -175,7 +175,7 @@ ReadsNothing words old new status = (number : ℕ) → AsksToMake words number �
 -- ---- a run
 
 -- What a run comes to, by what source and output tell before and after, what the notes tell before and after, and the status.
-pub record Runs (words : List (List ℕ)) (old new : Outside) (notes notes' : SinkContent) (status : ℕ) : Type 0 where
+pub record RunsWords (words : List (List ℕ)) (old new : Outside) (notes notes' : SinkContent) (status : ℕ) : Type 0 where
   -- it ends in one of eight ways, each with a status of its own
   pub ending : Ending
   pub status_is : status ≡ status_of ending

@@ -9,12 +9,12 @@
 //! or by need; `make` writes the sums of the counts of such a replay; `audit` tells of any text, whatever trace it was made from, its
 //! first bad line, or that it shows such a schedule; what `receive` writes is a function of its rows alone; and `takeover` keeps its
 //! promises after every event. Where a write fails or memory is wanting, a front of such a text is written. It is the contract of
-//! `run` (`Runs`, in specs/Run.antt).
+//! `run` (`RunsWords`, in specs/Run.antt).
 //!
 //! `fastpass_run` is the whole program over any source, sinks and gate. `lib.rt` has `run` and its contract, `words.rt` the
 //! words, `audits.rt` the audit of a text, `by_need.rt` the plan by need, `takeovers.rt` a takeover, `transfer.rt` reads to the
 //! end, `outcome.rt` has the statuses and the notes. What `run` says is one record of the words, of what source, sink and notes
-//! tell before and after, and of the status (`Runs` in `specs/Run.antt`).
+//! tell before and after, and of the status (`RunsWords` in `specs/Run.antt`).
 #![tactic(auto)]
 
 ghost use Rattle.std.specs.Prelude.{◌≡◌, ℕ, List, [], ◌∷◌, Some};
@@ -24,7 +24,7 @@ ghost use Rattle.fastpass_run.specs.Outside.{outside, IsUnread};
 ghost use Rattle.fastpass_run.specs.Statuses.{IsAmong};
 ghost use Rattle.fastpass_run.specs.Words.{texts, asked_of, asked_by};
 ghost use Rattle.fastpass_run.specs.Words.Asked.{writes};
-ghost use Rattle.fastpass_run.specs.Run.{Runs, EndsBy, ReadsNothing, status_of};
+ghost use Rattle.fastpass_run.specs.Run.{RunsWords, EndsBy, ReadsNothing, status_of};
 ghost use Rattle.fastpass_run.specs.declared.words.Input.TheVariants.{Made};
 
 mod audits;
@@ -61,7 +61,7 @@ pub fn run<R: Threads + Wait + Sync, S: Source, O: Sink, N: Sink, G: Gate + Sync
     notes: &mut N,
     gate: &G,
 ) -> u8
-    ensures { Runs (texts words.now) (outside S.Source O.Sink src.old out.old) (outside S.Source O.Sink src.new out.new)
+    ensures { RunsWords (texts words.now) (outside S.Source O.Sink src.old out.old) (outside S.Source O.Sink src.new out.new)
         (sink_content N.Sink notes.old) (sink_content N.Sink notes.new) result }
 {
     each_text_has_one_reading();

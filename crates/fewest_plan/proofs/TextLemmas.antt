@@ -1,5 +1,5 @@
 -- The text of a plan by need, window after window, and in its three parts.
-use Rattle.std.proofs.Common.{◌≡◌, ◌≤◌, ◌+◌, ◌-◌, ◌*◌, ◌++◌, ℕ, List, length, take, drop, sym, ap, ◌∙◌, subst, arith}
+use Rattle.std.proofs.Common.{◌≡◌, ◌≤◌, ◌+◌, ◌-◌, ◌*◌, ◌++◌, ℕ, List, [], length, take, drop, sym, ap, ◌∙◌, subst, arith}
 use Rattle.std.proofs.lemmas.Nat.{mul-le}
 use Rattle.std.proofs.lemmas.List.{length-take, length-drop, take_all}
 use Rattle.std.proofs.lemmas.List.Concat.{flat_map-append}
@@ -19,7 +19,7 @@ use Rattle.run_text.proofs.CoreLemmas.{spliced}
 use Rattle.run_text.proofs.PlanLemmas.{end_text, parts_with_end}
 use Rattle.fewest_plan.specs.declared.planner.Planner.{Planner}
 use Rattle.fewest_plan.specs.declared.planner.Window.{Window}
-use Rattle.fewest_plan.specs.Progress.{IsWindow, cores_of_window, lines_of_window, window_lines, rounds_lines}
+use Rattle.fewest_plan.specs.Progress.{IsPlanWindow, cores_of_window, lines_of_window, window_lines, rounds_lines}
 use Rattle.fewest_plan.specs.Scheduled.{EveryPlanHasItsSlotsBy}
 use Rattle.fewest_plan.specs.Standing.{HasPlanned, IsPlanned, window_of}
 use Rattle.fewest_plan.specs.Text.{flows_lines_by, fewest_text}
@@ -31,7 +31,7 @@ use Rattle.fewest_plan.proofs.CoreLemmas.{rounds_spliced, window_spliced}
 abbrev pub step_of : Window → StepContent
 step_of window = record {
   collected = record { first = window.first; count = length window.batches.items };
-  batches = window.batches.items;
+  played = record { batches = window.batches.items; answers = []; departures = [] };
   window = record { span = record { first = window.first; count = length window.batches.items }; slots = window.slots; cores = window.cores };
 }
 
@@ -39,7 +39,7 @@ places : (k n b : ℕ) → (k + n) * b ≡ k * b + n * b
 places k n b = grind arith
 
 pub is_window : (b : ℕ) (trace : TraceContent) (planner : Planner) (window : Window) → IsTrace trace → HasPlanned trace planner → EveryPlanHasItsSlotsBy remaining
-    → planner.b ≡ b → IsPlanned trace planner.b planner.collection.rounds (window_of trace planner) window → IsWindow b window
+    → planner.b ≡ b → IsPlanned trace planner.b planner.collection.rounds (window_of trace planner) window → IsPlanWindow b window
 is_window b trace planner window sound stands counts size planned =
     let n : ℕ = window_of trace planner in
     let k : ℕ = planner.collection.rounds in

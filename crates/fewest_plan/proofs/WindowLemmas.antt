@@ -17,7 +17,7 @@ use Rattle.window_allocation.specs.Ready.{IsFit}
 use Rattle.plan_rounds.specs.Batches.{plan_batches, EveryPlanIsRecorded}
 use Rattle.run_lines.specs.Text.{no_batch}
 use Rattle.run_text.proofs.CoreLemmas.{within_window, in_window}
-use Rattle.window_engine.proofs.EngineLemmas.{joined}
+use Rattle.window_engine.proofs.PlanLemmas.{joined}
 use Rattle.fewest_plan.specs.Barred.{batch_of}
 use Rattle.fewest_plan.specs.Scheduled.{window_slots_by}
 use Rattle.fewest_plan.specs.Standing.{MayAllBeServed, EveryPlanMayBeServed}

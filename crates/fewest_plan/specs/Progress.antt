@@ -33,7 +33,7 @@ batch_of_window b window at =
     batch_lines (cores_of_window b window) b (window.first + at) (slice_index_or window.batches.items at no_batch) (take b (drop (at * b) window.slots.slots))
 
 -- a window with b slots for each of its batches, all numbers of 32 bits
-pub record IsWindow (b : ℕ) (window : Window) : Type 0 where
+pub record IsPlanWindow (b : ℕ) (window : Window) : Type 0 where
   pub slots : length window.slots.slots ≡ length window.batches.items * b
   pub few : length window.batches.items ≤ 16
   pub numbers : first_slot b (window.first + length window.batches.items) ≤ 2 ^ 32

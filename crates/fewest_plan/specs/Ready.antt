@@ -13,7 +13,7 @@ use Rattle.fewest_plan.specs.Scheduled.{window_slots_by}
 use Rattle.fewest_plan.specs.Standing.{HasPlanned, MayAllBeServed, window_of}
 
 -- these batches, so many, the first of which has this number
-pub record IsReady (trace : TraceContent) (planner : Planner) (first count : ℕ) (batches : List DemandBatch) : Type 0 where
+pub record PlanIsReady (trace : TraceContent) (planner : Planner) (first count : ℕ) (batches : List DemandBatch) : Type 0 where
   pub within : planner.collection.rounds + count ≤ trace.rounds
   pub few : count ≤ planner.g
   pub number : length batches ≡ count
@@ -26,4 +26,4 @@ pub record IsReady (trace : TraceContent) (planner : Planner) (first count : ℕ
 abbrev pub EveryWindowIsReady : Type 0
 EveryWindowIsReady =
     (trace : TraceContent) (planner : Planner) (first count : ℕ) (batches : List DemandBatch) → IsTrace trace → HasPlanned trace planner → first ≡ planner.collection.rounds → count ≡ window_of trace planner
-    → batches ≡ take count (drop planner.collection.rounds (plan_batches trace)) → IsReady trace planner first count batches
+    → batches ≡ take count (drop planner.collection.rounds (plan_batches trace)) → PlanIsReady trace planner first count batches

@@ -10,7 +10,7 @@ ghost use Rattle.run_text.specs.Ledger.{IsBalanced};
 ghost use Rattle.run_text.specs.Sizes.{AreSizes};
 ghost use Rattle.fewest_plan.specs.Barred.{NoneThatNeedsMoreBarsIn};
 ghost use Rattle.fewest_plan.specs.Counts.{AllIsAllocatedOrPendingBy};
-ghost use Rattle.fewest_plan.specs.Progress.{IsWindow, lines_of_window, batch_of_window, window_lines, rounds_lines};
+ghost use Rattle.fewest_plan.specs.Progress.{IsPlanWindow, lines_of_window, batch_of_window, window_lines, rounds_lines};
 ghost use Rattle.fewest_plan.specs.Scheduled.{HasCoresBy, WithCoresBy, WithCoresOfWindowBy};
 ghost use Rattle.fewest_plan.specs.Standing.{HasPlanned, window_of};
 ghost use Rattle.fewest_plan.specs.Text.{fewest_lines, fewest_text};
@@ -40,7 +40,7 @@ fn put_batch<K: Sink>(
     at: usize,
 ) -> Result<(), Stop>
     requires b { (0 < b) × (b ≤ 64) }
-    requires window { IsWindow b window.now }
+    requires window { IsPlanWindow b window.now }
     requires at { at < length window.now.batches.items }
     ensures { Passes output.old output.new (text_of (batch_of_window b window.now at)) result }
 {
@@ -55,7 +55,7 @@ fn put_batch<K: Sink>(
 /// The batches of a window, each with its slots.
 fn put_window<K: Sink>(output: &mut Output<'_, K>, window: &Window, b: u8) -> Result<(), Stop>
     requires b { (0 < b) × (b ≤ 64) }
-    requires window { IsWindow b window.now }
+    requires window { IsPlanWindow b window.now }
     ensures { Passes output.old output.new (text_of (lines_of_window b window.now)) result }
 {
     texts_follow();

@@ -5,7 +5,7 @@ use Rattle.std.proofs.lemmas.Bool.{cases_Bool, cond-true, cond-false, eqb-true, 
 use Rattle.std.proofs.Math.Seq.{take-append_seam, set-append_seam}
 use Rattle.fcp_framing.specs.declared.refusal.FrameRefused.{FrameRefused}
 use Rattle.fcp_framing.specs.declared.refusal.FrameRefused.TheVariants.{Short, Version, Kind, Endpoint, Count, Order, SelfFlow, TooMuch, Mask, Trailing, Epoch, Seq}
-use Rattle.std.specs.List.{list_any}
+use Rattle.std.specs.List.{flat_map, list_any, range_with_len}
 use Rattle.fcp_framing.specs.declared.packet.Demand.{Demand}
 use Rattle.fcp_framing.specs.declared.packet.Up.{Up}
 use Rattle.fcp_framing.specs.Spelling.{reset_of}
@@ -25,7 +25,8 @@ use Rattle.trace_text.specs.Trace.{TraceContent, raw_at}
 use Rattle.trace_run.specs.Run.{Setting}
 use Rattle.replay_rounds.specs.Setting.{raw_rows, rows_from, setting_of}
 use Rattle.replay_rounds.specs.Played.{answer_after, raw_answers, lane_before, lane_before_raw}
-use Rattle.replay_rounds.specs.Collecting.{answers_below, framed_answer, refused_of, source_of, with_numbers}
+use Rattle.replay_rounds.specs.Collecting.{answers_below, framed_answer, framed_in, refused_of, source_of, with_numbers}
+use Rattle.replay_rounds.proofs.PartLemmas.{flat_map_more}
 use Rattle.replay_rounds.proofs.RowLemmas.{named}
 
 -- ---- the source of a packet is an endpoint
@@ -249,5 +250,15 @@ module _ (trace : TraceContent) (b g : ℕ) (cores : SlotCores) (round : ℕ) wh
       let src : ℕ = (up_of row.bytes).src in
       cc (answer_of (first_refusal (refuses_up n row.bytes)) src n (up_refusal_of_packet src (lane_before run round (take row.place rows) src) (up_of row.bytes)) (source_below n row.bytes), ended rs)
 
-  pub answers_are : answers_below run trace round n ≡ raw_answers run trace round
-  answers_are = below_bound n ∙ ended rows
+  refused_below : (bound : ℕ) → with_numbers (flat_map (refused_of run trace round) (range_with_len 0 bound)) (framed_in trace round) ≡ answers_below run trace round bound
+  refused_below zero = refl
+  refused_below (suc bound) =
+      let refused = refused_of run trace round in
+      let here : 0 + bound ≡ bound = omega arith in
+      ap (λ (k : ℕ). with_numbers (flat_map refused (range_with_len 0 k)) (framed_in trace round)) (sym (add-one bound))
+      ∙ (ap (λ (rs : List (ℕ × ℕ)). with_numbers rs (framed_in trace round)) (flat_map_more refused 0 bound ∙ ap (λ (k : ℕ). flat_map refused (range_with_len 0 bound) ++ refused k) here)
+      ∙ (with_numbers-append (flat_map refused (range_with_len 0 bound)) (refused bound) (framed_in trace round)
+      ∙ ap (with_numbers (refused bound)) (refused_below bound)))
+
+  pub answers_are : with_numbers (flat_map (refused_of run trace round) (range_with_len 0 n)) (framed_in trace round) ≡ raw_answers run trace round
+  answers_are = refused_below n ∙ (below_bound n ∙ ended rows)

@@ -15,6 +15,7 @@ pub mod PlayLemmas
 pub mod SortLemmas
 pub mod DepartureLemmas
 pub mod PartLemmas
+pub mod Halves
 pub mod RowLemmas
 pub mod Naming
 pub mod AnswerLemmas

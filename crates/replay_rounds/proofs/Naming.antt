@@ -1,5 +1,5 @@
 -- The raw packets of a round by the endpoint that they name: those of one endpoint, in the order of rows.
-use Rattle.std.proofs.Common.{◌≡◌, ◌<◌, ℕ, suc, ◌+◌, Bool, true, false, ◌==◌, nat_eq, nat_lt, cond, List, [], ◌∷◌, ◌++◌, length, get_or, drop, map, filter, Option, Some, None, All, refl, sym, ap, ◌∙◌, arith, length-drop}
+use Rattle.std.proofs.Common.{◌≡◌, ◌<◌, ℕ, suc, ◌+◌, Bool, true, false, ◌==◌, nat_eq, cond, List, [], ◌∷◌, ◌++◌, length, get_or, drop, map, filter, Option, Some, None, All, refl, sym, ap, ◌∙◌, arith, length-drop}
 use Rattle.std.specs.List.{flat_map}
 use Rattle.std.proofs.lemmas.List.{drop_more}
 use Rattle.std.specs.Option.{option_eq}

@@ -1,5 +1,5 @@
 -- One endpoint's round: that it may be played with what the trace and the publisher give, and what it leaves is the run's.
-use Rattle.std.proofs.Common.{◌≡◌, ◌<◌, ℕ, zero, suc, ◌+◌, List, [], ◌∷◌, ◌++◌, length, map, replicate, Option, true, refl, sym, ap, ◌∙◌, subst, add-one}
+use Rattle.std.proofs.Common.{◌≡◌, ◌<◌, ℕ, zero, suc, ◌+◌, List, [], ◌∷◌, ◌++◌, length, map, replicate, refl, sym, ap, ◌∙◌, subst, add-one}
 use Rattle.greedy_rules.specs.declared.flows.Entry.{Entry}
 use Rattle.greedy_rules.specs.declared.limits.Limits.{Limits}
 use Rattle.greedy_rules.specs.Batches.{DemandBatch, IsAboveLast}
@@ -23,7 +23,6 @@ use Rattle.lane_rounds.specs.State.{RoundsState, MayAsk, with_each}
 use Rattle.lane_rounds.specs.Standing.{StandsFor}
 use Rattle.trace_text.specs.Trace.{TraceContent}
 use Rattle.trace_run.specs.Run.{Setting, round_of, replayed}
-use Rattle.replay_rounds.specs.declared.named.Named.{Named}
 use Rattle.replay_rounds.specs.declared.played.Departure.{Departure}
 use Rattle.replay_rounds.specs.Standing.{LaneStands}
 use Rattle.replay_rounds.specs.Played.{departure, departures_from}
@@ -172,14 +171,13 @@ same_batch x y entries limits =
     ap (λ (es : List Entry). record { entries = es; limits = x.limits }) entries
     ∙ ap (λ (l : Limits). record { entries = y.entries; limits = l }) limits
 
-abbrev part : ℕ → List Named → DemandBatch → List (Option ℕ) → List Departure → RoundPart
-part number named batch answers departures = record { round = number; batch = batch; named = named; answers = answers; departures = departures }
+abbrev part : ℕ → DemandBatch → List (ℕ × ℕ) → List Departure → RoundPart
+part number batch refused departures = record { round = number; batch = batch; refused = refused; departures = departures }
 
-pub same_part : (x y : RoundPart) → x.round ≡ y.round → x.named ≡ y.named → x.batch.entries ≡ y.batch.entries → x.batch.limits ≡ y.batch.limits
-    → x.answers ≡ y.answers → x.departures ≡ y.departures → x ≡ y
-same_part x y round named entries limits answers departures =
-    ap (λ (n : ℕ). part n x.named x.batch x.answers x.departures) round
-    ∙ (ap (λ (ns : List Named). part y.round ns x.batch x.answers x.departures) named
-    ∙ (ap (λ (b : DemandBatch). part y.round y.named b x.answers x.departures) (same_batch x.batch y.batch entries limits)
-    ∙ (ap (λ (zs : List (Option ℕ)). part y.round y.named y.batch zs x.departures) answers
-    ∙ ap (λ (ds : List Departure). part y.round y.named y.batch y.answers ds) departures)))
+pub same_part : (x y : RoundPart) → x.round ≡ y.round → x.batch.entries ≡ y.batch.entries → x.batch.limits ≡ y.batch.limits
+    → x.refused ≡ y.refused → x.departures ≡ y.departures → x ≡ y
+same_part x y round entries limits refused departures =
+    ap (λ (n : ℕ). part n x.batch x.refused x.departures) round
+    ∙ (ap (λ (b : DemandBatch). part y.round b x.refused x.departures) (same_batch x.batch y.batch entries limits)
+    ∙ (ap (λ (rs : List (ℕ × ℕ)). part y.round y.batch rs x.departures) refused
+    ∙ ap (λ (ds : List Departure). part y.round y.batch y.refused ds) departures))

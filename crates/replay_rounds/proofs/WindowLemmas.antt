@@ -1,5 +1,5 @@
 -- A window of rounds between what stands before it and after it.
-use Rattle.std.proofs.Common.{◌≡◌, ◌<◌, ◌≤◌, ℕ, ◌+◌, ◌*◌, ◌-◌, min, List, map, get_or, refl, sym, ◌∙◌, subst, arith}
+use Rattle.std.proofs.Common.{◌≡◌, ◌<◌, ◌≤◌, ℕ, ◌+◌, ◌*◌, ◌-◌, min, List, [], ◌∷◌, map, get_or, refl, sym, ◌∙◌, subst, arith}
 use Rattle.std.specs.List.{range_with_len}
 use Rattle.std.proofs.lemmas.Option.{slice_get-get_or, slice_get_within, get_or_from_slice_get}
 use Rattle.greedy_rules.specs.Schedule.{first_slot}
@@ -10,10 +10,11 @@ use Rattle.trace_text.specs.Trace.{TraceContent}
 use Rattle.trace_text.specs.Valid.{IsTrace}
 use Rattle.trace_run.specs.Windows as windows
 use Rattle.trace_run.specs.Windows.{InWindows, batch_at}
+use Rattle.replay_rounds.specs.declared.collect.WindowInPlay.{WindowInPlay}
 use Rattle.replay_rounds.specs.Setting.{setting_of}
 use Rattle.replay_rounds.specs.Standing.{LaneStands, RoundsContent, AllRoundsStand, routed_from, slots_between}
 use Rattle.replay_rounds.specs.Played.{raw_answers, departures_in, rounds_played}
-use Rattle.replay_rounds.specs.Collecting.{round_part, played_of, published_by, setting_by, LanesStand, MayBeCollected, MayBeTold, RoundPart}
+use Rattle.replay_rounds.specs.Collecting.{answers_of, raw_part, round_part, played_of, published_by, run_told, setting_by, LanesStand, MayBeCollected, MayBeTold, MayCollectRounds, RoundPart}
 use Rattle.replay_rounds.specs.Publishing.{WindowIsPublished}
 use Rattle.replay_rounds.proofs.PartLemmas.{map_by, same_played}
 use Rattle.replay_rounds.proofs.AnswerLemmas.{answers_are}
@@ -21,15 +22,21 @@ use Rattle.replay_rounds.proofs.PublishedWindows.{is_published}
 
 -- ---- what the rounds give
 
+answers_give : (trace : TraceContent) (b g : ℕ) (cores : SlotCores) (numbers : List ℕ)
+    → answers_of (map (raw_part trace) numbers) (map (round_part (setting_of trace b g cores) trace 0 (endpoints_of trace.net)) numbers) ≡ map (raw_answers (setting_of trace b g cores) trace) numbers
+answers_give trace b g cores [] = refl
+answers_give trace b g cores (number ∷ numbers) = cc (answers_are trace b g cores number, answers_give trace b g cores numbers)
+
 pub rounds_give : (trace : TraceContent) (b g : ℕ) (cores : SlotCores) (first count : ℕ)
-    → played_of (map (round_part (setting_of trace b g cores) trace (endpoints_of trace.net)) (range_with_len first count)) ≡ rounds_played (setting_of trace b g cores) trace first count
+    → played_of (map (raw_part trace) (range_with_len first count)) (map (round_part (setting_of trace b g cores) trace 0 (endpoints_of trace.net)) (range_with_len first count))
+    ≡ rounds_played (setting_of trace b g cores) trace first count
 rounds_give trace b g cores first count =
     let setting = setting_of trace b g cores in
-    let part = round_part setting trace (endpoints_of trace.net) in
+    let part = round_part setting trace 0 (endpoints_of trace.net) in
     let numbers = range_with_len first count in
-    same_played (played_of (map part numbers)) (rounds_played setting trace first count)
+    same_played (played_of (map (raw_part trace) numbers) (map part numbers)) (rounds_played setting trace first count)
     (map_by (λ (p : RoundPart). p.batch) part (batch_at setting) (λ number. refl) numbers)
-    (map_by (λ (p : RoundPart). p.answers) part (raw_answers setting trace) (λ number. answers_are trace b g cores number) numbers)
+    (answers_give trace b g cores numbers)
     (map_by (λ (p : RoundPart). p.departures) part (departures_in setting) (λ number. refl) numbers)
 
 -- ---- before it
@@ -124,3 +131,14 @@ begins law trace sound all now is in_windows count count_is lanes lanes_are core
       counted = (stood.counted.0, omega (arith, stood.counted.1, stood.held));
       within = omega (arith, count_is, within.within);
     }
+
+-- so the rounds of a window may be played for every endpoint
+pub may_collect_rounds : (window : WindowInPlay) (cores : SlotCores) (lanes : List RoundsState) → IsTrace window.trace.now
+    → MayBeCollected window.trace.now window.g cores window.publisher.now window.first window.count
+    → (window.publisher.now.first_batch ≤ window.counted) × (window.counted ≤ published_by window.publisher.now)
+    → window.first + window.count ≤ window.trace.now.rounds
+    → LanesStand (run_told window cores) window.first window.counted lanes → MayCollectRounds window cores lanes
+may_collect_rounds window cores lanes sound may counted within stand = record {
+  may = record { may = may; counted = counted; within = within; few = omega (arith, within, sound.few_rounds); few_endpoints = sound.net.most_endpoints };
+  stand = stand;
+}

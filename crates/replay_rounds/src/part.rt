@@ -1,20 +1,19 @@
 //! A round as it is played, endpoint after endpoint.
-ghost use Rattle.std.specs.Prelude.{◌≡◌, ◌<◌, ◌≤◌, ℕ, ◌+◌, ◌++◌, [], slice_set, Some, IfOk, OnOk};
-ghost use Rattle.std.specs.List.Sorted.{IsNonDecreasingBy};
+ghost use Rattle.std.specs.Prelude.{◌≡◌, ◌<◌, ◌≤◌, ℕ, ◌+◌, ◌++◌, take, IfOk, OnOk};
 ghost use Rattle.greedy_rules.specs.Batches.{IsAboveLast};
 ghost use Rattle.clos_topology.specs.Network.{endpoints_of};
 ghost use Rattle.clos_topology.specs.NetSlots.{SlotCores};
 ghost use Rattle.replay_rounds.specs.Standing.{LaneStands};
-ghost use Rattle.replay_rounds.specs.Collecting.{blank_round, framed_answer, framed_in, named_at, named_in, published_by, setting_by, source_of, with_endpoint, with_numbers, with_round, MayBeTold};
+ghost use Rattle.replay_rounds.specs.Collecting.{blank_round, named_in, published_by, setting_by, with_behind, with_endpoint, LieBelow, MayBeTold};
 
 use crate::NoMemory;
 use crate::departures::DeparturesBySlot;
 use crate::handed::{Near, fill_events, fill_told};
 use crate::laws::rounds_may_be_played;
-use crate::named::Named;
-use crate::played::Played;
+use crate::played::Departure;
+use crate::raw::RawRound;
 use arrayvec::ArrayVec;
-use fcp_framing::{Told, Up, decode_up};
+use fcp_framing::Told;
 use greedy_rules::{Batch, Limits};
 use lane_rounds::{AskList, Events, LaneRounds, RawList, RefusedList, Sent};
 use slot_publisher::Publisher;
@@ -49,21 +48,18 @@ impl Buffers {
     }
 }
 
-/// A round with what the endpoints played so far give in it.
+/// A round with what some endpoints that follow each other give in it.
 #[derive(Drop)]
 pub(crate) struct RoundInPlay {
     round: u32,
     batch: Batch,
-    // The raw packets that spell a packet, by the endpoint that they name.
-    named: Vec<Named>,
-    // The number of the refusal of each raw packet, if one refuses it so far.
-    answers: Vec<Option<u8>>,
+    // The places of the raw packets that are refused, each with the number of its refusal.
+    refused: Vec<(u32, u8)>,
     departures: DeparturesBySlot,
     near: Near,
 }
 
 impl Model for RoundInPlay {
-    ghost use Rattle.std.specs.List.Sorted.{IsNonDecreasingBy};
     ghost use Rattle.replay_rounds.specs.Collecting.{RoundPart};
 
     ghost Value = { RoundPart };
@@ -71,18 +67,19 @@ impl Model for RoundInPlay {
     ghost view = { λ r. record {
       round = r.round;
       batch = r.batch;
-      named = r.named.items;
-      answers = r.answers.items;
+      refused = r.refused.items;
       departures = r.departures;
     } };
-
-    ghost invariant = { λ r. IsNonDecreasingBy (λ one. one.source) r.named.items };
 }
 
 impl RoundInPlay {
-    /// Before the first endpoint. Raw packets are read once; what is no packet is answered at once.
-    pub(crate) fn open(alloc: Global, trace: &Trace, round: u32) -> Result<RoundInPlay, NoMemory>
-        requires { round < trace.now.rounds }
+    /// Before the first of at most so many endpoints.
+    pub(crate) fn open(
+        alloc: Global,
+        trace: &Trace,
+        round: u32,
+        endpoints: usize,
+    ) -> Result<RoundInPlay, NoMemory>
         ensures { IfOk result (λ part. part ≡ blank_round trace.now round) }
     {
         let net = trace.net();
@@ -90,17 +87,11 @@ impl RoundInPlay {
             hosts: net.hosts(),
             cores: net.cores(),
         };
-        let mut named = Vec::new(alloc);
-        let mut answers = Vec::new(alloc);
-        if trace.raw_count(round) > 0 {
-            read_raw(trace, round, &mut named, &mut answers)?;
-        }
         Ok(RoundInPlay {
             round,
             batch: Batch::with_limits(alloc, limits),
-            named,
-            answers,
-            departures: DeparturesBySlot::open(alloc, net.endpoints())?,
+            refused: Vec::new(alloc),
+            departures: DeparturesBySlot::open(alloc, endpoints)?,
             near: Near::default(),
         })
     }
@@ -113,12 +104,13 @@ impl RoundInPlay {
         trace: &Trace,
         publisher: &Publisher,
         g: u8,
+        raw: &RawRound,
         buffers: &mut Buffers,
     ) -> Result<(), NoMemory>
         requires may { (cores : SlotCores) × MayBeTold trace.now g cores publisher.now self.old.round
             × LaneStands (setting_by trace.now g cores publisher.now) self.old.round (published_by publisher.now) endpoint lane.old }
         requires endpoint { endpoint < endpoints_of trace.now.net }
-        requires named { self.old.named ≡ named_in trace.now self.old.round }
+        requires named { raw.now.named ≡ named_in trace.now self.old.round }
         requires above { IsAboveLast self.old.batch.entries (record { src = endpoint; dst = 0 }) }
         ensures lane { OnOk result ((cores : SlotCores) →
             MayBeTold trace.now g cores publisher.now self.old.round →
@@ -135,7 +127,7 @@ impl RoundInPlay {
             trace,
             self.round,
             endpoint,
-            &self.named,
+            raw.named(),
             &mut self.near,
         )?;
         fill_told(&mut buffers.told, publisher, g, self.round, endpoint);
@@ -150,91 +142,62 @@ impl RoundInPlay {
             &mut buffers.refused,
         )?;
         self.departures.note_sent(endpoint, &buffers.sent)?;
-        note_refused(&mut self.answers, &buffers.refused);
+        note_refused(&mut self.refused, &buffers.refused)?;
         Ok(())
     }
 
-    /// Appends what it gives once every endpoint is played.
-    pub(crate) fn add_to(self, played: &mut Played) -> Result<(), NoMemory>
-        ensures { OnOk result (played.new ≡ with_round self played.old) }
+    /// Appends what endpoints behind these give in the same round.
+    pub(crate) fn append(&mut self, behind: &RoundInPlay) -> Result<(), NoMemory>
+        requires { LieBelow self.old.batch.entries behind.now.batch.entries }
+        ensures { OnOk result (self.new ≡ with_behind behind.now self.old) }
+    {
+        append_entries(&mut self.batch, &behind.batch)?;
+        self.refused.extend_from_slice(&behind.refused)?;
+        self.departures.append(&behind.departures)?;
+        Ok(())
+    }
+
+    /// The places of the raw packets that are refused, each with the number of its refusal.
+    pub(crate) fn refused(&self) -> &[(u32, u8)]
+        ensures { result.now ≡ self.now.refused }
+    {
+        &self.refused
+    }
+
+    /// What it records, and what is sent in it.
+    pub(crate) fn into_parts(self) -> Result<(Batch, Vec<Departure>), NoMemory>
+        ensures batch { IfOk result (λ parts. parts.0 ≡ self.batch) }
+        ensures departures { IfOk result (λ parts. parts.1.items ≡ self.departures) }
     {
         let RoundInPlay {
             batch,
-            answers,
             departures,
             ..
         } = self;
-        played.batches.push(batch)?;
-        played.answers.push(answers)?;
-        played.departures.push(departures.into_list()?)?;
-        Ok(())
+        Ok((batch, departures.into_list()?))
     }
 }
 
-/// Reads each raw packet of a round: the endpoint that it names, or the number of its refusal.
-fn read_raw(
-    trace: &Trace,
-    round: u32,
-    named: &mut Vec<Named>,
-    answers: &mut Vec<Option<u8>>,
-) -> Result<(), NoMemory>
-    requires round { round < trace.now.rounds }
-    requires no_names { named.old.items ≡ [] }
-    requires no_answers { answers.old.items ≡ [] }
-    ensures named { OnOk result (named.new.items ≡ named_in trace.now round) }
-    ensures sorted { OnOk result (IsNonDecreasingBy (λ one. one.source) named.new.items) }
-    ensures answers { OnOk result (answers.new.items ≡ framed_in trace.now round) }
-{
-    let endpoints = trace.endpoints();
-    let count = trace.raw_count(round);
-    let mut up = Up::default();
-    answers.reserve(count)?;
-    for at in 0..count {
-        let (source, answer) = read_one(trace.raw(round, at), endpoints, &mut up);
-        push_named(named, source, at as u32)?;
-        answers.push(answer)?;
-    }
-    named.sort_by_key(|one| one.source)?;
-    Ok(())
-}
-
-/// Appends a raw packet that names an endpoint.
-fn push_named(named: &mut Vec<Named>, source: Option<u16>, place: u32) -> Result<(), NoMemory>
-    ensures { OnOk result (named.new.items ≡ named.old.items ++ named_at place source) }
-{
-    if let Some(source) = source {
-        named.push(Named { source, place })?;
-    }
-    Ok(())
-}
-
-/// The endpoint that the bytes name, or the number of the refusal where they spell no packet.
-fn read_one(bytes: &[u8], endpoints: u16, up: &mut Up) -> (Option<u16>, Option<u8>)
-    requires { endpoints ≤ 256 }
-    ensures source { result.0 ≡ source_of endpoints bytes.now }
-    ensures answer { result.1 ≡ framed_answer endpoints bytes.now }
-{
-    match decode_up(bytes, endpoints, up) {
-        Ok(()) => (Some(up.src), None),
-        Err(refusal) => (None, Some(refusal.number())),
-    }
-}
-
-/// Writes the numbers of refusals at the places of the packets that are refused.
-fn note_refused(answers: &mut [Option<u8>], refused: &RefusedList)
-    ensures { answers.new ≡ with_numbers refused.now answers.old }
+/// Appends the places and numbers of what is refused.
+fn note_refused(list: &mut Vec<(u32, u8)>, refused: &RefusedList) -> Result<(), NoMemory>
+    ensures { OnOk result (list.new.items ≡ list.old.items ++ refused.now) }
 {
     for at in 0..refused.len() {
-        let (place, number) = refused.get(at);
-        note_number(answers, place as usize, number);
+        list.push(refused.get(at))?;
     }
+    Ok(())
 }
 
-/// Writes a number at a place, if there is such a place.
-fn note_number(answers: &mut [Option<u8>], place: usize, number: u8)
-    ensures { answers.new ≡ slice_set answers.old place (Some number) }
+/// Appends the entries of a batch.
+fn append_entries(batch: &mut Batch, behind: &Batch) -> Result<(), NoMemory>
+    requires { LieBelow batch.old.entries behind.now.entries }
+    ensures entries { OnOk result (batch.new.entries ≡ batch.old.entries ++ behind.now.entries) }
+    ensures limits { OnOk result (batch.new.limits ≡ batch.old.limits) }
 {
-    if place < answers.len() {
-        answers[place] = Some(number);
+    // Both rise.
+    let _entries = batch.len();
+    for at in 0..behind.len() {
+        batch.push(behind.entry(at))?;
     }
+    Ok(())
 }

@@ -13,7 +13,7 @@ ghost use Rattle.replay_rounds.specs.Standing.{AllRoundsStand, IsNextWindow, set
 ghost use Rattle.replay_rounds.specs.Counts.{counted, lane_count, sent_and_missed};
 
 use crate::NoMemory;
-use crate::collect::collect;
+use crate::collect::{WindowInPlay, collect};
 use crate::played::Played;
 use crate::publish::{count_slots, counting_holds};
 use greedy_rules::{Flow, SlotTable};
@@ -21,12 +21,15 @@ use lane_rounds::{FlowCount, LaneRounds};
 use slot_publisher::{CoreTable, Publisher};
 use std::alloc::Global;
 use std::marker::Model;
+use std::thread::Threads;
 use trace_run::steps_go_on;
 use trace_text::Trace;
 
 /// The rounds of every endpoint of a trace. What clauses say of them holds for all cores for which they stand.
 #[derive(Drop)]
 pub struct ReplayRounds {
+    // In at most so many threads a window is played: half of the workers, since the others allocate beside.
+    threads: u16,
     endpoints: u16,
     b: u8,
     g: u8,
@@ -58,8 +61,15 @@ impl Model for ReplayRounds {
 }
 
 impl ReplayRounds {
-    /// Before the first round of the trace, with batches of `b` slots (1 to 64) and windows of `g` rounds (1 to 16).
-    pub fn open(alloc: Global, trace: &Trace, b: u8, g: u8) -> Result<ReplayRounds, NoMemory>
+    /// Before the first round of the trace, with batches of `b` slots (1 to 64) and windows of `g` rounds (1 to 16); half of
+    /// the workers (1 to 16) play a window's rounds side by side.
+    pub fn open(
+        alloc: Global,
+        trace: &Trace,
+        workers: u16,
+        b: u8,
+        g: u8,
+    ) -> Result<ReplayRounds, NoMemory>
         requires b { (0 < b) × (b ≤ 64) }
         requires g { (0 < g) × (g ≤ 16) }
         ensures stands { IfOk result (λ all. (cores : SlotCores) → AreSlotCores cores → AllRoundsStand trace.now cores all) }
@@ -76,6 +86,7 @@ impl ReplayRounds {
             lanes.push(LaneRounds::open(alloc, endpoint, endpoints, b, g)?)?;
         }
         Ok(ReplayRounds {
+            threads: workers.div_ceil(2),
             endpoints,
             b,
             g,
@@ -103,7 +114,12 @@ impl ReplayRounds {
 
     /// Plays the next window of `g` rounds, or those that are left; before them the lanes count the slots that are published and not
     /// counted yet. The trace is the one given to `open`; after want of memory the rounds are only to be dropped.
-    pub fn collect(&mut self, alloc: Global, trace: &Trace) -> Result<Played, NoMemory>
+    pub fn collect<R: Threads + Sync>(
+        &mut self,
+        rt: &R,
+        alloc: Global,
+        trace: &Trace,
+    ) -> Result<Played, NoMemory>
         requires stands { (cores : SlotCores) × AllRoundsStand trace.now cores self.old }
         // The batches up to two windows before each of these rounds are published.
         requires windows { InWindows self.old.g trace.now.rounds self.old.collected self.old.published self.old.window.first_batch }
@@ -119,16 +135,15 @@ impl ReplayRounds {
     {
         steps_go_on();
         let count = u32::from(self.g).min(trace.rounds() - self.collected);
-        let played = collect(
-            alloc,
-            &mut self.lanes,
-            &self.publisher,
+        let window = WindowInPlay {
             trace,
-            self.g,
-            self.counted,
-            self.collected,
+            publisher: &self.publisher,
+            g: self.g,
+            counted: self.counted,
+            first: self.collected,
             count,
-        )?;
+        };
+        let played = collect(rt, alloc, self.threads, &mut self.lanes, &window)?;
         self.collected += count;
         self.counted = self.published;
         Ok(played)

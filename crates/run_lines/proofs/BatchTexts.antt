@@ -15,13 +15,13 @@ places : (k n b : ℕ) → (k + n) * b ≡ k * b + n * b
 places k n b = grind arith
 
 -- a batch of a step: its entries and then its slots
-pub batch_text : (b at k base from : ℕ) (step : StepContent) (batch : DemandBatch) (table : Slots) (cores : CoreSlots) → k ≡ step.window.span.first + at → batch ≡ get_or step.batches at no_batch → base ≡ first_slot b step.window.span.first
+pub batch_text : (b at k base from : ℕ) (step : StepContent) (batch : DemandBatch) (table : Slots) (cores : CoreSlots) → k ≡ step.window.span.first + at → batch ≡ get_or step.played.batches at no_batch → base ≡ first_slot b step.window.span.first
     → from ≡ at * b → table ≡ step.window.slots → cores ≡ step.window.cores
     → text_of (map (entry_line k) batch.entries) ++ text_of (slots_lines (cores_from base cores) (base + from) (take b (drop from table.slots)))
     ≡ text_of (batch_of_step b step at)
 batch_text b at k base from step batch table cores k_is batch_is base_is from_is table_is cores_are =
     let n : ℕ = step.window.span.first + at in
-    let entries : List Line = map (entry_line n) (get_or step.batches at no_batch).entries in
+    let entries : List Line = map (entry_line n) (get_or step.played.batches at no_batch).entries in
     let number : base + from ≡ first_slot b n = omega (arith, places step.window.span.first at b) in
     let Slots_of : ℕ → CoreSlots → ℕ → ℕ → Slots → List ℕ = λ f c m low t. text_of (slots_lines (cores_from f c) m (take b (drop low t.slots))) in
     ap (λ (m : ℕ). text_of (map (entry_line m) batch.entries) ++ Slots_of base cores (base + from) from table) k_is

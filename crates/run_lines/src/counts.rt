@@ -3,7 +3,7 @@ ghost use Rattle.std.specs.Prelude.{◌≡◌, ◌<◌, ◌≤◌, ◌+◌, IfSo
 ghost use Rattle.clos_topology.specs.Network.{endpoints_of};
 ghost use Rattle.clos_topology.specs.NetSlots.{SlotCores};
 ghost use Rattle.trace_text.specs.Valid.{IsTrace};
-ghost use Rattle.window_engine.specs.Replay.{StandsForReplay, run_of};
+ghost use Rattle.window_engine.specs.Standing.{StandsForReplay, run_of};
 ghost use Rattle.text_output.specs.Output.{Passes};
 ghost use Rattle.run_lines.specs.Text.{text_of, flight_of, count_lines_of, counts_of_source, counts_lines};
 
@@ -13,7 +13,7 @@ use greedy_rules::Flow;
 use report_text::Line;
 use text_output::{Output, Stop};
 use trace_text::Trace;
-use window_engine::{Counts, Replay};
+use window_engine::{Counts, Engine};
 
 /// The slots of a flow that are allocated and neither acknowledged nor lost.
 pub fn flight(counts: Counts) -> u32
@@ -52,20 +52,20 @@ fn put_count<K: Sink>(
 fn put_source<K: Sink>(
     output: &mut Output<'_, K>,
     trace: &Trace,
-    replay: &Replay,
+    engine: &Engine,
     src: u16,
 ) -> Result<(), Stop>
     requires accepted { IsTrace trace.now }
-    requires stands { (cores : SlotCores) × StandsForReplay trace.now cores replay.now }
-    requires done { replay.now.lanes.published ≡ replay.now.rounds }
+    requires stands { (cores : SlotCores) × StandsForReplay trace.now cores engine.now }
+    requires done { engine.now.allocated ≡ engine.now.rounds }
     requires src { src < endpoints_of trace.now.net }
-    ensures { (cores : SlotCores) → StandsForReplay trace.now cores replay.now →
-        Passes output.old output.new (text_of (counts_of_source (run_of trace.now cores replay.now) trace.now src)) result }
+    ensures { (cores : SlotCores) → StandsForReplay trace.now cores engine.now →
+        Passes output.old output.new (text_of (counts_of_source (run_of trace.now cores engine.now) trace.now src)) result }
 {
     every_count_has_a_flight();
     for dst in 0..trace.endpoints() {
         let flow = Flow { src, dst };
-        put_count(output, flow, replay.counts(flow))?;
+        put_count(output, flow, engine.counts(flow))?;
     }
     Ok(())
 }
@@ -74,16 +74,16 @@ fn put_source<K: Sink>(
 pub fn put_counts<K: Sink>(
     output: &mut Output<'_, K>,
     trace: &Trace,
-    replay: &Replay,
+    engine: &Engine,
 ) -> Result<(), Stop>
     requires accepted { IsTrace trace.now }
-    requires stands { (cores : SlotCores) × StandsForReplay trace.now cores replay.now }
-    requires done { replay.now.lanes.published ≡ replay.now.rounds }
-    ensures { (cores : SlotCores) → StandsForReplay trace.now cores replay.now →
-        Passes output.old output.new (text_of (counts_lines (run_of trace.now cores replay.now) trace.now)) result }
+    requires stands { (cores : SlotCores) × StandsForReplay trace.now cores engine.now }
+    requires done { engine.now.allocated ≡ engine.now.rounds }
+    ensures { (cores : SlotCores) → StandsForReplay trace.now cores engine.now →
+        Passes output.old output.new (text_of (counts_lines (run_of trace.now cores engine.now) trace.now)) result }
 {
     for src in 0..trace.endpoints() {
-        put_source(output, trace, replay, src)?;
+        put_source(output, trace, engine, src)?;
     }
     Ok(())
 }

@@ -2,7 +2,7 @@
 ghost use Rattle.std.specs.Prelude.{◌≡◌, ◌<◌};
 ghost use Rattle.clos_topology.specs.Network.{endpoints_of};
 ghost use Rattle.trace_text.specs.Valid.{IsTrace};
-ghost use Rattle.window_engine.specs.Standing.{Stands};
+ghost use Rattle.window_engine.specs.Standing.{StandsForPlan};
 ghost use Rattle.text_output.specs.Output.{Passes};
 ghost use Rattle.run_lines.specs.Text.{text_of, flow_lines_of, flows_of_source, flows_lines};
 
@@ -41,10 +41,10 @@ fn put_source<K: Sink>(
     src: u16,
 ) -> Result<(), Stop>
     requires accepted { IsTrace trace.now }
-    requires stands { Stands trace.now engine.now }
-    requires done { engine.now.collection.rounds ≡ engine.now.rounds }
+    requires stands { StandsForPlan trace.now engine.now }
+    requires done { engine.now.allocated ≡ engine.now.rounds }
     requires src { src < endpoints_of trace.now.net }
-    ensures { Passes output.old output.new (text_of (flows_of_source engine.now.allocation.b trace.now src)) result }
+    ensures { Passes output.old output.new (text_of (flows_of_source engine.now.b trace.now src)) result }
 {
     for dst in 0..trace.endpoints() {
         let flow = Flow { src, dst };
@@ -60,9 +60,9 @@ pub fn put_flows<K: Sink>(
     engine: &Engine,
 ) -> Result<(), Stop>
     requires accepted { IsTrace trace.now }
-    requires stands { Stands trace.now engine.now }
-    requires done { engine.now.collection.rounds ≡ engine.now.rounds }
-    ensures { Passes output.old output.new (text_of (flows_lines engine.now.allocation.b trace.now)) result }
+    requires stands { StandsForPlan trace.now engine.now }
+    requires done { engine.now.allocated ≡ engine.now.rounds }
+    ensures { Passes output.old output.new (text_of (flows_lines engine.now.b trace.now)) result }
 {
     for src in 0..trace.endpoints() {
         put_source(output, trace, engine, src)?;

@@ -4,7 +4,7 @@ ghost use Rattle.greedy_rules.specs.Schedule.{slot_in};
 ghost use Rattle.path_workers.specs.CoreTable.{core_of};
 ghost use Rattle.window_engine.specs.Scheduled.{cores_from};
 ghost use Rattle.text_output.specs.Output.{Passes};
-ghost use Rattle.run_lines.specs.Steps.{IsWindow, batch_of_step};
+ghost use Rattle.run_lines.specs.Steps.{IsStepWindow, batch_of_step};
 ghost use Rattle.run_lines.specs.Text.{text_of, slot_line, slots_lines};
 
 use fp_edge::Sink;
@@ -70,7 +70,7 @@ pub fn put_batch<K: Sink>(
     at: u32,
 ) -> Result<(), Stop>
     requires b { (0 < b) × (b ≤ 64) }
-    requires window { IsWindow b step.now }
+    requires window { IsStepWindow b step.now }
     requires at { at < step.now.window.span.count }
     ensures { Passes output.old output.new (text_of (batch_of_step b step.now at)) result }
 {

@@ -3,13 +3,14 @@ ghost use Rattle.std.specs.Prelude.{◌<◌, map, length, All, IfSome};
 ghost use Rattle.std.specs.List.{flat_map};
 ghost use Rattle.report_text.specs.Names.{IsRefusal};
 ghost use Rattle.text_output.specs.Output.{Passes};
-ghost use Rattle.run_lines.specs.Steps.{ArePlayed, played_round};
+ghost use Rattle.run_lines.specs.Steps.{StepIsPlayed, played_round};
 ghost use Rattle.run_lines.specs.Text.{text_of, line_text, refused_line, sent_line};
 
 use fp_edge::Sink;
-use replay_rounds::{Departure, Played};
+use replay_rounds::Departure;
 use report_text::{Line, Numeral};
 use text_output::{Output, Stop, put_entries};
+use window_engine::Step;
 
 /// The refusal of a raw packet, if it was refused.
 fn put_answer<K: Sink>(
@@ -64,20 +65,15 @@ fn put_departures<K: Sink>(output: &mut Output<'_, K>, departures: &[Departure])
     Ok(())
 }
 
-/// One of the rounds, by its place: its batch, its refusals, and what is sent in it.
-pub fn put_round<K: Sink>(
-    output: &mut Output<'_, K>,
-    played: &Played,
-    first: u32,
-    at: u32,
-) -> Result<(), Stop>
-    requires played { ArePlayed first played.now }
-    requires at { at < length played.now.batches }
-    ensures { Passes output.old output.new (text_of (played_round first played.now at)) result }
+/// One of the rounds that a step of a replay played, by its place: its batch, its refusals, and what is sent in it.
+pub fn put_round<K: Sink>(output: &mut Output<'_, K>, step: &Step, at: u32) -> Result<(), Stop>
+    requires played { StepIsPlayed step.now }
+    requires at { at < length step.now.played.batches }
+    ensures { Passes output.old output.new (text_of (played_round step.now.collected.first step.now.played at)) result }
 {
-    let round = first + at;
+    let round = step.collected().first + at;
     let place = at as usize;
-    put_entries(output, round, &played.batches()[place])?;
-    put_answers(output, round, played.answers(place))?;
-    put_departures(output, played.departures(place))
+    put_entries(output, round, &step.batches()[place])?;
+    put_answers(output, round, step.answers(place))?;
+    put_departures(output, step.departures(place))
 }

@@ -6,15 +6,15 @@ use Rattle.report_text.specs.declared.line.Line.{Line}
 use Rattle.trace_text.specs.Trace.{TraceContent}
 use Rattle.trace_run.specs.Run.{Setting}
 use Rattle.replay_rounds.specs.Setting.{setting_of}
-use Rattle.window_engine.specs.Replay.{ReplayState, run_of}
+use Rattle.window_engine.specs.Replay.{EveryReplayTakesItsSteps}
 use Rattle.run_lines.specs.Text.{text_of}
 use Rattle.run_text.specs.ReplayProgress.{next_lines}
-use Rattle.window_engine.specs.Replay.{EveryReplayTakesItsSteps}
 use Rattle.run_text.specs.ReplayScheduled.{AgreeAbove}
 use Rattle.run_text.specs.ReplayText.{step_lines, steps_lines, steps_of}
 use Rattle.run_text.proofs.CoreLemmas.{spliced, spliced-here, spliced-there}
 use Rattle.run_text.proofs.NumberedTexts.{numbers_more, numbers_whole}
 use Rattle.run_text.proofs.ReplaySteps.{IsAfter, next_step, more_steps}
+use Rattle.window_engine.specs.Standing.{EngineState, run_of}
 
 -- cores that agree with the spliced ones up to the window's end agree with the others before it, and with its own in it
 pub agree_before : (low size all : ℕ) (cores here there : SlotCores) → low ≤ all → AgreeAbove 0 all cores (spliced low size here there) → AgreeAbove 0 low cores there
@@ -27,16 +27,16 @@ pub agree_self : (low size : ℕ) (cores : SlotCores) → AgreeAbove low size co
 agree_self low size cores number above below = refl
 
 -- the run that a replay stands for is that of its sizes
-pub same_run : (trace : TraceContent) (cores : SlotCores) (engine : ReplayState) (b g : ℕ) → engine.lanes.b ≡ b → engine.lanes.g ≡ g → run_of trace cores engine ≡ setting_of trace b g cores
-same_run trace cores engine b g size window = ap (λ (n : ℕ). setting_of trace n engine.lanes.g cores) size ∙ ap (λ (n : ℕ). setting_of trace b n cores) window
+pub same_run : (trace : TraceContent) (cores : SlotCores) (engine : EngineState) (b g : ℕ) → engine.b ≡ b → engine.g ≡ g → run_of trace cores engine ≡ setting_of trace b g cores
+same_run trace cores engine b g size window = ap (λ (n : ℕ). setting_of trace n engine.g cores) size ∙ ap (λ (n : ℕ). setting_of trace b n cores) window
 
-pub step_here : (trace : TraceContent) (cores : SlotCores) (engine : ReplayState) (b g steps : ℕ) → IsAfter g trace.rounds steps engine → engine.rounds ≡ trace.rounds → engine.lanes.b ≡ b → engine.lanes.g ≡ g
+pub step_here : (trace : TraceContent) (cores : SlotCores) (engine : EngineState) (b g steps : ℕ) → IsAfter g trace.rounds steps engine → engine.rounds ≡ trace.rounds → engine.b ≡ b → engine.g ≡ g
     → next_lines cores trace engine ≡ step_lines cores (setting_of trace b g cores) trace steps
 step_here trace cores engine b g steps after all size window =
     next_step trace cores engine g steps after all window ∙ ap (λ (s : Setting). step_lines cores s trace steps) (same_run trace cores engine b g size window)
 
 -- one step more
-pub steps_more : (trace : TraceContent) (cores : SlotCores) (engine : ReplayState) (b g steps : ℕ) → IsAfter g trace.rounds steps engine → engine.rounds ≡ trace.rounds → engine.lanes.b ≡ b → engine.lanes.g ≡ g →
+pub steps_more : (trace : TraceContent) (cores : SlotCores) (engine : EngineState) (b g steps : ℕ) → IsAfter g trace.rounds steps engine → engine.rounds ≡ trace.rounds → engine.b ≡ b → engine.g ≡ g →
     let setting : Setting = setting_of trace b g cores in
     text_of (steps_lines cores setting trace (suc steps)) ≡ text_of (steps_lines cores setting trace steps) ++ text_of (next_lines cores trace engine)
 steps_more trace cores engine b g steps after all size window =
@@ -49,8 +49,8 @@ steps_more trace cores engine b g steps after all size window =
 abbrev pub steps_after : SlotCores → Setting → TraceContent → ℕ → List ℕ
 steps_after cores setting trace steps = text_of (flat_map (step_lines cores setting trace) (range_with_len (0 + (steps + 1)) (steps_of setting trace - (steps + 1))))
 
-pub steps_stop : (trace : TraceContent) (cores : SlotCores) (engine : ReplayState) (b g steps : ℕ) → EveryReplayTakesItsSteps → 0 < g → 0 < trace.rounds → IsAfter g trace.rounds steps engine → engine.rounds ≡ trace.rounds → engine.lanes.b ≡ b → engine.lanes.g ≡ g
-    → engine.lanes.published ≢ engine.rounds →
+pub steps_stop : (trace : TraceContent) (cores : SlotCores) (engine : EngineState) (b g steps : ℕ) → EveryReplayTakesItsSteps → 0 < g → 0 < trace.rounds → IsAfter g trace.rounds steps engine → engine.rounds ≡ trace.rounds → engine.b ≡ b → engine.g ≡ g
+    → engine.allocated ≢ engine.rounds →
     let setting : Setting = setting_of trace b g cores in
     text_of (steps_lines cores setting trace (steps_of setting trace)) ≡ (text_of (steps_lines cores setting trace steps) ++ text_of (next_lines cores trace engine)) ++ steps_after cores setting trace steps
 steps_stop trace cores engine b g steps takes some positive after all size window more =
@@ -58,7 +58,7 @@ steps_stop trace cores engine b g steps takes some positive after all size windo
     numbers_whole (step_lines cores setting trace) (steps_of setting trace) steps (more_steps g trace.rounds steps engine takes some positive after (λ is. more (is ∙ sym all)))
     ∙ ap (λ (ls : List Line). (text_of (steps_lines cores setting trace steps) ++ text_of ls) ++ steps_after cores setting trace steps) (sym (step_here trace cores engine b g steps after all size window))
 
-pub no_step : (trace : TraceContent) (engine : ReplayState) → engine.lanes.collected ≡ 0 → engine.lanes.published ≡ 0 → IsAfter engine.lanes.g trace.rounds 0 engine
+pub no_step : (trace : TraceContent) (engine : EngineState) → engine.collected ≡ 0 → engine.allocated ≡ 0 → IsAfter engine.g trace.rounds 0 engine
 no_step trace engine collected published = record { collected = collected; published = published; least = λ some. absurd (omega (arith, some)) }
 
 -- rounds that are not collected, and batches that are not published, grow fewer with every step

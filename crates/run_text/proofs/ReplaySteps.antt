@@ -27,16 +27,18 @@ use Rattle.replay_rounds.specs.Standing.{slots_between}
 use Rattle.window_allocation.specs.declared.window.Span.{Span}
 use Rattle.window_engine.specs.Scheduled.{AreClean, cores_from}
 use Rattle.window_engine.specs.Windows.{WindowContent, IsWindowOf}
-use Rattle.window_engine.specs.Replay.{ReplayState, ReplayStepContent, StandsForReplay, HasCoresOf, run_of}
+use Rattle.window_engine.specs.Replay.{EveryReplayTakesItsSteps}
 use Rattle.run_lines.specs.Text.{text_of, no_batch, entry_line, slots_lines, refused_line, sent_line, line_text}
 use Rattle.run_text.specs.ReplayText.{round_lines, rounds_lines, window_lines, step_lines}
-use Rattle.run_lines.specs.Steps.{played_round, ArePlayed}
-use Rattle.run_text.specs.ReplayProgress.{played_lines, HasSlots, cores_of_replay_step, step_text_lines, next_rounds, next_lines}
-use Rattle.window_engine.specs.Replay.{EveryReplayTakesItsSteps}
+use Rattle.run_lines.specs.Steps.{played_round, StepIsPlayed, cores_of_step}
+use Rattle.run_text.specs.ReplayProgress.{played_lines, HasSlots, step_text_lines, next_lines}
 use Rattle.run_text.specs.ReplayScheduled.{AgreeAbove}
 use Rattle.run_text.proofs.CoreLemmas.{slots_lines-same}
 use Rattle.run_text.proofs.NumberedTexts.{numbers-same}
 use Rattle.run_text.proofs.ReplayCores.{limited, below_64-same, cores_small, clean_limited}
+use Rattle.window_engine.specs.Standing.{EngineState, StandsForReplay, run_of, window_of}
+use Rattle.window_engine.specs.Step.{StepContent, HasCoresOf}
+use Rattle.window_engine.proofs.EngineFacts.{replay_within}
 
 -- ---- how many steps there are
 
@@ -44,17 +46,17 @@ abbrev pub windows_of : ℕ → ℕ → ℕ
 windows_of g rounds = (rounds + g - 1) / g
 
 -- a replay after so many steps, before none of which it was done
-pub record IsAfter (g rounds steps : ℕ) (engine : ReplayState) : Type 0 where
-  pub collected : engine.lanes.collected ≡ collected_after g rounds steps
-  pub published : engine.lanes.published ≡ collected_after g rounds (steps - 1)
+pub record IsAfter (g rounds steps : ℕ) (engine : EngineState) : Type 0 where
+  pub collected : engine.collected ≡ collected_after g rounds steps
+  pub published : engine.allocated ≡ collected_after g rounds (steps - 1)
   pub least : 1 ≤ steps → collected_after g rounds (steps - 2) ≢ rounds
 
-pub after_step : (g rounds steps : ℕ) (old new : ReplayState) → IsAfter g rounds steps old → old.rounds ≡ rounds → old.lanes.g ≡ g → old.lanes.published ≢ old.rounds
-    → new.lanes.collected ≡ old.lanes.collected + next_rounds old → new.lanes.published ≡ old.lanes.collected → IsAfter g rounds (suc steps) new
+pub after_step : (g rounds steps : ℕ) (old new : EngineState) → IsAfter g rounds steps old → old.rounds ≡ rounds → old.g ≡ g → old.allocated ≢ old.rounds
+    → new.collected ≡ old.collected + window_of old → new.allocated ≡ old.collected → IsAfter g rounds (suc steps) new
 after_step g rounds steps old new after all window more collected published = record {
   collected = collected
-      ∙ (ap (λ (n : ℕ). old.lanes.collected + min n (old.rounds - old.lanes.collected)) window
-      ∙ (ap (λ (n : ℕ). old.lanes.collected + min g (n - old.lanes.collected)) all ∙ ap (λ (n : ℕ). n + min g (rounds - n)) after.collected));
+      ∙ (ap (λ (n : ℕ). old.collected + min n (old.rounds - old.collected)) window
+      ∙ (ap (λ (n : ℕ). old.collected + min g (n - old.collected)) all ∙ ap (λ (n : ℕ). n + min g (rounds - n)) after.collected));
   published = published ∙ (after.collected ∙ ap (collected_after g rounds) (omega arith));
   least = λ some.
       let place : steps - 1 ≡ suc steps - 2 = omega arith in
@@ -69,11 +71,11 @@ before_all g rounds steps takes some positive more =
     ]
 
 -- one that is not done has a step more
-pub more_steps : (g rounds steps : ℕ) (engine : ReplayState) → EveryReplayTakesItsSteps → 0 < g → 0 < rounds → IsAfter g rounds steps engine → engine.lanes.published ≢ rounds → steps < windows_of g rounds + 1
+pub more_steps : (g rounds steps : ℕ) (engine : EngineState) → EveryReplayTakesItsSteps → 0 < g → 0 < rounds → IsAfter g rounds steps engine → engine.allocated ≢ rounds → steps < windows_of g rounds + 1
 more_steps g rounds steps engine takes some positive after more = before_all g rounds steps takes some positive (λ is. more (after.published ∙ is))
 
 -- one that is done has had all
-pub all_steps : (g rounds steps : ℕ) (engine : ReplayState) → EveryReplayTakesItsSteps → 0 < g → 0 < rounds → IsAfter g rounds steps engine → engine.lanes.published ≡ rounds → steps ≡ windows_of g rounds + 1
+pub all_steps : (g rounds steps : ℕ) (engine : EngineState) → EveryReplayTakesItsSteps → 0 < g → 0 < rounds → IsAfter g rounds steps engine → engine.allocated ≡ rounds → steps ≡ windows_of g rounds + 1
 all_steps g rounds steps engine takes some positive after done =
     let enough : windows_of g rounds + 1 ≤ steps = (takes g rounds steps some positive).0 (sym after.published ∙ done) in
     let place : steps - 2 ≡ steps - 1 - 1 = omega arith in
@@ -101,30 +103,32 @@ played_text setting trace first count =
 played_count : (setting : Setting) (trace : TraceContent) (first count : ℕ) (played : Played) → played ≡ rounds_played setting trace first count → length played.batches ≡ count
 played_count setting trace first count played is = ap (λ (p : Played). length p.batches) is ∙ length-map-range_with_len (batch_at setting) first count
 
-pub are_played : (setting : Setting) (trace : TraceContent) (first count : ℕ) (played : Played) → EveryRefusalHasANumber → IsTrace trace → first + count ≤ trace.rounds → played ≡ rounds_played setting trace first count → ArePlayed first played
-are_played setting trace first count played names sound within is =
+pub is_played : (setting : Setting) (trace : TraceContent) (first count : ℕ) (step : StepContent) → EveryRefusalHasANumber → IsTrace trace → first + count ≤ trace.rounds → step.collected.first ≡ first → step.played ≡ rounds_played setting trace first count
+    → StepIsPlayed step
+is_played setting trace first count step names sound within start is =
+    let played : Played = step.played in
     let many : length played.batches ≡ count = played_count setting trace first count played is in
     record {
       answers = ap (λ (p : Played). length p.answers) is ∙ (length-map-range_with_len (raw_answers setting trace) first count ∙ sym many);
       departures = ap (λ (p : Played). length p.departures) is ∙ (length-map-range_with_len (departures_in setting) first count ∙ sym many);
       named = subst (λ (p : Played). All (All (λ answer. IfSome answer IsRefusal)) p.answers) (sym is) (All-map (All (λ answer. IfSome answer IsRefusal)) (raw_answers setting trace) (range_with_len first count) (λ i d below. names setting trace (get_or (range_with_len first count) i d)));
-      numbers = omega (arith, many, within, sound.few_rounds);
+      numbers = omega (arith, many, within, start, sound.few_rounds);
     }
 
 -- its slots, with the cores that it names
-pub has_slots : (trace : TraceContent) (cores : SlotCores) (old : ReplayState) (step : ReplayStepContent) → IsTrace trace → StandsForReplay trace cores old
-    → step.window.span ≡ record { first = old.lanes.published; count = old.lanes.collected - old.lanes.published }
-    → IsWindowOf trace.net old.lanes.b (slots_between (run_of trace cores old) old.lanes.published old.lanes.collected) step.window → HasSlots old.lanes.b step
+pub has_slots : (trace : TraceContent) (cores : SlotCores) (old : EngineState) (step : StepContent) → IsTrace trace → StandsForReplay trace cores old
+    → step.window.span ≡ record { first = old.allocated; count = old.collected - old.allocated }
+    → IsWindowOf trace.net old.b (slots_between (run_of trace cores old) old.allocated old.collected) step.window → HasSlots old.b step
 has_slots trace cores old step sound stands span window =
-    let b : ℕ = old.lanes.b in
-    let first : step.window.span.first ≡ old.lanes.published = ap (λ (s : Span). s.first) span in
-    let count : step.window.span.count ≡ old.lanes.collected - old.lanes.published = ap (λ (s : Span). s.count) span in
-    let behind : old.lanes.published ≤ old.lanes.collected = stands.windows.behind in
-    let rounds : step.window.span.first + step.window.span.count ≤ 100000 = omega (arith, first, count, behind, stands.windows.within, sound.few_rounds) in
-    let small : (step.window.span.first + step.window.span.count) * b ≤ 100000 * 64 = mul-le (step.window.span.first + step.window.span.count) b 100000 64 rounds stands.lanes.batch.1 in
+    let b : ℕ = old.b in
+    let first : step.window.span.first ≡ old.allocated = ap (λ (s : Span). s.first) span in
+    let count : step.window.span.count ≡ old.collected - old.allocated = ap (λ (s : Span). s.count) span in
+    let behind : old.allocated ≤ old.collected = (replay_within stands).behind in
+    let rounds : step.window.span.first + step.window.span.count ≤ 100000 = omega (arith, first, count, behind, (replay_within stands).within, sound.few_rounds) in
+    let small : (step.window.span.first + step.window.span.count) * b ≤ 100000 * 64 = mul-le (step.window.span.first + step.window.span.count) b 100000 64 rounds (replay_within stands).b.1 in
     record {
       slots = ap length window.is ∙ window.number;
-      few = omega (arith, count, stands.windows.one_window, stands.lanes.rounds.1);
+      few = omega (arith, count, (replay_within stands).one_window, (replay_within stands).g.1);
       numbers = omega (arith, small);
       core_slots = window.core_slots;
       core_endpoints = window.core_endpoints ∙ sym window.endpoints;
@@ -166,8 +170,8 @@ window_text net b first size slots window cores few start is long agree =
     ∙ (sym (window_cores net b first slots window few start is i source below) ∙ sym (ap (λ (core_of : CoreOf). core_of source) (agree number (omega arith) (omega (arith, long, below)))))))
 
 -- and the replay goes on standing for them
-pub has_cores_of : (net : Network) (b first size : ℕ) (slots : List (List Flow)) (step : ReplayStepContent) (cores : SlotCores) → net.cores ≤ 64 → step.window.span.first ≡ first → IsWindowOf net b slots step.window → length slots ≡ size
-    → AgreeAbove (first * b) size cores (limited (cores_of_replay_step b step)) → HasCoresOf b step cores
+pub has_cores_of : (net : Network) (b first size : ℕ) (slots : List (List Flow)) (step : StepContent) (cores : SlotCores) → net.cores ≤ 64 → step.window.span.first ≡ first → IsWindowOf net b slots step.window → length slots ≡ size
+    → AgreeAbove (first * b) size cores (limited (cores_of_step b step)) → HasCoresOf b step cores
 has_cores_of net b first size slots step cores few start is long agree at source below =
     let number : ℕ = first_slot b first + at in
     let inside : at < length slots = omega (arith, is.number, below) in
@@ -175,50 +179,48 @@ has_cores_of net b first size slots step cores few start is long agree at source
     ∙ (ap (λ (core_of : CoreOf). core_of source) (agree number (omega arith) (omega (arith, long, inside))) ∙ window_cores net b first slots step.window few start is at source inside)
 
 -- what a step gives is what comes next in the run
-pub next_text : (trace : TraceContent) (cores : SlotCores) (old : ReplayState) (step : ReplayStepContent) (size : ℕ) → IsTrace trace
-    → step.first ≡ old.lanes.collected → step.played ≡ rounds_played (run_of trace cores old) trace old.lanes.collected (next_rounds old) → step.window.span.first ≡ old.lanes.published
-    → IsWindowOf trace.net old.lanes.b (slots_between (run_of trace cores old) old.lanes.published old.lanes.collected) step.window
-    → length (slots_between (run_of trace cores old) old.lanes.published old.lanes.collected) ≡ size
-    → AgreeAbove (old.lanes.published * old.lanes.b) size cores (limited (cores_of_replay_step old.lanes.b step))
-    → step_text_lines old.lanes.b step ≡ next_lines cores trace old
+pub next_text : (trace : TraceContent) (cores : SlotCores) (old : EngineState) (step : StepContent) (size : ℕ) → IsTrace trace
+    → step.collected.first ≡ old.collected → step.played ≡ rounds_played (run_of trace cores old) trace old.collected (window_of old) → step.window.span.first ≡ old.allocated
+    → IsWindowOf trace.net old.b (slots_between (run_of trace cores old) old.allocated old.collected) step.window
+    → length (slots_between (run_of trace cores old) old.allocated old.collected) ≡ size
+    → AgreeAbove (old.allocated * old.b) size cores (limited (cores_of_step old.b step))
+    → step_text_lines old.b step ≡ next_lines cores trace old
 next_text trace cores old step size sound first played start window long agree =
-    let b : ℕ = old.lanes.b in
+    let b : ℕ = old.b in
     let setting : Setting = run_of trace cores old in
-    let count : ℕ = next_rounds old in
-    let slots : List Line = slots_lines (cores_of_replay_step b step) (first_slot b step.window.span.first) step.window.slots.slots in
+    let count : ℕ = window_of old in
+    let slots : List Line = slots_lines (cores_of_step b step) (first_slot b step.window.span.first) step.window.slots.slots in
     ap (λ (k : ℕ). played_lines k step.played (length step.played.batches) ++ slots) first
-    ∙ (ap (λ (n : ℕ). played_lines old.lanes.collected step.played n ++ slots) (played_count setting trace old.lanes.collected count step.played played)
-    ∙ (ap (λ (p : Played). played_lines old.lanes.collected p count ++ slots) played
-    ∙ (ap (λ (ls : List Line). ls ++ slots) (played_text setting trace old.lanes.collected count)
-    ∙ ap (λ (ls : List Line). rounds_lines setting trace old.lanes.collected count ++ ls)
-    (window_text trace.net b old.lanes.published size (slots_between setting old.lanes.published old.lanes.collected) step.window cores sound.net.most_cores start window long agree))))
+    ∙ (ap (λ (n : ℕ). played_lines old.collected step.played n ++ slots) (played_count setting trace old.collected count step.played played)
+    ∙ (ap (λ (p : Played). played_lines old.collected p count ++ slots) played
+    ∙ (ap (λ (ls : List Line). ls ++ slots) (played_text setting trace old.collected count)
+    ∙ ap (λ (ls : List Line). rounds_lines setting trace old.collected count ++ ls)
+    (window_text trace.net b old.allocated size (slots_between setting old.allocated old.collected) step.window cores sound.net.most_cores start window long agree))))
 
 -- which step that is
-pub next_step : (trace : TraceContent) (cores : SlotCores) (old : ReplayState) (g steps : ℕ) → IsAfter g trace.rounds steps old → old.rounds ≡ trace.rounds → old.lanes.g ≡ g → next_lines cores trace old ≡ step_lines cores (run_of trace cores old) trace steps
+pub next_step : (trace : TraceContent) (cores : SlotCores) (old : EngineState) (g steps : ℕ) → IsAfter g trace.rounds steps old → old.rounds ≡ trace.rounds → old.g ≡ g → next_lines cores trace old ≡ step_lines cores (run_of trace cores old) trace steps
 next_step trace cores old g steps after all window =
     let setting : Setting = run_of trace cores old in
     let from : ℕ → ℕ → ℕ → List Line = λ first count published. rounds_lines setting trace first count ++ window_lines cores setting published first in
-    let collected : old.lanes.collected ≡ collected_after old.lanes.g trace.rounds steps = after.collected ∙ ap (λ (n : ℕ). collected_after n trace.rounds steps) (sym window) in
-    let published : old.lanes.published ≡ collected_after old.lanes.g trace.rounds (steps - 1) = after.published ∙ ap (λ (n : ℕ). collected_after n trace.rounds (steps - 1)) (sym window) in
-    let now : ℕ = collected_after old.lanes.g trace.rounds steps in
-    let count : next_rounds old ≡ collected_after old.lanes.g trace.rounds (suc steps) - now =
-    ap (λ (n : ℕ). min old.lanes.g (n - old.lanes.collected)) all ∙ (ap (λ (n : ℕ). min old.lanes.g (trace.rounds - n)) collected ∙ omega arith) in
-    ap (λ (n : ℕ). from n (next_rounds old) old.lanes.published) collected ∙ (ap (λ (n : ℕ). from now n old.lanes.published) count ∙ ap (λ (n : ℕ). from now (collected_after old.lanes.g trace.rounds (suc steps) - now) n) published)
+    let collected : old.collected ≡ collected_after old.g trace.rounds steps = after.collected ∙ ap (λ (n : ℕ). collected_after n trace.rounds steps) (sym window) in
+    let published : old.allocated ≡ collected_after old.g trace.rounds (steps - 1) = after.published ∙ ap (λ (n : ℕ). collected_after n trace.rounds (steps - 1)) (sym window) in
+    let now : ℕ = collected_after old.g trace.rounds steps in
+    let count : window_of old ≡ collected_after old.g trace.rounds (suc steps) - now =
+    ap (λ (n : ℕ). min old.g (n - old.collected)) all ∙ (ap (λ (n : ℕ). min old.g (trace.rounds - n)) collected ∙ omega arith) in
+    ap (λ (n : ℕ). from n (window_of old) old.allocated) collected ∙ (ap (λ (n : ℕ). from now n old.allocated) count ∙ ap (λ (n : ℕ). from now (collected_after old.g trace.rounds (suc steps) - now) n) published)
 
 -- the text of a step in its two parts, as its tables hold it
-pub step_parts : (b first base count : ℕ) (played : Played) (slots : Slots) (table : CoreSlots) (step : ReplayStepContent) → HasSlots b step → first ≡ step.first → played ≡ step.played → slots ≡ step.window.slots → table ≡ step.window.cores
+pub step_parts : (b base count : ℕ) (slots : Slots) (table : CoreSlots) (step : StepContent) → HasSlots b step → slots ≡ step.window.slots → table ≡ step.window.cores
     → base ≡ first_slot b step.window.span.first → count ≡ step.window.span.count * b
-    → text_of (played_lines first played (length played.batches)) ++ text_of (slots_lines (cores_from base table) (base + 0) (take count (drop 0 slots.slots))) ≡ text_of (step_text_lines b step)
-step_parts b first base count played slots table step has first_is played_is slots_are table_is base_is count_is =
+    → text_of (played_lines step.collected.first step.played (length step.played.batches)) ++ text_of (slots_lines (cores_from base table) (base + 0) (take count (drop 0 slots.slots))) ≡ text_of (step_text_lines b step)
+step_parts b base count slots table step has slots_are table_is base_is count_is =
     let start : ℕ = first_slot b step.window.span.first in
-    let rounds : List Line = played_lines step.first step.played (length step.played.batches) in
+    let rounds : List Line = played_lines step.collected.first step.played (length step.played.batches) in
     let all : take count (drop 0 step.window.slots.slots) ≡ step.window.slots.slots = take_all count step.window.slots.slots (omega (arith, has.slots, count_is)) in
     let at : base + 0 ≡ start = omega (arith, base_is) in
-    ap (λ (n : ℕ). text_of (played_lines n played (length played.batches)) ++ text_of (slots_lines (cores_from base table) (base + 0) (take count (drop 0 slots.slots)))) first_is
-    ∙ (ap (λ (p : Played). text_of (played_lines step.first p (length p.batches)) ++ text_of (slots_lines (cores_from base table) (base + 0) (take count (drop 0 slots.slots)))) played_is
-    ∙ (ap (λ (s : Slots). text_of rounds ++ text_of (slots_lines (cores_from base table) (base + 0) (take count (drop 0 s.slots)))) slots_are
+    ap (λ (s : Slots). text_of rounds ++ text_of (slots_lines (cores_from base table) (base + 0) (take count (drop 0 s.slots)))) slots_are
     ∙ (ap (λ (t : CoreSlots). text_of rounds ++ text_of (slots_lines (cores_from base t) (base + 0) (take count (drop 0 step.window.slots.slots)))) table_is
     ∙ (ap (λ (xs : List (List Flow)). text_of rounds ++ text_of (slots_lines (cores_from base step.window.cores) (base + 0) xs)) all
     ∙ (ap (λ (n : ℕ). text_of rounds ++ text_of (slots_lines (cores_from base step.window.cores) n step.window.slots.slots)) at
     ∙ (ap (λ (n : ℕ). text_of rounds ++ text_of (slots_lines (cores_from n step.window.cores) start step.window.slots.slots)) base_is
-    ∙ sym (flat_map-append line_text rounds (slots_lines (cores_of_replay_step b step) start step.window.slots.slots))))))))
+    ∙ sym (flat_map-append line_text rounds (slots_lines (cores_of_step b step) start step.window.slots.slots))))))

@@ -11,32 +11,33 @@ use Rattle.trace_text.specs.Trace.{TraceContent}
 use Rattle.trace_text.specs.Valid.{IsTrace}
 use Rattle.window_engine.specs.Batches.{plan_batches}
 use Rattle.window_engine.specs.Scheduled.{AreClean}
-use Rattle.window_engine.specs.Standing.{EngineState, Stands, window_of}
-use Rattle.window_engine.specs.Step.{StepContent, IsPlanned, EveryPlanHasItsSlots, window_slots}
-use Rattle.run_lines.specs.Steps.{IsWindow, cores_of_step}
+use Rattle.window_engine.specs.Standing.{EngineState, StandsForPlan, window_of}
+use Rattle.window_engine.specs.Step.{StepContent, StepIsPlanned, EveryPlanHasItsSlots, window_slots}
+use Rattle.run_lines.specs.Steps.{IsStepWindow, cores_of_step}
 use Rattle.run_text.specs.Progress.{window_lines, rounds_lines}
 use Rattle.run_text.specs.PlanText.{batches_lines}
 use Rattle.run_lines.specs.Text.{text_of}
 use Rattle.run_text.proofs.BatchTexts.{rounds_more, rounds_whole}
 use Rattle.run_text.proofs.CoreLemmas.{spliced, rounds_spliced, window_spliced}
+use Rattle.window_engine.proofs.EngineFacts.{plan_within}
 
-here : (b : ℕ) (trace : TraceContent) (engine : EngineState) (step : StepContent) → engine.allocation.b ≡ b → IsPlanned trace engine.allocation.b engine.collection.rounds (window_of engine) step → IsPlanned trace b engine.collection.rounds (window_of engine) step
-here b trace engine step size planned = subst (λ (n : ℕ). IsPlanned trace n engine.collection.rounds (window_of engine) step) size planned
+here : (b : ℕ) (trace : TraceContent) (engine : EngineState) (step : StepContent) → engine.b ≡ b → StepIsPlanned trace engine.b engine.collected (window_of engine) step → StepIsPlanned trace b engine.collected (window_of engine) step
+here b trace engine step size planned = subst (λ (n : ℕ). StepIsPlanned trace n engine.collected (window_of engine) step) size planned
 
 places : (k n b : ℕ) → (k + n) * b ≡ k * b + n * b
 places k n b = grind arith
 
-pub is_window : (b : ℕ) (trace : TraceContent) (engine : EngineState) (step : StepContent) → IsTrace trace → Stands trace engine → engine.allocation.b ≡ b → EveryPlanHasItsSlots → IsPlanned trace engine.allocation.b engine.collection.rounds (window_of engine) step → IsWindow b step
+pub is_window : (b : ℕ) (trace : TraceContent) (engine : EngineState) (step : StepContent) → IsTrace trace → StandsForPlan trace engine → engine.b ≡ b → EveryPlanHasItsSlots → StepIsPlanned trace engine.b engine.collected (window_of engine) step → IsStepWindow b step
 is_window b trace engine step sound stands size counts planned =
     let n : ℕ = window_of engine in
-    let first : ℕ = engine.collection.rounds in
+    let first : ℕ = engine.collected in
     let p = here b trace engine step size planned in
     let batches : List DemandBatch = plan_batches trace in
     let all : List (List Flow) = schedule b batches in
     let counted = counts b trace sound in
-    let inside : first + n ≤ trace.rounds = omega (arith, stands.rounds, stands.collected.within) in
+    let inside : first + n ≤ trace.rounds = omega (arith, (plan_within stands).rounds, (plan_within stands).within) in
     let rounds : step.window.span.first + step.window.span.count ≤ 100000 = omega (arith, p.first_allocated, p.allocated, sound.few_rounds) in
-    let small : (step.window.span.first + step.window.span.count) * b ≤ 100000 * 64 = mul-le (step.window.span.first + step.window.span.count) b 100000 64 rounds (omega (arith, stands.allocated.size.1)) in
+    let small : (step.window.span.first + step.window.span.count) * b ≤ 100000 * 64 = mul-le (step.window.span.first + step.window.span.count) b 100000 64 rounds (omega (arith, (plan_within stands).b.1)) in
     let low : ℕ = first * b in
     let many : ℕ = n * b in
     let within : (first + n) * b ≤ trace.rounds * b = mul-le (first + n) b trace.rounds b inside (omega arith) in
@@ -45,55 +46,55 @@ is_window b trace engine step sound stands size counts planned =
       same_batches = p.first_allocated ∙ sym p.first_collected;
       all_allocated = omega (arith, p.allocated, ap length p.batches, length-take n (drop first batches), length-drop first batches, counted.0);
       slots = slots ∙ ap (λ (m : ℕ). m * b) (sym p.allocated);
-      few = omega (arith, p.allocated, stands.window.1);
+      few = omega (arith, p.allocated, (plan_within stands).g.1);
       numbers = omega arith;
       core_slots = p.window.core_slots ∙ (ap (λ (m : ℕ). m * b) p.allocated ∙ sym slots);
       core_endpoints = p.window.core_endpoints ∙ sym p.window.endpoints;
     }
 
-pub step_clean : (b : ℕ) (trace : TraceContent) (engine : EngineState) (step : StepContent) → engine.allocation.b ≡ b → IsPlanned trace engine.allocation.b engine.collection.rounds (window_of engine) step
-    → AreClean trace.net (cores_of_step b step) (first_slot b engine.collection.rounds) (window_slots b (plan_batches trace) engine.collection.rounds (window_of engine))
+pub step_clean : (b : ℕ) (trace : TraceContent) (engine : EngineState) (step : StepContent) → engine.b ≡ b → StepIsPlanned trace engine.b engine.collected (window_of engine) step
+    → AreClean trace.net (cores_of_step b step) (first_slot b engine.collected) (window_slots b (plan_batches trace) engine.collected (window_of engine))
 step_clean b trace engine step size planned =
     let p = here b trace engine step size planned in
-    subst (λ (k : ℕ). AreClean trace.net (cores_of_step b step) (first_slot b k) (window_slots b (plan_batches trace) engine.collection.rounds (window_of engine))) p.first_allocated p.window.clean
+    subst (λ (k : ℕ). AreClean trace.net (cores_of_step b step) (first_slot b k) (window_slots b (plan_batches trace) engine.collected (window_of engine))) p.first_allocated p.window.clean
 
-pub step_text : (b : ℕ) (trace : TraceContent) (engine : EngineState) (step : StepContent) → engine.allocation.b ≡ b → IsPlanned trace engine.allocation.b engine.collection.rounds (window_of engine) step
-    → text_of (batches_lines (cores_of_step b step) b step.window.span.first step.batches step.window.slots.slots) ≡ text_of (window_lines (cores_of_step b step) b engine.collection.rounds (window_of engine) trace)
+pub step_text : (b : ℕ) (trace : TraceContent) (engine : EngineState) (step : StepContent) → engine.b ≡ b → StepIsPlanned trace engine.b engine.collected (window_of engine) step
+    → text_of (batches_lines (cores_of_step b step) b step.window.span.first step.played.batches step.window.slots.slots) ≡ text_of (window_lines (cores_of_step b step) b engine.collected (window_of engine) trace)
 step_text b trace engine step size planned =
     let p = here b trace engine step size planned in
-    ap (λ (k : ℕ). text_of (batches_lines (cores_of_step b step) b k step.batches step.window.slots.slots)) p.first_allocated
-    ∙ (ap (λ (bs : List DemandBatch). text_of (batches_lines (cores_of_step b step) b engine.collection.rounds bs step.window.slots.slots)) p.batches
-    ∙ ap (λ (xs : List (List Flow)). text_of (batches_lines (cores_of_step b step) b engine.collection.rounds (take (window_of engine) (drop engine.collection.rounds (plan_batches trace))) xs)) p.window.is)
+    ap (λ (k : ℕ). text_of (batches_lines (cores_of_step b step) b k step.played.batches step.window.slots.slots)) p.first_allocated
+    ∙ (ap (λ (bs : List DemandBatch). text_of (batches_lines (cores_of_step b step) b engine.collected bs step.window.slots.slots)) p.batches
+    ∙ ap (λ (xs : List (List Flow)). text_of (batches_lines (cores_of_step b step) b engine.collected (take (window_of engine) (drop engine.collected (plan_batches trace))) xs)) p.window.is)
 
 -- one window more, with its own cores
 step_parts : (b : ℕ) (trace : TraceContent) (engine : EngineState) (here there : SlotCores) →
-    let cores : SlotCores = spliced (engine.collection.rounds * b) (window_of engine * b) here there in
-    text_of (rounds_lines cores b engine.collection.rounds trace) ++ text_of (window_lines cores b engine.collection.rounds (window_of engine) trace)
-    ≡ text_of (rounds_lines there b engine.collection.rounds trace) ++ text_of (window_lines here b engine.collection.rounds (window_of engine) trace)
+    let cores : SlotCores = spliced (engine.collected * b) (window_of engine * b) here there in
+    text_of (rounds_lines cores b engine.collected trace) ++ text_of (window_lines cores b engine.collected (window_of engine) trace)
+    ≡ text_of (rounds_lines there b engine.collected trace) ++ text_of (window_lines here b engine.collected (window_of engine) trace)
 step_parts b trace engine here there =
     let n : ℕ = window_of engine in
-    let cores : SlotCores = spliced (engine.collection.rounds * b) (n * b) here there in
-    ap (λ (ls : List Line). text_of ls ++ text_of (window_lines cores b engine.collection.rounds n trace)) (rounds_spliced b engine.collection.rounds n trace here there)
-    ∙ ap (λ (ls : List Line). text_of (rounds_lines there b engine.collection.rounds trace) ++ text_of ls) (window_spliced b engine.collection.rounds n trace here there)
+    let cores : SlotCores = spliced (engine.collected * b) (n * b) here there in
+    ap (λ (ls : List Line). text_of ls ++ text_of (window_lines cores b engine.collected n trace)) (rounds_spliced b engine.collected n trace here there)
+    ∙ ap (λ (ls : List Line). text_of (rounds_lines there b engine.collected trace) ++ text_of ls) (window_spliced b engine.collected n trace here there)
 
-pub rounds_step : (b : ℕ) (trace : TraceContent) (engine : EngineState) (round : ℕ) (here there : SlotCores) → IsTrace trace → Stands trace engine → EveryPlanHasItsSlots → round ≡ engine.collection.rounds + window_of engine →
-    let cores : SlotCores = spliced (engine.collection.rounds * b) (window_of engine * b) here there in
-    text_of (rounds_lines cores b round trace) ≡ text_of (rounds_lines there b engine.collection.rounds trace) ++ text_of (window_lines here b engine.collection.rounds (window_of engine) trace)
+pub rounds_step : (b : ℕ) (trace : TraceContent) (engine : EngineState) (round : ℕ) (here there : SlotCores) → IsTrace trace → StandsForPlan trace engine → EveryPlanHasItsSlots → round ≡ engine.collected + window_of engine →
+    let cores : SlotCores = spliced (engine.collected * b) (window_of engine * b) here there in
+    text_of (rounds_lines cores b round trace) ≡ text_of (rounds_lines there b engine.collected trace) ++ text_of (window_lines here b engine.collected (window_of engine) trace)
 rounds_step b trace engine round here there sound stands counts is =
     let n : ℕ = window_of engine in
-    let cores : SlotCores = spliced (engine.collection.rounds * b) (n * b) here there in
+    let cores : SlotCores = spliced (engine.collected * b) (n * b) here there in
     let counted = counts b trace sound in
-    let within : engine.collection.rounds + n ≤ length (plan_batches trace) = omega (arith, stands.rounds, stands.collected.within, counted.0) in
-    ap (λ (k : ℕ). text_of (rounds_lines cores b k trace)) is ∙ (rounds_more cores b engine.collection.rounds n trace within ∙ step_parts b trace engine here there)
+    let within : engine.collected + n ≤ length (plan_batches trace) = omega (arith, (plan_within stands).rounds, (plan_within stands).within, counted.0) in
+    ap (λ (k : ℕ). text_of (rounds_lines cores b k trace)) is ∙ (rounds_more cores b engine.collected n trace within ∙ step_parts b trace engine here there)
 
-pub rounds_stop : (b : ℕ) (trace : TraceContent) (engine : EngineState) (here there : SlotCores) → IsTrace trace → Stands trace engine → EveryPlanHasItsSlots →
-    let cores : SlotCores = spliced (engine.collection.rounds * b) (window_of engine * b) here there in
+pub rounds_stop : (b : ℕ) (trace : TraceContent) (engine : EngineState) (here there : SlotCores) → IsTrace trace → StandsForPlan trace engine → EveryPlanHasItsSlots →
+    let cores : SlotCores = spliced (engine.collected * b) (window_of engine * b) here there in
     text_of (rounds_lines cores b trace.rounds trace)
-    ≡ (text_of (rounds_lines there b engine.collection.rounds trace) ++ text_of (window_lines here b engine.collection.rounds (window_of engine) trace))
-    ++ text_of (window_lines cores b (engine.collection.rounds + window_of engine) (trace.rounds - (engine.collection.rounds + window_of engine)) trace)
+    ≡ (text_of (rounds_lines there b engine.collected trace) ++ text_of (window_lines here b engine.collected (window_of engine) trace))
+    ++ text_of (window_lines cores b (engine.collected + window_of engine) (trace.rounds - (engine.collected + window_of engine)) trace)
 rounds_stop b trace engine here there sound stands counts =
     let n : ℕ = window_of engine in
-    let cores : SlotCores = spliced (engine.collection.rounds * b) (n * b) here there in
+    let cores : SlotCores = spliced (engine.collected * b) (n * b) here there in
     let counted = counts b trace sound in
-    rounds_whole cores b engine.collection.rounds n trace.rounds trace (omega (arith, stands.rounds, stands.collected.within)) (omega (arith, counted.0))
-    ∙ ap (λ (t : List ℕ). t ++ text_of (window_lines cores b (engine.collection.rounds + n) (trace.rounds - (engine.collection.rounds + n)) trace)) (step_parts b trace engine here there)
+    rounds_whole cores b engine.collected n trace.rounds trace (omega (arith, (plan_within stands).rounds, (plan_within stands).within)) (omega (arith, counted.0))
+    ∙ ap (λ (t : List ℕ). t ++ text_of (window_lines cores b (engine.collected + n) (trace.rounds - (engine.collected + n)) trace)) (step_parts b trace engine here there)

@@ -21,7 +21,7 @@ use Rattle.trace_run.specs.Rest.{allocated_from, left_after}
 use Rattle.window_engine.specs.declared.counts.Counts.{Counts}
 use Rattle.window_engine.specs.Replay.{replay_counts}
 use Rattle.run_lines.specs.Text.{flight_of}
-use Rattle.run_text.specs.Made.{counts_to, counts_from, counts_of_run, sums_of, Balances}
+use Rattle.run_text.specs.Made.{counts_to, counts_from, counts_of_run, sums_of, SumsBalance}
 use Rattle.run_text.specs.Sums.{counts_listed}
 use Rattle.run_text.proofs.NumberedTexts.{range-plus}
 
@@ -101,7 +101,7 @@ same_counts_of_run setting cores rounds nothing no_count = lists_same _ _ (range
 abbrev IsBalanced : Counts → Type 0
 IsBalanced c = c.demanded ≡ c.acknowledged + flight_of c + c.pending
 
-sums_balance : (counts : List Counts) → All IsBalanced counts → Balances (sums_of counts)
+sums_balance : (counts : List Counts) → All IsBalanced counts → SumsBalance (sums_of counts)
 sums_balance [] all = refl
 sums_balance (c ∷ counts) all =
     let later = sums_balance counts (All-tail IsBalanced c counts all) in
@@ -133,5 +133,5 @@ sources_balance setting rounds (suc count) counted some within =
     (subst (All IsBalanced) (sym (sources_more setting rounds count))
     (All-append IsBalanced (flat_map (counts_from setting rounds) (range_with_len 0 count)) (counts_from setting rounds count) (sources_balance setting rounds count counted some (omega (arith, within))) (source_balances setting rounds count setting.endpoints counted some (omega (arith, within)) (omega arith))))
 
-pub run_balances : (setting : Setting) (rounds : ℕ) → EveryFlowIsCounted → 0 < setting.g → Balances (sums_of (counts_of_run setting rounds))
+pub run_balances : (setting : Setting) (rounds : ℕ) → EveryFlowIsCounted → 0 < setting.g → SumsBalance (sums_of (counts_of_run setting rounds))
 run_balances setting rounds counted some = sums_balance (counts_of_run setting rounds) (sources_balance setting rounds setting.endpoints counted some (omega arith))

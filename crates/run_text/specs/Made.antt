@@ -61,8 +61,8 @@ abbrev pub made_sums : ℕ → ℕ → ℕ → SlotCores → Sums
 made_sums number b g cores = sums_of (counts_of_run (made_run number b g cores) (trace_of_number number).rounds)
 
 -- what is demanded is acknowledged, in flight or pending
-abbrev pub Balances : Sums → Type 0
-Balances sums = sums.demanded ≡ sums.acknowledged + sums.flight + sums.pending
+abbrev pub SumsBalance : Sums → Type 0
+SumsBalance sums = sums.demanded ≡ sums.acknowledged + sums.flight + sums.pending
 
 -- ---- the text
 

@@ -16,7 +16,7 @@ window_lines cores b first count trace = batches_lines cores b first (take count
 
 -- the batches of a step, each with its slots
 abbrev pub lines_of_step : ℕ → StepContent → List Line
-lines_of_step b step = batches_lines (cores_of_step b step) b step.window.span.first step.batches step.window.slots.slots
+lines_of_step b step = batches_lines (cores_of_step b step) b step.window.span.first step.played.batches step.window.slots.slots
 
 -- the first rounds
 abbrev pub rounds_lines : SlotCores → ℕ → ℕ → TraceContent → List Line
@@ -24,4 +24,4 @@ rounds_lines cores b k trace = batches_lines cores b 0 (take k (plan_batches tra
 
 -- those of the window that an engine plans next
 abbrev pub next_lines : SlotCores → ℕ → TraceContent → EngineState → List Line
-next_lines cores b trace engine = window_lines cores b engine.collection.rounds (window_of engine) trace
+next_lines cores b trace engine = window_lines cores b engine.collected (window_of engine) trace

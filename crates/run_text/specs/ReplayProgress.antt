@@ -8,54 +8,48 @@ use Rattle.trace_text.specs.Trace.{TraceContent}
 use Rattle.replay_rounds.specs.Setting.{setting_of}
 use Rattle.replay_rounds.specs.Played.{Played}
 use Rattle.window_engine.specs.Scheduled.{cores_from}
-use Rattle.window_engine.specs.Replay.{ReplayState, ReplayStepContent, StandsForReplay, run_of}
 use Rattle.run_lines.specs.Content.{OutputContent}
 use Rattle.run_lines.specs.Output.{Passes}
-use Rattle.run_lines.specs.Steps.{played_round}
+use Rattle.run_lines.specs.Steps.{played_round, cores_of_step}
 use Rattle.run_lines.specs.Text.{slots_lines, text_of}
 use Rattle.text_output.specs.declared.output.Stop.{Stop}
 use Rattle.run_text.specs.ReplayScheduled.{AreReplayCores, WithCoresBetween, AgreeAbove}
 use Rattle.run_text.specs.ReplayText.{rounds_lines, window_lines, all_steps_lines}
+use Rattle.window_engine.specs.Standing.{EngineState, StandsForReplay, run_of, window_of}
+use Rattle.window_engine.specs.Step.{StepContent}
 
 -- the first so many of the rounds that were played, from this one on
 abbrev pub played_lines : ℕ → Played → ℕ → List Line
 played_lines first played count = flat_map (played_round first played) (range_with_len 0 count)
 
 -- the slots of a step with their cores, all numbers of 32 bits
-pub record HasSlots (b : ℕ) (step : ReplayStepContent) : Type 0 where
+pub record HasSlots (b : ℕ) (step : StepContent) : Type 0 where
   pub slots : length step.window.slots.slots ≡ step.window.span.count * b
   pub few : step.window.span.count ≤ 16
   pub numbers : first_slot b (step.window.span.first + step.window.span.count) < 2 ^ 32
   pub core_slots : step.window.cores.slots ≡ step.window.span.count * b
   pub core_endpoints : step.window.cores.endpoints ≡ step.window.slots.endpoints
 
--- the cores that a step names
-abbrev pub cores_of_replay_step : ℕ → ReplayStepContent → SlotCores
-cores_of_replay_step b step = cores_from (first_slot b step.window.span.first) step.window.cores
-
 -- what a step gives
-abbrev pub step_text_lines : ℕ → ReplayStepContent → List Line
-step_text_lines b step = played_lines step.first step.played (length step.played.batches) ++ slots_lines (cores_of_replay_step b step) (first_slot b step.window.span.first) step.window.slots.slots
+abbrev pub step_text_lines : ℕ → StepContent → List Line
+step_text_lines b step = played_lines step.collected.first step.played (length step.played.batches) ++ slots_lines (cores_of_step b step) (first_slot b step.window.span.first) step.window.slots.slots
 
--- how many rounds the next step plays, and what it gives in the run with these cores
-abbrev pub next_rounds : ReplayState → ℕ
-next_rounds engine = min engine.lanes.g (engine.rounds - engine.lanes.collected)
-
-abbrev pub next_lines : SlotCores → TraceContent → ReplayState → List Line
+-- what the next step gives in the run with these cores
+abbrev pub next_lines : SlotCores → TraceContent → EngineState → List Line
 next_lines cores trace engine =
-    rounds_lines (run_of trace cores engine) trace engine.lanes.collected (next_rounds engine)
-    ++ window_lines cores (run_of trace cores engine) engine.lanes.published engine.lanes.collected
+    rounds_lines (run_of trace cores engine) trace engine.collected (window_of engine)
+    ++ window_lines cores (run_of trace cores engine) engine.allocated engine.collected
 
 -- what a step of a replay gives, whatever clean cores it stands for: its own slots have clean cores, and with all cores that name
 -- those the replay stands on, and the text of the step was passed on
-abbrev pub GivesStep : ℕ → TraceContent → ReplayState → ReplayState → OutputContent → OutputContent → Result (Unit {0}) Stop → Type 0
+abbrev pub GivesStep : ℕ → TraceContent → EngineState → EngineState → OutputContent → OutputContent → Result (Unit {0}) Stop → Type 0
 GivesStep b trace old new before after result =
-    (there : SlotCores) → AreReplayCores b old.lanes.g trace there → StandsForReplay trace there old
-    → WithCoresBetween b old.lanes.g trace there old.lanes.published old.lanes.collected (λ here. (cores : SlotCores)
-    → StandsForReplay trace cores old → AgreeAbove (old.lanes.published * b) ((old.lanes.collected - old.lanes.published) * b) cores here
+    (there : SlotCores) → AreReplayCores b old.g trace there → StandsForReplay trace there old
+    → WithCoresBetween b old.g trace there old.allocated old.collected (λ here. (cores : SlotCores)
+    → StandsForReplay trace cores old → AgreeAbove (old.allocated * b) ((old.collected - old.allocated) * b) cores here
     → OnOk result (StandsForReplay trace cores new) × Passes before after (text_of (next_lines cores trace old)) result)
 
 -- what all steps give, with these cores
-abbrev pub GivesSteps : ℕ → ℕ → TraceContent → ReplayState → OutputContent → OutputContent → Result (Unit {0}) Stop → SlotCores → Type 0
+abbrev pub GivesSteps : ℕ → ℕ → TraceContent → EngineState → OutputContent → OutputContent → Result (Unit {0}) Stop → SlotCores → Type 0
 GivesSteps b g trace new before after result cores =
     OnOk result (StandsForReplay trace cores new) × Passes before after (text_of (all_steps_lines cores (setting_of trace b g cores) trace)) result

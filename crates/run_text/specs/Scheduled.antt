@@ -19,4 +19,4 @@ WithCoresOfWindow b first count trace holds = (cores : SlotCores) × AreClean tr
 
 -- the same of the window that an engine plans next
 abbrev pub WithCoresOfNext : ℕ → TraceContent → EngineState → (SlotCores → Type 0) → Type 0
-WithCoresOfNext b trace engine holds = WithCoresOfWindow b engine.collection.rounds (window_of engine) trace holds
+WithCoresOfNext b trace engine holds = WithCoresOfWindow b engine.collected (window_of engine) trace holds

@@ -5,8 +5,8 @@ ghost use Rattle.clos_topology.specs.NetSlots.{SlotCores, AreSlotCores};
 ghost use Rattle.trace_text.specs.Valid.{IsTrace};
 ghost use Rattle.trace_run.specs.Shown.{IsShown};
 ghost use Rattle.replay_rounds.specs.Setting.{setting_of};
-ghost use Rattle.window_engine.specs.Replay.{StandsForReplay};
-ghost use Rattle.run_text.specs.Made.{made_net, trace_of_number, made_run, made_sums, made_text, counts_of_run, sums_of, Balances};
+ghost use Rattle.window_engine.specs.Standing.{StandsForReplay};
+ghost use Rattle.run_text.specs.Made.{made_net, trace_of_number, made_run, made_sums, made_text, counts_of_run, sums_of, SumsBalance};
 ghost use Rattle.run_lines.specs.Content.{sink_content};
 ghost use Rattle.run_lines.specs.Output.{Writes};
 ghost use Rattle.run_text.specs.Sizes.{AreSizes};
@@ -26,7 +26,7 @@ use trace_run::{
     cores_are_only_told, cores_decide_nothing, every_flow_is_counted, every_replay_shows,
 };
 use trace_text::{Trace, make_trace};
-use window_engine::Replay;
+use window_engine::Engine;
 
 /// The racks of a made trace's net.
 const RACKS: u16 = 8;
@@ -66,15 +66,15 @@ fn play<R: Threads + Wait + Sync, G: Gate + Sync>(
     rt: &R,
     gate: &G,
     trace: &Trace,
-    replay: &mut Replay,
+    replay: &mut Engine,
 ) -> Result<(), NoMemory>
     requires accepted { IsTrace trace.now }
     requires stands { (cores : SlotCores) → AreSlotCores cores → StandsForReplay trace.now cores replay.old }
-    requires published { replay.old.lanes.published ≡ 0 }
+    requires allocated { replay.old.allocated ≡ 0 }
     ensures stands { OnOk result ((cores : SlotCores) × StandsForReplay trace.now cores replay.new) }
-    ensures done { OnOk result (replay.new.lanes.published ≡ replay.new.rounds) }
-    ensures b { OnOk result (replay.new.lanes.b ≡ replay.old.lanes.b) }
-    ensures g { OnOk result (replay.new.lanes.g ≡ replay.old.lanes.g) }
+    ensures done { OnOk result (replay.new.allocated ≡ replay.new.rounds) }
+    ensures b { OnOk result (replay.new.b ≡ replay.old.b) }
+    ensures g { OnOk result (replay.new.g ≡ replay.old.g) }
 {
     while !replay.done() {
         let _step = replay.step(rt, gate, trace)?;
@@ -137,7 +137,7 @@ pub fn write_made<R: Threads + Wait + Sync, G: Gate + Sync, K: Sink>(
     requires sizes { AreSizes sizes }
     ensures writes { (cores : SlotCores) →
         Writes (sink_content K.Sink sink.old) (sink_content K.Sink sink.new) (made_text number sizes.b sizes.g cores) result }
-    ensures balanced { (cores : SlotCores) → Balances (made_sums number sizes.b sizes.g cores) }
+    ensures balanced { (cores : SlotCores) → SumsBalance (made_sums number sizes.b sizes.g cores) }
     ensures shown { (cores : SlotCores) → IsShown (made_run number sizes.b sizes.g cores) (trace_of_number number).rounds }
 {
     every_flow_is_counted();

@@ -4,10 +4,10 @@ ghost use Rattle.trace_text.specs.Valid.{IsTrace};
 ghost use Rattle.window_engine.specs.Batches.{plan_batches};
 ghost use Rattle.window_engine.specs.Counts.{AllIsAllocatedOrPending};
 ghost use Rattle.window_engine.specs.Scheduled.{HasCores};
-ghost use Rattle.window_engine.specs.Standing.{Stands, window_of};
+ghost use Rattle.window_engine.specs.Standing.{StandsForPlan, window_of};
 ghost use Rattle.run_lines.specs.Content.{sink_content};
 ghost use Rattle.run_lines.specs.Output.{Passes, Ends, Writes};
-ghost use Rattle.run_lines.specs.Steps.{IsWindow};
+ghost use Rattle.run_lines.specs.Steps.{IsStepWindow};
 ghost use Rattle.run_lines.specs.Text.{text_of};
 ghost use Rattle.run_text.specs.Ledger.{IsBalanced};
 ghost use Rattle.run_text.specs.PlanText.{plan_lines, plan_text};
@@ -32,9 +32,9 @@ use window_engine::{
 /// The engine of a plan, before its first round.
 fn open_engine(alloc: Global, trace: &Trace, sizes: Sizes) -> Result<Engine, NoMemory>
     requires { AreSizes sizes }
-    ensures stands { IfOk result (Stands trace.now) }
-    ensures start { IfOk result (λ engine. engine.collection.rounds ≡ 0) }
-    ensures b { IfOk result (λ engine. engine.allocation.b ≡ sizes.b) }
+    ensures stands { IfOk result (StandsForPlan trace.now) }
+    ensures start { IfOk result (λ engine. engine.collected ≡ 0) }
+    ensures b { IfOk result (λ engine. engine.b ≡ sizes.b) }
     ensures paths { IfOk result (λ engine. engine.allocation.paths.paths ≡ sizes.paths) }
 {
     Engine::open(alloc, trace, sizes.setting(false))
@@ -43,7 +43,7 @@ fn open_engine(alloc: Global, trace: &Trace, sizes: Sizes) -> Result<Engine, NoM
 /// The batches of a step, each with its slots.
 fn put_window<K: Sink>(output: &mut Output<'_, K>, step: &Step, b: u8) -> Result<(), Stop>
     requires b { (0 < b) × (b ≤ 64) }
-    requires window { IsWindow b step.now }
+    requires window { IsStepWindow b step.now }
     ensures { Passes output.old output.new (text_of (lines_of_step b step.now)) result }
 {
     texts_follow();
@@ -64,14 +64,14 @@ fn put_step<R: Threads + Wait + Sync, G: Gate + Sync, K: Sink>(
     output: &mut Output<'_, K>,
 ) -> Result<(), Stop>
     requires accepted { IsTrace trace.now }
-    requires stands { Stands trace.now engine.old }
-    requires more { engine.old.collection.rounds ≢ engine.old.rounds }
-    requires b { engine.old.allocation.b ≡ b }
+    requires stands { StandsForPlan trace.now engine.old }
+    requires more { engine.old.allocated ≢ engine.old.rounds }
+    requires b { engine.old.b ≡ b }
     requires cores { HasCores b trace.now.net (plan_batches trace.now) }
-    ensures stands { OnOk result (Stands trace.now engine.new) }
-    ensures round { OnOk result (engine.new.collection.rounds ≡ engine.old.collection.rounds + window_of engine.old) }
+    ensures stands { OnOk result (StandsForPlan trace.now engine.new) }
+    ensures round { OnOk result (engine.new.collected ≡ engine.old.collected + window_of engine.old) }
     ensures rounds { OnOk result (engine.new.rounds ≡ engine.old.rounds) }
-    ensures b { OnOk result (engine.new.allocation.b ≡ b) }
+    ensures b { OnOk result (engine.new.b ≡ b) }
     ensures passes { WithCoresOfNext b trace.now engine.old (λ cores.
         Passes output.old output.new (text_of (next_lines cores b trace.now engine.old)) result) }
 {
@@ -91,13 +91,13 @@ fn put_rounds<R: Threads + Wait + Sync, G: Gate + Sync, K: Sink>(
     output: &mut Output<'_, K>,
 ) -> Result<(), Stop>
     requires accepted { IsTrace trace.now }
-    requires stands { Stands trace.now engine.old }
-    requires start { engine.old.collection.rounds ≡ 0 }
-    requires b { engine.old.allocation.b ≡ b }
+    requires stands { StandsForPlan trace.now engine.old }
+    requires start { engine.old.collected ≡ 0 }
+    requires b { engine.old.b ≡ b }
     requires cores { HasCores b trace.now.net (plan_batches trace.now) }
-    ensures stands { OnOk result (Stands trace.now engine.new) }
-    ensures done { OnOk result (engine.new.collection.rounds ≡ engine.new.rounds) }
-    ensures b { OnOk result (engine.new.allocation.b ≡ b) }
+    ensures stands { OnOk result (StandsForPlan trace.now engine.new) }
+    ensures done { OnOk result (engine.new.allocated ≡ engine.new.rounds) }
+    ensures b { OnOk result (engine.new.b ≡ b) }
     ensures passes { WithCores b trace.now (λ cores.
         Passes output.old output.new (text_of (rounds_lines cores b trace.now.rounds trace.now)) result) }
 {

@@ -3,12 +3,12 @@ ghost use Rattle.clos_topology.specs.NetSlots.{SlotCores, AreSlotCores};
 ghost use Rattle.trace_text.specs.Valid.{IsTrace};
 ghost use Rattle.trace_run.specs.Shown.{IsShown};
 ghost use Rattle.replay_rounds.specs.Setting.{setting_of};
-ghost use Rattle.window_engine.specs.Replay.{StandsForReplay};
+ghost use Rattle.window_engine.specs.Standing.{StandsForReplay, window_of};
 ghost use Rattle.run_lines.specs.Content.{sink_content};
 ghost use Rattle.run_lines.specs.Output.{Passes, Ends, Writes};
-ghost use Rattle.run_lines.specs.Steps.{ArePlayed};
+ghost use Rattle.run_lines.specs.Steps.{StepIsPlayed};
 ghost use Rattle.run_lines.specs.Text.{text_of};
-ghost use Rattle.run_text.specs.ReplayProgress.{HasSlots, played_lines, step_text_lines, next_rounds, GivesStep, GivesSteps};
+ghost use Rattle.run_text.specs.ReplayProgress.{HasSlots, played_lines, step_text_lines, GivesStep, GivesSteps};
 ghost use Rattle.run_text.specs.ReplayScheduled.{WithReplayCores};
 ghost use Rattle.run_text.specs.ReplayText.{replay_lines, replay_text};
 ghost use Rattle.run_text.specs.Ledger.{LedgerIsKept};
@@ -19,7 +19,7 @@ use crate::sizes::Sizes;
 use fp_edge::{Gate, Sink};
 use greedy_rules::schedules_go_on;
 use no_memory::NoMemory;
-use replay_rounds::{Played, every_refusal_has_a_number};
+use replay_rounds::every_refusal_has_a_number;
 use report_text::{Line, LineBuffer};
 use run_lines::{Output, Stop, put_counts, put_round, put_slots, texts_follow};
 use std::alloc::Global;
@@ -30,47 +30,43 @@ use trace_run::{
     runs_go_on,
 };
 use trace_text::Trace;
-use window_engine::{Replay, ReplayStep, every_replay_has_cores, every_replay_takes_its_steps};
+use window_engine::{Engine, Step, every_replay_has_cores, every_replay_takes_its_steps};
 
 /// The replay of a trace, before its first round.
-pub(crate) fn open_replay(alloc: Global, trace: &Trace, sizes: Sizes) -> Result<Replay, NoMemory>
+pub(crate) fn open_replay(alloc: Global, trace: &Trace, sizes: Sizes) -> Result<Engine, NoMemory>
     requires { AreSizes sizes }
     ensures stands { IfOk result (λ replay. (cores : SlotCores) → AreSlotCores cores → StandsForReplay trace.now cores replay) }
-    ensures b { IfOk result (λ replay. replay.lanes.b ≡ sizes.b) }
-    ensures g { IfOk result (λ replay. replay.lanes.g ≡ sizes.g) }
-    ensures collected { IfOk result (λ replay. replay.lanes.collected ≡ 0) }
-    ensures published { IfOk result (λ replay. replay.lanes.published ≡ 0) }
+    ensures b { IfOk result (λ replay. replay.b ≡ sizes.b) }
+    ensures g { IfOk result (λ replay. replay.g ≡ sizes.g) }
+    ensures collected { IfOk result (λ replay. replay.collected ≡ 0) }
+    ensures allocated { IfOk result (λ replay. replay.allocated ≡ 0) }
     ensures paths { IfOk result (λ replay. replay.allocation.paths.paths ≡ sizes.paths) }
 {
-    Replay::open(alloc, trace, sizes.setting(true))
+    Engine::open(alloc, trace, sizes.setting(true))
 }
 
-/// Rounds that were played, from this one on.
-fn put_played<K: Sink>(output: &mut Output<'_, K>, played: &Played, first: u32) -> Result<(), Stop>
-    requires { ArePlayed first played.now }
-    ensures { Passes output.old output.new (text_of (played_lines first played.now (length played.now.batches))) result }
+/// The rounds that a step played.
+fn put_played<K: Sink>(output: &mut Output<'_, K>, step: &Step) -> Result<(), Stop>
+    requires { StepIsPlayed step.now }
+    ensures { Passes output.old output.new (text_of (played_lines step.now.collected.first step.now.played (length step.now.played.batches))) result }
 {
     texts_follow();
-    let count = played.batches().len() as u32;
+    let count = step.batches().len() as u32;
     for at in 0..count {
-        put_round(output, played, first, at)?;
+        put_round(output, step, at)?;
     }
     Ok(())
 }
 
 /// The rounds that a step played, and then the slots of the batches that it allocated.
-fn put_lines_of_step<K: Sink>(
-    output: &mut Output<'_, K>,
-    step: &ReplayStep,
-    b: u8,
-) -> Result<(), Stop>
+fn put_lines_of_step<K: Sink>(output: &mut Output<'_, K>, step: &Step, b: u8) -> Result<(), Stop>
     requires b { (0 < b) × (b ≤ 64) }
-    requires played { ArePlayed step.now.first step.now.played }
+    requires played { StepIsPlayed step.now }
     requires slots { HasSlots b step.now }
     ensures { Passes output.old output.new (text_of (step_text_lines b step.now)) result }
 {
     texts_follow();
-    put_played(output, step.played(), step.first())?;
+    put_played(output, step)?;
     let span = step.allocated();
     let count = span.count as u16 * u16::from(b);
     let base = span.first * u32::from(b) + 1;
@@ -82,19 +78,19 @@ fn put_step<R: Threads + Wait + Sync, G: Gate + Sync, K: Sink>(
     rt: &R,
     gate: &G,
     trace: &Trace,
-    replay: &mut Replay,
+    replay: &mut Engine,
     b: u8,
     output: &mut Output<'_, K>,
 ) -> Result<(), Stop>
     requires accepted { IsTrace trace.now }
     requires stands { (cores : SlotCores) × StandsForReplay trace.now cores replay.old }
-    requires more { replay.old.lanes.published ≢ replay.old.rounds }
-    requires b { replay.old.lanes.b ≡ b }
+    requires more { replay.old.allocated ≢ replay.old.rounds }
+    requires b { replay.old.b ≡ b }
     ensures rounds { OnOk result (replay.new.rounds ≡ replay.old.rounds) }
-    ensures b { OnOk result (replay.new.lanes.b ≡ b) }
-    ensures g { OnOk result (replay.new.lanes.g ≡ replay.old.lanes.g) }
-    ensures collected { OnOk result (replay.new.lanes.collected ≡ replay.old.lanes.collected + next_rounds replay.old) }
-    ensures published { OnOk result (replay.new.lanes.published ≡ replay.old.lanes.collected) }
+    ensures b { OnOk result (replay.new.b ≡ b) }
+    ensures g { OnOk result (replay.new.g ≡ replay.old.g) }
+    ensures collected { OnOk result (replay.new.collected ≡ replay.old.collected + window_of replay.old) }
+    ensures allocated { OnOk result (replay.new.allocated ≡ replay.old.collected) }
     ensures passes { GivesStep b trace.now replay.old replay.new output.old output.new result }
 {
     texts_follow();
@@ -110,22 +106,22 @@ fn put_steps<R: Threads + Wait + Sync, G: Gate + Sync, K: Sink>(
     rt: &R,
     gate: &G,
     trace: &Trace,
-    replay: &mut Replay,
+    replay: &mut Engine,
     b: u8,
     output: &mut Output<'_, K>,
 ) -> Result<(), Stop>
     requires accepted { IsTrace trace.now }
     requires stands { (cores : SlotCores) → AreSlotCores cores → StandsForReplay trace.now cores replay.old }
-    requires collected { replay.old.lanes.collected ≡ 0 }
-    requires published { replay.old.lanes.published ≡ 0 }
-    requires b { replay.old.lanes.b ≡ b }
-    requires cores { WithReplayCores b replay.old.lanes.g trace.now (λ cores. ⊤) }
+    requires collected { replay.old.collected ≡ 0 }
+    requires allocated { replay.old.allocated ≡ 0 }
+    requires b { replay.old.b ≡ b }
+    requires cores { WithReplayCores b replay.old.g trace.now (λ cores. ⊤) }
     ensures rounds { OnOk result (replay.new.rounds ≡ replay.old.rounds) }
-    ensures b { OnOk result (replay.new.lanes.b ≡ b) }
-    ensures g { OnOk result (replay.new.lanes.g ≡ replay.old.lanes.g) }
-    ensures done { OnOk result (replay.new.lanes.published ≡ replay.new.rounds) }
-    ensures passes { WithReplayCores b replay.old.lanes.g trace.now
-        (GivesSteps b replay.old.lanes.g trace.now replay.new output.old output.new result) }
+    ensures b { OnOk result (replay.new.b ≡ b) }
+    ensures g { OnOk result (replay.new.g ≡ replay.old.g) }
+    ensures done { OnOk result (replay.new.allocated ≡ replay.new.rounds) }
+    ensures passes { WithReplayCores b replay.old.g trace.now
+        (GivesSteps b replay.old.g trace.now replay.new output.old output.new result) }
 {
     texts_follow();
     cores_decide_nothing();

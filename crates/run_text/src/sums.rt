@@ -4,7 +4,7 @@ ghost use Rattle.clos_topology.specs.Network.{endpoints_of};
 ghost use Rattle.clos_topology.specs.NetSlots.{SlotCores};
 ghost use Rattle.trace_text.specs.Valid.{IsTrace};
 ghost use Rattle.window_engine.specs.declared.counts.Counts.{Counts};
-ghost use Rattle.window_engine.specs.Replay.{StandsForReplay, run_of};
+ghost use Rattle.window_engine.specs.Standing.{StandsForReplay, run_of};
 ghost use Rattle.run_text.specs.Made.{sums_of, counts_from, counts_of_run, made_line};
 ghost use Rattle.run_text.specs.Sums.{counts_listed, AreOfAtMost};
 
@@ -12,7 +12,7 @@ use greedy_rules::Flow;
 use report_text::Line;
 use run_lines::{every_count_has_a_flight, flight};
 use trace_text::Trace;
-use window_engine::{Counts, Replay};
+use window_engine::{Counts, Engine};
 
 /// How many flows there are, and the sums of their counts.
 #[derive(Clone, Copy, Debug, PartialEq, Eq)]
@@ -65,10 +65,10 @@ impl Sums {
     }
 
     /// Adds the counts of one source's flows.
-    fn add_source(&mut self, trace: &Trace, replay: &Replay, src: u16)
+    fn add_source(&mut self, trace: &Trace, replay: &Engine, src: u16)
         requires accepted { IsTrace trace.now }
         requires stands { (cores : SlotCores) × StandsForReplay trace.now cores replay.now }
-        requires done { replay.now.lanes.published ≡ replay.now.rounds }
+        requires done { replay.now.allocated ≡ replay.now.rounds }
         requires src { src < endpoints_of trace.now.net }
         requires room { AreOfAtMost (src * endpoints_of trace.now.net) self.old }
         ensures sums { (cores : SlotCores) (all : List Counts) → StandsForReplay trace.now cores replay.now → self.old ≡ sums_of all →
@@ -100,10 +100,10 @@ impl Sums {
 }
 
 /// The sums over all flows, once every batch is allocated.
-pub(crate) fn sum_counts(trace: &Trace, replay: &Replay) -> Sums
+pub(crate) fn sum_counts(trace: &Trace, replay: &Engine) -> Sums
     requires accepted { IsTrace trace.now }
     requires stands { (cores : SlotCores) × StandsForReplay trace.now cores replay.now }
-    requires done { replay.now.lanes.published ≡ replay.now.rounds }
+    requires done { replay.now.allocated ≡ replay.now.rounds }
     ensures { (cores : SlotCores) → StandsForReplay trace.now cores replay.now →
         result ≡ sums_of (counts_of_run (run_of trace.now cores replay.now) trace.now.rounds) }
 {

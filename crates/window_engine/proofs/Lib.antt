@@ -3,7 +3,9 @@ mod ReplayBeside
 mod Rings
 pub mod PlanCounts
 pub mod StepCounts
+pub mod PlanLemmas
 pub mod EngineLemmas
+pub mod EngineFacts
 pub mod ReplayCores
 pub mod ReplayTables
 pub mod ReplaySteps

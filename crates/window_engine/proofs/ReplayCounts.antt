@@ -17,25 +17,25 @@ use Rattle.trace_run.specs.Histories.{lane_after}
 use Rattle.trace_run.specs.Rest.{left_after}
 use Rattle.replay_rounds.specs.Counts.{LaneCount, counted, lane_count, sent_and_missed}
 use Rattle.window_engine.specs.declared.counts.Counts.{Counts}
-use Rattle.window_engine.specs.Replay.{ReplayState, StandsForReplay, run_of, replay_counts}
+use Rattle.window_engine.specs.Replay.{ReplayState, ReplayStands, replay_run, replay_counts}
 use Rattle.window_allocation.specs.Needs.{place_of}
 use Rattle.window_engine.proofs.Rings.{ring_serves}
 
 -- every batch is allocated, so every round is collected
-pub all_collected : (trace : TraceContent) (cores : SlotCores) (engine : ReplayState) → StandsForReplay trace cores engine → engine.lanes.published ≡ engine.rounds
+pub all_collected : (trace : TraceContent) (cores : SlotCores) (engine : ReplayState) → ReplayStands trace cores engine → engine.lanes.published ≡ engine.rounds
     → (engine.lanes.collected ≡ trace.rounds) × (engine.lanes.published ≡ trace.rounds)
 all_collected trace cores engine stands done = (omega (arith, stands.windows.within, stands.windows.behind, stands.rounds), omega (arith, stands.rounds))
 
 -- ---- the needs that are left
 
-pub serves : (trace : TraceContent) (cores : SlotCores) (engine : ReplayState) → StandsForReplay trace cores engine → engine.allocation.ring.endpoints ≡ engine.lanes.endpoints
+pub serves : (trace : TraceContent) (cores : SlotCores) (engine : ReplayState) → ReplayStands trace cores engine → engine.allocation.ring.endpoints ≡ engine.lanes.endpoints
 serves trace cores engine stands = ring_serves _ _ _ _ stands.allocated ∙ sym stands.lanes.endpoints
 
-pub left : (trace : TraceContent) (cores : SlotCores) (engine : ReplayState) (flow : Flow) (pending : ℕ) → StandsForReplay trace cores engine → engine.lanes.published ≡ engine.rounds
+pub left : (trace : TraceContent) (cores : SlotCores) (engine : ReplayState) (flow : Flow) (pending : ℕ) → ReplayStands trace cores engine → engine.lanes.published ≡ engine.rounds
     → flow.src < engine.lanes.endpoints → flow.dst < engine.lanes.endpoints
-    → pending ≡ get_or engine.pending (place_of engine.allocation.ring.endpoints flow.src flow.dst) pending → pending ≡ left_after (run_of trace cores engine) trace.rounds flow.src flow.dst
+    → pending ≡ get_or engine.pending (place_of engine.allocation.ring.endpoints flow.src flow.dst) pending → pending ≡ left_after (replay_run trace cores engine) trace.rounds flow.src flow.dst
 left trace cores engine flow pending stands done src dst is =
-    let s : Setting = run_of trace cores engine in
+    let s : Setting = replay_run trace cores engine in
     let n : ℕ = endpoints_of trace.net in
     let ring : engine.allocation.ring.endpoints ≡ n = ring_serves _ _ _ _ stands.allocated in
     let from : flow.src < n = omega (arith, stands.lanes.endpoints) in
@@ -51,7 +51,7 @@ left trace cores engine flow pending stands done src dst is =
     ∙ (ap (λ (b : ℕ). need (rest b (replayed s engine.lanes.published).batches)) stands.size
     ∙ ap (λ (m : ℕ). need (rest s.b (replayed s m).batches)) all)))))
 
-pub place_fits : (trace : TraceContent) (cores : SlotCores) (engine : ReplayState) (place : ℕ) → StandsForReplay trace cores engine → place < engine.allocation.ring.endpoints * engine.allocation.ring.endpoints
+pub place_fits : (trace : TraceContent) (cores : SlotCores) (engine : ReplayState) (place : ℕ) → ReplayStands trace cores engine → place < engine.allocation.ring.endpoints * engine.allocation.ring.endpoints
     → place < length engine.pending
 place_fits trace cores engine place stands below =
     let ring : engine.allocation.ring.endpoints ≡ endpoints_of trace.net = ring_serves _ _ _ _ stands.allocated in
@@ -70,15 +70,15 @@ counts_with lane pending totals = record {
   missed = totals.1;
 }
 
-pub tells : (trace : TraceContent) (cores : SlotCores) (engine : ReplayState) (flow : Flow) (count : FlowCount) (pending : ℕ) (totals : ℕ × ℕ) → StandsForReplay trace cores engine
+pub tells : (trace : TraceContent) (cores : SlotCores) (engine : ReplayState) (flow : Flow) (count : FlowCount) (pending : ℕ) (totals : ℕ × ℕ) → ReplayStands trace cores engine
     → engine.lanes.published ≡ engine.rounds → flow.src < engine.lanes.endpoints → flow.dst < engine.lanes.endpoints
-    → had engine.lanes.g (lane_after (run_of trace cores engine) engine.lanes.collected flow.src) flow.dst ≡ true
-    → counted count ≡ lane_count (run_of trace cores engine) engine.lanes.collected engine.lanes.counted flow.src flow.dst
-    → totals ≡ sent_and_missed (run_of trace cores engine) engine.lanes.collected flow.src flow.dst
+    → had engine.lanes.g (lane_after (replay_run trace cores engine) engine.lanes.collected flow.src) flow.dst ≡ true
+    → counted count ≡ lane_count (replay_run trace cores engine) engine.lanes.collected engine.lanes.counted flow.src flow.dst
+    → totals ≡ sent_and_missed (replay_run trace cores engine) engine.lanes.collected flow.src flow.dst
     → pending ≡ get_or engine.pending (place_of engine.allocation.ring.endpoints flow.src flow.dst) pending
-    → Some (counts_with (counted count) pending totals) ≡ replay_counts (run_of trace cores engine) trace.rounds flow
+    → Some (counts_with (counted count) pending totals) ≡ replay_counts (replay_run trace cores engine) trace.rounds flow
 tells trace cores engine flow count pending totals stands done src dst has lane sums is =
-    let s : Setting = run_of trace cores engine in
+    let s : Setting = replay_run trace cores engine in
     let n : ℕ = trace.rounds in
     let all = all_collected trace cores engine stands done in
     let here : had s.g (lane_after s n flow.src) flow.dst ≡ true = subst (λ (m : ℕ). had s.g (lane_after s m flow.src) flow.dst ≡ true) all.0 has in

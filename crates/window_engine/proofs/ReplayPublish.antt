@@ -18,7 +18,7 @@ use Rattle.replay_rounds.specs.Played.{rounds_played}
 use Rattle.replay_rounds.specs.Standing as lanes
 use Rattle.replay_rounds.specs.Standing.{RoundsContent, slots_between, AreOfTable, IsNextWindow}
 use Rattle.window_engine.specs.Premises.{Replays}
-use Rattle.window_engine.specs.Replay.{ReplayState, run_of, StandsForReplay}
+use Rattle.window_engine.specs.Replay.{ReplayState, replay_run, ReplayStands}
 use Rattle.window_allocation.specs.Standing.{Allocated, HasAllocated}
 use Rattle.window_allocation.specs.Needs.{Needs}
 use Rattle.greedy_rules.specs.SlotTable.{Slots}
@@ -65,19 +65,19 @@ abbrev pub IsSpanOf : ReplayState → Span → Type 0
 IsSpanOf engine span = span ≡ record { first = engine.lanes.published; count = engine.lanes.collected - engine.lanes.published }
 
 next_with : (trace : TraceContent) (cores : SlotCores) (engine : ReplayState) (states : List RoundsState) (window : WindowContent) → engine.lanes.published ≤ engine.lanes.collected → IsSpanOf engine window.span
-    → window.slots.slots ≡ slots_between (run_of trace cores engine) engine.lanes.published engine.lanes.collected → HasCores engine window cores → IsNextOf trace engine states window cores
+    → window.slots.slots ≡ slots_between (replay_run trace cores engine) engine.lanes.published engine.lanes.collected → HasCores engine window cores → IsNextOf trace engine states window cores
 next_with trace cores engine states window behind span is named =
     let m : ℕ = engine.lanes.published in
     let count : window.span.count ≡ engine.lanes.collected - m = ap (λ (s : Span). s.count) span in
     let all : engine.lanes.collected ≡ m + window.span.count = omega arith in
     record {
-      allocated = is ∙ ap (slots_between (run_of trace cores engine) m) all;
+      allocated = is ∙ ap (slots_between (replay_run trace cores engine) m) all;
       routed = subst (λ (k : ℕ). AreOfTable cores (first_slot engine.lanes.b k) (window.span.count * engine.lanes.b) window.cores) (ap (λ (s : Span). s.first) span) named;
     }
 
 -- it is so with the cores for which the replay stands, where they are the window's
-pub next_named : (trace : TraceContent) (cores : SlotCores) (engine : ReplayState) (states : List RoundsState) (window : WindowContent) → StandsForReplay trace cores engine → IsSpanOf engine window.span
-    → IsWindowOf trace.net engine.lanes.b (slots_between (run_of trace cores engine) engine.lanes.published engine.lanes.collected) window → HasCores engine window cores → IsNextOf trace engine states window cores
+pub next_named : (trace : TraceContent) (cores : SlotCores) (engine : ReplayState) (states : List RoundsState) (window : WindowContent) → ReplayStands trace cores engine → IsSpanOf engine window.span
+    → IsWindowOf trace.net engine.lanes.b (slots_between (replay_run trace cores engine) engine.lanes.published engine.lanes.collected) window → HasCores engine window cores → IsNextOf trace engine states window cores
 next_named trace cores engine states window stands span shows named = next_with trace cores engine states window stands.windows.behind span shows.is named
 
 -- a window by its parts
@@ -89,9 +89,9 @@ abbrev pub MayPublish : RoundsContent → WindowContent → Type 0
 MayPublish all window = (t : TraceContent) × (named : SlotCores) × IsTrace t × lanes.AllRoundsStand t named all × IsNextWindow t named all window.span.count window.slots window.cores
 
 -- and so there are cores for which all endpoints' rounds stand, and with which it is
-pub may_publish : Replays → (trace : TraceContent) (cores : SlotCores) (engine : ReplayState) (states : List RoundsState) (window : WindowContent) → IsTrace trace → StandsForReplay trace cores engine
+pub may_publish : Replays → (trace : TraceContent) (cores : SlotCores) (engine : ReplayState) (states : List RoundsState) (window : WindowContent) → IsTrace trace → ReplayStands trace cores engine
     → lanes.AllRoundsStand trace cores (collected_more engine.lanes (window_of trace engine) states) → IsSpanOf engine window.span
-    → IsWindowOf trace.net engine.lanes.b (slots_between (run_of trace cores engine) engine.lanes.published engine.lanes.collected) window
+    → IsWindowOf trace.net engine.lanes.b (slots_between (replay_run trace cores engine) engine.lanes.published engine.lanes.collected) window
     → MayPublish (collected_more engine.lanes (window_of trace engine) states) window
 may_publish laws trace cores engine states window sound stands all span shows =
     let b : ℕ = engine.lanes.b in
@@ -103,7 +103,7 @@ may_publish laws trace cores engine states window sound stands all span shows =
     let first : window.span.first ≡ m = ap (λ (s : Span). s.first) span in
     let agree : AgreeBelow (first_slot b m) cores named = subst (λ (k : ℕ). AgreeBelow (first_slot b k) cores named) first (table-before cores start (window.span.count * b) window.cores) in
     let fine : AreSlotCores named = table-named cores start (window.span.count * b) window.cores stands.lanes.named
-    (window_names trace.net b (slots_between (run_of trace cores engine) m r) window sound.net shows) in
+    (window_names trace.net b (slots_between (replay_run trace cores engine) m r) window sound.net shows) in
     let same = between-same trace b g m cores named m r agree (omega (arith, stands.windows.one_window)) in (
       trace,
       named,
@@ -122,15 +122,15 @@ frames old mid new n count collects publishes all =
     ∙ ap (λ (k : ℕ). record old { collected = old.collected + n; published = k; counted = old.published; lanes = new.lanes; window = new.window }) all)
 
 -- what a replay stands for whose parts are these
-stands_parts : Replays → (trace : TraceContent) (cores : SlotCores) (engine : ReplayState) (counted : ℕ) (states : List RoundsState) (window : Window) (new : ReplayState) → IsTrace trace → StandsForReplay trace cores engine
+stands_parts : Replays → (trace : TraceContent) (cores : SlotCores) (engine : ReplayState) (counted : ℕ) (states : List RoundsState) (window : Window) (new : ReplayState) → IsTrace trace → ReplayStands trace cores engine
     → new.lanes ≡ published_more engine.lanes (window_of trace engine) counted states window → window.first_batch ≡ engine.lanes.published → new.rounds ≡ engine.rounds → lanes.AllRoundsStand trace cores new.lanes
-    → new.waiting ≡ (rounds_played (run_of trace cores engine) trace engine.lanes.collected (window_of trace engine)).batches
-    → HasAllocated trace.net engine.lanes.g (replayed (run_of trace cores engine) engine.lanes.collected).batches new.allocation → new.allocation.b ≡ engine.allocation.b → length new.pending ≡ length engine.pending
+    → new.waiting ≡ (rounds_played (replay_run trace cores engine) trace engine.lanes.collected (window_of trace engine)).batches
+    → HasAllocated trace.net engine.lanes.g (replayed (replay_run trace cores engine) engine.lanes.collected).batches new.allocation → new.allocation.b ≡ engine.allocation.b → length new.pending ≡ length engine.pending
     → (new.lanes.published ≡ new.rounds → Needs new.allocation.ring.endpoints new.allocation.list.items new.pending)
     → (new.lanes.published ≡ new.rounds → new.lanes.counted ≡ new.lanes.published)
-    → StandsForReplay trace cores (record new { lanes = published_more engine.lanes (window_of trace engine) counted states window })
+    → ReplayStands trace cores (record new { lanes = published_more engine.lanes (window_of trace engine) counted states window })
 stands_parts laws trace cores engine counted states window new sound stands lanes_are first rounds all waiting allocated size pending ended all_counted =
-    let s : Setting = run_of trace cores engine in
+    let s : Setting = replay_run trace cores engine in
     let m : ℕ = engine.lanes.published in
     let r : ℕ = engine.lanes.collected in
     let n : ℕ = window_of trace engine in
@@ -150,14 +150,14 @@ stands_parts laws trace cores engine counted states window new sound stands lane
           subst (λ (k : ℕ). Needs k new.allocation.list.items new.pending) serves (ended (ap (λ (l : RoundsContent). l.published) lanes_are ∙ (done ∙ sym (rounds ∙ stands.rounds))));
     }
 
-pub stands_after : Replays → (trace : TraceContent) (cores : SlotCores) (engine new : ReplayState) → IsTrace trace → StandsForReplay trace cores engine
+pub stands_after : Replays → (trace : TraceContent) (cores : SlotCores) (engine new : ReplayState) → IsTrace trace → ReplayStands trace cores engine
     → new.lanes ≡ published_more engine.lanes (window_of trace engine) new.lanes.counted new.lanes.lanes new.lanes.window → new.lanes.window.first_batch ≡ engine.lanes.published → new.rounds ≡ engine.rounds → lanes.AllRoundsStand trace cores new.lanes
-    → new.waiting ≡ (rounds_played (run_of trace cores engine) trace engine.lanes.collected (window_of trace engine)).batches
-    → HasAllocated trace.net engine.lanes.g (replayed (run_of trace cores engine) engine.lanes.collected).batches new.allocation → new.allocation.b ≡ engine.allocation.b → length new.pending ≡ length engine.pending
+    → new.waiting ≡ (rounds_played (replay_run trace cores engine) trace engine.lanes.collected (window_of trace engine)).batches
+    → HasAllocated trace.net engine.lanes.g (replayed (replay_run trace cores engine) engine.lanes.collected).batches new.allocation → new.allocation.b ≡ engine.allocation.b → length new.pending ≡ length engine.pending
     → (new.lanes.published ≡ new.rounds → Needs new.allocation.ring.endpoints new.allocation.list.items new.pending)
-    → (new.lanes.published ≡ new.rounds → new.lanes.counted ≡ new.lanes.published) → StandsForReplay trace cores new
+    → (new.lanes.published ≡ new.rounds → new.lanes.counted ≡ new.lanes.published) → ReplayStands trace cores new
 stands_after laws trace cores engine new sound stands lanes_are first rounds all waiting allocated size pending ended all_counted =
-    subst (λ (l : RoundsContent). StandsForReplay trace cores (record new { lanes = l })) (sym lanes_are)
+    subst (λ (l : RoundsContent). ReplayStands trace cores (record new { lanes = l })) (sym lanes_are)
     (stands_parts laws trace cores engine new.lanes.counted new.lanes.lanes new.lanes.window new sound stands lanes_are first rounds all waiting allocated size pending ended all_counted)
 
 -- ---- the same, as the code has it
@@ -174,9 +174,9 @@ collects_with trace engine mid frame stands = record { frame = frame; stands = s
 -- a window of the run is the next to be published
 pub record IsNextWhole (trace : TraceContent) (cores : SlotCores) (engine : ReplayState) (window : WindowContent) : Type 0 where
   pub span : IsSpanOf engine window.span
-  pub shows : IsWindowOf trace.net engine.lanes.b (slots_between (run_of trace cores engine) engine.lanes.published engine.lanes.collected) window
+  pub shows : IsWindowOf trace.net engine.lanes.b (slots_between (replay_run trace cores engine) engine.lanes.published engine.lanes.collected) window
 
-pub next_whole : Replays → (trace : TraceContent) (cores : SlotCores) (engine : ReplayState) (batches : List DemandBatch) (window : WindowContent) → IsTrace trace → StandsForReplay trace cores engine → batches ≡ engine.waiting
+pub next_whole : Replays → (trace : TraceContent) (cores : SlotCores) (engine : ReplayState) (batches : List DemandBatch) (window : WindowContent) → IsTrace trace → ReplayStands trace cores engine → batches ≡ engine.waiting
     → window.span ≡ record { first = engine.allocation.batches; count = length batches }
     → IsWindowOf engine.allocation.paths.net engine.allocation.b (schedule_from engine.allocation.b engine.allocation.batches engine.allocation.list.items batches) window → IsNextWhole trace cores engine window
 next_whole laws trace cores engine batches window sound stands are span shows =
@@ -186,13 +186,13 @@ next_whole laws trace cores engine batches window sound stands are span shows =
       shows = replay_window laws trace cores engine window sound stands (subst (λ (bs : List DemandBatch). IsWindowOf half.paths.net half.b (schedule_from half.b half.batches half.list.items bs) window) are shows);
     }
 
-pub publish_next : Replays → (trace : TraceContent) (cores : SlotCores) (engine : ReplayState) (mid : RoundsContent) (window : WindowContent) → IsTrace trace → StandsForReplay trace cores engine → Collects trace engine mid
+pub publish_next : Replays → (trace : TraceContent) (cores : SlotCores) (engine : ReplayState) (mid : RoundsContent) (window : WindowContent) → IsTrace trace → ReplayStands trace cores engine → Collects trace engine mid
     → IsNextWhole trace cores engine window → MayPublish mid window
 publish_next laws trace cores engine mid window sound stands collects next =
     subst (λ (all : RoundsContent). MayPublish all window) (sym collects.frame)
     (may_publish laws trace cores engine mid.lanes window sound stands (subst (lanes.AllRoundsStand trace cores) collects.frame (collects.stands cores stands.lanes)) next.span next.shows)
 
-pub publish_fits : (trace : TraceContent) (cores : SlotCores) (engine : ReplayState) (mid : RoundsContent) (window : WindowContent) → StandsForReplay trace cores engine → Collects trace engine mid → IsNextWhole trace cores engine window
+pub publish_fits : (trace : TraceContent) (cores : SlotCores) (engine : ReplayState) (mid : RoundsContent) (window : WindowContent) → ReplayStands trace cores engine → Collects trace engine mid → IsNextWhole trace cores engine window
     → (mid.published + window.span.count ≤ mid.collected) × (window.span.count ≤ mid.g)
 publish_fits trace cores engine mid window stands collects next =
     let count : window.span.count ≡ engine.lanes.collected - engine.lanes.published = ap (λ (s : Span). s.count) next.span in
@@ -212,19 +212,19 @@ pub publishes_with : (mid last : RoundsContent) (here window : WindowContent) �
     → ((t : TraceContent) (named : SlotCores) → IsTrace t → lanes.AllRoundsStand t named mid → IsNextWindow t named mid here.span.count here.slots here.cores → lanes.AllRoundsStand t named last) → Publishes mid last window
 publishes_with mid last here window same frame first stands = subst (Publishes mid last) same (record { frame = frame; first = first; stands = stands })
 
-pub lanes_after : (trace : TraceContent) (cores : SlotCores) (engine : ReplayState) (mid last : RoundsContent) (window : WindowContent) → StandsForReplay trace cores engine → Collects trace engine mid
+pub lanes_after : (trace : TraceContent) (cores : SlotCores) (engine : ReplayState) (mid last : RoundsContent) (window : WindowContent) → ReplayStands trace cores engine → Collects trace engine mid
     → IsNextWhole trace cores engine window → Publishes mid last window → last ≡ published_more engine.lanes (window_of trace engine) engine.lanes.published last.lanes last.window
 lanes_after trace cores engine mid last window stands collects next publishes =
     let count : window.span.count ≡ engine.lanes.collected - engine.lanes.published = ap (λ (s : Span). s.count) next.span in
     frames engine.lanes mid last (window_of trace engine) window.span.count collects.frame publishes.frame (omega (arith, stands.windows.behind))
 
-pub stands_next : Replays → (trace : TraceContent) (cores : SlotCores) (engine : ReplayState) (mid last : RoundsContent) (window : WindowContent) (new : ReplayState) → IsTrace trace → StandsForReplay trace cores engine
+pub stands_next : Replays → (trace : TraceContent) (cores : SlotCores) (engine : ReplayState) (mid last : RoundsContent) (window : WindowContent) (new : ReplayState) → IsTrace trace → ReplayStands trace cores engine
     → Collects trace engine mid → IsNextWhole trace cores engine window → Publishes mid last window → HasCores engine window cores → new.lanes ≡ record last { counted = new.lanes.counted; lanes = new.lanes.lanes }
     → (lanes.AllRoundsStand trace cores last → lanes.AllRoundsStand trace cores new.lanes) → new.rounds ≡ engine.rounds
-    → new.waiting ≡ (rounds_played (run_of trace cores engine) trace engine.lanes.collected (window_of trace engine)).batches
-    → HasAllocated trace.net engine.lanes.g (replayed (run_of trace cores engine) engine.lanes.collected).batches new.allocation → new.allocation.b ≡ engine.allocation.b → length new.pending ≡ length engine.pending
+    → new.waiting ≡ (rounds_played (replay_run trace cores engine) trace engine.lanes.collected (window_of trace engine)).batches
+    → HasAllocated trace.net engine.lanes.g (replayed (replay_run trace cores engine) engine.lanes.collected).batches new.allocation → new.allocation.b ≡ engine.allocation.b → length new.pending ≡ length engine.pending
     → (new.lanes.published ≡ new.rounds → Needs new.allocation.ring.endpoints new.allocation.list.items new.pending)
-    → (new.lanes.published ≡ new.rounds → new.lanes.counted ≡ new.lanes.published) → StandsForReplay trace cores new
+    → (new.lanes.published ≡ new.rounds → new.lanes.counted ≡ new.lanes.published) → ReplayStands trace cores new
 stands_next laws trace cores engine mid last window new sound stands collects next publishes named ends ends_so rounds waiting allocated size pending ended all_counted =
     let states : List RoundsState = mid.lanes in
     let all : lanes.AllRoundsStand trace cores mid = collects.stands cores stands.lanes in

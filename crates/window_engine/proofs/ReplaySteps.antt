@@ -17,7 +17,7 @@ use Rattle.trace_run.specs.Windows.{batch_at}
 use Rattle.replay_rounds.specs.Standing.{slots_between}
 use Rattle.window_allocation.specs.Nets.{AreOfNet}
 use Rattle.window_engine.specs.Premises.{Replays}
-use Rattle.window_engine.specs.Replay.{ReplayState, run_of, StandsForReplay}
+use Rattle.window_engine.specs.Replay.{ReplayState, replay_run, ReplayStands}
 use Rattle.window_allocation.specs.Standing.{Allocated, HasAllocated}
 use Rattle.window_allocation.specs.declared.window.Span.{Span}
 use Rattle.window_allocation.specs.Windows.{WindowContent, IsWindowOf}
@@ -49,14 +49,14 @@ next_batches s first count batches =
 pub record AreNext (trace : TraceContent) (cores : SlotCores) (engine : ReplayState) : Type 0 where
   pub number : length engine.waiting ≡ engine.lanes.collected - engine.lanes.published
   pub done : engine.allocation.batches ≡ engine.lanes.published
-  pub whole : (replayed (run_of trace cores engine) engine.lanes.published).batches ++ engine.waiting ≡ (replayed (run_of trace cores engine) engine.lanes.collected).batches
-  pub recorded : AreOfNet trace.net ((replayed (run_of trace cores engine) engine.lanes.published).batches ++ engine.waiting)
+  pub whole : (replayed (replay_run trace cores engine) engine.lanes.published).batches ++ engine.waiting ≡ (replayed (replay_run trace cores engine) engine.lanes.collected).batches
+  pub recorded : AreOfNet trace.net ((replayed (replay_run trace cores engine) engine.lanes.published).batches ++ engine.waiting)
   pub slots : schedule_from engine.allocation.b engine.allocation.batches engine.allocation.list.items engine.waiting
-      ≡ slots_between (run_of trace cores engine) engine.lanes.published engine.lanes.collected
+      ≡ slots_between (replay_run trace cores engine) engine.lanes.published engine.lanes.collected
 
-pub are_next : Replays → (trace : TraceContent) (cores : SlotCores) (engine : ReplayState) → IsTrace trace → StandsForReplay trace cores engine → AreNext trace cores engine
+pub are_next : Replays → (trace : TraceContent) (cores : SlotCores) (engine : ReplayState) → IsTrace trace → ReplayStands trace cores engine → AreNext trace cores engine
 are_next laws trace cores engine sound stands =
-    let s : Setting = run_of trace cores engine in
+    let s : Setting = replay_run trace cores engine in
     let m : ℕ = engine.lanes.published in
     let r : ℕ = engine.lanes.collected in
     let b : ℕ = engine.lanes.b in
@@ -81,27 +81,27 @@ are_next laws trace cores engine sound stands =
 
 -- ---- they may be allocated
 
-most_is : (trace : TraceContent) (cores : SlotCores) (engine : ReplayState) → StandsForReplay trace cores engine → engine.allocation.ring.batches ≡ engine.lanes.g
+most_is : (trace : TraceContent) (cores : SlotCores) (engine : ReplayState) → ReplayStands trace cores engine → engine.allocation.ring.batches ≡ engine.lanes.g
 most_is trace cores engine stands = ring_holds _ _ _ _ stands.allocated
 
-half_has : (trace : TraceContent) (cores : SlotCores) (engine : ReplayState) → StandsForReplay trace cores engine
-    → HasAllocated engine.allocation.paths.net engine.allocation.ring.batches (replayed (run_of trace cores engine) engine.lanes.published).batches engine.allocation
+half_has : (trace : TraceContent) (cores : SlotCores) (engine : ReplayState) → ReplayStands trace cores engine
+    → HasAllocated engine.allocation.paths.net engine.allocation.ring.batches (replayed (replay_run trace cores engine) engine.lanes.published).batches engine.allocation
 half_has trace cores engine stands =
-    let front : List DemandBatch = (replayed (run_of trace cores engine) engine.lanes.published).batches in
+    let front : List DemandBatch = (replayed (replay_run trace cores engine) engine.lanes.published).batches in
     subst (λ (net : Network). HasAllocated net engine.allocation.ring.batches front engine.allocation) (sym stands.allocated.serves)
     (subst (λ (most : ℕ). HasAllocated trace.net most front engine.allocation) (sym (most_is trace cores engine stands)) stands.allocated)
 
-half_next : Replays → (trace : TraceContent) (cores : SlotCores) (engine : ReplayState) → IsTrace trace → StandsForReplay trace cores engine
-    → AreOfNet engine.allocation.paths.net ((replayed (run_of trace cores engine) engine.lanes.published).batches ++ engine.waiting)
+half_next : Replays → (trace : TraceContent) (cores : SlotCores) (engine : ReplayState) → IsTrace trace → ReplayStands trace cores engine
+    → AreOfNet engine.allocation.paths.net ((replayed (replay_run trace cores engine) engine.lanes.published).batches ++ engine.waiting)
 half_next laws trace cores engine sound stands =
-    subst (λ (net : Network). AreOfNet net ((replayed (run_of trace cores engine) engine.lanes.published).batches ++ engine.waiting)) (sym stands.allocated.serves)
+    subst (λ (net : Network). AreOfNet net ((replayed (replay_run trace cores engine) engine.lanes.published).batches ++ engine.waiting)) (sym stands.allocated.serves)
     (are_next laws trace cores engine sound stands).recorded
 
-pub replay_next : Replays → (trace : TraceContent) (cores : SlotCores) (engine : ReplayState) → IsTrace trace → StandsForReplay trace cores engine → HasNext engine.waiting engine.allocation
+pub replay_next : Replays → (trace : TraceContent) (cores : SlotCores) (engine : ReplayState) → IsTrace trace → ReplayStands trace cores engine → HasNext engine.waiting engine.allocation
 replay_next laws trace cores engine sound stands =
-    ((replayed (run_of trace cores engine) engine.lanes.published).batches, half_has trace cores engine stands, half_next laws trace cores engine sound stands)
+    ((replayed (replay_run trace cores engine) engine.lanes.published).batches, half_has trace cores engine stands, half_next laws trace cores engine sound stands)
 
-pub few_wait : Replays → (trace : TraceContent) (cores : SlotCores) (engine : ReplayState) → IsTrace trace → StandsForReplay trace cores engine
+pub few_wait : Replays → (trace : TraceContent) (cores : SlotCores) (engine : ReplayState) → IsTrace trace → ReplayStands trace cores engine
     → (length engine.waiting ≤ engine.allocation.ring.batches) × (first_slot engine.allocation.b (engine.allocation.batches + length engine.waiting) ≤ 2 ^ 32)
 few_wait laws trace cores engine sound stands =
     let next = are_next laws trace cores engine sound stands in
@@ -112,34 +112,34 @@ few_wait laws trace cores engine sound stands =
     )
 
 -- and then they are
-pub replay_allocated : Replays → (trace : TraceContent) (cores : SlotCores) (engine : ReplayState) (new : Allocated) → IsTrace trace → StandsForReplay trace cores engine → Goes engine.allocation engine.waiting new
-    → HasAllocated trace.net engine.lanes.g (replayed (run_of trace cores engine) engine.lanes.collected).batches new
+pub replay_allocated : Replays → (trace : TraceContent) (cores : SlotCores) (engine : ReplayState) (new : Allocated) → IsTrace trace → ReplayStands trace cores engine → Goes engine.allocation engine.waiting new
+    → HasAllocated trace.net engine.lanes.g (replayed (replay_run trace cores engine) engine.lanes.collected).batches new
 replay_allocated laws trace cores engine new sound stands goes =
     let next = are_next laws trace cores engine sound stands in
-    let all : List DemandBatch = (replayed (run_of trace cores engine) engine.lanes.collected).batches in
-    let front : List DemandBatch = (replayed (run_of trace cores engine) engine.lanes.published).batches in
+    let all : List DemandBatch = (replayed (replay_run trace cores engine) engine.lanes.collected).batches in
+    let front : List DemandBatch = (replayed (replay_run trace cores engine) engine.lanes.published).batches in
     let half : Allocated = engine.allocation in
     subst (λ (net : Network). HasAllocated net engine.lanes.g all new) stands.allocated.serves
     (subst (λ (most : ℕ). HasAllocated half.paths.net most all new) (most_is trace cores engine stands)
     (subst (λ (bs : List DemandBatch). HasAllocated half.paths.net half.ring.batches bs new) next.whole
     (goes front (half_has trace cores engine stands) (half_next laws trace cores engine sound stands))))
 
-pub replay_window : Replays → (trace : TraceContent) (cores : SlotCores) (engine : ReplayState) (window : WindowContent) → IsTrace trace → StandsForReplay trace cores engine
+pub replay_window : Replays → (trace : TraceContent) (cores : SlotCores) (engine : ReplayState) (window : WindowContent) → IsTrace trace → ReplayStands trace cores engine
     → IsWindowOf engine.allocation.paths.net engine.allocation.b (schedule_from engine.allocation.b engine.allocation.batches engine.allocation.list.items engine.waiting) window
-    → IsWindowOf trace.net engine.lanes.b (slots_between (run_of trace cores engine) engine.lanes.published engine.lanes.collected) window
+    → IsWindowOf trace.net engine.lanes.b (slots_between (replay_run trace cores engine) engine.lanes.published engine.lanes.collected) window
 replay_window laws trace cores engine window sound stands shows =
     let half : Allocated = engine.allocation in
-    let slots : List (List Flow) = slots_between (run_of trace cores engine) engine.lanes.published engine.lanes.collected in
+    let slots : List (List Flow) = slots_between (replay_run trace cores engine) engine.lanes.published engine.lanes.collected in
     subst (λ (net : Network). IsWindowOf net engine.lanes.b slots window) stands.allocated.serves
     (subst (λ (b : ℕ). IsWindowOf half.paths.net b slots window) stands.size
     (subst (λ (xs : List (List Flow)). IsWindowOf half.paths.net half.b xs window) (are_next laws trace cores engine sound stands).slots shows))
 
-pub replay_span : Replays → (trace : TraceContent) (cores : SlotCores) (engine : ReplayState) (span : Span) → IsTrace trace → StandsForReplay trace cores engine
+pub replay_span : Replays → (trace : TraceContent) (cores : SlotCores) (engine : ReplayState) (span : Span) → IsTrace trace → ReplayStands trace cores engine
     → span ≡ record { first = engine.allocation.batches; count = length engine.waiting } → span ≡ record { first = engine.lanes.published; count = engine.lanes.collected - engine.lanes.published }
 replay_span laws trace cores engine span sound stands is =
     let next = are_next laws trace cores engine sound stands in
     is ∙ (ap (λ (n : ℕ). record { first = n; count = length engine.waiting }) next.done ∙ ap (λ (n : ℕ). record { first = engine.lanes.published; count = n }) next.number)
 
 -- what stands still does where it is seen otherwise
-pub here_too : (trace : TraceContent) (cores : SlotCores) (here now : ReplayState) → here ≡ now → StandsForReplay trace cores now → StandsForReplay trace cores here
-here_too trace cores here now same stands = subst (StandsForReplay trace cores) (sym same) stands
+pub here_too : (trace : TraceContent) (cores : SlotCores) (here now : ReplayState) → here ≡ now → ReplayStands trace cores now → ReplayStands trace cores here
+here_too trace cores here now same stands = subst (ReplayStands trace cores) (sym same) stands

@@ -3,7 +3,7 @@ use Rattle.std.proofs.Common.{◌≡◌, ◌<◌, ◌≤◌, ◌+◌, ◌-◌, �
 use Rattle.std.proofs.lemmas.Bool.{cases_Bool, leb-true, leb-false}
 use Rattle.std.proofs.lemmas.Nat.{div_below, le-div}
 use Rattle.trace_run.specs.Windows.{collected_after}
-use Rattle.window_engine.specs.Standing.{EveryPlanTakesItsSteps}
+use Rattle.window_engine.specs.Plan.{EveryPlanTakesItsSteps}
 use Rattle.window_engine.specs.Replay.{EveryReplayTakesItsSteps}
 
 one_more : (steps g : ℕ) → suc steps * g ≡ steps * g + g

@@ -2,9 +2,11 @@ pub use Rattle.window_allocation.specs.Scheduled
 pub use Rattle.window_allocation.specs.Windows
 pub use Rattle.plan_rounds.specs.Batches
 pub mod Counts
+pub mod Plan
 pub mod Step
-pub mod Standing
+pub mod StepRounds
 pub mod Settings
 pub mod Replay
+pub mod Standing
 pub mod Premises
 pub mod Beside

@@ -3,7 +3,7 @@
 use Rattle.std.specs.Prelude.{◌≡◌, ◌↔◌, ◌<◌, ◌≤◌, ℕ, ◌+◌, ◌-◌, ◌*◌, ◌/◌, List, [], drop, length, Option, Some, None, if◌then◌else◌}
 use Rattle.greedy_rules.specs.declared.flows.Flow.{Flow}
 use Rattle.greedy_rules.specs.Batches.{DemandBatch}
-use Rattle.greedy_rules.specs.Schedule.{first_slot, schedule, slot_at}
+use Rattle.greedy_rules.specs.Schedule.{schedule, slot_at}
 use Rattle.clos_topology.specs.Network.{Network, endpoints_of}
 use Rattle.clos_topology.specs.Links.{IsClean}
 use Rattle.clos_topology.specs.NetSlots.{SlotCores, AreSlotCores}
@@ -21,12 +21,11 @@ use Rattle.trace_run.specs.Windows.{InWindows, collected_after}
 use Rattle.replay_rounds.specs.Setting.{setting_of}
 use Rattle.replay_rounds.specs.Played.{Played}
 use Rattle.replay_rounds.specs.Standing as lanes
-use Rattle.replay_rounds.specs.Standing.{RoundsContent, slots_between, AreOfTable}
+use Rattle.replay_rounds.specs.Standing.{RoundsContent}
 use Rattle.window_engine.specs.declared.counts.Counts.{Counts}
 use Rattle.window_allocation.specs.Needs.{Needs}
 use Rattle.window_allocation.specs.Scheduled.{HasCores, EverySlotIsScheduled}
 use Rattle.window_allocation.specs.Standing.{Allocated, HasAllocated}
-use Rattle.window_allocation.specs.Windows.{WindowContent}
 
 -- what contracts see of a replay: the rounds of the trace, all endpoints' rounds, the batches that are collected and not allocated,
 -- the half that allocates, and at the end the slots pending of each flow
@@ -42,31 +41,19 @@ abbrev pub batches_in : Option Played → List DemandBatch
 batches_in None = []
 batches_in (Some played) = played.batches
 
-abbrev pub run_of : TraceContent → SlotCores → ReplayState → Setting
-run_of trace cores engine = setting_of trace engine.lanes.b engine.lanes.g cores
+abbrev pub replay_run : TraceContent → SlotCores → ReplayState → Setting
+replay_run trace cores engine = setting_of trace engine.lanes.b engine.lanes.g cores
 
-pub record StandsForReplay (trace : TraceContent) (cores : SlotCores) (engine : ReplayState) : Type 0 where
+pub record ReplayStands (trace : TraceContent) (cores : SlotCores) (engine : ReplayState) : Type 0 where
   pub rounds : engine.rounds ≡ trace.rounds
   pub lanes : lanes.AllRoundsStand trace cores engine.lanes
   pub size : engine.allocation.b ≡ engine.lanes.b
   pub windows : InWindows engine.lanes.g trace.rounds engine.lanes.collected engine.lanes.published engine.lanes.window.first_batch
-  pub waiting : engine.waiting ≡ drop engine.lanes.published (replayed (run_of trace cores engine) engine.lanes.collected).batches
-  pub allocated : HasAllocated trace.net engine.lanes.g (replayed (run_of trace cores engine) engine.lanes.published).batches engine.allocation
+  pub waiting : engine.waiting ≡ drop engine.lanes.published (replayed (replay_run trace cores engine) engine.lanes.collected).batches
+  pub allocated : HasAllocated trace.net engine.lanes.g (replayed (replay_run trace cores engine) engine.lanes.published).batches engine.allocation
   pub pending_room : length engine.pending ≡ endpoints_of trace.net * endpoints_of trace.net
   pub counted : engine.lanes.published ≡ trace.rounds → engine.lanes.counted ≡ engine.lanes.published
   pub ended : engine.lanes.published ≡ trace.rounds → Needs (endpoints_of trace.net) engine.allocation.list.items engine.pending
-
--- ---- steps
-
--- what a step gives: the rounds that it collected, from this one on, and the slots and cores of the batches of the window before
-pub record ReplayStepContent : Type 0 where
-  pub first : ℕ
-  pub played : Played
-  pub window : WindowContent
-
--- these cores are those of a step, for the slots of its batches of b slots each
-abbrev pub HasCoresOf : ℕ → ReplayStepContent → SlotCores → Type 0
-HasCoresOf b step cores = AreOfTable cores (first_slot b step.window.span.first) (step.window.span.count * b) step.window.cores
 
 -- ---- counts
 

@@ -1,179 +1,117 @@
-ghost use Rattle.std.specs.Prelude.{◌≡◌, ◌≢◌, ◌<◌, ◌≤◌, ◌+◌, ◌*◌, ◌↔◌, ℕ, List, length, false, IsTrue, IfOk, OnOk};
-ghost use Rattle.greedy_rules.specs.Batches.{DemandBatch};
-ghost use Rattle.clos_topology.specs.Network.{Network};
+ghost use Rattle.std.specs.Prelude.{◌≡◌, ◌≢◌, ◌<◌, ◌↔◌, true, false, IsTrue, IfOk};
+ghost use Rattle.clos_topology.specs.NetSlots.{SlotCores, AreSlotCores};
 ghost use Rattle.trace_text.specs.Trace.{TraceContent};
 ghost use Rattle.trace_text.specs.Valid.{IsTrace};
 ghost use Rattle.plan_rounds.specs.Batches.{plan_batches};
 ghost use Rattle.window_engine.specs.Counts.{counts_of};
+ghost use Rattle.window_engine.specs.Replay.{replay_counts};
 ghost use Rattle.window_engine.specs.Settings.{IsSetting};
-ghost use Rattle.window_allocation.specs.Needs.{Needs};
-ghost use Rattle.window_allocation.specs.Standing.{HasAllocated};
-ghost use Rattle.window_allocation.specs.Giving.{HandsOn};
-ghost use Rattle.window_engine.specs.Standing.{Stands, window_of};
-ghost use Rattle.window_engine.specs.Step.{IsPlanned};
+ghost use Rattle.window_engine.specs.Standing.{StandsForPlan, StandsForReplay, StandsForTrace, run_of, HasStepped, HasPlannedWindow, HasReplayedWindow};
 
 use crate::counts::Counts;
-use crate::laws::every_plan_balances;
+use crate::plan::Plan;
+use crate::replay::Replay;
 use crate::setting::Setting;
 use crate::step::Step;
 use fp_edge::Gate;
-use greedy_rules::{Flow, recorded_batches_may_be_applied, schedules_go_on};
+use greedy_rules::Flow;
 use no_memory::NoMemory;
-use plan_rounds::{Collection, every_plan_adds_what_is_asked, every_plan_is_recorded};
 use std::alloc::Global;
 use std::marker::Model;
 use std::sync::Wait;
 use std::thread::Threads;
 use trace_text::Trace;
-use window_allocation::{Allocation, Span, place};
 
-/// Plays a trace, window after window of rounds.
+/// Plays a trace, window after window of rounds, for its plan or for its replay. What clauses say of a replay holds for all cores for
+/// which it stands.
 #[derive(Drop)]
 pub struct Engine {
-    alloc: Global,
-    g: u8,
-    endpoints: u16,
-    rounds: u32,
-    collection: Collection,
-    allocation: Allocation,
-    // By source and then destination, once every round is done.
-    pending: Vec<u32>,
+    run: EngineRun,
+}
+
+/// What an engine plays a trace for.
+#[derive(Drop)]
+pub(crate) enum EngineRun {
+    Plan(Plan),
+    Replay(Replay),
 }
 
 impl Model for Engine {
-    ghost use Rattle.window_engine.specs.Standing.{EngineState};
+    ghost use Rattle.window_engine.specs.Standing.{EngineState, engine_of};
 
     ghost Value = { EngineState };
 
-    ghost view = { λ e. record {
-      g = e.g;
-      endpoints = e.endpoints;
-      rounds = e.rounds;
-      collection = e.collection;
-      allocation = e.allocation;
-      pending = e.pending.items;
-    } };
+    ghost view = { λ e. engine_of e.run };
 }
 
 impl Engine {
-    /// Before the first round of the trace. So far it plays `plan` alone.
+    /// Before the first round of the trace.
     pub fn open(alloc: Global, trace: &Trace, setting: Setting) -> Result<Engine, NoMemory>
-        requires plan { setting.replay ≡ false }
         requires sizes { IsSetting setting }
-        ensures stands { IfOk result (Stands trace.now) }
-        ensures start { IfOk result (λ engine. engine.collection.rounds ≡ 0) }
-        ensures b { IfOk result (λ engine. engine.allocation.b ≡ setting.b) }
+        ensures plan { setting.replay ≡ false → IfOk result (StandsForPlan trace.now) }
+        ensures replay { setting.replay ≡ true → IfOk result (λ engine. (cores : SlotCores) → AreSlotCores cores → StandsForReplay trace.now cores engine) }
+        ensures collected { IfOk result (λ engine. engine.collected ≡ 0) }
+        ensures allocated { IfOk result (λ engine. engine.allocated ≡ 0) }
+        ensures b { IfOk result (λ engine. engine.b ≡ setting.b) }
+        ensures g { IfOk result (λ engine. engine.g ≡ setting.g) }
         ensures workers { IfOk result (λ engine. engine.allocation.ring.workers ≡ setting.workers) }
         ensures paths { IfOk result (λ engine. engine.allocation.paths.paths ≡ setting.paths) }
-        ensures g { IfOk result (λ engine. engine.g ≡ setting.g) }
     {
-        let endpoints = trace.endpoints();
-        let flows = endpoints as usize * endpoints as usize;
+        if setting.replay {
+            let replay = Replay::open(alloc, trace, setting)?;
+            return Ok(Engine {
+                run: EngineRun::Replay(replay),
+            });
+        }
+        let plan = Plan::open(alloc, trace, setting)?;
         Ok(Engine {
-            alloc,
-            g: setting.g,
-            endpoints,
-            rounds: trace.rounds(),
-            collection: Collection::open(alloc, trace)?,
-            allocation: Allocation::open(
-                alloc,
-                trace.net(),
-                setting.workers,
-                setting.paths,
-                setting.b,
-                setting.g,
-            )?,
-            pending: vec![in alloc; 0; flows]?,
+            run: EngineRun::Plan(plan),
         })
     }
 
-    /// Plans the next window of `g` rounds, or of those that are left: collects their batches, and gives these their slots
-    /// and cores. The trace is the one given to `open`; after want of memory the engine is only to be dropped.
+    /// Collects the next window of `g` rounds, or of those that are left; a plan gives their batches slots and cores, a replay those of
+    /// the window before. The trace is the one given to `open`; after want of memory the engine is only to be dropped.
     pub fn step<R: Threads + Wait + Sync, G: Gate + Sync>(
         &mut self,
         rt: &R,
         gate: &G,
         trace: &Trace,
     ) -> Result<Step, NoMemory>
-        requires stands { Stands trace.now self.old }
-        requires more { self.old.collection.rounds ≢ self.old.rounds }
-        ensures stands { OnOk result (Stands trace.now self.new) }
-        ensures rounds { OnOk result (self.new.collection.rounds ≡ self.old.collection.rounds + window_of self.old) }
-        ensures all { OnOk result (self.new.rounds ≡ self.old.rounds) }
-        ensures b { OnOk result (self.new.allocation.b ≡ self.old.allocation.b) }
-        ensures g { OnOk result (self.new.g ≡ self.old.g) }
-        ensures workers { OnOk result (self.new.allocation.ring.workers ≡ self.old.allocation.ring.workers) }
-        ensures paths { OnOk result (self.new.allocation.paths.paths ≡ self.old.allocation.paths.paths) }
-        // Each slot came out of the ring, whose edges brought all that it was handed.
-        ensures handed { IfOk result (λ step. HandsOn self.old.allocation step.batches self.new.allocation step.window) }
-        ensures jobs { OnOk result (self.new.allocation.paths.jobs ≡ self.old.allocation.paths.jobs + window_of self.old * self.old.allocation.b + self.old.allocation.paths.paths) }
-        ensures planned { IfOk result (IsPlanned trace.now self.old.allocation.b self.old.collection.rounds (window_of self.old)) }
+        requires stands { StandsForTrace trace.now self.old }
+        requires more { self.old.allocated ≢ self.old.rounds }
+        ensures stepped { IfOk result (HasStepped self.old self.new) }
+        ensures planned { StandsForPlan trace.now self.old → IfOk result (HasPlannedWindow trace.now self.old self.new) }
+        ensures replayed { (cores : SlotCores) → StandsForReplay trace.now cores self.old → IfOk result (HasReplayedWindow trace.now cores self.old self.new) }
     {
-        every_plan_is_recorded();
-        recorded_batches_may_be_applied();
-        schedules_go_on();
-        let _rounds = trace.rounds();
-        let first = self.collection.rounds();
-        let count = u32::from(self.g).min(self.rounds - first);
-        let batches = self.collection.window(self.alloc, trace, count)?;
-        let window = self.allocation.window(self.alloc, rt, gate, &batches)?;
-        self.end();
-        Ok(Step {
-            collected: Span { first, count },
-            batches,
-            window,
-        })
-    }
-
-    /// After the last round the needs that are left are written down.
-    fn end(&mut self)
-        requires allocated { (net : Network) × (most : ℕ) × (batches : List DemandBatch) × HasAllocated net most batches self.old.allocation }
-        requires pending { length self.old.pending ≡ self.old.allocation.ring.endpoints * self.old.allocation.ring.endpoints }
-        ensures pending { length self.new.pending ≡ length self.old.pending }
-        ensures ended { self.new.collection.rounds ≡ self.new.rounds → Needs self.new.allocation.ring.endpoints self.new.allocation.list.items self.new.pending }
-        ensures g { self.new.g ≡ self.old.g }
-        ensures endpoints { self.new.endpoints ≡ self.old.endpoints }
-        ensures rounds { self.new.rounds ≡ self.old.rounds }
-        ensures collection { self.new.collection ≡ self.old.collection }
-        ensures allocation { self.new.allocation ≡ self.old.allocation }
-    {
-        if self.collection.rounds() == self.rounds {
-            self.allocation.write_needs(&mut self.pending);
+        match &mut self.run {
+            EngineRun::Plan(plan) => plan.step(rt, gate, trace),
+            EngineRun::Replay(replay) => replay.step(rt, gate, trace),
         }
     }
 
-    /// Whether every round is done.
+    /// Whether every round is collected and every batch allocated.
     pub fn done(&self) -> bool
-        ensures { IsTrue result ↔ (self.now.collection.rounds ≡ self.now.rounds) }
+        ensures { IsTrue result ↔ (self.now.allocated ≡ self.now.rounds) }
     {
-        self.collection.rounds() == self.rounds
+        match &self.run {
+            EngineRun::Plan(plan) => plan.done(),
+            EngineRun::Replay(replay) => replay.done(),
+        }
     }
 
-    /// What became of the flow's demand over the whole trace; None where no batch has the flow. Only once every round is
-    /// done.
+    /// What became of the flow's demand over the whole trace; None where no batch has the flow. Only once every batch is allocated.
     pub fn counts(&self, flow: Flow) -> Option<Counts>
-        requires stands { (trace : TraceContent) × IsTrace trace × Stands trace self.now }
-        requires done { self.now.collection.rounds ≡ self.now.rounds }
+        requires stands { (trace : TraceContent) × IsTrace trace × StandsForTrace trace self.now }
+        requires done { self.now.allocated ≡ self.now.rounds }
         requires src { flow.src < self.now.endpoints }
         requires dst { flow.dst < self.now.endpoints }
-        ensures { (trace : TraceContent) → IsTrace trace → Stands trace self.now → result ≡ counts_of self.now.allocation.b (plan_batches trace) flow }
+        ensures planned { (trace : TraceContent) → IsTrace trace → StandsForPlan trace self.now → result ≡ counts_of self.now.b (plan_batches trace) flow }
+        ensures replayed { (trace : TraceContent) (cores : SlotCores) → IsTrace trace → StandsForReplay trace cores self.now →
+            result ≡ replay_counts (run_of trace cores self.now) trace.rounds flow }
     {
-        every_plan_balances();
-        every_plan_adds_what_is_asked();
-        every_plan_is_recorded();
-        let demanded = self.collection.asked(flow);
-        if demanded == 0 {
-            return None;
+        match &self.run {
+            EngineRun::Plan(plan) => plan.counts(flow),
+            EngineRun::Replay(replay) => replay.counts(flow),
         }
-        let pending = self.pending[place(self.endpoints, flow)];
-        Some(Counts {
-            demanded,
-            allocated: demanded - pending,
-            acknowledged: 0,
-            lost: 0,
-            pending,
-            sent: 0,
-            missed: 0,
-        })
     }
 }

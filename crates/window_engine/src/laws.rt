@@ -1,5 +1,5 @@
 ghost use Rattle.window_engine.specs.Counts.{EveryPlanBalances};
-ghost use Rattle.window_engine.specs.Standing.{EveryPlanTakesItsSteps};
+ghost use Rattle.window_engine.specs.Plan.{EveryPlanTakesItsSteps};
 ghost use Rattle.window_engine.specs.Step.{EveryPlanHasItsSlots};
 
 use greedy_rules::{every_schedule_balances, recorded_batches_may_be_applied, schedules_go_on};

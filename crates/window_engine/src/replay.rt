@@ -12,17 +12,18 @@ ghost use Rattle.trace_text.specs.Valid.{IsTrace};
 ghost use Rattle.trace_run.specs.Shown.{IsShown};
 ghost use Rattle.replay_rounds.specs.Played.{rounds_played};
 ghost use Rattle.replay_rounds.specs.Standing.{AllRoundsStand, slots_between};
-ghost use Rattle.window_engine.specs.Replay.{StandsForReplay, HasCoresOf, run_of, replay_counts, batches_in};
+ghost use Rattle.window_engine.specs.Replay.{ReplayStands, replay_run, replay_counts, batches_in};
+ghost use Rattle.window_engine.specs.Step.{HasCoresOf};
 ghost use Rattle.window_engine.specs.Settings.{IsSetting};
-ghost use Rattle.window_engine.specs.Beside.{MayPlay, HasPlayed};
+ghost use Rattle.window_engine.specs.Beside.{MayPlayBeside, HasPlayedBeside};
 
 use crate::counts::Counts;
 use crate::replay_laws::replays_hold;
 use crate::setting::Setting;
+use crate::step::{Step, StepRounds};
 use fp_edge::Gate;
-use greedy_rules::{Batch, Flow, SlotTable};
+use greedy_rules::{Batch, Flow};
 use no_memory::NoMemory;
-use path_workers::CoreTable;
 use replay_rounds::{Played, ReplayRounds};
 use std::alloc::Global;
 use std::marker::Model;
@@ -39,7 +40,7 @@ const MANY: usize = 16;
 /// Replays a trace, window after window of rounds: in each step the rounds of a window are collected, and beside that the batches of
 /// the window before get their slots. What clauses say of it holds for all cores for which it stands.
 #[derive(Drop)]
-pub struct Replay {
+pub(crate) struct Replay {
     alloc: Global,
     rounds: u32,
     lanes: ReplayRounds,
@@ -66,24 +67,6 @@ impl Model for Replay {
     } };
 }
 
-/// What a step gives: the rounds that it played, and the slots and cores of the batches that it allocated.
-#[derive(Drop)]
-pub struct ReplayStep {
-    first: u32,
-    // Shared with the replay, whose next step allocates their batches.
-    played: Rc<Played>,
-    window: Window,
-}
-
-impl Model for ReplayStep {
-    ghost use Rattle.std.specs.Rc.{rc_value};
-    ghost use Rattle.window_engine.specs.Replay.{ReplayStepContent};
-
-    ghost Value = { ReplayStepContent };
-
-    ghost view = { λ s. record { first = s.first; played = rc_value s.played; window = s.window } };
-}
-
 /// Whether the batches have so many entries that a thread allocates them.
 fn have_many(batches: &[Batch]) -> bool {
     let mut entries = 0usize;
@@ -103,48 +86,11 @@ fn batches_of(last: &Option<Rc<Played>>) -> &[Batch]
     }
 }
 
-impl ReplayStep {
-    /// The first of the rounds that were played.
-    pub fn first(&self) -> u32
-        ensures { result ≡ self.now.first }
-    {
-        self.first
-    }
-
-    /// What they give.
-    pub fn played(&self) -> &Played
-        ensures { result.now ≡ self.now.played }
-    {
-        &self.played
-    }
-
-    /// The rounds whose batches were allocated.
-    pub fn allocated(&self) -> Span
-        ensures { result ≡ self.now.window.span }
-    {
-        self.window.span()
-    }
-
-    /// The slots of these: slot i of batch s, both counted from 0, stands at place `s * b + i`.
-    pub fn slots(&self) -> &SlotTable
-        ensures { result.now ≡ self.now.window.slots }
-    {
-        self.window.slots()
-    }
-
-    /// The cores of these slots, at the same places.
-    pub fn cores(&self) -> &CoreTable
-        ensures { result.now ≡ self.now.window.cores }
-    {
-        self.window.cores()
-    }
-}
-
 impl Replay {
     /// Before the first round of the trace.
-    pub fn open(alloc: Global, trace: &Trace, setting: Setting) -> Result<Replay, NoMemory>
+    pub(crate) fn open(alloc: Global, trace: &Trace, setting: Setting) -> Result<Replay, NoMemory>
         requires sizes { IsSetting setting }
-        ensures stands { IfOk result (λ replay. (cores : SlotCores) → AreSlotCores cores → StandsForReplay trace.now cores replay) }
+        ensures stands { IfOk result (λ replay. (cores : SlotCores) → AreSlotCores cores → ReplayStands trace.now cores replay) }
         ensures b { IfOk result (λ replay. replay.lanes.b ≡ setting.b) }
         ensures workers { IfOk result (λ replay. replay.allocation.ring.workers ≡ setting.workers) }
         ensures paths { IfOk result (λ replay. replay.allocation.paths.paths ≡ setting.paths) }
@@ -157,7 +103,7 @@ impl Replay {
         Ok(Replay {
             alloc,
             rounds: trace.rounds(),
-            lanes: ReplayRounds::open(alloc, trace, setting.b, setting.g)?,
+            lanes: ReplayRounds::open(alloc, trace, setting.workers, setting.b, setting.g)?,
             last: None,
             allocation: Allocation::open(
                 alloc,
@@ -199,10 +145,10 @@ impl Replay {
         gate: &G,
         trace: &Trace,
     ) -> Result<(Played, Window), NoMemory>
-        requires may_play { MayPlay trace.now self.old.lanes }
+        requires may_play { MayPlayBeside trace.now self.old.lanes }
         requires may_allocate { MayGive self.old.allocation self.old.waiting }
         ensures others { self.new ≡ record self.old { lanes = self.new.lanes; allocation = self.new.allocation } }
-        ensures rounds { IfOk result (λ both. HasPlayed trace.now self.old.lanes self.new.lanes both.0) }
+        ensures rounds { IfOk result (λ both. HasPlayedBeside trace.now self.old.lanes self.new.lanes both.0) }
         ensures given { IfOk result (λ both. HasGiven self.old.allocation self.old.waiting self.new.allocation both.1) }
     {
         let alloc = self.alloc;
@@ -211,7 +157,7 @@ impl Replay {
         let batches = batches_of(&self.last);
         if !have_many(batches) {
             let window = allocation.window(alloc, rt, gate, batches)?;
-            return Ok((lanes.collect(alloc, trace)?, window));
+            return Ok((lanes.collect(rt, alloc, trace)?, window));
         }
         let (window, played) = join_mut(
             rt,
@@ -220,78 +166,80 @@ impl Replay {
                 ensures { IfOk result (HasGiven allocation.entry.now batches.entry.now allocation.exit.now) }
             { allocation.window(alloc, rt, gate, batches) },
             &mut || -> Result<Played, NoMemory>
-                requires { MayPlay trace.now lanes.now }
-                ensures { IfOk result (HasPlayed trace.entry.now lanes.entry.now lanes.exit.now) }
-            { lanes.collect(alloc, trace) },
+                requires { MayPlayBeside trace.now lanes.now }
+                ensures { IfOk result (HasPlayedBeside trace.entry.now lanes.entry.now lanes.exit.now) }
+            { lanes.collect(rt, alloc, trace) },
         );
         Ok((played?, window?))
     }
 
     /// Plays the next window of `g` rounds, or of those that are left, and gives the batches of the window before their slots and
-    /// cores, which are then published. The trace is the one given to `open`; after want of memory the replay is only to be dropped.
-    pub fn step<R: Threads + Wait + Sync, G: Gate + Sync>(
+    /// cores, which are then published. The trace is the one given to `open`.
+    pub(crate) fn step<R: Threads + Wait + Sync, G: Gate + Sync>(
         &mut self,
         rt: &R,
         gate: &G,
         trace: &Trace,
-    ) -> Result<ReplayStep, NoMemory>
-        requires stands { (cores : SlotCores) × StandsForReplay trace.now cores self.old }
+    ) -> Result<Step, NoMemory>
+        requires stands { (cores : SlotCores) × ReplayStands trace.now cores self.old }
         requires more { self.old.lanes.published ≢ self.old.rounds }
         ensures rounds { OnOk result (self.new.rounds ≡ self.old.rounds) }
         ensures b { OnOk result (self.new.lanes.b ≡ self.old.lanes.b) }
         ensures g { OnOk result (self.new.lanes.g ≡ self.old.lanes.g) }
+        ensures endpoints { OnOk result (self.new.lanes.endpoints ≡ self.old.lanes.endpoints) }
         ensures workers { OnOk result (self.new.allocation.ring.workers ≡ self.old.allocation.ring.workers) }
         ensures paths { OnOk result (self.new.allocation.paths.paths ≡ self.old.allocation.paths.paths) }
         // Each slot came out of the ring, whose edges brought all that it was handed.
         ensures handed { IfOk result (λ step. HandsOn self.old.allocation self.old.waiting self.new.allocation step.window) }
         ensures collected { OnOk result (self.new.lanes.collected ≡ self.old.lanes.collected + min self.old.lanes.g (self.old.rounds - self.old.lanes.collected)) }
         ensures published { OnOk result (self.new.lanes.published ≡ self.old.lanes.collected) }
-        ensures first { IfOk result (λ step. step.first ≡ self.old.lanes.collected) }
-        ensures played { IfOk result (λ step. (cores : SlotCores) → StandsForReplay trace.now cores self.old →
-            step.played ≡ rounds_played (run_of trace.now cores self.old) trace.now self.old.lanes.collected (min self.old.lanes.g (self.old.rounds - self.old.lanes.collected))) }
+        ensures first { IfOk result (λ step. step.collected ≡ record { first = self.old.lanes.collected; count = min self.old.lanes.g (self.old.rounds - self.old.lanes.collected) }) }
+        ensures played { IfOk result (λ step. (cores : SlotCores) → ReplayStands trace.now cores self.old →
+            step.played ≡ rounds_played (replay_run trace.now cores self.old) trace.now self.old.lanes.collected (min self.old.lanes.g (self.old.rounds - self.old.lanes.collected))) }
         ensures span { IfOk result (λ step. step.window.span ≡ record { first = self.old.lanes.published; count = self.old.lanes.collected - self.old.lanes.published }) }
-        ensures window { IfOk result (λ step. (cores : SlotCores) → StandsForReplay trace.now cores self.old →
-            IsWindowOf trace.now.net self.old.lanes.b (slots_between (run_of trace.now cores self.old) self.old.lanes.published self.old.lanes.collected) step.window) }
+        ensures window { IfOk result (λ step. (cores : SlotCores) → ReplayStands trace.now cores self.old →
+            IsWindowOf trace.now.net self.old.lanes.b (slots_between (replay_run trace.now cores self.old) self.old.lanes.published self.old.lanes.collected) step.window) }
         ensures jobs { OnOk result (self.new.allocation.paths.jobs ≡ self.old.allocation.paths.jobs + jobs_for (self.old.lanes.collected - self.old.lanes.published) self.old.lanes.b self.old.allocation.paths.paths) }
         // What the rounds collected so far show, whatever cores are named, and that no loss, delay, repeat or boot harms.
-        ensures shown { OnOk result ((cores : SlotCores) → IsShown (run_of trace.now cores self.old) self.new.lanes.collected) }
+        ensures shown { OnOk result ((cores : SlotCores) → IsShown (replay_run trace.now cores self.old) self.new.lanes.collected) }
         // It goes on standing for all cores that are, for these slots, the ones given.
-        ensures stands { IfOk result (λ step. (cores : SlotCores) → StandsForReplay trace.now cores self.old →
-            HasCoresOf self.old.lanes.b step cores → StandsForReplay trace.now cores self.new) }
+        ensures stands { IfOk result (λ step. (cores : SlotCores) → ReplayStands trace.now cores self.old →
+            HasCoresOf self.old.lanes.b step cores → ReplayStands trace.now cores self.new) }
     {
         replays_hold();
         every_replay_shows();
         let _rounds = trace.rounds();
         let first = self.lanes.collected();
         let (played, window) = self.play_beside(rt, gate, trace)?;
+        let count = self.lanes.collected() - first;
         let published = window.span().count as u16;
         self.lanes
             .publish(published, window.slots(), window.cores());
         let shared = Rc::new(self.alloc, played)?;
         self.last = Some(shared.clone()?);
         self.end();
-        Ok(ReplayStep {
-            first,
-            played: shared,
+        Ok(Step {
+            collected: Span { first, count },
+            rounds: StepRounds::Replay(shared),
             window,
         })
     }
 
     /// Whether every round is played and every batch allocated.
-    pub fn done(&self) -> bool
+    pub(crate) fn done(&self) -> bool
         ensures { IsTrue result ↔ (self.now.lanes.published ≡ self.now.rounds) }
     {
         self.lanes.published() == self.rounds
     }
 
     /// What became of the flow's demand; None where no batch has the flow. Only once every batch is allocated.
-    pub fn counts(&self, flow: Flow) -> Option<Counts>
-        requires stands { (trace : TraceContent) × (cores : SlotCores) × IsTrace trace × StandsForReplay trace cores self.now }
+    pub(crate) fn counts(&self, flow: Flow) -> Option<Counts>
+        requires stands { (trace : TraceContent) × (cores : SlotCores) × IsTrace trace × ReplayStands trace cores self.now }
         requires done { self.now.lanes.published ≡ self.now.rounds }
         requires src { flow.src < self.now.lanes.endpoints }
         requires dst { flow.dst < self.now.lanes.endpoints }
-        ensures { (trace : TraceContent) (cores : SlotCores) → IsTrace trace → StandsForReplay trace cores self.now →
-            result ≡ replay_counts (run_of trace cores self.now) trace.rounds flow }
+        ensures { (trace : TraceContent) (cores : SlotCores) → IsTrace trace → ReplayStands trace cores self.now →
+            result ≡ replay_counts (replay_run trace cores self.now) trace.rounds flow }
     {
         let count = self.lanes.count(flow)?;
         let (sent, missed) = self.lanes.totals(flow);

@@ -1,10 +1,12 @@
-use Rattle.std.proofs.Common.{◌≡◌, ◌+◌, ℕ, List, length, map, Result, Ok, Err, OnOk, sym, ap, ◌∙◌, subst}
+use Rattle.std.proofs.Common.{◌+◌, ℕ, List, length, map, Result, Ok, Err, OnOk, sym, ap, ◌∙◌, arith}
 use Rattle.std.specs.List.{range_with_len}
-use Rattle.std.proofs.lemmas.List.{with_items_is}
 use Rattle.std.proofs.lemmas.List.FromFn.{length-map-range_with_len}
 use Rattle.std.proofs.lemmas.Result.{IfOk-weaker}
-use Rattle.clos_topology.specs.Network.{endpoints_of}
-use Rattle.replay_rounds.specs.Collecting.{blank_round, round_part, played_of, published_by, setting_by, LanesStand, MayCollectRounds, RoundPart}
+use Rattle.clos_topology.specs.NetSlots.{SlotCores}
+use Rattle.lane_rounds.specs.State.{RoundsState}
+use Rattle.replay_rounds.specs.declared.collect.WindowInPlay.{WindowInPlay}
+use Rattle.replay_rounds.specs.Collecting.{played_of, published_by, raw_part, round_part, run_told, AreRaws, MayCollectRounds, MayPlayLanes, RawPart, RoundPart}
+use Rattle.replay_rounds.proofs.Halves.{all_stand, from_first}
 use Rattle.replay_rounds.proofs.WindowLemmas.{rounds_give}
 use Rattle.replay_rounds.proofs.collect.collect.Goals as goal
 
@@ -12,59 +14,50 @@ on_ok_always : {T E P : Type 0} (r : Result T E) → P → OnOk r P
 on_ok_always (Ok x) holds = holds
 on_ok_always (Err e) holds = tt
 
-pub play_lanes-requires : goal.play_lanes-requires
-play_lanes-requires c =
-    let blank = blank_round c.args.trace.now in
-    let first = c.args.first in
-    let rounds : List RoundPart = c.deref_mut.result.now in
-    let is : rounds ≡ map blank (range_with_len first c.args.count) = c.deref_mut.ensures.value ∙ c.in_ok-rounds.ensures in
-    let many : length rounds ≡ c.args.count = ap length is ∙ length-map-range_with_len blank first c.args.count in
+may_play : (window : WindowInPlay) (cores : SlotCores) (raws : List RawPart) (lanes : List RoundsState) → AreRaws window raws → MayCollectRounds window cores lanes → MayPlayLanes window cores 0 raws lanes
+may_play window cores raws lanes read may = record {
+  may = may.may;
+  read = read;
+  within = omega (arith, may.stand.wide);
+  stand = from_first (run_told window cores) window.first window.counted lanes may.stand;
+}
+
+pub play_beside-requires-clause-may : goal.play_beside-requires-clause-may
+play_beside-requires-clause-may g c κs within =
     let (cores, begun) = c.requires.may in
-    record {
-      may = (
-        first,
-        cores,
-        record {
-          collect = subst (λ (n : ℕ). MayCollectRounds c.args.trace.now c.args.g cores c.args.publisher.now c.args.counted first n c.args.lanes.now) (sym many) begun;
-          blank = is ∙ ap (λ (n : ℕ). map blank (range_with_len first n)) (sym many);
-        },
-      );
-      counted = c.requires.counted;
-    }
+    (cores, may_play c.args.window.now cores c.deref.result.now c.args.lanes.now (c.deref.ensures.value ∙ c.in_ok-raws.ensures) begun)
+
+pub gather-requires : goal.gather-requires
+gather-requires g c =
+    let (cores, begun) = c.requires.may in
+    let window = c.args.window.now in
+    let raws_are = c.deref.ensures.value ∙ c.in_ok-raws.ensures in
+    let rounds_are = c.in_ok-rounds.ensures.rounds cores (may_play window cores c.deref.result.now c.args.lanes.now raws_are begun) in
+    ap length (c.deref-2.ensures.value ∙ c.in_ok-raws.ensures) ∙ (length-map-range_with_len (raw_part window.trace.now) window.first window.count
+    ∙ sym (ap length rounds_are ∙ length-map-range_with_len (round_part (run_told window cores) window.trace.now 0 (length c.args.lanes.now)) window.first window.count))
 
 pub returns-clause-lanes : goal.returns-clause-lanes
-returns-clause-lanes c =
-    let trace = c.args.trace.now in
-    let g = c.args.g in
-    let window = c.args.publisher.now in
-    let blank = blank_round trace in
-    let first = c.args.first in
-    let rounds : List RoundPart = c.deref_mut.result.now in
-    let is : rounds ≡ map blank (range_with_len first c.args.count) = c.deref_mut.ensures.value ∙ c.in_ok-rounds.ensures in
-    let many : length rounds ≡ c.args.count = ap length is ∙ length-map-range_with_len blank first c.args.count in
+returns-clause-lanes g c =
     on_ok_always c.gather.result
     (λ cores begun.
-    subst (λ (n : ℕ). LanesStand (setting_by trace g cores window) (first + n) (published_by window) c.play_lanes.new.lanes) many
-    (c.in_ok-play_lanes.ensures.lanes first cores (record { collect = subst (λ (n : ℕ). MayCollectRounds trace g cores window c.args.counted first n c.args.lanes.now) (sym many) begun; blank = is ∙ ap (λ (n : ℕ). map blank (range_with_len first n)) (sym many) })))
+    let window = c.args.window.now in
+    let raws_are = c.deref.ensures.value ∙ c.in_ok-raws.ensures in
+    all_stand (run_told window cores) (window.first + window.count) (published_by window.publisher.now) c.play_beside.new.lanes (c.play_beside.auto.lanes ∙ begun.stand.wide)
+    (c.in_ok-rounds.ensures.lanes cores (may_play window cores c.deref.result.now c.args.lanes.now raws_are begun)))
 
 pub returns-clause-played : goal.returns-clause-played
-returns-clause-played c =
-    let trace = c.args.trace.now in
-    let g = c.args.g in
-    let window = c.args.publisher.now in
-    let blank = blank_round trace in
-    let first = c.args.first in
-    let rounds : List RoundPart = c.deref_mut.result.now in
-    let after : List RoundPart = c.play_lanes.new.rounds in
-    let is : rounds ≡ map blank (range_with_len first c.args.count) = c.deref_mut.ensures.value ∙ c.in_ok-rounds.ensures in
-    let many : length rounds ≡ c.args.count = ap length is ∙ length-map-range_with_len blank first c.args.count in
-    let kept : length after ≡ c.in_ok-rounds.rounds.len = c.play_lanes.auto.rounds ∙ (ap length c.deref_mut.ensures.value ∙ sym c.in_ok-rounds.rounds.ok.0) in
+returns-clause-played g c =
     IfOk-weaker c.gather.result _ _
     (λ played gathered cores begun.
-    let setting = setting_by trace g cores window in
-    let played_now = c.in_ok-play_lanes.ensures.rounds first cores (record { collect = subst (λ (n : ℕ). MayCollectRounds trace g cores window c.args.counted first n c.args.lanes.now) (sym many) begun; blank = is ∙ ap (λ (n : ℕ). map blank (range_with_len first n)) (sym many) }) in
+    let window = c.args.window.now in
+    let trace = window.trace.now in
+    let raws_are = c.deref.ensures.value ∙ c.in_ok-raws.ensures in
+    let lent = c.deref-2.ensures.value ∙ c.in_ok-raws.ensures in
+    let part : ℕ → ℕ → RoundPart = λ n. round_part (run_told window cores) trace 0 n in
+    let rounds_are = c.in_ok-rounds.ensures.rounds cores (may_play window cores c.deref.result.now c.args.lanes.now raws_are begun) in
+    let numbers = range_with_len window.first window.count in
     gathered
-    ∙ (ap played_of (with_items_is c.in_ok-rounds.rounds after kept ∙ played_now)
-    ∙ (ap (λ (n : ℕ). played_of (map (round_part setting trace (endpoints_of trace.net)) (range_with_len first n))) many
-    ∙ rounds_give trace window.b g cores first c.args.count)))
+    ∙ (ap (λ (raws : List RawPart). played_of raws c.in_ok-rounds.rounds.items) lent
+    ∙ (ap (played_of (map (raw_part trace) numbers)) (rounds_are ∙ ap (λ (n : ℕ). map (part n) numbers) begun.stand.wide)
+    ∙ rounds_give trace window.publisher.now.b window.g cores window.first window.count)))
     c.gather.ensures

@@ -6,8 +6,8 @@ use Rattle.replay_rounds.proofs.collect.open_rounds.Goals as goal
 
 pub loop-at-preserved : goal.loop-at-preserved
 loop-at-preserved c =
-    let blank = blank_round c.args.trace.now in
-    let first = c.args.first in
+    let blank = blank_round c.args.window.now.trace.now in
+    let first = c.args.window.now.first in
     let at = c.loop-at.at in
     let part : RoundPart = c.in_ok-open.field-0 in
     let before : List RoundPart = c.loop-at.rounds.items in

@@ -4,4 +4,4 @@ use Rattle.replay_rounds.specs.Collecting.{blank_round}
 use Rattle.replay_rounds.proofs.collect.open_rounds.Given as goal
 
 abbrev pub invariant-loop-at : goal.invariant-loop-at
-invariant-loop-at l = l.rounds.items ≡ map (blank_round l.trace) (range_with_len l.first l.at)
+invariant-loop-at l = l.rounds.items ≡ map (blank_round l.window.trace.now) (range_with_len l.window.first l.at)

@@ -5,4 +5,4 @@ use Rattle.run_lines.proofs.flows.put_flows.Given as goal
 
 abbrev pub invariant-loop-src : goal.invariant-loop-src
 invariant-loop-src g l =
-    Passed l.initial.output l.output (text_of (each_source (flow_lines l.engine.allocation.b l.trace) (endpoints_of l.trace.net) 0 l.src))
+    Passed l.initial.output l.output (text_of (each_source (flow_lines l.engine.b l.trace) (endpoints_of l.trace.net) 0 l.src))

@@ -4,4 +4,4 @@ use Rattle.run_lines.proofs.flows.put_source.Given as goal
 
 abbrev pub invariant-loop-dst : goal.invariant-loop-dst
 invariant-loop-dst g l =
-    Passed l.initial.output l.output (text_of (each_destination (flow_lines l.engine.allocation.b l.trace) l.src 0 l.dst))
+    Passed l.initial.output l.output (text_of (each_destination (flow_lines l.engine.b l.trace) l.src 0 l.dst))

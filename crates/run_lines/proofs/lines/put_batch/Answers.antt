@@ -23,8 +23,8 @@ returns-in_err-put_entries g c =
     let b : ℕ = c.args.b in
     let none : DemandBatch = no_batch in
     let number : c.allocated-span.result.first + at ≡ step.window.span.first + at = ap (λ (s : Span). s.first + at) c.allocated-span.ensures in
-    let batch : c.index-batches-at.result ≡ get_or step.batches at none =
-    c.index-batches-at.is ∙ (ap (λ (bs : List DemandBatch). get_or bs at c.index-batches-at.result) c.batches.ensures ∙ get_or_default step.batches at c.index-batches-at.result none (omega (arith, c.requires.at, c.requires.window.all_allocated))) in
+    let batch : c.index-batches-at.result ≡ get_or step.played.batches at none =
+    c.index-batches-at.is ∙ (ap (λ (bs : List DemandBatch). get_or bs at c.index-batches-at.result) c.batches.ensures ∙ get_or_default step.played.batches at c.index-batches-at.result none (omega (arith, c.requires.at, c.requires.window.all_allocated))) in
     Passes-stopped _ c.in_err-put_entries.ensures c.from_residual.ensures.1 (sym (batch_text b at (c.allocated-span.result.first + at) (first_slot b step.window.span.first) (at * b) step c.index-batches-at.result step.window.slots step.window.cores number batch refl refl refl refl))
 
 pub returns : goal.returns
@@ -35,8 +35,8 @@ returns g c =
     let none : DemandBatch = no_batch in
     let first : ℕ = c.allocated-span.result.first in
     let number : first + at ≡ step.window.span.first + at = ap (λ (s : Span). s.first + at) c.allocated-span.ensures in
-    let batch : c.index-batches-at.result ≡ get_or step.batches at none =
-    c.index-batches-at.is ∙ (ap (λ (bs : List DemandBatch). get_or bs at c.index-batches-at.result) c.batches.ensures ∙ get_or_default step.batches at c.index-batches-at.result none (omega (arith, c.requires.at, c.requires.window.all_allocated))) in
+    let batch : c.index-batches-at.result ≡ get_or step.played.batches at none =
+    c.index-batches-at.is ∙ (ap (λ (bs : List DemandBatch). get_or bs at c.index-batches-at.result) c.batches.ensures ∙ get_or_default step.played.batches at c.index-batches-at.result none (omega (arith, c.requires.at, c.requires.window.all_allocated))) in
     let base : ℕ = first * c.from.result + 1 in
     let from : ℕ = at * c.from-count.result in
     let base_is : base ≡ first_slot b step.window.span.first = ap (λ (s : Span). s.first * c.from.result + 1) c.allocated-span.ensures ∙ ap (λ (n : ℕ). step.window.span.first * n + 1) c.from.ensures in

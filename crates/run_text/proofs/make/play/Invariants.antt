@@ -4,10 +4,10 @@ use Rattle.run_text.proofs.make.play.Given as goal
 
 abbrev pub invariant-loop-replay : goal.invariant-loop-replay
 invariant-loop-replay g l = record {
-  b : l.replay.lanes.b ≡ l.initial.replay.lanes.b;
-  g : l.replay.lanes.g ≡ l.initial.replay.lanes.g;
+  b : l.replay.b ≡ l.initial.replay.b;
+  g : l.replay.g ≡ l.initial.replay.g;
   stands : StandsForSome l.trace l.replay;
 }
 
 abbrev pub decreases-loop-replay : goal.decreases-loop-replay
-decreases-loop-replay g l = (l.trace.rounds - l.replay.lanes.collected) + (l.trace.rounds - l.replay.lanes.published)
+decreases-loop-replay g l = (l.trace.rounds - l.replay.collected) + (l.trace.rounds - l.replay.allocated)

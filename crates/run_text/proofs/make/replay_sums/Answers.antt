@@ -1,10 +1,10 @@
 use Rattle.std.proofs.Common.{◌≡◌, ap, ◌∙◌}
 use Rattle.trace_run.specs.Run.{Setting}
 use Rattle.replay_rounds.specs.Setting.{byte_of, setting_of}
-use Rattle.window_engine.specs.Replay.{run_of}
 use Rattle.run_text.specs.Made.{sums_of, counts_of_run}
 use Rattle.run_text.proofs.ReplayLoop.{same_run}
 use Rattle.run_text.proofs.SumLemmas.{same_counts_of_run}
+use Rattle.window_engine.specs.Standing.{run_of}
 use Rattle.run_text.proofs.make.replay_sums.Goals as goal
 
 pub returns : goal.returns

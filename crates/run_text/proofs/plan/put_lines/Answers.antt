@@ -28,7 +28,7 @@ pub returns-in_err-put_flows : goal.returns-in_err-put_flows
 returns-in_err-put_flows g c =
     let trace = c.args.trace.now in
     let b : ℕ = c.args.sizes.b in
-    let told : List ℕ = text_of (flows_lines c.put_rounds.new.engine.allocation.b trace) in
+    let told : List ℕ = text_of (flows_lines c.put_rounds.new.engine.b trace) in
     let same : told ≡ text_of (flows_lines b trace) = ap (λ (n : ℕ). text_of (flows_lines n trace)) c.in_ok-put_rounds.ensures.b in
     let later : List ℕ = text_of (flows_lines b trace) ++ end_text trace in
     let (cores, scheduled, passes) = c.in_ok-put_rounds.ensures.passes in (
@@ -44,7 +44,7 @@ pub returns : goal.returns
 returns g c =
     let trace = c.args.trace.now in
     let b : ℕ = c.args.sizes.b in
-    let told : List ℕ = text_of (flows_lines c.put_rounds.new.engine.allocation.b trace) in
+    let told : List ℕ = text_of (flows_lines c.put_rounds.new.engine.b trace) in
     let same : told ≡ text_of (flows_lines b trace) = ap (λ (n : ℕ). text_of (flows_lines n trace)) c.in_ok-put_rounds.ensures.b in
     let ended : List ℕ = line_text (line.End c.rounds.result) in
     let last : ended ≡ end_text trace = ap (λ (n : ℕ). line_text (line.End n)) c.rounds.ensures.number in

@@ -4,13 +4,13 @@ use Rattle.report_text.specs.declared.line.Line.TheVariants as line
 use Rattle.trace_text.specs.Trace.{TraceContent}
 use Rattle.trace_run.specs.Run.{Setting}
 use Rattle.replay_rounds.specs.Setting.{setting_of}
-use Rattle.window_engine.specs.Replay.{run_of}
 use Rattle.run_lines.specs.Text.{counts_lines, line_text, text_of}
 use Rattle.run_text.specs.ReplayScheduled.{AreReplayCores, WithReplayCores}
 use Rattle.run_text.specs.ReplayText.{all_steps_lines, replay_text}
 use Rattle.run_text.proofs.OutputLemmas.{Ends-stopped}
 use Rattle.run_text.proofs.PlanLemmas.{end_text, parts_with_end}
 use Rattle.run_text.proofs.ReplayLoop.{same_run}
+use Rattle.window_engine.specs.Standing.{run_of}
 use Rattle.run_text.proofs.replay.put_lines.Goals as goal
 
 -- the counts and the end
@@ -44,7 +44,7 @@ returns-in_err-put_steps g c =
     let (cores, makes, got) = c.in_err-put_steps.ensures.passes in (
       cores,
       subst (λ (n : ℕ). AreReplayCores b n trace cores) window makes,
-      Ends-stopped _ (c.texts_follow.ensures.stopped (rest_of trace (setting_of trace b w cores)) got.1 c.from_residual-in_err-put_steps.ensures.1 (parts trace cores b c.in_ok-replay.replay.lanes.g w window))
+      Ends-stopped _ (c.texts_follow.ensures.stopped (rest_of trace (setting_of trace b w cores)) got.1 c.from_residual-in_err-put_steps.ensures.1 (parts trace cores b c.in_ok-replay.replay.g w window))
           c.from_residual-in_err-put_steps.ensures.1,
     )
 
@@ -67,7 +67,7 @@ returns-in_err-put_counts g c =
       Ends-stopped _ (c.texts_follow.ensures.after {z = replay_text cores b w trace} got.1
           (c.texts_follow.ensures.stopped {z = rest_of trace setting} (end_text trace) (c.in_err-put_counts.ensures cores got.0) c.from_residual-in_err-put_counts.ensures.1
           (sym (ap (λ (s : Setting). text_of (counts_lines s trace) ++ end_text trace) same)))
-          (parts trace cores b c.in_ok-replay.replay.lanes.g w window))
+          (parts trace cores b c.in_ok-replay.replay.g w window))
           c.from_residual-in_err-put_counts.ensures.1,
     )
 
@@ -89,7 +89,7 @@ returns g c =
         passes = c.texts_follow.ensures.after got.1
             (c.texts_follow.ensures.after {z = rest_of trace setting} (c.in_ok-put_counts.ensures cores got.0) c.put_last_line.ensures.passes
             (sym (ap (λ (s : Setting). text_of (counts_lines s trace) ++ ended) same ∙ ap (λ (t : List ℕ). text_of (counts_lines setting trace) ++ t) last)))
-            (parts trace cores b c.in_ok-replay.replay.lanes.g w window);
+            (parts trace cores b c.in_ok-replay.replay.g w window);
         empty = c.put_last_line.ensures.empty;
       },
     )

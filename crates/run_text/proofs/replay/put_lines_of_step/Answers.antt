@@ -20,7 +20,7 @@ returns-in_err-put_played g c =
     let b : ℕ = c.args.b in
     let base : ℕ = first_slot b step.window.span.first in
     let count : ℕ = step.window.span.count * b in
-    c.texts_follow.ensures.stopped _ c.in_err-put_played.ensures c.from_residual.ensures.1 (sym (step_parts b c.first.result base count c.played.result.now step.window.slots step.window.cores step c.requires.slots c.first.ensures c.played.ensures refl refl refl refl))
+    c.texts_follow.ensures.stopped _ c.in_err-put_played.ensures c.from_residual.ensures.1 (sym (step_parts b base count step.window.slots step.window.cores step c.requires.slots refl refl refl refl))
 
 pub returns : goal.returns
 returns g c =
@@ -30,4 +30,4 @@ returns g c =
     let count : ℕ = c.allocated-span.result.count * c.from.result in
     let base_is : base ≡ first_slot b step.window.span.first = ap (λ (s : Span). s.first * c.from-2.result + 1) c.allocated-span.ensures ∙ ap (λ (n : ℕ). step.window.span.first * n + 1) c.from-2.ensures in
     let count_is : count ≡ step.window.span.count * b = ap (λ (s : Span). s.count * c.from.result) c.allocated-span.ensures ∙ ap (λ (n : ℕ). step.window.span.count * n) c.from.ensures in
-    c.texts_follow.ensures.after c.in_ok-put_played.ensures c.put_slots.ensures (sym (step_parts b c.first.result base count c.played.result.now c.slots.result.now c.cores.result.now step c.requires.slots c.first.ensures c.played.ensures c.slots.ensures c.cores.ensures base_is count_is))
+    c.texts_follow.ensures.after c.in_ok-put_played.ensures c.put_slots.ensures (sym (step_parts b base count c.slots.result.now c.cores.result.now step c.requires.slots c.slots.ensures c.cores.ensures base_is count_is))

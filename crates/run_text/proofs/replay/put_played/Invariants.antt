@@ -5,4 +5,4 @@ use Rattle.run_text.proofs.replay.put_played.Given as goal
 
 abbrev pub invariant-loop-at : goal.invariant-loop-at
 invariant-loop-at g l =
-    Passed l.initial.output l.output (text_of (played_lines l.first l.played l.at))
+    Passed l.initial.output l.output (text_of (played_lines l.step.collected.first l.step.played l.at))

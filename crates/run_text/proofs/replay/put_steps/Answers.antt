@@ -13,6 +13,7 @@ use Rattle.run_text.proofs.CoreLemmas.{spliced}
 use Rattle.run_text.proofs.ReplayCores.{replay_spliced, places}
 use Rattle.run_text.proofs.ReplaySteps.{after_step, all_steps}
 use Rattle.run_text.proofs.ReplayLoop.{agree_before, agree_in, agree_self, steps_more, steps_stop, no_step, step_smaller}
+use Rattle.window_engine.proofs.EngineFacts.{replay_within}
 use Rattle.run_text.proofs.replay.put_steps.Goals as goal
 
 pub loop-replay-init : goal.loop-replay-init
@@ -24,7 +25,7 @@ loop-replay-init g c =
       window = refl;
       passed = (
         0,
-        no_step c.args.trace.now c.args.replay.now c.requires.collected c.requires.published,
+        no_step c.args.trace.now c.args.replay.now c.requires.collected c.requires.allocated,
         (there, makes, λ cores named agree. (c.requires.stands cores named, c.texts_follow.ensures.nothing)),
       );
     }
@@ -33,37 +34,37 @@ pub loop-replay-preserved : goal.loop-replay-preserved
 loop-replay-preserved g c =
     let trace = c.args.trace.now in
     let b : ℕ = c.args.b in
-    let w : ℕ = c.args.replay.now.lanes.g in
+    let w : ℕ = c.args.replay.now.g in
     let old = c.loop-replay.replay in
     let inv = c.loop-replay.invariant in
-    let more : old.lanes.published ≢ old.rounds = search rules in
+    let more : old.allocated ≢ old.rounds = search rules in
     let (steps, after, (there, makes, passed)) = inv.passed in
-    let stands = (passed there makes.named (agree_self 0 (old.lanes.published * b) there)).0 in
-    let first : ℕ = old.lanes.published in
-    let rounds : ℕ = old.lanes.collected in
+    let stands = (passed there makes.named (agree_self 0 (old.allocated * b) there)).0 in
+    let first : ℕ = old.allocated in
+    let rounds : ℕ = old.collected in
     let makes' = subst (λ (n : ℕ). AreReplayCores b n trace there) (sym inv.window) makes in
     let (here, named, clean, gives) = c.in_ok-put_step.ensures.passes there makes' stands in
     let clean' = subst (λ (n : ℕ). AreClean trace.net here (first_slot b first) (slots_between (setting_of trace b n there) first rounds)) inv.window clean in
     let cores : SlotCores = spliced (first * b) ((rounds - first) * b) here there in
-    let published = c.in_ok-put_step.ensures.published in
+    let published = c.in_ok-put_step.ensures.allocated in
     record {
       rounds = c.in_ok-put_step.ensures.rounds ∙ inv.rounds;
       size = c.in_ok-put_step.ensures.b;
       window = c.in_ok-put_step.ensures.g ∙ inv.window;
       passed = (
         suc steps,
-        after_step w trace.rounds steps old c.put_step.new.replay after stands.rounds inv.window more c.in_ok-put_step.ensures.collected published,
+        after_step w trace.rounds steps old c.put_step.new.replay after (replay_within stands).rounds inv.window more c.in_ok-put_step.ensures.collected published,
         (
           cores,
           replay_spliced trace b w first rounds here there c.cores_decide_nothing.ensures c.runs_go_on.ensures.begins c.runs_go_on.ensures.batches c.schedules_go_on.ensures.front c.schedules_go_on.ensures.count
-              stands.windows.behind stands.windows.within makes named clean',
+              (replay_within stands).behind (replay_within stands).within makes named clean',
           λ other named' agree.
-              let all : ℕ = c.put_step.new.replay.lanes.published * b in
-              let end : first * b + (rounds - first) * b ≡ all = places first rounds b stands.windows.behind ∙ ap (λ (n : ℕ). n * b) (sym published) in
+              let all : ℕ = c.put_step.new.replay.allocated * b in
+              let end : first * b + (rounds - first) * b ≡ all = places first rounds b (replay_within stands).behind ∙ ap (λ (n : ℕ). n * b) (sym published) in
               let (stands', passed') = passed other named' (agree_before (first * b) ((rounds - first) * b) all other here there (omega arith) agree) in
               let (next, text) = gives other stands' (agree_in (first * b) ((rounds - first) * b) all other here there (omega arith) agree) in (
                 next,
-                c.texts_follow.ensures.after passed' text (steps_more trace other old b w steps after stands.rounds inv.size inv.window),
+                c.texts_follow.ensures.after passed' text (steps_more trace other old b w steps after (replay_within stands).rounds inv.size inv.window),
               ),
         ),
       );
@@ -73,37 +74,37 @@ pub returns-in_err-put_step-clause-passes : goal.returns-in_err-put_step-clause-
 returns-in_err-put_step-clause-passes g c =
     let trace = c.args.trace.now in
     let b : ℕ = c.args.b in
-    let w : ℕ = c.args.replay.now.lanes.g in
+    let w : ℕ = c.args.replay.now.g in
     let old = c.loop-replay.replay in
     let inv = c.loop-replay.invariant in
-    let more : old.lanes.published ≢ old.rounds = search rules in
+    let more : old.allocated ≢ old.rounds = search rules in
     let (steps, after, (there, makes, passed)) = inv.passed in
-    let stands = (passed there makes.named (agree_self 0 (old.lanes.published * b) there)).0 in
-    let first : ℕ = old.lanes.published in
-    let rounds : ℕ = old.lanes.collected in
+    let stands = (passed there makes.named (agree_self 0 (old.allocated * b) there)).0 in
+    let first : ℕ = old.allocated in
+    let rounds : ℕ = old.collected in
     let size : ℕ = (rounds - first) * b in
     let makes' = subst (λ (n : ℕ). AreReplayCores b n trace there) (sym inv.window) makes in
     let (here, named, clean, gives) = c.in_err-put_step.ensures.passes there makes' stands in
     let clean' = subst (λ (n : ℕ). AreClean trace.net here (first_slot b first) (slots_between (setting_of trace b n there) first rounds)) inv.window clean in
     let cores : SlotCores = spliced (first * b) size here there in
     let makes_all = replay_spliced trace b w first rounds here there c.cores_decide_nothing.ensures c.runs_go_on.ensures.begins c.runs_go_on.ensures.batches c.schedules_go_on.ensures.front c.schedules_go_on.ensures.count
-    stands.windows.behind stands.windows.within makes named clean' in
+    (replay_within stands).behind (replay_within stands).within makes named clean' in
     let all : ℕ = first * b + size in
     let (stands', passed') = passed cores makes_all.named (agree_before (first * b) size all cores here there (omega arith) (agree_self 0 all cores)) in
     let (next, text) = gives cores stands' (agree_in (first * b) size all cores here there (omega arith) (agree_self 0 all cores)) in
-    let some : 0 < w = subst (λ (n : ℕ). 0 < n) inv.window stands.lanes.rounds.0 in (
+    let some : 0 < w = subst (λ (n : ℕ). 0 < n) inv.window (replay_within stands).g.0 in (
       cores,
       makes_all,
       (
         never_ok _ _ c.from_residual.result c.from_residual.ensures.1,
-        c.texts_follow.ensures.stopped _ (c.texts_follow.ensures.after passed' text refl) c.from_residual.ensures.1 (steps_stop trace cores old b w steps c.every_replay_takes_its_steps.ensures some c.requires.accepted.some_round after stands.rounds inv.size inv.window more),
+        c.texts_follow.ensures.stopped _ (c.texts_follow.ensures.after passed' text refl) c.from_residual.ensures.1 (steps_stop trace cores old b w steps c.every_replay_takes_its_steps.ensures some c.requires.accepted.some_round after (replay_within stands).rounds inv.size inv.window more),
       ),
     )
 
 pub put_step-requires-clause-stands : goal.put_step-requires-clause-stands
 put_step-requires-clause-stands g c κs within =
     let (steps, after, (there, makes, passed)) = c.loop-replay.invariant.passed in
-    (there, (passed there makes.named (agree_self 0 (c.loop-replay.replay.lanes.published * c.args.b) there)).0)
+    (there, (passed there makes.named (agree_self 0 (c.loop-replay.replay.allocated * c.args.b) there)).0)
 
 pub loop-replay-smaller : goal.loop-replay-smaller
 loop-replay-smaller g c =
@@ -111,22 +112,22 @@ loop-replay-smaller g c =
     let new = c.put_step.new.replay in
     let all : ℕ = c.args.trace.now.rounds in
     let (steps, after, (there, makes, passed)) = c.loop-replay.invariant.passed in
-    let stands = (passed there makes.named (agree_self 0 (old.lanes.published * c.args.b) there)).0 in
-    let more : old.lanes.published ≢ old.rounds = search rules in
-    step_smaller old.lanes.g all old.lanes.collected old.lanes.published new.lanes.collected new.lanes.published stands.lanes.rounds.0 stands.windows.behind stands.windows.within (λ is. more (is ∙ sym stands.rounds))
-    (c.in_ok-put_step.ensures.collected ∙ ap (λ (n : ℕ). old.lanes.collected + min old.lanes.g (n - old.lanes.collected)) stands.rounds) c.in_ok-put_step.ensures.published
+    let stands = (passed there makes.named (agree_self 0 (old.allocated * c.args.b) there)).0 in
+    let more : old.allocated ≢ old.rounds = search rules in
+    step_smaller old.g all old.collected old.allocated new.collected new.allocated (replay_within stands).g.0 (replay_within stands).behind (replay_within stands).within (λ is. more (is ∙ sym (replay_within stands).rounds))
+    (c.in_ok-put_step.ensures.collected ∙ ap (λ (n : ℕ). old.collected + min old.g (n - old.collected)) (replay_within stands).rounds) c.in_ok-put_step.ensures.allocated
 
 pub returns-clause-passes : goal.returns-clause-passes
 returns-clause-passes g c =
     let trace = c.args.trace.now in
     let b : ℕ = c.args.b in
-    let w : ℕ = c.args.replay.now.lanes.g in
+    let w : ℕ = c.args.replay.now.g in
     let last = c.loop-replay.replay in
     let inv = c.loop-replay.invariant in
     let (steps, after, (there, makes, passed)) = inv.passed in
-    let (stands, text) = passed there makes.named (agree_self 0 (last.lanes.published * b) there) in
-    let done : last.lanes.published ≡ last.rounds = search rules in
-    let some : 0 < w = subst (λ (n : ℕ). 0 < n) inv.window stands.lanes.rounds.0 in
+    let (stands, text) = passed there makes.named (agree_self 0 (last.allocated * b) there) in
+    let done : last.allocated ≡ last.rounds = search rules in
+    let some : 0 < w = subst (λ (n : ℕ). 0 < n) inv.window (replay_within stands).g.0 in
     let setting : Setting = setting_of trace b w there in
-    let all : steps ≡ steps_of setting trace = all_steps w trace.rounds steps last c.every_replay_takes_its_steps.ensures some c.requires.accepted.some_round after (done ∙ stands.rounds) in
+    let all : steps ≡ steps_of setting trace = all_steps w trace.rounds steps last c.every_replay_takes_its_steps.ensures some c.requires.accepted.some_round after (done ∙ (replay_within stands).rounds) in
     (there, makes, (stands, Passes-same text (ap (λ (n : ℕ). text_of (steps_lines there setting trace n)) all)))

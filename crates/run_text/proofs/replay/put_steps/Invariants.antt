@@ -1,24 +1,24 @@
 use Rattle.std.proofs.Common.{◌≡◌, ◌+◌, ◌-◌, ◌*◌, ℕ}
 use Rattle.clos_topology.specs.NetSlots.{SlotCores, AreSlotCores}
 use Rattle.replay_rounds.specs.Setting.{setting_of}
-use Rattle.window_engine.specs.Replay.{StandsForReplay}
 use Rattle.run_lines.specs.Text.{text_of}
 use Rattle.run_lines.specs.Output.{Passed}
 use Rattle.run_text.specs.ReplayScheduled.{WithReplayCores, AgreeAbove}
 use Rattle.run_text.specs.ReplayText.{steps_lines}
 use Rattle.run_text.proofs.ReplaySteps.{IsAfter}
+use Rattle.window_engine.specs.Standing.{StandsForReplay}
 use Rattle.run_text.proofs.replay.put_steps.Given as goal
 
 abbrev pub invariant-loop-replay : goal.invariant-loop-replay
 invariant-loop-replay g l = record {
   rounds : l.replay.rounds ≡ l.initial.replay.rounds;
-  size : l.replay.lanes.b ≡ l.b;
-  window : l.replay.lanes.g ≡ l.initial.replay.lanes.g;
-  passed : (steps : ℕ) × IsAfter l.initial.replay.lanes.g l.trace.rounds steps l.replay × WithReplayCores l.b l.initial.replay.lanes.g l.trace (λ there.
-      (cores : SlotCores) → AreSlotCores cores → AgreeAbove 0 (l.replay.lanes.published * l.b) cores there →
+  size : l.replay.b ≡ l.b;
+  window : l.replay.g ≡ l.initial.replay.g;
+  passed : (steps : ℕ) × IsAfter l.initial.replay.g l.trace.rounds steps l.replay × WithReplayCores l.b l.initial.replay.g l.trace (λ there.
+      (cores : SlotCores) → AreSlotCores cores → AgreeAbove 0 (l.replay.allocated * l.b) cores there →
       StandsForReplay l.trace cores l.replay
-      × Passed l.initial.output l.output (text_of (steps_lines cores (setting_of l.trace l.b l.initial.replay.lanes.g cores) l.trace steps)));
+      × Passed l.initial.output l.output (text_of (steps_lines cores (setting_of l.trace l.b l.initial.replay.g cores) l.trace steps)));
 }
 
 abbrev pub decreases-loop-replay : goal.decreases-loop-replay
-decreases-loop-replay g l = (l.trace.rounds - l.replay.lanes.collected) + (l.trace.rounds - l.replay.lanes.published)
+decreases-loop-replay g l = (l.trace.rounds - l.replay.collected) + (l.trace.rounds - l.replay.allocated)

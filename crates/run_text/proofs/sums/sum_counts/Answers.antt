@@ -3,9 +3,9 @@ use Rattle.std.specs.List.{flat_map, range_with_len}
 use Rattle.clos_topology.specs.Network.{endpoints_of}
 use Rattle.trace_run.specs.Run.{Setting}
 use Rattle.window_engine.specs.declared.counts.Counts.{Counts}
-use Rattle.window_engine.specs.Replay.{run_of}
 use Rattle.run_text.specs.Made.{sums_of, counts_from}
 use Rattle.run_text.proofs.SumLemmas.{sources_more}
+use Rattle.window_engine.specs.Standing.{run_of}
 use Rattle.run_text.proofs.sums.sum_counts.Goals as goal
 
 pub loop-src-preserved : goal.loop-src-preserved

@@ -2,9 +2,9 @@ use Rattle.std.proofs.Common.{◌≡◌, ◌*◌}
 use Rattle.std.specs.List.{flat_map, range_with_len}
 use Rattle.clos_topology.specs.Network.{endpoints_of}
 use Rattle.clos_topology.specs.NetSlots.{SlotCores}
-use Rattle.window_engine.specs.Replay.{StandsForReplay, run_of}
 use Rattle.run_text.specs.Made.{sums_of, counts_from}
 use Rattle.run_text.specs.Sums.{AreOfAtMost}
+use Rattle.window_engine.specs.Standing.{StandsForReplay, run_of}
 use Rattle.run_text.proofs.sums.sum_counts.Given as goal
 
 abbrev pub invariant-loop-src : goal.invariant-loop-src

@@ -1,13 +1,11 @@
-use Rattle.std.proofs.Common.{◌≡◌, ◌<◌, ◌+◌, ◌++◌, ℕ, List, length, Option, arith, refl, sym, ap, ◌∙◌, subst}
-use Rattle.std.proofs.lemmas.List.{with_items_is}
-use Rattle.std.specs.Vec.{with_items}
+use Rattle.std.proofs.Common.{◌≡◌, ◌<◌, ◌+◌, ◌++◌, ℕ, List, arith, refl, sym, ap, ◌∙◌, subst}
 use Rattle.fcp_framing.specs.declared.packet.Told.{Told}
 use Rattle.greedy_rules.specs.Batches.{IsAboveLast}
 use Rattle.lane_rounds.specs.AgentLines.{slots_sent}
 use Rattle.replay_rounds.specs.declared.played.Departure.{Departure}
 use Rattle.replay_rounds.specs.Played.{departures_from}
 use Rattle.replay_rounds.specs.Departures.{by_slot}
-use Rattle.replay_rounds.specs.Collecting.{RoundPart, MayBeTold, refused_of, with_endpoint, with_numbers, setting_by, published_by}
+use Rattle.replay_rounds.specs.Collecting.{RoundPart, MayBeTold, refused_of, with_endpoint, setting_by, published_by}
 use Rattle.replay_rounds.specs.Standing.{LaneStands}
 use Rattle.replay_rounds.proofs.PlayLemmas.{may_play, may_play_round, ready, next_stands, entries_are, sends_are, refused_are, same_part}
 use Rattle.replay_rounds.proofs.part.RoundInPlay.play.Goals as goal
@@ -54,17 +52,13 @@ returns-clause-part c = λ cores may_be stood.
     let stood_now = subst (λ (k : ℕ). LaneStands setting k published endpoint lane) (sym is) stood in
     let may = may_play c.rounds_may_be_played.ensures.rounds c.rounds_may_be_played.ensures.told trace c.args.g cores c.args.publisher.now number endpoint may_be_now c.requires.endpoint lane stood_now events told c.in_ok-fill_events.ensures c.fill_told.ensures in
     let said = c.in_ok-round.ensures.gives in
-    let before : RoundPart = record { round = number; batch = c.self.inside.batch; named = c.self.inside.named.items; answers = c.self.inside.answers.items; departures = c.self.inside.departures } in
-    let after : RoundPart = record { round = number; batch = c.round.new.batch; named = c.self.inside.named.items; answers = (with_items c.self.inside.answers c.note_refused.new.answers).items; departures = c.note_sent.new.self } in
-    let refused = refused_are setting number published endpoint lane events told stood_now may trace c.in_ok-fill_events.ensures c.clear-2.new.self c.round.new.refused c.clear-2.ensures said.refused in
+    let before : RoundPart = record { round = number; batch = c.self.inside.batch; refused = c.self.inside.refused.items; departures = c.self.inside.departures } in
+    let after : RoundPart = record { round = number; batch = c.round.new.batch; refused = c.note_refused.new.list.items; departures = c.note_sent.new.self } in
+    let told_refused = refused_are setting number published endpoint lane events told stood_now may trace c.in_ok-fill_events.ensures c.clear-2.new.self c.round.new.refused c.clear-2.ensures said.refused in
     let sends = sends_are setting number published endpoint lane events told stood_now may (slots_sent c.round.new.sent.items) said.sends in
-    let kept : length c.note_refused.new.answers ≡ c.self.inside.answers.len = c.note_refused.auto.answers ∙ (ap length c.deref_mut.ensures.value ∙ sym c.self.inside.answers.ok.0) in
-    let answers : after.answers ≡ with_numbers (refused_of setting trace number endpoint) before.answers = with_items_is c.self.inside.answers c.note_refused.new.answers kept
-    ∙ c.note_refused.ensures
-    ∙ (ap (λ (zs : List (Option ℕ)). with_numbers c.round.new.refused zs) c.deref_mut.ensures.value
-    ∙ ap (λ (rs : List (ℕ × ℕ)). with_numbers rs c.self.inside.answers.items) refused) in
+    let refused : after.refused ≡ before.refused ++ refused_of setting trace number endpoint = c.in_ok-note_refused.ensures ∙ ap (λ (rs : List (ℕ × ℕ)). before.refused ++ rs) told_refused in
     let departures : after.departures ≡ by_slot (before.departures ++ departures_from setting number endpoint) = c.in_ok-note_sent.ensures ∙ ap (λ (ds : List Departure). by_slot (before.departures ++ ds)) sends in
-    same_part after (with_endpoint setting trace endpoint before) refl refl
+    same_part after (with_endpoint setting trace endpoint before) refl
     (entries_are setting number published endpoint lane events told stood_now may c.self.inside.batch.entries c.round.new.batch.entries said.entries)
-    c.round.ensures.limits answers departures
+    c.round.ensures.limits refused departures
     ∙ ap (with_endpoint setting trace endpoint) c.self.view_is

@@ -1,14 +1,16 @@
-use Rattle.std.proofs.Common.{◌≡◌, ◌≤◌, ◌+◌, ◌*◌, ℕ, List, ◌++◌, Option, IfSome, sym, ap, ◌∙◌, subst, arith}
+use Rattle.std.proofs.Common.{◌≡◌, ◌≤◌, ◌+◌, ◌*◌, ℕ, List, ◌++◌, Option, IfSome, sym, ap, ◌∙◌, subst, inr, arith}
 use Rattle.std.proofs.lemmas.List.{append-nil, append_assoc}
 use Rattle.std.proofs.lemmas.Nat.{mul-le}
 use Rattle.clos_topology.specs.Network.{endpoints_of}
 use Rattle.greedy_rules.specs.declared.flows.Flow.{Flow}
 use Rattle.trace_run.specs.Run.{Setting}
 use Rattle.window_engine.specs.declared.counts.Counts.{Counts}
-use Rattle.window_engine.specs.Replay.{run_of, replay_counts}
+use Rattle.window_engine.specs.Replay.{replay_counts}
 use Rattle.run_text.specs.Made.{sums_of, counts_to}
 use Rattle.run_text.specs.Sums.{counts_listed, AreOfAtMost}
 use Rattle.run_text.proofs.SumLemmas.{counts_more}
+use Rattle.window_engine.specs.Standing.{run_of}
+use Rattle.window_engine.proofs.EngineFacts.{replay_within}
 use Rattle.run_text.proofs.sums.Sums.add_source.Goals as goal
 
 abbrev flow_of : ℕ → ℕ → Flow
@@ -17,13 +19,16 @@ flow_of src dst = record { src = src; dst = dst }
 next_row : (src n : ℕ) → (src + 1) * n ≡ src * n + n
 next_row src n = grind arith
 
+pub counts-requires-clause-stands : goal.counts-requires-clause-stands
+counts-requires-clause-stands c = (c.args.trace.now, c.requires.accepted, inr c.requires.stands)
+
 pub add-requires-clause-counts : goal.add-requires-clause-counts
 add-requires-clause-counts c =
     let trace = c.args.trace.now in
     let (cores, stands) = c.requires.stands in
     let flow : Flow = flow_of c.args.src c.loop-dst.dst in
-    subst (λ (counts : Option Counts). IfSome counts (λ c. c.acknowledged + c.lost ≤ c.allocated)) (sym (c.counts.ensures trace cores c.requires.accepted stands))
-    (c.every_count_has_a_flight.ensures (run_of trace cores c.args.replay.now) trace.rounds flow stands.lanes.rounds.0 c.requires.src (omega (arith, c.endpoints-dst-end.ensures.number)))
+    subst (λ (counts : Option Counts). IfSome counts (λ c. c.acknowledged + c.lost ≤ c.allocated)) (sym (c.counts.ensures.replayed trace cores c.requires.accepted stands))
+    (c.every_count_has_a_flight.ensures (run_of trace cores c.args.replay.now) trace.rounds flow (replay_within stands).g.0 c.requires.src (omega (arith, c.endpoints-dst-end.ensures.number)))
 
 pub add-requires-clause-room : goal.add-requires-clause-room
 add-requires-clause-room c =
@@ -52,7 +57,7 @@ loop-dst-preserved c =
       sums = λ cores all stands is.
           let setting : Setting = run_of trace cores c.args.replay.now in
           let before : List Counts = counts_to setting trace.rounds src dst in
-          let told : c.counts.result ≡ replay_counts setting trace.rounds (flow_of src dst) = c.counts.ensures trace cores c.requires.accepted stands in
+          let told : c.counts.result ≡ replay_counts setting trace.rounds (flow_of src dst) = c.counts.ensures.replayed trace cores c.requires.accepted stands in
           c.add.ensures.sums (all ++ before) (c.loop-dst.invariant.sums cores all stands is)
           ∙ ap sums_of (append_assoc all before (counts_listed c.counts.result)
           ∙ (ap (λ (o : Option Counts). all ++ (before ++ counts_listed o)) told ∙ ap (λ (cs : List Counts). all ++ cs) (sym (counts_more setting trace.rounds src dst))));

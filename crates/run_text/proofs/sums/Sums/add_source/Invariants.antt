@@ -2,9 +2,9 @@ use Rattle.std.proofs.Common.{◌≡◌, ◌+◌, ◌*◌, List, ◌++◌}
 use Rattle.clos_topology.specs.Network.{endpoints_of}
 use Rattle.clos_topology.specs.NetSlots.{SlotCores}
 use Rattle.window_engine.specs.declared.counts.Counts.{Counts}
-use Rattle.window_engine.specs.Replay.{StandsForReplay, run_of}
 use Rattle.run_text.specs.Made.{sums_of, counts_to}
 use Rattle.run_text.specs.Sums.{AreOfAtMost}
+use Rattle.window_engine.specs.Standing.{StandsForReplay, run_of}
 use Rattle.run_text.proofs.sums.Sums.add_source.Given as goal
 
 abbrev pub invariant-loop-dst : goal.invariant-loop-dst

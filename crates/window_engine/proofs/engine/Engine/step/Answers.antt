@@ -1,79 +1,17 @@
-use Rattle.std.proofs.Common.{◌≡◌, ◌≢◌, ◌+◌, ◌-◌, min, ℕ, List, ◌++◌, length, take, drop, refl, sym, ap, ◌∙◌, subst, arith}
-use Rattle.greedy_rules.specs.Batches.{DemandBatch}
-use Rattle.greedy_rules.specs.Schedule.{schedule_from}
-use Rattle.plan_rounds.specs.Batches.{plan_batches}
-use Rattle.window_allocation.specs.Standing.{Allocated, HasAllocated}
-use Rattle.plan_rounds.specs.Standing.{Collected, HasCollected}
-use Rattle.window_engine.specs.Standing.{EngineState}
-use Rattle.window_allocation.specs.Windows.{IsWindowOf}
-use Rattle.window_allocation.specs.Giving.{HandsOn}
-use Rattle.window_engine.proofs.EngineLemmas.{stands_too, may_give, next_allocated, pending_room, stands_next, jobs_raised, planned}
+use Rattle.std.proofs.Common.{sym, ap, ◌∙◌}
+use Rattle.window_engine.specs.Standing.{engine_of, HasReplayedWindow}
+use Rattle.window_engine.proofs.EngineLemmas.{no_replay, replay_stands, replay_replayed, carried}
 use Rattle.window_engine.proofs.engine.Engine.step.Goals as goal
+use Rattle.window_engine.proofs.engine.Engine.step.Goals.{in-Plan, in-Replay}
 
-pub window-requires-2-clause-may : goal.window-requires-2-clause-may
-window-requires-2-clause-may g c κs within =
+pub returns-clause-replayed : goal.returns-clause-replayed
+returns-clause-replayed g c cores stands =
     let trace = c.args.trace.now in
-    may_give trace _ c.deref.result.now c.min-count.result c.rounds-rounds.ensures.sound (stands_too trace _ _ c.self.view_is c.requires.stands) c.every_plan_is_recorded.ensures c.recorded_batches_may_be_applied.ensures.front
-    (omega (arith, c.min-count.ensures, c.from.ensures, c.rounds-first.ensures)) (c.deref.ensures.value ∙ c.in_ok-batches.ensures.batches)
-
-pub end-requires-clause-allocated : goal.end-requires-clause-allocated
-end-requires-clause-allocated g c =
-    let trace = c.args.trace.now in
-    let has =
-    next_allocated trace _ c.deref.result.now c.min-count.result c.window-2.new.self c.rounds-rounds.ensures.sound (stands_too trace _ _ c.self.view_is c.requires.stands) c.every_plan_is_recorded.ensures c.recorded_batches_may_be_applied.ensures.front
-    (c.deref.ensures.value ∙ c.in_ok-batches.ensures.batches) c.in_ok-window.ensures.given.stands in
-    (trace.net, c.self.inside.g, take c.self.inside.collection.rounds (plan_batches trace) ++ c.deref.result.now, has)
-
-pub end-requires-clause-pending : goal.end-requires-clause-pending
-end-requires-clause-pending g c =
-    let trace = c.args.trace.now in
-    let stands = stands_too trace _ _ c.self.view_is c.requires.stands in
-    let has =
-    next_allocated trace _ c.deref.result.now c.min-count.result c.window-2.new.self c.rounds-rounds.ensures.sound stands c.every_plan_is_recorded.ensures c.recorded_batches_may_be_applied.ensures.front
-    (c.deref.ensures.value ∙ c.in_ok-batches.ensures.batches) c.in_ok-window.ensures.given.stands in
-    pending_room trace _ (take c.self.inside.collection.rounds (plan_batches trace) ++ c.deref.result.now) c.window-2.new.self c.self.inside.pending.items stands has refl
-
-pub returns-clause-stands : goal.returns-clause-stands
-returns-clause-stands g c =
-    let trace = c.args.trace.now in
-    let stands = stands_too trace _ _ c.self.view_is c.requires.stands in
-    let k : ℕ = c.self.inside.collection.rounds in
-    let count_is : c.min-count.result ≡ min c.self.inside.g (c.self.inside.rounds - k) = omega (arith, c.min-count.ensures, c.from.ensures, c.rounds-first.ensures) in
-    let are = c.deref.ensures.value ∙ c.in_ok-batches.ensures.batches in
-    let has =
-    next_allocated trace _ c.deref.result.now c.min-count.result c.window-2.new.self c.rounds-rounds.ensures.sound stands c.every_plan_is_recorded.ensures c.recorded_batches_may_be_applied.ensures.front are c.in_ok-window.ensures.given.stands in
-    stands_next trace _ c.end.new.self c.deref.result.now stands c.end.ensures.g c.end.ensures.endpoints c.end.ensures.rounds (are ∙ ap (λ (m : ℕ). take m (drop k (plan_batches trace))) count_is)
-    (subst (HasCollected trace) (sym c.end.ensures.collection) c.in_ok-batches.ensures.stands)
-    (ap (λ (half : Collected). half.rounds) c.end.ensures.collection ∙ (c.in_ok-batches.ensures.rounds ∙ ap (λ (m : ℕ). k + m) count_is))
-    (subst (HasAllocated trace.net c.self.inside.g (take k (plan_batches trace) ++ c.deref.result.now)) (sym c.end.ensures.allocation) has) c.end.ensures.ended c.end.ensures.pending
-
-pub returns-clause-jobs : goal.returns-clause-jobs
-returns-clause-jobs g c =
-    let trace = c.args.trace.now in
-    let stands = stands_too trace _ _ c.self.view_is c.requires.stands in
-    jobs_raised trace _ _ c.deref.result.now c.min-count.result c.end.new.self.allocation.paths.jobs c.self.view_is c.rounds-rounds.ensures.sound stands c.every_plan_is_recorded.ensures (omega (arith, c.min-count.ensures, c.from.ensures, c.rounds-first.ensures))
-    (subst (λ (e : EngineState). e.collection.rounds ≢ e.rounds) (sym c.self.view_is) c.requires.more) (c.deref.ensures.value ∙ c.in_ok-batches.ensures.batches) (ap (λ (half : Allocated). half.paths.jobs) c.end.ensures.allocation ∙ c.in_ok-window.ensures.given.jobs)
-
-pub returns-clause-planned : goal.returns-clause-planned
-returns-clause-planned g c =
-    let trace = c.args.trace.now in
-    planned trace _ _ c.in_ok-batches.batches.items c.min-count.result c.rounds-first.result c.in_ok-window.window c.self.view_is c.rounds-rounds.ensures.sound (stands_too trace _ _ c.self.view_is c.requires.stands) c.every_plan_is_recorded.ensures
-    c.schedules_go_on.ensures.more c.schedules_go_on.ensures.front c.schedules_go_on.ensures.count c.rounds-first.ensures (omega (arith, c.min-count.ensures, c.from.ensures, c.rounds-first.ensures)) c.in_ok-batches.ensures.batches
-    (subst (λ (bs : List DemandBatch). c.in_ok-window.window.span ≡ record { first = c.self.inside.allocation.batches; count = length bs }) c.deref.ensures.value c.in_ok-window.ensures.given.span)
-    (subst (λ (bs : List DemandBatch). IsWindowOf c.self.inside.allocation.paths.net c.self.inside.allocation.b (schedule_from c.self.inside.allocation.b c.self.inside.allocation.batches c.self.inside.allocation.list.items bs) c.in_ok-window.window) c.deref.ensures.value c.in_ok-window.ensures.given.window)
-
-pub returns-clause-workers : goal.returns-clause-workers
-returns-clause-workers g c =
-    ap (λ (half : Allocated). half.ring.workers) c.end.ensures.allocation ∙ (c.in_ok-window.ensures.given.workers ∙ ap (λ (e : EngineState). e.allocation.ring.workers) c.self.view_is)
-
-pub returns-clause-paths : goal.returns-clause-paths
-returns-clause-paths g c =
-    ap (λ (half : Allocated). half.paths.paths) c.end.ensures.allocation ∙ (c.in_ok-window.ensures.given.paths ∙ ap (λ (e : EngineState). e.allocation.paths.paths) c.self.view_is)
-
-pub returns-clause-handed : goal.returns-clause-handed
-returns-clause-handed g c =
-    let batches : List DemandBatch = c.in_ok-batches.batches.items in
-    let window = c.in_ok-window.window in
-    subst (λ (e : EngineState). HandsOn e.allocation batches c.end.new.self.allocation window) c.self.view_is
-    (subst (λ (half : Allocated). HandsOn c.self.inside.allocation batches half window) (sym c.end.ensures.allocation)
-    (subst (λ (bs : List DemandBatch). HandsOn c.self.inside.allocation bs c.window-2.new.self window) c.deref.ensures.value c.in_ok-window.ensures.given.handed))
+    elim c.match-self.branch [
+      | in-Plan w ↦ no_replay trace cores c.args.self.now _ (ap engine_of (sym w.in-Plan.is) ∙ c.self.view_is) stands
+      | in-Replay w ↦
+          let seen = ap engine_of (sym w.in-Replay.is) ∙ c.self.view_is in
+          let made = w.step-in-Replay.ensures in
+          carried (HasReplayedWindow trace cores) _ _ _ _ _ _ w.result-is seen (ap (λ e. engine_of e.run) w.self-inside-is)
+          (replay_replayed trace cores _ _ w.step-in-Replay.result (replay_stands trace cores c.args.self.now _ seen stands) made.stands made.published made.played made.span made.window made.shown)
+    ]

@@ -13,7 +13,7 @@ use Rattle.window_engine.proofs.replay.Replay.play_beside.Given as given
 use Rattle.window_engine.specs.contracts.replay.Replay.play_beside as this
 use Rattle.window_engine.proofs.replay.Replay.play_beside.Goals as goal
 
-half_send : (g : given.Over) → IsSync (this.R-row g.row.R g.row.G) → IsSync (this.G-row g.row.R g.row.G) → (κs : contract.Lifetimes.Lfts 16)
+half_send : (g : given.Over) → IsSync (this.R-row g.row.R g.row.G) → IsSync (this.G-row g.row.R g.row.G) → (κs : contract.Lifetimes.Lfts 17)
     → IsSend (lts.arg-9-1 g.row.R g.row.G g.R.laws g.G.laws g.R.Threads-dict g.R.Wait-dict g.G.Gate-dict κs)
 half_send g r q κs =
     let r0 : IsSync g.row.R = given_sync 0 g.row.R r in

@@ -3,7 +3,7 @@ use Rattle.trace_run.specs.Run.{replayed}
 use Rattle.replay_rounds.specs.Setting.{setting_of}
 use Rattle.replay_rounds.specs.Played.{Played, rounds_played}
 use Rattle.replay_rounds.specs.Standing.{RoundsContent}
-use Rattle.window_engine.specs.Replay.{ReplayState, run_of}
+use Rattle.window_engine.specs.Replay.{ReplayState, replay_run}
 use Rattle.window_allocation.specs.Standing.{Allocated, HasAllocated}
 use Rattle.window_allocation.specs.Windows.{WindowContent, jobs_for}
 use Rattle.window_allocation.specs.Giving.{HandsOn}
@@ -128,7 +128,7 @@ returns-clause-jobs g c =
 pub returns-clause-shown : goal.returns-clause-shown
 returns-clause-shown g c = λ named.
     let (cores, stands) = c.requires.stands in
-    c.every_replay_shows.ensures (run_of c.args.trace.now named c.args.self.now) stands.lanes.rounds.0 _
+    c.every_replay_shows.ensures (replay_run c.args.trace.now named c.args.self.now) stands.lanes.rounds.0 _
 
 pub returns-clause-stands : goal.returns-clause-stands
 returns-clause-stands g c cores stands named =

@@ -14,7 +14,7 @@ use Rattle.replay_rounds.specs.Collecting.{framed_answer, named_at, source_of}
 use Rattle.replay_rounds.proofs.LoopLemmas.{map_got, take_got}
 use Rattle.replay_rounds.proofs.Naming.{named_by}
 use Rattle.replay_rounds.proofs.RowLemmas.{length-rows, row_got}
-use Rattle.replay_rounds.proofs.part.read_raw.Goals as goal
+use Rattle.replay_rounds.proofs.raw.read_raw.Goals as goal
 
 pub loop-at-preserved : goal.loop-at-preserved
 loop-at-preserved c =

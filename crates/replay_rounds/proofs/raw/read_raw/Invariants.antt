@@ -5,7 +5,7 @@ use Rattle.trace_text.specs.Trace.{raw_at}
 use Rattle.replay_rounds.specs.Setting.{raw_rows}
 use Rattle.replay_rounds.specs.Collecting.{framed_answer}
 use Rattle.replay_rounds.proofs.Naming.{named_by}
-use Rattle.replay_rounds.proofs.part.read_raw.Given as goal
+use Rattle.replay_rounds.proofs.raw.read_raw.Given as goal
 
 abbrev pub invariant-loop-at : goal.invariant-loop-at
 invariant-loop-at l = record {
