@@ -1,6 +1,6 @@
 -- The bits of a mask that is made of tests, and of one that slides up.
 use Rattle.std.proofs.Common.{◌≡◌, ℕ, zero, suc, ◌+◌, ◌-◌, ◌*◌, ◌/◌, ◌%◌, ◌^◌, ◌<◌, ◌≤◌, max, Bool, true, false, cond, nat_lt, ◌==◌, if◌then◌else◌, sym, ◌∙◌, ap, subst, refl, inl, inr, arith, bit_and, bit_or}
-use Rattle.std.specs.Int.{bit_at, IsBitSet}
+use Rattle.std.specs.Int.{bit_at}
 use Rattle.std.proofs.Math.Nat.{pow-suc, div-add-mod}
 use Rattle.std.proofs.lemmas.Bool.{cond_both, cases_lt, cases_eq, cond-true, cond-false, lt-ltb, le-ltb, eq-eqb, ne_eqb}
 use Rattle.std.proofs.lemmas.Bool.Decides.{nat_tests}
@@ -135,12 +135,4 @@ bit_at-tested_clear mask k within clear =
           let one : bit_at mask k ≡ 1 = omega (arith, bit_at-lt mask k) in
           let power : 2 ^ k ≡ 0 = sym (let e : 1 * 2 ^ k ≡ 2 ^ k = omega arith in e) ∙ sym (ap (λ b. b * 2 ^ k) one) ∙ tested in
           absurd (omega (arith, some-pow k))
-    ]
-
--- a bit that is set is 1
-pub bit_at-set : (mask k : ℕ) → IsBitSet mask k → bit_at mask k ≡ 1
-bit_at-set mask k set =
-    elim (cases_eq (bit_at mask k) 0) [
-      | inl clear ↦ absurd (set (and_pow mask k ∙ ap (λ b. b * 2 ^ k) clear ∙ (let e : 0 * 2 ^ k ≡ 0 = omega arith in e)))
-      | inr other ↦ omega (arith, bit_at-lt mask k)
     ]

@@ -4,10 +4,11 @@ use Rattle.std.specs.Int.{bit_at}
 use Rattle.std.specs.List.{list_any}
 use Rattle.std.proofs.lemmas.List.Folds.{list_any-append}
 use Rattle.std.proofs.lemmas.Bool.{cases_lt, cases_eq, ltb-true, eqb-true, lt-ltb, le-ltb, eq-eqb, ne_eqb, and_parts, or_cases, or_left, or_right, false_from_ne_true, not-true, not_from_false}
+use Rattle.list_facts.proofs.Bools.{bit_test}
 use Rattle.ack_window.specs.declared.acknowledgement.Decision.{Decision}
 use Rattle.ack_window.specs.declared.send_window.Unresolved.{Unresolved}
 use Rattle.ack_window.specs.Acknowledgement.{shows, decision_by, decision_read}
-use Rattle.ack_window.specs.Arrivals.{highest, has_come, receive_verdict, is_fresh, is_taken, acknowledgement}
+use Rattle.ack_window.specs.Arrivals.{highest, has_come, receive_verdict, is_fresh, is_number_taken, acknowledgement}
 use Rattle.ack_window.specs.Kept.{RisesWithin, IsKept}
 use Rattle.ack_window.specs.Outstanding.{left_in}
 use Rattle.ack_window.specs.Sends.{Event, Sends, Reads, newest_of, numbers_sent, decision_of, open_numbers, SendsWithin}
@@ -19,13 +20,9 @@ use Rattle.ack_window.proofs.Sending.{IsKept-push, IsKept-read, open_numbers-Sen
 bit_at-told : (reorder span : ℕ) (arrived : List ℕ) (i : ℕ) → i < span → bit_at (acknowledgement reorder span arrived).mask i ≡ cond (told reorder arrived i) 1 0
 bit_at-told reorder span arrived i within = bit_at-stands reorder span (acknowledgement reorder span arrived) arrived (record { high = refl; mask = refl }) i within
 
-bit_is : (b : Bool) → (cond b 1 0 == 1) ≡ b
-bit_is true = refl
-bit_is false = refl
-
 -- an acknowledgement shows, as far as its mask reaches, just the numbers that were taken
 pub shows-taken : (reorder span : ℕ) (arrived : List ℕ) (number : ℕ) → 1 ≤ number → highest arrived ≤ number + span →
-    shows span (acknowledgement reorder span arrived) number ≡ is_taken reorder arrived number
+    shows span (acknowledgement reorder span arrived) number ≡ is_number_taken reorder arrived number
 shows-taken reorder span arrived number counted reached =
     elim (cases_eq number (highest arrived)) [
       | inl top ↦
@@ -40,8 +37,8 @@ shows-taken reorder span arrived number counted reached =
                 let within : place < span = omega arith in
                 let it : highest arrived - 1 - place ≡ number = omega arith in
                 rw (lt-ltb number (highest arrived) below, lt-ltb place span within)
-                (ap (λ b. b == 1) (bit_at-told reorder span arrived place within) ∙ bit_is (told reorder arrived place)
-                ∙ told-low reorder arrived place (omega arith) ∙ ap (λ n. is_taken reorder arrived n) it)
+                (ap (λ b. b == 1) (bit_at-told reorder span arrived place within) ∙ bit_test (told reorder arrived place)
+                ∙ told-low reorder arrived place (omega arith) ∙ ap (λ n. is_number_taken reorder arrived n) it)
           ])
     ]
 
@@ -63,7 +60,7 @@ highest-later [] arrived = omega arith
 highest-later (latest ∷ later) arrived = omega (arith, highest-later later arrived)
 
 -- a number that is old and not taken stays so
-pub never_taken : (reorder : ℕ) (later arrived : List ℕ) (number : ℕ) → number + reorder < highest arrived → is_taken reorder arrived number ≡ false → is_taken reorder (later ++ arrived) number ≡ false
+pub never_taken : (reorder : ℕ) (later arrived : List ℕ) (number : ℕ) → number + reorder < highest arrived → is_number_taken reorder arrived number ≡ false → is_number_taken reorder (later ++ arrived) number ≡ false
 never_taken reorder [] arrived number old new = new
 never_taken reorder (latest ∷ later) arrived number old new =
     let before = never_taken reorder later arrived number old new in

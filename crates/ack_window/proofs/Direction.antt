@@ -6,7 +6,7 @@ use Rattle.ack_window.specs.declared.acknowledgement.Acknowledgement.{Acknowledg
 use Rattle.ack_window.specs.declared.acknowledgement.Decision.{Decision}
 use Rattle.ack_window.specs.declared.acknowledgement.Decision.TheVariants.{Acknowledged, Lost}
 use Rattle.ack_window.specs.Acknowledgement.{shows, finds_lost, decision_by, decision_read}
-use Rattle.ack_window.specs.Arrivals.{highest, receive_verdict, is_fresh, is_taken, acknowledgement}
+use Rattle.ack_window.specs.Arrivals.{highest, receive_verdict, is_fresh, is_number_taken, acknowledgement}
 use Rattle.ack_window.specs.Outstanding.{MaySendNew}
 use Rattle.ack_window.specs.Sends.{Event, Sends, Reads, newest_of, decision_of, first_decision, IsOpen, outstanding_of}
 use Rattle.ack_window.proofs.BothEnds.{shown_was_taken, lost_is_never_taken, never_taken, highest-later, open_is_within_span}
@@ -15,10 +15,10 @@ use Rattle.ack_window.specs.Laws.{AgreementIsKept, TheEndsAgree, LostStaysUntake
 
 -- ---- what was taken stays taken
 
-pub taken-later : (reorder : ℕ) (later arrived : List ℕ) (number : ℕ) → is_taken reorder arrived number ≡ true → is_taken reorder (later ++ arrived) number ≡ true
+pub taken-later : (reorder : ℕ) (later arrived : List ℕ) (number : ℕ) → is_number_taken reorder arrived number ≡ true → is_number_taken reorder (later ++ arrived) number ≡ true
 taken-later reorder [] arrived number taken = taken
 taken-later reorder (latest ∷ later) arrived number taken =
-    or_right (latest == number && is_fresh (receive_verdict reorder (later ++ arrived) latest)) (is_taken reorder (later ++ arrived) number)
+    or_right (latest == number && is_fresh (receive_verdict reorder (later ++ arrived) latest)) (is_number_taken reorder (later ++ arrived) number)
     (taken-later reorder later arrived number taken)
 
 -- ---- a decision, by what was decided before and what an acknowledgement says
@@ -81,14 +81,14 @@ Agree-reads {T} reorder span sent arrived ack a part =
         | inl before ↦ a.shown n counted before
         | inr now ↦
             let seen = shown_by (shows span ack n) (finds_lost reorder span ack n) now.1 in
-            subst (λ (xs : List ℕ). is_taken reorder xs n ≡ true) part.parts
+            subst (λ (xs : List ℕ). is_number_taken reorder xs n ≡ true) part.parts
             (taken-later reorder part.later part.earlier n
             (shown_was_taken reorder span part.earlier n counted (subst (λ (k : Acknowledgement). shows span k n ≡ true) part.told seen)))
       ];
       lost = λ n counted h. elim (split n Lost h) [
         | inl before ↦ a.lost n counted before
         | inr now ↦
-            subst (λ (xs : List ℕ). is_taken reorder xs n ≡ false) part.parts
+            subst (λ (xs : List ℕ). is_number_taken reorder xs n ≡ false) part.parts
             (lost_is_never_taken reorder span part.earlier part.later n counted (reached n counted now.0) (missing n now.1))
       ];
       for_good = λ n counted h. elim (split n Lost h) [

@@ -2,7 +2,7 @@ mod Bits
 mod BothEnds
 mod Contents
 mod Direction
-mod Sending
+pub mod Sending
 mod Spans
 mod Taking
 mod Weights

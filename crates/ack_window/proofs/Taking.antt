@@ -3,10 +3,11 @@ use Rattle.std.proofs.Common.{◌≡◌, ◌≢◌, ℕ, ◌+◌, ◌-◌, ◌^�
 use Rattle.std.specs.Int.{bit_at, IsBitSet}
 use Rattle.std.proofs.lemmas.Bool.{cases_lt, cases_eq, cases_order, cases_Bool, cond-true, cond-false, lt-ltb, le-ltb, eq-eqb, ne_eqb, false_from_ne_true, or_left, or_right}
 use Rattle.std.proofs.lemmas.Nat.Bits.{bit_at_above, bit_at-zero}
+use Rattle.list_facts.proofs.Numbers.{bit_at-set}
 use Rattle.ack_window.specs.declared.take_window.Taken.TheVariants.{Fresh, Repeat, Old}
 use Rattle.ack_window.specs.declared.acknowledgement.Acknowledgement.{Acknowledgement}
-use Rattle.ack_window.specs.Arrivals.{highest, has_come, receive_verdict, is_fresh, is_taken, mask_of, StandsForArrivals}
-use Rattle.ack_window.proofs.Bits.{some-pow, bit_at-set, bits_where-lt, bits_where-from_bits, bit_at-bits_where}
+use Rattle.ack_window.specs.Arrivals.{highest, has_come, receive_verdict, is_fresh, is_number_taken, mask_of, StandsForArrivals}
+use Rattle.ack_window.proofs.Bits.{some-pow, bits_where-lt, bits_where-from_bits, bit_at-bits_where}
 
 pub highest-above : (arrived : List ℕ) (number : ℕ) → has_come arrived number ≡ true → number ≤ highest arrived
 highest-above [] number here = absurd (cc)
@@ -46,27 +47,27 @@ verdict-fresh reorder arrived number near new =
     ∙ cond-false (has_come arrived number) Repeat Fresh new
 
 -- a number other than the latest was taken where it was taken before
-pub is_taken-other : (reorder : ℕ) (latest : ℕ) (earlier : List ℕ) (number : ℕ) → latest ≢ number → is_taken reorder (latest ∷ earlier) number ≡ is_taken reorder earlier number
+pub is_taken-other : (reorder : ℕ) (latest : ℕ) (earlier : List ℕ) (number : ℕ) → latest ≢ number → is_number_taken reorder (latest ∷ earlier) number ≡ is_number_taken reorder earlier number
 is_taken-other reorder latest earlier number other =
-    ap (λ b. (b && is_fresh (receive_verdict reorder earlier latest)) || is_taken reorder earlier number) (ne_eqb latest number other)
+    ap (λ b. (b && is_fresh (receive_verdict reorder earlier latest)) || is_number_taken reorder earlier number) (ne_eqb latest number other)
 
 -- a number that isn't fresh changes nothing
-pub is_taken-stale : (reorder : ℕ) (latest : ℕ) (earlier : List ℕ) (number : ℕ) → is_fresh (receive_verdict reorder earlier latest) ≡ false → is_taken reorder (latest ∷ earlier) number ≡ is_taken reorder earlier number
+pub is_taken-stale : (reorder : ℕ) (latest : ℕ) (earlier : List ℕ) (number : ℕ) → is_fresh (receive_verdict reorder earlier latest) ≡ false → is_number_taken reorder (latest ∷ earlier) number ≡ is_number_taken reorder earlier number
 is_taken-stale reorder latest earlier number stale =
-    ap (λ b. ((latest == number) && b) || is_taken reorder earlier number) stale
-    ∙ none (latest == number) (is_taken reorder earlier number)
+    ap (λ b. ((latest == number) && b) || is_number_taken reorder earlier number) stale
+    ∙ none (latest == number) (is_number_taken reorder earlier number)
   where
     none : (b taken : Bool) → ((b && false) || taken) ≡ taken
     none true taken = refl
     none false taken = refl
 
-pub is_taken-fresh : (reorder : ℕ) (earlier : List ℕ) (number : ℕ) → receive_verdict reorder earlier number ≡ Fresh → is_taken reorder (number ∷ earlier) number ≡ true
+pub is_taken-fresh : (reorder : ℕ) (earlier : List ℕ) (number : ℕ) → receive_verdict reorder earlier number ≡ Fresh → is_number_taken reorder (number ∷ earlier) number ≡ true
 is_taken-fresh reorder earlier number fresh =
-    ap (λ b. (b && is_fresh (receive_verdict reorder earlier number)) || is_taken reorder earlier number) (eq-eqb number number refl)
-    ∙ ap (λ v. is_fresh v || is_taken reorder earlier number) fresh
+    ap (λ b. (b && is_fresh (receive_verdict reorder earlier number)) || is_number_taken reorder earlier number) (eq-eqb number number refl)
+    ∙ ap (λ v. is_fresh v || is_number_taken reorder earlier number) fresh
 
 -- near the highest, what came was taken
-pub is_taken-came : (reorder : ℕ) (arrived : List ℕ) (number : ℕ) → highest arrived ≤ number + reorder → is_taken reorder arrived number ≡ has_come arrived number
+pub is_taken-came : (reorder : ℕ) (arrived : List ℕ) (number : ℕ) → highest arrived ≤ number + reorder → is_number_taken reorder arrived number ≡ has_come arrived number
 is_taken-came reorder [] number near = refl
 is_taken-came reorder (latest ∷ earlier) number near =
     let before = is_taken-came reorder earlier number (omega arith) in
@@ -76,15 +77,15 @@ is_taken-came reorder (latest ∷ earlier) number near =
       | inl same ↦
           let here : has_come (latest ∷ earlier) number ≡ true = or_left (latest == number) (has_come earlier number) (eq-eqb latest number same) in
           elim (cases_Bool (has_come earlier number)) [
-            | inl again ↦ or_right (latest == number && is_fresh (receive_verdict reorder earlier latest)) (is_taken reorder earlier number) (before ∙ again) ∙ sym here
+            | inl again ↦ or_right (latest == number && is_fresh (receive_verdict reorder earlier latest)) (is_number_taken reorder earlier number) (before ∙ again) ∙ sym here
             | inr new ↦
-                let fresh : is_taken reorder (number ∷ earlier) number ≡ true = is_taken-fresh reorder earlier number (verdict-fresh reorder earlier number (omega arith) new) in
-                subst (λ (n : ℕ). is_taken reorder (n ∷ earlier) number ≡ true) (sym same) fresh ∙ sym here
+                let fresh : is_number_taken reorder (number ∷ earlier) number ≡ true = is_taken-fresh reorder earlier number (verdict-fresh reorder earlier number (omega arith) new) in
+                subst (λ (n : ℕ). is_number_taken reorder (n ∷ earlier) number ≡ true) (sym same) fresh ∙ sym here
           ]
     ]
 
 -- what was taken came, and so isn't above the highest
-pub came-taken : (reorder : ℕ) (arrived : List ℕ) (number : ℕ) → is_taken reorder arrived number ≡ true → has_come arrived number ≡ true
+pub came-taken : (reorder : ℕ) (arrived : List ℕ) (number : ℕ) → is_number_taken reorder arrived number ≡ true → has_come arrived number ≡ true
 came-taken reorder [] number taken = absurd (cc)
 came-taken reorder (latest ∷ earlier) number taken =
     elim (cases_eq latest number) [
@@ -92,15 +93,15 @@ came-taken reorder (latest ∷ earlier) number taken =
       | inr other ↦ or_right (latest == number) (has_come earlier number) (came-taken reorder earlier number (sym (is_taken-other reorder latest earlier number other) ∙ taken))
     ]
 
-pub is_taken-above : (reorder : ℕ) (arrived : List ℕ) (number : ℕ) → highest arrived < number → is_taken reorder arrived number ≡ false
+pub is_taken-above : (reorder : ℕ) (arrived : List ℕ) (number : ℕ) → highest arrived < number → is_number_taken reorder arrived number ≡ false
 is_taken-above reorder arrived number above =
-    false_from_ne_true (is_taken reorder arrived number)
+    false_from_ne_true (is_number_taken reorder arrived number)
     (λ taken. let top : number ≤ highest arrived = highest-above arrived number (came-taken reorder arrived number taken) in absurd (omega arith))
 
 -- a number that is fresh was not taken
-pub fresh-new : (reorder : ℕ) (arrived : List ℕ) (number : ℕ) → receive_verdict reorder arrived number ≡ Fresh → is_taken reorder arrived number ≡ false
+pub fresh-new : (reorder : ℕ) (arrived : List ℕ) (number : ℕ) → receive_verdict reorder arrived number ≡ Fresh → is_number_taken reorder arrived number ≡ false
 fresh-new reorder arrived number fresh =
-    false_from_ne_true (is_taken reorder arrived number)
+    false_from_ne_true (is_number_taken reorder arrived number)
     (λ taken.
     elim (cases_lt (number + reorder) (highest arrived)) [
       | inl old ↦ let is = verdict-old reorder arrived number old in absurd (cc)
@@ -114,13 +115,13 @@ came-above arrived number above =
 
 -- the test of bit i of the mask
 abbrev pub told : ℕ → List ℕ → ℕ → Bool
-told reorder arrived i = nat_lt (i + 1) (highest arrived) && is_taken reorder arrived (highest arrived - 1 - i)
+told reorder arrived i = nat_lt (i + 1) (highest arrived) && is_number_taken reorder arrived (highest arrived - 1 - i)
 
-pub told-low : (reorder : ℕ) (arrived : List ℕ) (i : ℕ) → i + 1 < highest arrived → told reorder arrived i ≡ is_taken reorder arrived (highest arrived - 1 - i)
-told-low reorder arrived i low = ap (λ b. b && is_taken reorder arrived (highest arrived - 1 - i)) (lt-ltb (i + 1) (highest arrived) low)
+pub told-low : (reorder : ℕ) (arrived : List ℕ) (i : ℕ) → i + 1 < highest arrived → told reorder arrived i ≡ is_number_taken reorder arrived (highest arrived - 1 - i)
+told-low reorder arrived i low = ap (λ b. b && is_number_taken reorder arrived (highest arrived - 1 - i)) (lt-ltb (i + 1) (highest arrived) low)
 
 pub told-high : (reorder : ℕ) (arrived : List ℕ) (i : ℕ) → highest arrived ≤ i + 1 → told reorder arrived i ≡ false
-told-high reorder arrived i high = ap (λ b. b && is_taken reorder arrived (highest arrived - 1 - i)) (le-ltb (i + 1) (highest arrived) high)
+told-high reorder arrived i high = ap (λ b. b && is_number_taken reorder arrived (highest arrived - 1 - i)) (le-ltb (i + 1) (highest arrived) high)
 
 -- the bits of a window that stands for what arrived
 pub bit_at-stands : (reorder span : ℕ) (window : Acknowledgement) (arrived : List ℕ) → StandsForArrivals reorder span window arrived →
@@ -175,11 +176,11 @@ stands-above reorder span window arrived number mask stands above fits bits =
     }
   where
     -- which number a bit stands for
-    told-number : (reorder : ℕ) (arrived : List ℕ) (number i : ℕ) → highest arrived < number → i + 1 < number → told reorder (number ∷ arrived) i ≡ is_taken reorder arrived (number - 1 - i)
+    told-number : (reorder : ℕ) (arrived : List ℕ) (number i : ℕ) → highest arrived < number → i + 1 < number → told reorder (number ∷ arrived) i ≡ is_number_taken reorder arrived (number - 1 - i)
     told-number reorder arrived number i above low =
         let top : highest (number ∷ arrived) ≡ number = omega arith in
         told-low reorder (number ∷ arrived) i (omega arith)
-        ∙ ap (λ h. is_taken reorder (number ∷ arrived) (h - 1 - i)) top
+        ∙ ap (λ h. is_number_taken reorder (number ∷ arrived) (h - 1 - i)) top
         ∙ is_taken-other reorder number arrived (number - 1 - i) (omega arith)
 
     slid_bit : (reorder span : ℕ) (window : Acknowledgement) (arrived : List ℕ) (number mask : ℕ) → StandsForArrivals reorder span window arrived →
@@ -203,7 +204,7 @@ stands-above reorder span window arrived number mask stands above fits bits =
               ]
               ∙ sym (cond-false (told reorder (number ∷ arrived) i) 1 0 none)
           | inl low ↦
-              let here : told reorder (number ∷ arrived) i ≡ is_taken reorder arrived (number - 1 - i) = told-number reorder arrived number i above low in
+              let here : told reorder (number ∷ arrived) i ≡ is_number_taken reorder arrived (number - 1 - i) = told-number reorder arrived number i above low in
               let goal : ℕ → Type 0 = λ v. v ≡ cond (told reorder (number ∷ arrived) i) 1 0 in
               subst goal (sym (bits i within))
               (elim (cases_eq window.high 0) [
@@ -217,7 +218,7 @@ stands-above reorder span window arrived number mask stands above fits bits =
                           let old : number - 1 - i ≡ highest arrived = omega arith in
                           cond-true _ _ _ (eq-eqb (i + 1) ahead at_old_high)
                           ∙ sym (cond-true (told reorder (number ∷ arrived) i) 1 0
-                          (here ∙ ap (λ n. is_taken reorder arrived n) old
+                          (here ∙ ap (λ n. is_number_taken reorder arrived n) old
                           ∙ is_taken-came reorder arrived (highest arrived) (omega arith)
                           ∙ came-highest arrived (omega arith)))
                       | inr apart ↦
@@ -231,7 +232,7 @@ stands-above reorder span window arrived number mask stands above fits bits =
                                 cond-false _ _ _ (ne_eqb (i + 1) ahead (omega arith))
                                 ∙ cond-false _ _ _ (le-ltb i ahead (omega arith))
                                 ∙ bit_at-stands reorder span window arrived stands (i - ahead) (omega arith)
-                                ∙ ap (λ b. cond b 1 0) (told-low reorder arrived (i - ahead) (omega arith) ∙ ap (λ n. is_taken reorder arrived n) (sym old) ∙ sym here)
+                                ∙ ap (λ b. cond b 1 0) (told-low reorder arrived (i - ahead) (omega arith) ∙ ap (λ n. is_number_taken reorder arrived n) (sym old) ∙ sym here)
                           ]
                     ]
               ])
@@ -261,13 +262,13 @@ stands-below reorder span window arrived number mask stands counted below fresh 
               ∙ sym (cond-false (told reorder (number ∷ arrived) i) 1 0 none)
           | inl low ↦
               let high = stands.high in
-              let here : told reorder (number ∷ arrived) i ≡ is_taken reorder (number ∷ arrived) (highest arrived - 1 - i) =
-              told-low reorder (number ∷ arrived) i (omega arith) ∙ ap (λ h. is_taken reorder (number ∷ arrived) (h - 1 - i)) top in
+              let here : told reorder (number ∷ arrived) i ≡ is_number_taken reorder (number ∷ arrived) (highest arrived - 1 - i) =
+              told-low reorder (number ∷ arrived) i (omega arith) ∙ ap (λ h. is_number_taken reorder (number ∷ arrived) (h - 1 - i)) top in
               elim (cases_eq i (window.high - 1 - number)) [
                 | inl same ↦
                     let it : highest arrived - 1 - i ≡ number = omega arith in
                     ap (λ k. bit_at mask k) same ∙ set
-                    ∙ sym (cond-true (told reorder (number ∷ arrived) i) 1 0 (here ∙ ap (λ n. is_taken reorder (number ∷ arrived) n) it ∙ is_taken-fresh reorder arrived number fresh))
+                    ∙ sym (cond-true (told reorder (number ∷ arrived) i) 1 0 (here ∙ ap (λ n. is_number_taken reorder (number ∷ arrived) n) it ∙ is_taken-fresh reorder arrived number fresh))
                 | inr other ↦
                     others i other ∙ bit_at-stands reorder span window arrived stands i within
                     ∙ ap (λ b. cond b 1 0) (told-low reorder arrived i low ∙ sym (here ∙ is_taken-other reorder number arrived (highest arrived - 1 - i) (omega arith)))
@@ -292,7 +293,7 @@ stands-stale reorder span window arrived number stands known stale =
         let top : highest (number ∷ arrived) ≡ highest arrived = omega arith in
         elim (cases_lt (i + 1) (highest arrived)) [
           | inl low ↦
-              told-low reorder (number ∷ arrived) i (omega arith) ∙ ap (λ h. is_taken reorder (number ∷ arrived) (h - 1 - i)) top
+              told-low reorder (number ∷ arrived) i (omega arith) ∙ ap (λ h. is_number_taken reorder (number ∷ arrived) (h - 1 - i)) top
               ∙ is_taken-stale reorder number arrived (highest arrived - 1 - i) stale ∙ sym (told-low reorder arrived i low)
           | inr past ↦ told-high reorder (number ∷ arrived) i (omega arith) ∙ sym (told-high reorder arrived i past)
         ]
@@ -306,7 +307,7 @@ bit_at-came reorder span window arrived number stands counted below near within 
     let it : highest arrived - 1 - (window.high - 1 - number) ≡ number = omega arith in
     bit_at-stands reorder span window arrived stands (window.high - 1 - number) within
     ∙ ap (λ b. cond b 1 0)
-    (told-low reorder arrived (window.high - 1 - number) (omega arith) ∙ ap (λ n. is_taken reorder arrived n) it ∙ is_taken-came reorder arrived number near)
+    (told-low reorder arrived (window.high - 1 - number) (omega arith) ∙ ap (λ n. is_number_taken reorder arrived n) it ∙ is_taken-came reorder arrived number near)
 
 pub came-by_bit : (here : Bool) (bit : ℕ) → bit ≡ cond here 1 0 → bit ≡ 1 → here ≡ true
 came-by_bit true bit is one = refl

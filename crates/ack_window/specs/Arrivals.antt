@@ -27,10 +27,10 @@ is_fresh Repeat = false
 is_fresh Old = false
 
 -- whether the number was taken: it was fresh when it arrived
-abbrev pub is_taken : ℕ → List ℕ → ℕ → Bool
-is_taken reorder [] number = false
-is_taken reorder (latest ∷ earlier) number =
-    (latest == number && is_fresh (receive_verdict reorder earlier latest)) || is_taken reorder earlier number
+abbrev pub is_number_taken : ℕ → List ℕ → ℕ → Bool
+is_number_taken reorder [] number = false
+is_number_taken reorder (latest ∷ earlier) number =
+    (latest == number && is_fresh (receive_verdict reorder earlier latest)) || is_number_taken reorder earlier number
 
 -- the number whose bit i, for i below n, is set exactly where the test of i holds
 unfoldable pub bits_where : (ℕ → Bool) → ℕ → ℕ
@@ -40,7 +40,7 @@ bits_where test (suc n) = (if test n then 1 else 0) * 2 ^ n + bits_where test n
 -- the mask of span bits whose bit i says that the number i + 1 below the highest was taken
 abbrev pub mask_of : ℕ → ℕ → List ℕ → ℕ
 mask_of reorder span arrived =
-    bits_where (λ i. nat_lt (i + 1) (highest arrived) && is_taken reorder arrived (highest arrived - 1 - i)) span
+    bits_where (λ i. nat_lt (i + 1) (highest arrived) && is_number_taken reorder arrived (highest arrived - 1 - i)) span
 
 -- the acknowledgement of all that arrived
 abbrev pub acknowledgement : ℕ → ℕ → List ℕ → Acknowledgement

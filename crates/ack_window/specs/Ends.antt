@@ -2,7 +2,7 @@
 use Rattle.std.specs.Prelude.{◌≡◌, ℕ, ◌+◌, ◌<◌, ◌≤◌, ◌==◌, true, false, List, [], ◌∷◌, ◌++◌, Option, Some, None, if◌then◌else◌}
 use Rattle.ack_window.specs.declared.acknowledgement.Acknowledgement.{Acknowledgement}
 use Rattle.ack_window.specs.declared.acknowledgement.Decision.TheVariants.{Acknowledged, Lost}
-use Rattle.ack_window.specs.Arrivals.{highest, is_taken, acknowledgement}
+use Rattle.ack_window.specs.Arrivals.{highest, is_number_taken, acknowledgement}
 use Rattle.ack_window.specs.Outstanding.{MaySendNew}
 use Rattle.ack_window.specs.Sends.{Event, Sends, Reads, newest_of, decision_of, outstanding_of, SendsWithin}
 
@@ -33,8 +33,8 @@ module _ {T : Type 0} where
   pub record Agree (reorder span : ℕ) (sent : List (Event T)) (arrived : List ℕ) : Type 0 where
     pub within : SendsWithin reorder span sent
     pub none_above : highest arrived ≤ newest_of sent
-    pub shown : (number : ℕ) → 1 ≤ number → decision_of reorder span sent number ≡ Some Acknowledged → is_taken reorder arrived number ≡ true
-    pub lost : (number : ℕ) → 1 ≤ number → decision_of reorder span sent number ≡ Some Lost → is_taken reorder arrived number ≡ false
+    pub shown : (number : ℕ) → 1 ≤ number → decision_of reorder span sent number ≡ Some Acknowledged → is_number_taken reorder arrived number ≡ true
+    pub lost : (number : ℕ) → 1 ≤ number → decision_of reorder span sent number ≡ Some Lost → is_number_taken reorder arrived number ≡ false
     pub for_good : (number : ℕ) → 1 ≤ number → decision_of reorder span sent number ≡ Some Lost → number + reorder < highest arrived
 
   -- a packet of an end that has sent these numbers, and at which these arrived

@@ -8,9 +8,9 @@ use Rattle.ack_window.specs.Sends.{Event, Sends, Reads, newest_of, open_numbers,
 use Rattle.ack_window.specs.Versions.{reorder_of, span_of}
 
 -- so many numbers are sent, each with ten times the number
-abbrev pub sends : ℕ → List (Event ℕ)
-sends zero = []
-sends (suc n) = Sends (10 * suc n) ∷ sends n
+abbrev pub sends_of_numbers : ℕ → List (Event ℕ)
+sends_of_numbers zero = []
+sends_of_numbers (suc n) = Sends (10 * suc n) ∷ sends_of_numbers n
 
 abbrev pub acknowledged_by : ℕ → List ℕ → Acknowledgement
 acknowledged_by version arrived = acknowledgement (reorder_of version) (span_of version) arrived
@@ -36,19 +36,19 @@ pub record WindowsOfTheFirstVersion : Type 0 where
   pub last_bit : acknowledged_by 1 (65 ∷ 1 ∷ []) ≡ record { high = 65; mask = 2 ^ 63 }
   pub past_the_mask : acknowledged_by 1 (66 ∷ 1 ∷ []) ≡ record { high = 66; mask = 0 }
   pub four_and_five_stay_open :
-      open_numbers (reorder_of 1) (span_of 1) (Reads first_reading ∷ sends 6)
+      open_numbers (reorder_of 1) (span_of 1) (Reads first_reading ∷ sends_of_numbers 6)
       ≡ record { number = 4; content = 40 } ∷ record { number = 5; content = 50 } ∷ []
   -- 4 is then lost, and 5 is not yet
   pub four_is_lost :
-      decided_by (reorder_of 1) (span_of 1) (Sends 90 ∷ Sends 80 ∷ Sends 70 ∷ Reads first_reading ∷ sends 6) second_reading
+      decided_by (reorder_of 1) (span_of 1) (Sends 90 ∷ Sends 80 ∷ Sends 70 ∷ Reads first_reading ∷ sends_of_numbers 6) second_reading
       ≡ record { number = 4; lost = true; content = 40 } ∷ record { number = 7; lost = false; content = 70 }
       ∷ record { number = 8; lost = false; content = 80 } ∷ record { number = 9; lost = false; content = 90 } ∷ []
   -- a number that is not sent yet cannot be acknowledged
-  pub nothing_is_read_early : decided_by (reorder_of 1) (span_of 1) (sends 8) second_reading ≡ []
+  pub nothing_is_read_early : decided_by (reorder_of 1) (span_of 1) (sends_of_numbers 8) second_reading ≡ []
   -- with none decided 65 numbers may be sent, and no more until the first is decided
-  pub one_is_left : may_send_in 1 (sends 64) ≡ true
-  pub full_span : may_send_in 1 (sends 65) ≡ false
-  pub first_acknowledged : may_send_in 1 (Reads (record { high = 1; mask = 0 }) ∷ sends 65) ≡ true
+  pub one_is_left : may_send_in 1 (sends_of_numbers 64) ≡ true
+  pub full_span : may_send_in 1 (sends_of_numbers 65) ≡ false
+  pub first_acknowledged : may_send_in 1 (Reads (record { high = 1; mask = 0 }) ∷ sends_of_numbers 65) ≡ true
 
 pub record WindowsOfTheSecondVersion : Type 0 where
   -- 1, 2, 20, 3, 4 and 20 arrive
@@ -61,13 +61,13 @@ pub record WindowsOfTheSecondVersion : Type 0 where
   pub past_the_mask : acknowledged_by 2 (130 ∷ 1 ∷ []) ≡ record { high = 130; mask = 0 }
   -- where only the last of nineteen or twenty numbers is shown, 3 is found lost by the latter, and 4 by neither
   pub two_are_lost :
-      decided_by (reorder_of 2) (span_of 2) (sends 19) (record { high = 19; mask = 0 })
+      decided_by (reorder_of 2) (span_of 2) (sends_of_numbers 19) (record { high = 19; mask = 0 })
       ≡ record { number = 1; lost = true; content = 10 } ∷ record { number = 2; lost = true; content = 20 } ∷ record { number = 19; lost = false; content = 190 } ∷ []
   pub three_are_lost :
-      decided_by (reorder_of 2) (span_of 2) (sends 20) (record { high = 20; mask = 0 })
+      decided_by (reorder_of 2) (span_of 2) (sends_of_numbers 20) (record { high = 20; mask = 0 })
       ≡ record { number = 1; lost = true; content = 10 } ∷ record { number = 2; lost = true; content = 20 } ∷ record { number = 3; lost = true; content = 30 }
       ∷ record { number = 20; lost = false; content = 200 } ∷ []
   -- with none decided 129 numbers may be sent, and no more until the first is decided
-  pub one_is_left : may_send_in 2 (sends 128) ≡ true
-  pub full_span : may_send_in 2 (sends 129) ≡ false
-  pub first_acknowledged : may_send_in 2 (Reads (record { high = 129; mask = 2 ^ 127 }) ∷ sends 129) ≡ true
+  pub one_is_left : may_send_in 2 (sends_of_numbers 128) ≡ true
+  pub full_span : may_send_in 2 (sends_of_numbers 129) ≡ false
+  pub first_acknowledged : may_send_in 2 (Reads (record { high = 129; mask = 2 ^ 127 }) ∷ sends_of_numbers 129) ≡ true

@@ -4,7 +4,7 @@ use Rattle.ack_window.specs.declared.take_window.Taken.TheVariants.{Fresh, Repea
 use Rattle.ack_window.specs.declared.acknowledgement.Acknowledgement.{Acknowledgement}
 use Rattle.ack_window.specs.declared.acknowledgement.Decision.TheVariants.{Lost}
 use Rattle.ack_window.specs.Acknowledgement.{Shows, FindsLost}
-use Rattle.ack_window.specs.Arrivals.{highest, has_come, receive_verdict, is_fresh, is_taken, acknowledgement}
+use Rattle.ack_window.specs.Arrivals.{highest, has_come, receive_verdict, is_fresh, is_number_taken, acknowledgement}
 use Rattle.ack_window.specs.Ends.{Numbered, IsOfPart, content_of, Agree, IsOf, Happening, sender_of, receiver_of, IsDirection}
 use Rattle.ack_window.specs.Outstanding.{MaySendNew, may_send_new}
 use Rattle.ack_window.specs.Sends.{Event, Sends, Reads, newest_of, newest_content, numbers_sent, decision_of, open_numbers, outstanding_of, decided_by, IsOpen, SendsWithin}
@@ -19,22 +19,22 @@ pub record EachVerdictHasItsCause : Type 0 where
 
 -- what one more arrival changes of the numbers taken: a fresh number is taken then, for the first time, and nothing else changes
 pub record EachIsTakenOnce : Type 0 where
-  pub first : (reorder : ℕ) (earlier : List ℕ) (number : ℕ) → receive_verdict reorder earlier number ≡ Fresh → is_taken reorder earlier number ≡ false
-  pub fresh : (reorder : ℕ) (earlier : List ℕ) (number : ℕ) → receive_verdict reorder earlier number ≡ Fresh → is_taken reorder (number ∷ earlier) number ≡ true
-  pub stale : (reorder latest : ℕ) (earlier : List ℕ) (number : ℕ) → is_fresh (receive_verdict reorder earlier latest) ≡ false → is_taken reorder (latest ∷ earlier) number ≡ is_taken reorder earlier number
-  pub other : (reorder latest : ℕ) (earlier : List ℕ) (number : ℕ) → latest ≢ number → is_taken reorder (latest ∷ earlier) number ≡ is_taken reorder earlier number
+  pub first : (reorder : ℕ) (earlier : List ℕ) (number : ℕ) → receive_verdict reorder earlier number ≡ Fresh → is_number_taken reorder earlier number ≡ false
+  pub fresh : (reorder : ℕ) (earlier : List ℕ) (number : ℕ) → receive_verdict reorder earlier number ≡ Fresh → is_number_taken reorder (number ∷ earlier) number ≡ true
+  pub stale : (reorder latest : ℕ) (earlier : List ℕ) (number : ℕ) → is_fresh (receive_verdict reorder earlier latest) ≡ false → is_number_taken reorder (latest ∷ earlier) number ≡ is_number_taken reorder earlier number
+  pub other : (reorder latest : ℕ) (earlier : List ℕ) (number : ℕ) → latest ≢ number → is_number_taken reorder (latest ∷ earlier) number ≡ is_number_taken reorder earlier number
 
 -- what is taken has come, and near the highest what has come was taken
 pub record WhatIsTakenHasCome : Type 0 where
-  pub come : (reorder : ℕ) (arrived : List ℕ) (number : ℕ) → is_taken reorder arrived number ≡ true → has_come arrived number ≡ true
-  pub near : (reorder : ℕ) (arrived : List ℕ) (number : ℕ) → highest arrived ≤ number + reorder → is_taken reorder arrived number ≡ has_come arrived number
-  pub above : (reorder : ℕ) (arrived : List ℕ) (number : ℕ) → highest arrived < number → is_taken reorder arrived number ≡ false
+  pub come : (reorder : ℕ) (arrived : List ℕ) (number : ℕ) → is_number_taken reorder arrived number ≡ true → has_come arrived number ≡ true
+  pub near : (reorder : ℕ) (arrived : List ℕ) (number : ℕ) → highest arrived ≤ number + reorder → is_number_taken reorder arrived number ≡ has_come arrived number
+  pub above : (reorder : ℕ) (arrived : List ℕ) (number : ℕ) → highest arrived < number → is_number_taken reorder arrived number ≡ false
 
 -- whatever arrives later, what was taken stays taken, and an old number that was not is never taken
 pub record TakingIsForGood : Type 0 where
   pub grows : (later arrived : List ℕ) → highest arrived ≤ highest (later ++ arrived)
-  pub taken : (reorder : ℕ) (later arrived : List ℕ) (number : ℕ) → is_taken reorder arrived number ≡ true → is_taken reorder (later ++ arrived) number ≡ true
-  pub never : (reorder : ℕ) (later arrived : List ℕ) (number : ℕ) → number + reorder < highest arrived → is_taken reorder arrived number ≡ false → is_taken reorder (later ++ arrived) number ≡ false
+  pub taken : (reorder : ℕ) (later arrived : List ℕ) (number : ℕ) → is_number_taken reorder arrived number ≡ true → is_number_taken reorder (later ++ arrived) number ≡ true
+  pub never : (reorder : ℕ) (later arrived : List ℕ) (number : ℕ) → number + reorder < highest arrived → is_number_taken reorder arrived number ≡ false → is_number_taken reorder (later ++ arrived) number ≡ false
 
 -- ---- what an acknowledgement of arrivals says
 
@@ -43,14 +43,14 @@ abbrev pub ShownWasTaken : Type 0
 ShownWasTaken =
     (reorder span : ℕ) (arrived : List ℕ) (number : ℕ) → 1 ≤ number →
     Shows span (acknowledgement reorder span arrived) number →
-    is_taken reorder arrived number ≡ true
+    is_number_taken reorder arrived number ≡ true
 
 -- one that it finds lost, where its mask reaches that far, was not taken, and is never taken, whatever arrives later
 abbrev pub LostIsNeverTaken : Type 0
 LostIsNeverTaken =
     (reorder span : ℕ) (arrived later : List ℕ) (number : ℕ) → 1 ≤ number → highest arrived ≤ number + span →
     FindsLost reorder span (acknowledgement reorder span arrived) number →
-    is_taken reorder (later ++ arrived) number ≡ false
+    is_number_taken reorder (later ++ arrived) number ≡ false
 
 -- and one that it neither shows nor finds lost is taken if it arrives next
 abbrev pub UndecidedIsStillTaken : Type 0
@@ -106,7 +106,7 @@ module _ (T : Type 0) where
   LostStaysUntaken =
       (reorder span : ℕ) (sent : List (Event T)) (arrived later : List ℕ) (number : ℕ) → Agree reorder span sent arrived → 1 ≤ number →
       decision_of reorder span sent number ≡ Some Lost →
-      is_taken reorder (later ++ arrived) number ≡ false
+      is_number_taken reorder (later ++ arrived) number ≡ false
 
   -- a packet stays its sender's, whatever happens at its sender after it was made
   pub record PacketsStayTheirSenders : Type 0 where

@@ -17,11 +17,11 @@ use Rattle.alloc_pipeline.specs.declared.parcel.View.{View}
 use Rattle.alloc_pipeline.specs.declared.player.Player.{Player}
 use Rattle.alloc_pipeline.specs.Rules.{into_of}
 use Rattle.alloc_pipeline.specs.Rings.{IsLinked, AllLinked, AllEnded}
-use Rattle.alloc_pipeline.specs.Joined.{givings, takings, crew_of, last_of, early_of, turn, turned, AllEven, AllJoined, IsInPlace, AllInPlace, HasGiven, HasTaken, IsDrained, AllDrained, AllRaised}
+use Rattle.alloc_pipeline.specs.Joined.{givings, takings, crew_of, last_pass, early_of, turned_passes, turned, AllEven, AllJoined, IsInPlace, AllInPlace, HasGiven, HasTaken, IsDrained, AllDrained, AllRaised}
 use Rattle.alloc_pipeline.proofs.Rejoining.{givings_last, crew_last}
 use Rattle.alloc_pipeline.proofs.Drained.{given, drained, even_chain, raised_chain}
 
-last_snoc : (a g : Pass Parcel View) (gs : List (Pass Parcel View)) → last_of a (gs ++ g ∷ []) ≡ g
+last_snoc : (a g : Pass Parcel View) (gs : List (Pass Parcel View)) → last_pass a (gs ++ g ∷ []) ≡ g
 last_snoc a g [] = refl
 last_snoc a g (b ∷ gs) = last_snoc b g gs
 
@@ -29,7 +29,7 @@ early_snoc : (a g : Pass Parcel View) (gs : List (Pass Parcel View)) → early_o
 early_snoc a g [] = refl
 early_snoc a g (b ∷ gs) = ap (λ (zs : List (Pass Parcel View)). a ∷ zs) (early_snoc b g gs)
 
-turn_snoc : (g : Pass Parcel View) (gs : List (Pass Parcel View)) → turn (gs ++ g ∷ []) ≡ g ∷ gs
+turn_snoc : (g : Pass Parcel View) (gs : List (Pass Parcel View)) → turned_passes (gs ++ g ∷ []) ≡ g ∷ gs
 turn_snoc g [] = refl
 turn_snoc g (a ∷ gs) = λ i. last_snoc a g gs i ∷ early_snoc a g gs i
 
@@ -44,11 +44,11 @@ set_crew (x ∷ xs) zero s r is same = λ i. (same ∙ ap (λ (t : Player). t.wo
 set_crew (x ∷ xs) (suc j) s r is same = ap (λ (zs : List WorkerState). x.worker ∷ zs) (set_crew xs j s r is same)
 
 pub turned_last : (xs : List Player) (x : Player) → turned (xs ++ x ∷ []) ≡ x.giving ∷ givings xs
-turned_last xs x = ap turn (givings_last xs x) ∙ turn_snoc x.giving (givings xs)
+turned_last xs x = ap turned_passes (givings_last xs x) ∙ turn_snoc x.giving (givings xs)
 
 -- the same passes, and the same workers
 pub same_turned : (ss xs : List Player) (x : Player) (j : ℕ) (s r : Player) → s ≡ get_or ss j s → r.giving ≡ s.giving → set ss j r ≡ xs ++ x ∷ [] → turned ss ≡ x.giving ∷ givings xs
-same_turned ss xs x j s r is same e = ap turn (sym (set_givings ss j s r is same) ∙ ap givings e) ∙ turned_last xs x
+same_turned ss xs x j s r is same e = ap turned_passes (sym (set_givings ss j s r is same) ∙ ap givings e) ∙ turned_last xs x
 
 pub same_crew : (ss xs : List Player) (x : Player) (j : ℕ) (s r : Player) (some out : List WorkerState) → s ≡ get_or ss j s → r.worker ≡ s.worker → set ss j r ≡ xs ++ x ∷ []
     → some ≡ crew_of xs → out ≡ some ++ x.worker ∷ [] → out ≡ crew_of ss

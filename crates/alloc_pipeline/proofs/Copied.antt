@@ -5,7 +5,7 @@ use Rattle.std.proofs.lemmas.Option.{slice_get_read}
 use Rattle.greedy_rules.specs.declared.flows.Flow.{Flow}
 use Rattle.greedy_rules.specs.Schedule.{schedule_from}
 use Rattle.ring_core.specs.States.{RingState, WorkerState}
-use Rattle.ring_core.specs.Windows.{Window, slots_in}
+use Rattle.ring_core.specs.Windows.{Window, slots_of_stage}
 use Rattle.ring_core.specs.Workers.{own_stage, IsEndedStage}
 use Rattle.ring_core.proofs.BeginLemmas.{own_before}
 use Rattle.ring_core.proofs.TakeLemmas.{stage_copied}
@@ -20,7 +20,7 @@ abbrev core : Window → RingState
 core window = record { workers = window.workers; endpoints = 0; batches = 0; b = window.b; room = 0; list = window.list; first_batch = window.first_batch; stages = length window.batches; edges = []; crew = []; spare = 0 }
 
 -- one stage's slots copied
-pub one_copied : (window : Window) (stage : ℕ) (slots old new : List (List Flow)) (to total : ℕ) → stage < length window.batches → slots ≡ slots_in window stage → length slots ≡ window.b → to ≡ stage * window.b → (stage + 1) * window.b ≤ total
+pub one_copied : (window : Window) (stage : ℕ) (slots old new : List (List Flow)) (to total : ℕ) → stage < length window.batches → slots ≡ slots_of_stage window stage → length slots ≡ window.b → to ≡ stage * window.b → (stage + 1) * window.b ≤ total
     → old ≡ scheduled window stage ++ replicate (total - stage * window.b) [] → length (scheduled window stage) ≡ stage * window.b → new ≡ take to old ++ slots ++ drop (to + length slots) old
     → (new ≡ scheduled window (stage + 1) ++ replicate (total - (stage + 1) * window.b) []) × (length (scheduled window (stage + 1)) ≡ (stage + 1) * window.b) × (length new ≡ total)
 one_copied window stage slots old new to total below are long at fits old_is count new_is =

@@ -13,7 +13,7 @@ use Rattle.slot_batches.specs.NextList.{EveryBatchKeepsItsFlows}
 use Rattle.ring_core.specs.States.{RingState, WorkerState}
 use Rattle.ring_core.specs.Cores.{AreCrewed, IsCrewed, pairs_of}
 use Rattle.ring_core.specs.Edges.{room_at}
-use Rattle.ring_core.specs.Ends.{Ends}
+use Rattle.ring_core.specs.Ends.{WorkerEnds}
 use Rattle.ring_core.specs.Openings.{crew_openings}
 use Rattle.ring_core.specs.Windows.{window_of}
 use Rattle.ring_core.specs.Workers.{IsSameWorker, Plays, HasEnded}
@@ -33,7 +33,7 @@ use Rattle.alloc_pipeline.specs.Joined.{AllInPlace, AllRaised, crew_of, turned, 
 use Rattle.alloc_pipeline.specs.Starts.{SameMoved, AreSame, MayTakeUp, AllMayTakeUp, AllResting, MayStart, AreStarted, MayPlayOut, played_window}
 use Rattle.alloc_pipeline.proofs.Drained.{places_then}
 use Rattle.alloc_pipeline.proofs.Finished.{on_count}
-use Rattle.alloc_pipeline.specs.Crews.{moved_of, HoldNone, IsReady, MayPlay, AllPlayedOut, HavePlayedOut, IsSameCrew}
+use Rattle.alloc_pipeline.specs.Crews.{moved_of, HoldNone, CrewIsReady, CrewMayPlay, AllPlayedOut, HavePlayedOut, IsSameCrew}
 
 -- each worker may take up a window, if each of them by its number may
 take_up_each : (w : EdgeWindow) (k : ℕ) (ws : List WorkerState) → ((n : ℕ) (v : WorkerState) → slice_get ws n ≡ Some v → MayTakeUp w (k + n) v) → AllMayTakeUp w k ws
@@ -52,7 +52,7 @@ no_rooms (suc n) (suc k) = no_rooms n k
 abbrev pub window_for : Crew → ℕ → List DemandBatch → List Item → EdgeWindow
 window_for crew first batches list = record { list = list; batches = batches; first_batch = first; b = crew.b; workers = crew.count; worker = 0 }
 
-module _ (crew : Crew) (first : ℕ) (batches : List DemandBatch) (list : List Item) (ready : IsReady crew) (may : MayPlay crew first batches list) where
+module _ (crew : Crew) (first : ℕ) (batches : List DemandBatch) (list : List Item) (ready : CrewIsReady crew) (may : CrewMayPlay crew first batches list) where
   abbrev w : EdgeWindow
   w = window_for crew first batches list
 
@@ -126,7 +126,7 @@ pub record PlayedFrom (w : EdgeWindow) (batches : List DemandBatch) (xs : List W
   pub was : WorkerState
   pub here : slice_get xs n ≡ Some was
   pub same : IsSameWorker was v
-  pub ends : Ends
+  pub ends : WorkerEnds
   pub in_window : ends.before.window ≡ (into_of w).window
   pub plays : Plays batches ends v
   pub ended : HasEnded batches v
@@ -273,7 +273,7 @@ pub out_there : {Q A : Type 0} (qs : List (Slotted (Option Parcel) (Doing Parcel
 out_there qs w v batches players last room spare is may = subst (λ (u : EdgeWindow). MayPlayOut qs u batches players last room spare) (sym is) may
 
 -- a crew that has played a window out
-pub have_played : (old new : Crew) (first : ℕ) (batches : List DemandBatch) (list : List Item) (workers : List WorkerState) → IsReady old → IsReady new → IsSameCrew old new
+pub have_played : (old new : Crew) (first : ℕ) (batches : List DemandBatch) (list : List Item) (workers : List WorkerState) → CrewIsReady old → CrewIsReady new → IsSameCrew old new
     → AllPlayedOut (window_of list batches first old.b old.count) new.workers.items → workers ≡ new.workers.items
     → HavePlayedOut new.endpoints new.batches new.b (length batches) (window_of list batches first old.b old.count) workers
 have_played old new first batches list workers was is same played workers_are = record {

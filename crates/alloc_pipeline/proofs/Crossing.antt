@@ -1,4 +1,4 @@
--- A worker with its passes may go to another thread, and the batches and the edges be used there too; so may a ring.
+-- A worker with its passes may go to another thread, and the edges be used there too; so may a ring.
 use mir.Syntax.{Dict}
 use denote.Param.Send.{IsSend, IsSync, sendable}
 use Rattle.std.proofs.Crossing.{crosses, frees}
@@ -8,7 +8,6 @@ use Rattle.crossbeam_queue.specs.contracts.array_queue.TurnsTableRuleOptionDoing
 use Rattle.alloc_pipeline.specs.contracts.rule.RuleProtocolParcelView.TheImpl as rule
 use Rattle.item_chain.proofs.Chain.TheSendSync as chains
 use Rattle.ring_core.proofs.Crossing.{worker_send}
-use Rattle.greedy_rules.specs.contracts.batches.Batch as Batch
 use Rattle.alloc_pipeline.specs.contracts.player.Player as Player
 use Rattle.alloc_pipeline.specs.contracts.ring.Ring as Ring
 use Rattle.atomic_table.proofs.shared.Seat.TheSendSync as pass
@@ -31,9 +30,6 @@ player_send = search (sendable, crosses, worker_send, parcel_send, pass.the_send
 
 pub queue_sync : (d : Dict) → IsSync (Slotted.the_row (Option.the_row Parcel.the_row) (Doing.the_row Parcel.the_row View.the_row) (Turns.the_row Rule.the_row) Global.the_row (turns.ghosts Parcel.the_row View.the_row Rule.the_row rule.ghosts d) heap_of.ghosts)
 queue_sync d = search (sendable, crosses, parcel_send, shared.the_sync, lease.the_sync, heap.the_send, heap.the_sync, frees) depth 100 fits 20000
-
-pub batch_sync : IsSync Batch.the_row
-batch_sync = search (sendable, crosses) depth 100 fits 20000
 
 pub ring_send : IsSend Ring.the_row
 ring_send = search (sendable, crosses, chains.the_send, worker_send, player_send, parcel_send, pass.the_send, shared.the_send, lease.the_send, heap.the_send, frees) depth 100 fits 20000

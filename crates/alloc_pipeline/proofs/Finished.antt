@@ -13,9 +13,9 @@ use Rattle.alloc_pipeline.specs.Rings.{AllLinked, AllGoOn, AllEnded}
 use Rattle.alloc_pipeline.specs.Starts.{SameMoved, played_window, MayCollect, MayPlayOut}
 use Rattle.alloc_pipeline.proofs.Rounds.{all_then}
 use Rattle.alloc_pipeline.proofs.Drained.{places_then}
-use Rattle.alloc_pipeline.specs.Joined.{givings, last_of, early_of, turn, turned, edge_at, stream_at, AllRaised}
+use Rattle.alloc_pipeline.specs.Joined.{givings, last_pass, early_of, turned_passes, turned, edge_at, stream_at, AllRaised}
 
-last_moved : (g h : Pass Parcel View) (gs hs : List (Pass Parcel View)) → (view h).moved ≡ (view g).moved → SameMoved gs hs → (view (last_of h hs)).moved ≡ (view (last_of g gs)).moved
+last_moved : (g h : Pass Parcel View) (gs hs : List (Pass Parcel View)) → (view h).moved ≡ (view g).moved → SameMoved gs hs → (view (last_pass h hs)).moved ≡ (view (last_pass g gs)).moved
 last_moved g h [] [] e s = e
 last_moved g h (a ∷ gs) (b ∷ hs) e s = last_moved a b gs hs s.0 s.1
 last_moved g h [] (b ∷ hs) e s = absurd s
@@ -27,7 +27,7 @@ early_moved g h (a ∷ gs) (b ∷ hs) e s = (e, early_moved a b gs hs s.0 s.1)
 early_moved g h [] (b ∷ hs) e s = absurd s
 early_moved g h (a ∷ gs) [] e s = absurd s
 
-turn_moved : (gs hs : List (Pass Parcel View)) → SameMoved gs hs → SameMoved (turn gs) (turn hs)
+turn_moved : (gs hs : List (Pass Parcel View)) → SameMoved gs hs → SameMoved (turned_passes gs) (turned_passes hs)
 turn_moved [] [] s = tt
 turn_moved (g ∷ gs) (h ∷ hs) s = (last_moved g h gs hs s.0 s.1, early_moved g h gs hs s.0 s.1)
 turn_moved [] (h ∷ hs) s = absurd s

@@ -5,12 +5,12 @@ use Rattle.greedy_rules.specs.Batches.{DemandBatch}
 use Rattle.ring_core.specs.States.{WorkerState}
 use Rattle.ring_core.specs.Windows.{Window, worker_of, worker_after}
 use Rattle.ring_core.specs.Streams.{EdgeInto, pieces_into, edge_stream}
-use Rattle.ring_core.specs.Ends.{Ends}
+use Rattle.ring_core.specs.Ends.{WorkerEnds}
 use Rattle.ring_core.specs.Workers.{Plays, HasEnded}
 use Rattle.ring_core.proofs.StreamLemmas.{own_here, next_own, into_other}
 use Rattle.ring_core.proofs.EndLemmas.{into_back}
 
-module _ (batches : List DemandBatch) (ends : Ends) (w : WorkerState) (plays : Plays batches ends w) (past : HasEnded batches w) where
+module _ (batches : List DemandBatch) (ends : WorkerEnds) (w : WorkerState) (plays : Plays batches ends w) (past : HasEnded batches w) where
   abbrev window : Window
   window = ends.before.window
 

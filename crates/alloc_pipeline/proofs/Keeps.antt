@@ -15,7 +15,7 @@ use Rattle.alloc_pipeline.specs.declared.parcel.Parcel.{Parcel}
 use Rattle.alloc_pipeline.specs.declared.parcel.Parcel.TheVariants.{Start as StartOf, Part as PartOf}
 use Rattle.alloc_pipeline.specs.declared.parcel.View.{View}
 use Rattle.alloc_pipeline.specs.declared.parcel.EdgeWindow.{EdgeWindow}
-use Rattle.alloc_pipeline.specs.Rules.{no_window, named_by, into_of, whole, giving, taking, spent, part_in, IsAtRest, Rests, Runs, Kept}
+use Rattle.alloc_pipeline.specs.Rules.{no_window, named_by, into_of, whole, giving, taking, spent, part_in, EdgeIsAtRest, ViewsRest, ViewsRun, Kept}
 use Rattle.alloc_pipeline.specs.Steps.{Marked, Unmarked, Given, Taken, HeldThen, LeftThen}
 use Rattle.alloc_pipeline.proofs.Parcels.{between_none, map-snoc, map_none, map_first, piece_in}
 
@@ -24,33 +24,33 @@ kind_of e = ap (λ (y : View). y.kind) e
 
 -- the case of the rule that a pass of each kind stands in
 rest_of : (items : List Parcel) (views : List View) (port : ℕ) (v : View) → v.kind ≡ Whole → Kept items views → get_elem? views port ≡ some v
-    → (r : Rests items views) × (port ≡ r.holder) × (v ≡ whole r.marked r.window r.moved)
+    → (r : ViewsRest items views) × (port ≡ r.holder) × (v ≡ whole r.marked r.window r.moved)
 rest_of items views port v is h at =
-    ⊎_elim (λ (r : Rests items views). ⊎_elim (λ gone. absurd cc) (λ here. (r, here.0, here.1)) (r.others port v at))
-    (λ (r : Runs items views). ⊎_elim (λ gone. absurd cc) (λ here. ⊎_elim (λ g. let k = kind_of g.1 in absurd cc) (λ t. let k = kind_of t.1 in absurd cc) here) (r.others port v at)) h
+    ⊎_elim (λ (r : ViewsRest items views). ⊎_elim (λ gone. absurd cc) (λ here. (r, here.0, here.1)) (r.others port v at))
+    (λ (r : ViewsRun items views). ⊎_elim (λ gone. absurd cc) (λ here. ⊎_elim (λ g. let k = kind_of g.1 in absurd cc) (λ t. let k = kind_of t.1 in absurd cc) here) (r.others port v at)) h
 
 giver_of : (items : List Parcel) (views : List View) (port : ℕ) (v : View) → v.kind ≡ Giving → Kept items views → get_elem? views port ≡ some v
-    → (r : Runs items views) × (port ≡ r.giver) × (v ≡ giving r.window r.sent r.moved)
+    → (r : ViewsRun items views) × (port ≡ r.giver) × (v ≡ giving r.window r.sent r.moved)
 giver_of items views port v is h at =
-    ⊎_elim (λ (r : Rests items views). ⊎_elim (λ gone. absurd cc) (λ here. let k = kind_of here.1 in absurd cc) (r.others port v at))
-    (λ (r : Runs items views). ⊎_elim (λ gone. absurd cc) (λ here. ⊎_elim (λ g. (r, g.0, g.1)) (λ t. let k = kind_of t.1 in absurd cc) here) (r.others port v at)) h
+    ⊎_elim (λ (r : ViewsRest items views). ⊎_elim (λ gone. absurd cc) (λ here. let k = kind_of here.1 in absurd cc) (r.others port v at))
+    (λ (r : ViewsRun items views). ⊎_elim (λ gone. absurd cc) (λ here. ⊎_elim (λ g. (r, g.0, g.1)) (λ t. let k = kind_of t.1 in absurd cc) here) (r.others port v at)) h
 
 taker_of : (items : List Parcel) (views : List View) (port : ℕ) (v : View) → v.kind ≡ Taking → Kept items views → get_elem? views port ≡ some v
-    → (r : Runs items views) × (port ≡ r.taker) × (v ≡ taking r.window r.taken)
+    → (r : ViewsRun items views) × (port ≡ r.taker) × (v ≡ taking r.window r.taken)
 taker_of items views port v is h at =
-    ⊎_elim (λ (r : Rests items views). ⊎_elim (λ gone. absurd cc) (λ here. let k = kind_of here.1 in absurd cc) (r.others port v at))
-    (λ (r : Runs items views). ⊎_elim (λ gone. absurd cc) (λ here. ⊎_elim (λ g. let k = kind_of g.1 in absurd cc) (λ t. (r, t.0, t.1)) here) (r.others port v at)) h
+    ⊎_elim (λ (r : ViewsRest items views). ⊎_elim (λ gone. absurd cc) (λ here. let k = kind_of here.1 in absurd cc) (r.others port v at))
+    (λ (r : ViewsRun items views). ⊎_elim (λ gone. absurd cc) (λ here. ⊎_elim (λ g. let k = kind_of g.1 in absurd cc) (λ t. (r, t.0, t.1)) here) (r.others port v at)) h
 
-at_rest : (b : Bool) (w : EdgeWindow) (items : List Parcel) → b ≡ false → IsAtRest b w items → items ≡ []
+at_rest : (b : Bool) (w : EdgeWindow) (items : List Parcel) → b ≡ false → EdgeIsAtRest b w items → items ≡ []
 at_rest true w items e h = absurd cc
 at_rest false w items e h = h
 
-at_mark : (b : Bool) (w : EdgeWindow) (items : List Parcel) → b ≡ true → IsAtRest b w items → (mark : Mark) × (named_by mark ≡ w) × (items ≡ StartOf mark ∷ [])
+at_mark : (b : Bool) (w : EdgeWindow) (items : List Parcel) → b ≡ true → EdgeIsAtRest b w items → (mark : Mark) × (named_by mark ≡ w) × (items ≡ StartOf mark ∷ [])
 at_mark true w items e h = h
 at_mark false w items e h = absurd cc
 
 -- who has a view after the whole one changed
-rest_set : (items : List Parcel) (views : List View) (r : Rests items views) (port : ℕ) (w : View) → port ≡ r.holder
+rest_set : (items : List Parcel) (views : List View) (r : ViewsRest items views) (port : ℕ) (w : View) → port ≡ r.holder
     → (j : ℕ) (u : View) → get_elem? (set views port w) j ≡ some u → (u.kind ≡ Spent) ⊎ ((j ≡ port) × (u ≡ w))
 rest_set items views r port w here j u e =
     ⊎_elim (λ a. inr (a.0, sym a.1)) (λ b. ⊎_elim (λ gone. inl gone) (λ x. absurd (b.0 (x.0 ∙ sym here))) (r.others j u b.1)) (at_set views port j w u e)

@@ -3,6 +3,7 @@ use Rattle.std.proofs.Common.{◌≡◌, ◌<◌, ◌≤◌, ◌+◌, ◌*◌, �
 use Rattle.std.proofs.lemmas.Bool.Decides.{nat_tests}
 use Rattle.std.proofs.lemmas.Option.{same_Some}
 use Rattle.std.proofs.lemmas.List.{take_all}
+use Rattle.list_facts.proofs.Lists.{joined}
 use Rattle.greedy_rules.specs.declared.flows.Item.{Item}
 use Rattle.slot_batches.specs.declared.piece.Piece.{Piece}
 use Rattle.slot_batches.specs.Pieces.{Part, part_of, piece_at, piece_count, pieces}
@@ -11,7 +12,6 @@ use Rattle.ring_core.specs.Streams.{IsPieceAt, edge_stream, pieces_into}
 use Rattle.ring_core.proofs.StreamLemmas.{stream_has, into_own, length-pieces}
 use Rattle.ring_core.proofs.StartLemmas.{own_zero}
 use Rattle.ring_core.proofs.WindowLemmas.{first_list}
-use Rattle.ring_core.proofs.FeedLemmas.{joined}
 use Rattle.alloc_pipeline.specs.declared.parcel.EdgeWindow.{EdgeWindow}
 use Rattle.alloc_pipeline.specs.Rules.{into_of}
 use Rattle.alloc_pipeline.specs.Rings.{IsFirstEdge, StandsBeforeLast, last_list}

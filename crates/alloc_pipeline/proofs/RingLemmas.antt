@@ -1,14 +1,12 @@
 -- What batches leave of a list.
-use Rattle.std.proofs.Common.{◌≡◌, ◌+◌, ◌*◌, ℕ, List, [], ◌∷◌, length, subst, arith}
+use Rattle.std.proofs.Common.{◌≡◌, ◌+◌, ℕ, List, [], ◌∷◌, length, subst, arith}
+use Rattle.list_facts.proofs.Numbers.{slots_on}
 use Rattle.greedy_rules.specs.declared.flows.Item.{Item}
 use Rattle.greedy_rules.specs.Batches.{DemandBatch}
 use Rattle.greedy_rules.specs.Limits.{is_barred}
 use Rattle.greedy_rules.specs.Schedule.{first_slot, list_then, rest_from}
 use Rattle.greedy_rules.specs.Recorded.{MayBeApplied}
 use Rattle.slot_batches.specs.NextList.{IsListBefore, EveryBatchLeavesAList}
-
-slots_on : (k b : ℕ) → k * b + 1 + b ≡ (k + 1) * b + 1
-slots_on k b = grind arith
 
 -- batches leave a list before the slot that follows them
 pub left_before : (endpoints b k : ℕ) (list : List Item) (batches : List DemandBatch) → EveryBatchLeavesAList → MayBeApplied endpoints b k list batches → IsListBefore (first_slot b k) list

@@ -7,10 +7,10 @@ use Rattle.crossbeam_queue.specs.declared.array_queue.Slotted.{Slotted}
 use Rattle.greedy_rules.specs.Batches.{DemandBatch}
 use Rattle.slot_batches.specs.Pieces.{piece_count}
 use Rattle.ring_core.specs.States.{WorkerState}
-use Rattle.ring_core.specs.Ends.{Ends}
+use Rattle.ring_core.specs.Ends.{WorkerEnds}
 use Rattle.ring_core.specs.Openings.{own_openings, crew_openings}
 use Rattle.ring_core.specs.Windows.{Window, pieces_before, worker_after}
-use Rattle.ring_core.specs.Workers.{IsWindowOf, IsSameWorker, Plays, first_ends}
+use Rattle.ring_core.specs.Workers.{IsWorkerWindow, IsSameWorker, Plays, first_ends}
 use Rattle.ring_core.proofs.StreamLemmas.{after_small, after_last}
 use Rattle.ring_core.proofs.StartLemmas.{found_sent, first_count}
 use Rattle.alloc_pipeline.specs.declared.parcel.EdgeWindow.{EdgeWindow}
@@ -79,7 +79,7 @@ list_sent window k last =
 pub record HasTakenUp (w : EdgeWindow) (batches : List DemandBatch) (k sent moved : ℕ) (x : WorkerState) (y : Player) : Type 0 where
   pub number : y.number ≡ k
   pub same : IsSameWorker x y.worker
-  pub begun : (window : Window) → IsWindowOf x w.first_batch batches window → sent ≡ (first_ends window x.number).sent → Plays batches (first_ends window x.number) y.worker
+  pub begun : (window : Window) → IsWorkerWindow x w.first_batch batches window → sent ≡ (first_ends window x.number).sent → Plays batches (first_ends window x.number) y.worker
   pub sent_is : sent ≡ (first_ends (into_of w).window k).sent
   pub none_taking : y.taking.me.1 ≡ []
   pub none_giving : y.giving.me.1 ≡ []
@@ -106,9 +106,9 @@ module _ {Q A : Type 0} (queues : List (Slotted (Option Parcel) (Doing Parcel Vi
     plays : Plays batches (ends_of y) y.worker
     plays =
         let window : Window = (into_of w).window in
-        let is : IsWindowOf x w.first_batch batches window = subst (λ (bs : List DemandBatch). IsWindowOf x w.first_batch bs window) batches_are may.window in
+        let is : IsWorkerWindow x w.first_batch batches window = subst (λ (bs : List DemandBatch). IsWorkerWindow x w.first_batch bs window) batches_are may.window in
         let at : sent ≡ (first_ends window x.number).sent = up.sent_is ∙ (λ i. (first_ends window (sym may.number i)).sent) in
-        subst (λ (e : Ends). Plays batches e y.worker) (ap (first_ends window) may.number ∙ sym ends_are) (up.begun window is at)
+        subst (λ (e : WorkerEnds). Plays batches e y.worker) (ap (first_ends window) may.number ∙ sym ends_are) (up.begun window is at)
 
     pub player_linked : IsOn queues k y.taking → IsOn queues (worker_after w.workers k) y.giving → IsLinked queues batches y
     player_linked on_taking on_giving = record {
@@ -227,7 +227,7 @@ module _ {Q A : Type 0} (queues : List (Slotted (Option Parcel) (Doing Parcel Vi
   pub link_one : (all ws : List WorkerState) (v u : WorkerState) (passes ps : List (Pass Parcel View)) (p giver : Pass Parcel View) (old mid new number : ℕ) (players out : List Player) (first last next : Pass Parcel View) (r : Slotted (Option Parcel) (Doing Parcel View) Q A)
       → all ≡ ws ++ v ∷ [] → passes ≡ ps ++ p ∷ [] → out ≡ players ++ record { number = number; worker = u; taking = last; giving = giver; ended = false } ∷ [] → MayLink queues w batches all passes old first → AreLinked queues w batches ws ps old mid players last
       → number ≡ length ws → r ≡ get_or queues (number + 1) r → IsPassOf r giver → IsPassOf r next → view giver ≡ giving (edge_at w (number + 1)) 0 (view p).moved → view next ≡ taking (edge_at w (number + 1)) 0
-      → IsSameWorker v u → ((window : Window) → IsWindowOf v w.first_batch batches window → 0 ≡ (first_ends window v.number).sent → Plays batches (first_ends window v.number) u)
+      → IsSameWorker v u → ((window : Window) → IsWorkerWindow v w.first_batch batches window → 0 ≡ (first_ends window v.number).sent → Plays batches (first_ends window v.number) u)
       → new + own_openings (length v.stages) batches v.workers v.number ≡ mid → AreLinked queues w batches all passes old new out next
   link_one all ws v u passes ps p giver old mid new number players out first last next r all_is passes_are out_is may were at is on_giver on_next gives takes same begun nodes =
       let less = link_less all ws v passes ps p old first all_is passes_are may in
@@ -257,7 +257,7 @@ module _ {Q A : Type 0} (queues : List (Slotted (Option Parcel) (Doing Parcel Vi
   pub start_one : (all ws : List WorkerState) (v u : WorkerState) (p giver : Pass Parcel View) (ps : List (Pass Parcel View)) (old given mid new number sent : ℕ) (players out : List Player) (first last : Pass Parcel View) (r : Slotted (Option Parcel) (Doing Parcel View) Q A)
       → all ≡ ws ++ v ∷ [] → out ≡ players ++ record { number = number; worker = u; taking = last; giving = giver; ended = false } ∷ [] → MayStart queues w batches all (p ∷ ps) old → given + length w.list ≡ old → TakesFirst queues w 0 first → AreLinked queues w batches ws ps given mid players last
       → number + 1 ≡ w.workers → r ≡ get_or queues 0 r → IsPassOf r giver → view giver ≡ giving (edge_at w 0) sent (view p).moved → sent ≡ piece_count w.list
-      → IsSameWorker v u → ((window : Window) → IsWindowOf v w.first_batch batches window → sent ≡ (first_ends window v.number).sent → Plays batches (first_ends window v.number) u)
+      → IsSameWorker v u → ((window : Window) → IsWorkerWindow v w.first_batch batches window → sent ≡ (first_ends window v.number).sent → Plays batches (first_ends window v.number) u)
       → new + own_openings (length v.stages) batches v.workers v.number ≡ mid → AreStarted queues w batches all (p ∷ ps) old new out
   start_one all ws v u p giver ps old given mid new number sent players out first last r all_is out_is may left takes were at is on_giver gives sent_is same begun nodes =
       let less = start_less all ws v p ps old given first all_is may left takes in

@@ -7,14 +7,14 @@ use Rattle.greedy_rules.specs.Recorded.{MayBeApplied}
 use Rattle.greedy_rules.specs.Schedule.{first_slot}
 use Rattle.slot_batches.specs.NextList.{IsListBefore}
 use Rattle.ring_core.specs.States.{WorkerState}
-use Rattle.ring_core.specs.Ends.{Ends}
+use Rattle.ring_core.specs.Ends.{WorkerEnds}
 use Rattle.ring_core.specs.Cores.{AreCrewed, pairs_of}
 use Rattle.ring_core.specs.Windows.{Window}
 use Rattle.ring_core.specs.Workers.{Plays, HasEnded}
 use Rattle.alloc_pipeline.specs.declared.crew.Crew.{Crew}
 use Rattle.alloc_pipeline.specs.declared.parcel.Parcel.{Parcel}
 use Rattle.alloc_pipeline.specs.declared.parcel.View.{View}
-use Rattle.alloc_pipeline.specs.Ring.{IsRing}
+use Rattle.alloc_pipeline.specs.Ring.{IsRingSize}
 use Rattle.alloc_pipeline.specs.Starts.{AllResting}
 
 -- how many pieces have gone through the edge of each pass
@@ -27,8 +27,8 @@ abbrev pub HoldNone : List WorkerState → Type 0
 HoldNone workers = (number : ℕ) (worker : WorkerState) → slice_get workers number ≡ Some worker → All (λ stage. stage.nodes ≡ 0) worker.stages
 
 -- a ring between two windows
-pub record IsReady (crew : Crew) : Type 0 where
-  pub sizes : IsRing crew.count crew.endpoints crew.batches crew.b
+pub record CrewIsReady (crew : Crew) : Type 0 where
+  pub sizes : IsRingSize crew.count crew.endpoints crew.batches crew.b
   -- each edge has a queue with room, and a whole pass
   pub queue_count : length crew.queues.items ≡ crew.count
   pub rooms : All (λ queue. ruled_capacity queue ≡ 2040) crew.queues.items
@@ -48,7 +48,7 @@ pub record IsReady (crew : Crew) : Type 0 where
   pub room_window : crew.batches ≤ vec_capacity crew.window
 
 -- it may play these batches, the first of this number, over this list
-pub record MayPlay (crew : Crew) (first_batch : ℕ) (batches : List DemandBatch) (list : List Item) : Type 0 where
+pub record CrewMayPlay (crew : Crew) (first_batch : ℕ) (batches : List DemandBatch) (list : List Item) : Type 0 where
   pub count : length batches ≤ crew.batches
   pub may : MayBeApplied crew.endpoints crew.b first_batch list batches
   pub before : IsListBefore (first_slot crew.b first_batch) list
@@ -57,7 +57,7 @@ pub record MayPlay (crew : Crew) (first_batch : ℕ) (batches : List DemandBatch
 
 -- the worker of this number has played the window to its end
 pub record HasPlayedOut (window : Window) (worker : WorkerState) : Type 0 where
-  pub ends : Ends
+  pub ends : WorkerEnds
   pub in_window : ends.before.window ≡ window
   pub plays : Plays window.batches ends worker
   pub ended : HasEnded window.batches worker

@@ -24,20 +24,20 @@ takings [] = []
 takings (s ∷ rest) = s.taking ∷ takings rest
 
 -- the giving passes by the edges that they are of: the last player's first
-abbrev pub last_of : Pass Parcel View → List (Pass Parcel View) → Pass Parcel View
-last_of g [] = g
-last_of g (h ∷ rest) = last_of h rest
+abbrev pub last_pass : Pass Parcel View → List (Pass Parcel View) → Pass Parcel View
+last_pass g [] = g
+last_pass g (h ∷ rest) = last_pass h rest
 
 abbrev pub early_of : Pass Parcel View → List (Pass Parcel View) → List (Pass Parcel View)
 early_of g [] = []
 early_of g (h ∷ rest) = g ∷ early_of h rest
 
-abbrev pub turn : List (Pass Parcel View) → List (Pass Parcel View)
-turn [] = []
-turn (g ∷ rest) = last_of g rest ∷ early_of g rest
+abbrev pub turned_passes : List (Pass Parcel View) → List (Pass Parcel View)
+turned_passes [] = []
+turned_passes (g ∷ rest) = last_pass g rest ∷ early_of g rest
 
 abbrev pub turned : List Player → List (Pass Parcel View)
-turned players = turn (givings players)
+turned players = turned_passes (givings players)
 
 abbrev pub crew_of : List Player → List WorkerState
 crew_of [] = []

@@ -2,13 +2,13 @@
 use Rattle.std.specs.Prelude.{◌≡◌, List, []}
 use Rattle.crossbeam_queue.specs.Passes.{view}
 use Rattle.greedy_rules.specs.Batches.{DemandBatch}
-use Rattle.ring_core.specs.Ends.{Ends}
+use Rattle.ring_core.specs.Ends.{WorkerEnds}
 use Rattle.ring_core.specs.Workers.{Plays, IsSameWorker}
 use Rattle.alloc_pipeline.specs.declared.parcel.Kind.TheVariants.{Giving, Taking}
 use Rattle.alloc_pipeline.specs.declared.player.Player.{Player}
 use Rattle.alloc_pipeline.specs.Rules.{into_of}
 
-abbrev pub ends_of : Player → Ends
+abbrev pub ends_of : Player → WorkerEnds
 ends_of s = record { before = into_of (view s.taking).window; after = into_of (view s.giving).window; taken = (view s.taking).position; sent = (view s.giving).position }
 
 pub record PlaysAt (batches : List DemandBatch) (s : Player) : Type 0 where

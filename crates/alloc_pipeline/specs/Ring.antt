@@ -21,14 +21,14 @@ pub record RingWork : Type 0 where
   pub spare : ℕ
 
 -- what a ring may be opened for
-pub record IsRing (workers endpoints batches b : ℕ) : Type 0 where
+pub record IsRingSize (workers endpoints batches b : ℕ) : Type 0 where
   pub some_workers : (0 < workers) × (workers ≤ 16)
   pub few_endpoints : endpoints ≤ 256
   pub some_batches : (0 < batches) × (batches ≤ 16)
   pub some_slots : (0 < b) × (b ≤ 64)
 
 -- it is a ring of the same sizes, with as many spare nodes
-pub record IsSameRing (old new : RingWork) : Type 0 where
+pub record IsSameRingWork (old new : RingWork) : Type 0 where
   pub workers : new.workers ≡ old.workers
   pub endpoints : new.endpoints ≡ old.endpoints
   pub batches : new.batches ≡ old.batches
@@ -68,4 +68,4 @@ pub record Allocates (ring_old ring_new : RingWork) (first_batch : ℕ) (list_ol
   pub endpoints : out_new.endpoints ≡ out_old.endpoints
   -- each edge has brought its worker every piece of the lists before that worker's stages
   pub moved : ring_new.moved ≡ moved_by (window_of list_old.items batches first_batch ring_old.b ring_old.workers) 0 ring_old.moved
-  pub same : IsSameRing ring_old ring_new
+  pub same : IsSameRingWork ring_old ring_new

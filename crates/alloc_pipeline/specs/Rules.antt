@@ -46,21 +46,21 @@ abbrev pub AreBetween : EdgeWindow → ℕ → ℕ → List Parcel → Type 0
 AreBetween w taken sent items = map part_in items ≡ map Some (between taken sent (edge_stream (into_of w)))
 
 -- what the queue holds beside a whole pass
-abbrev pub IsAtRest : Bool → EdgeWindow → List Parcel → Type 0
-IsAtRest true w items = (mark : Mark) × (named_by mark ≡ w) × (items ≡ StartOf mark ∷ [])
-IsAtRest false w items = items ≡ []
+abbrev pub EdgeIsAtRest : Bool → EdgeWindow → List Parcel → Type 0
+EdgeIsAtRest true w items = (mark : Mark) × (named_by mark ≡ w) × (items ≡ StartOf mark ∷ [])
+EdgeIsAtRest false w items = items ≡ []
 
 -- one whole view, and else spent ones
-pub record Rests (items : List Parcel) (views : List View) : Type 0 where
+pub record ViewsRest (items : List Parcel) (views : List View) : Type 0 where
   pub holder : ℕ
   pub marked : Bool
   pub window : EdgeWindow
   pub moved : ℕ
-  pub holds : IsAtRest marked window items
+  pub holds : EdgeIsAtRest marked window items
   pub others : (port : ℕ) (v : View) → get_elem? views port ≡ some v → (v.kind ≡ Spent) ⊎ ((port ≡ holder) × (v ≡ whole marked window moved))
 
 -- one giving and one taking view, and else spent ones
-pub record Runs (items : List Parcel) (views : List View) : Type 0 where
+pub record ViewsRun (items : List Parcel) (views : List View) : Type 0 where
   pub giver : ℕ
   pub taker : ℕ
   pub window : EdgeWindow
@@ -73,4 +73,4 @@ pub record Runs (items : List Parcel) (views : List View) : Type 0 where
   pub others : (port : ℕ) (v : View) → get_elem? views port ≡ some v → (v.kind ≡ Spent) ⊎ (((port ≡ giver) × (v ≡ giving window sent moved)) ⊎ ((port ≡ taker) × (v ≡ taking window taken)))
 
 abbrev pub Kept : List Parcel → List View → Type 0
-Kept items views = Rests items views ⊎ Runs items views
+Kept items views = ViewsRest items views ⊎ ViewsRun items views

@@ -7,7 +7,7 @@ use Rattle.greedy_rules.specs.Batches.{DemandBatch}
 use Rattle.ring_core.specs.States.{WorkerState}
 use Rattle.ring_core.specs.Openings.{crew_openings}
 use Rattle.ring_core.specs.Windows.{worker_of}
-use Rattle.ring_core.specs.Workers.{IsWorker, MayBegin, IsWindowOf, IsSameWorker}
+use Rattle.ring_core.specs.Workers.{IsWorker, MayBegin, IsWorkerWindow, IsSameWorker}
 use Rattle.alloc_pipeline.specs.declared.parcel.EdgeWindow.{EdgeWindow}
 use Rattle.alloc_pipeline.specs.declared.parcel.Kind.TheVariants.{Whole}
 use Rattle.alloc_pipeline.specs.declared.parcel.Parcel.{Parcel}
@@ -46,7 +46,7 @@ pub record MayTakeUp (w : EdgeWindow) (k : ℕ) (worker : WorkerState) : Type 0 
   pub number : worker.number ≡ k
   pub is_worker : IsWorker worker
   pub may : MayBegin worker w.first_batch w.batches
-  pub window : IsWindowOf worker w.first_batch w.batches (into_of w).window
+  pub window : IsWorkerWindow worker w.first_batch w.batches (into_of w).window
   pub none : All (λ stage. stage.nodes ≡ 0) worker.stages
 
 abbrev pub AllMayTakeUp : EdgeWindow → ℕ → List WorkerState → Type 0

@@ -2,9 +2,9 @@ ghost use Rattle.std.specs.Prelude.{◌≡◌, ◌≤◌, ◌+◌, ◌-◌, ◌*
 ghost use Rattle.crossbeam_queue.specs.Passes.{ruled_capacity};
 ghost use Rattle.greedy_rules.specs.Schedule.{schedule_from, rest_from};
 ghost use Rattle.ring_core.specs.Windows.{Window, window_of};
-ghost use Rattle.alloc_pipeline.specs.Ring.{IsRing as MayBeOpened, moved_by};
+ghost use Rattle.alloc_pipeline.specs.Ring.{IsRingSize as MayBeOpened, moved_by};
 ghost use Rattle.alloc_pipeline.specs.Starts.{AllResting};
-ghost use Rattle.alloc_pipeline.specs.Crews.{IsReady, MayPlay, AllPlayedOut, HavePlayedOut, IsSameCrew, moved_of};
+ghost use Rattle.alloc_pipeline.specs.Crews.{CrewIsReady, CrewMayPlay, AllPlayedOut, HavePlayedOut, IsSameCrew, moved_of};
 
 use crate::edge;
 use crate::player::Player;
@@ -68,7 +68,7 @@ impl Crew {
         b: u8,
     ) -> Result<Crew, NoMemory>
         requires sizes { MayBeOpened workers endpoints batches b }
-        ensures ready { IfOk result IsReady }
+        ensures ready { IfOk result CrewIsReady }
         ensures count { IfOk result (λ crew. crew.count ≡ workers) }
         ensures endpoints { IfOk result (λ crew. crew.endpoints ≡ endpoints) }
         ensures batches { IfOk result (λ crew. crew.batches ≡ batches) }
@@ -104,10 +104,10 @@ impl Crew {
         first_batch: u32,
         batches: &[Batch],
     )
-        requires ready { IsReady self.old }
-        requires may { MayPlay self.old first_batch batches.now list.old.items }
+        requires ready { CrewIsReady self.old }
+        requires may { CrewMayPlay self.old first_batch batches.now list.old.items }
         requires room { length (rest_from self.old.b first_batch list.old.items batches.now) ≤ length list.old.items + list.old.spare }
-        ensures ready { IsReady self.new }
+        ensures ready { CrewIsReady self.new }
         ensures same { IsSameCrew self.old self.new }
         ensures list { list.new.items ≡ rest_from self.old.b first_batch list.old.items batches.now }
         ensures spare { length list.new.items + list.new.spare ≡ length list.old.items + list.old.spare }

@@ -32,7 +32,7 @@ impl<'a> Promise<Player> for Played<'a> {
 
 /// Plays the last of the players in a thread of its own, and so the others while threads are left; at least the first one plays
 /// on the caller's thread. Where a thread can't be started, all stop.
-#[tactic(auto, using(crate::proofs::Crossing::player_send, crate::proofs::Crossing::parcel_send, crate::proofs::Crossing::batch_sync))]
+#[tactic(auto, using(crate::proofs::Crossing::player_send, crate::proofs::Crossing::parcel_send, greedy_rules::proofs::Crossing::batch_sync))]
 fn play_all<'s, E, R: Threads + Wait + Sync, G: Gate + Sync>(
     scope: &Scope<'s, E>,
     rt: &'s R,

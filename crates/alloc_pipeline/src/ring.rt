@@ -1,6 +1,6 @@
 ghost use Rattle.std.specs.Prelude.{◌≡◌, IfOk, replicate};
 ghost use Rattle.ring_core.specs.Cores.{pairs_of};
-ghost use Rattle.alloc_pipeline.specs.Ring.{IsRing as MayBeOpened, MayAllocate, Allocates};
+ghost use Rattle.alloc_pipeline.specs.Ring.{IsRingSize as MayBeOpened, MayAllocate, Allocates};
 
 use crate::crew::{Crew, copy_slots};
 use fp_edge::Gate;
@@ -21,13 +21,13 @@ pub struct Ring {
 impl Model for Ring {
     ghost use Rattle.std.specs.Prelude.{length};
     ghost use Rattle.alloc_pipeline.specs.Ring.{RingWork};
-    ghost use Rattle.alloc_pipeline.specs.Crews.{IsReady, moved_of};
+    ghost use Rattle.alloc_pipeline.specs.Crews.{CrewIsReady, moved_of};
 
     ghost Value = { RingWork };
 
     ghost view = { λ r. record { workers = r.crew.count; endpoints = r.crew.endpoints; batches = r.crew.batches; b = r.crew.b; moved = moved_of r.crew.passes.items; spare = length r.crew.spare } };
 
-    ghost invariant = { λ r. IsReady r.crew };
+    ghost invariant = { λ r. CrewIsReady r.crew };
 }
 
 impl Ring {

@@ -9,7 +9,7 @@ use Rattle.endpoint_history.specs.Lane.{LaneHistory, last_reset}
 use Rattle.endpoint_history.specs.Counts.{Allocation}
 use Rattle.arbiter_lane.specs.declared.line.LaneLine.{LaneLine}
 use Rattle.arbiter_lane.specs.State.{LaneState, IsFlow, IsSoundLane}
-use Rattle.arbiter_lane.specs.Standing.{StandsForFlow, StandsFor}
+use Rattle.arbiter_lane.specs.Standing.{StandsForFlow, LaneStandsFor}
 use Rattle.arbiter_lane.specs.Lines.{Become, AllocatesSlots}
 use Rattle.arbiter_lane.proofs.Changes.{Become-set, Become-none}
 use Rattle.arbiter_lane.proofs.Held.{each_line}
@@ -66,8 +66,8 @@ flow-allocated g since to batch slots history allocations dst old new is allocat
     }
 
 pub stands-allocated : (was : LaneState) (lines : List LaneLine) (to batch slots : ℕ) (history : LaneHistory) (allocations : List Allocation) → batch < was.round →
-    Become (Allocates was to batch slots) was.lines lines → StandsFor was history allocations →
-    StandsFor (allocated_lane was lines) history (record { dst = to; batch = batch; slots = slots } ∷ allocations)
+    Become (Allocates was to batch slots) was.lines lines → LaneStandsFor was history allocations →
+    LaneStandsFor (allocated_lane was lines) history (record { dst = to; batch = batch; slots = slots } ∷ allocations)
 stands-allocated was lines to batch slots history allocations past become stands = record {
   epoch = stands.epoch;
   version = stands.version;

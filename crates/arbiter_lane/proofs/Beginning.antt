@@ -15,7 +15,7 @@ use Rattle.endpoint_history.specs.Counts.{Allocation, slots_in}
 use Rattle.endpoint_history.specs.CountLaws.{ResetsCountAnew}
 use Rattle.arbiter_lane.specs.declared.line.LaneLine.{LaneLine}
 use Rattle.arbiter_lane.specs.State.{LaneState, IsFlow, IsSoundLane, AreSlots, unresolved_to}
-use Rattle.arbiter_lane.specs.Standing.{StandsForFlow, StandsFor, TellsSlots}
+use Rattle.arbiter_lane.specs.Standing.{StandsForFlow, LaneStandsFor, TellsSlots}
 use Rattle.arbiter_lane.specs.Lines.{Become, HasStartedAgain}
 use Rattle.arbiter_lane.proofs.Held.{each_line}
 
@@ -67,8 +67,8 @@ flow-begun laws g round epoch version history allocations dst old new starts ear
     }
 
 pub stands-begun : (laws : ResetsCountAnew) (was : LaneState) (round epoch version : ℕ) (arrived : Receiver) (sent : Sender Telling) (lines : List LaneLine) (history : LaneHistory) (allocations : List Allocation) →
-    was.round ≡ round → was.epoch < epoch → HasHeard arrived [] → sent.version ≡ version → HasDone sent [] → Become (λ dst. HasStartedAgain) was.lines lines → StandsFor was history allocations →
-    StandsFor (begun_lane was epoch version arrived sent lines) (TakesUp round (Resets epoch version) ∷ history) allocations
+    was.round ≡ round → was.epoch < epoch → HasHeard arrived [] → sent.version ≡ version → HasDone sent [] → Become (λ dst. HasStartedAgain) was.lines lines → LaneStandsFor was history allocations →
+    LaneStandsFor (begun_lane was epoch version arrived sent lines) (TakesUp round (Resets epoch version) ∷ history) allocations
 stands-begun laws was round epoch version arrived sent lines history allocations now greater heard same done become stands =
     let above : epoch_of history < epoch = omega (arith, greater, stands.epoch) in
     let starts : restarts history epoch ≡ true = lt-ltb (epoch_of history) epoch above in
@@ -172,7 +172,7 @@ flow-opened g dst line blank = record {
 }
 
 pub stands-opened : (endpoint endpoints b g : ℕ) (arrived : Receiver) (sent : Sender Telling) (lines : List LaneLine) → HasHeard arrived [] → sent.version ≡ 1 → HasDone sent [] →
-    ((dst : ℕ) (line : LaneLine) → slice_get lines dst ≡ Some line → IsBlank line) → StandsFor (opened_lane endpoint endpoints b g arrived sent lines) [] []
+    ((dst : ℕ) (line : LaneLine) → slice_get lines dst ≡ Some line → IsBlank line) → LaneStandsFor (opened_lane endpoint endpoints b g arrived sent lines) [] []
 stands-opened endpoint endpoints b g arrived sent lines heard same done blank = record {
   epoch = refl;
   version = refl;

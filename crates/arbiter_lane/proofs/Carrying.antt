@@ -16,7 +16,7 @@ use Rattle.ack_window.specs.Steps.{after_sending, after_reading, decided_for, Se
 use Rattle.ack_window.specs.Versions.{reorder_of, span_of}
 use Rattle.ack_window.specs.Windows.{Sender, HasDone, MaySend}
 use Rattle.endpoint_history.specs.Packets.{Telling}
-use Rattle.arbiter_lane.specs.Places.{TellingPlaces, place_of, telling_at, with_telling, unresolved_with, decided_with, with_contents}
+use Rattle.arbiter_lane.specs.Places.{TellingPlaces, table_place, telling_at, with_telling, unresolved_with, decided_with, with_contents}
 
 -- ---- numbers alone decide
 
@@ -51,15 +51,15 @@ found-with places sent ack = decided-with places (decision_read (reorder_of sent
 -- ---- a new number
 
 -- two numbers that are less than 129 apart have different places
-places-differ : (first older number : ℕ) → older < number → number ≤ older + 128 → place_of first older ≢ place_of first number
+places-differ : (first older number : ℕ) → older < number → number ≤ older + 128 → table_place first older ≢ table_place first number
 places-differ first older number below near same = omega (arith, below, near, same)
 
 -- what is written at a place is what lies there, and elsewhere nothing changes
 telling-written : (places : TellingPlaces) (number : ℕ) (new : Telling) → length places.tellings ≡ 129 → telling_at (with_telling places number new) number ≡ new
-telling-written places number new long = get_or-set_same places.tellings (place_of places.first number) new _ (omega (arith, long))
+telling-written places number new long = get_or-set_same places.tellings (table_place places.first number) new _ (omega (arith, long))
 
 telling-kept : (places : TellingPlaces) (older number : ℕ) (new : Telling) → older < number → number ≤ older + 128 → telling_at (with_telling places number new) older ≡ telling_at places older
-telling-kept places older number new below near = get_or-set_other places.tellings (place_of places.first number) (place_of places.first older) new _ (places-differ places.first older number below near)
+telling-kept places older number new below near = get_or-set_other places.tellings (table_place places.first number) (table_place places.first older) new _ (places-differ places.first older number below near)
 
 kept-with : (places : TellingPlaces) (number : ℕ) (new : Telling) (xs : List (Unresolved (Unit {0}))) → All (λ s. (s.number < number) × (number ≤ s.number + 128)) xs →
     map (unresolved_with (with_telling places number new)) xs ≡ map (unresolved_with places) xs

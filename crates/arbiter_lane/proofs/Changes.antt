@@ -1,5 +1,5 @@
 -- Lines that change one after the other, and what slots count.
-use Rattle.std.proofs.Common.{◌≡◌, ◌≢◌, ℕ, Result, Ok, Err, OnOk, ◌+◌, ◌-◌, ◌<◌, ◌≤◌, Bool, true, false, ◌||◌, cond, eqb, List, [], ◌∷◌, ◌++◌, length, max, take, drop, set, get_or, Some, slice_get, sym, ◌∙◌, ap, subst, refl, inl, inr, arith}
+use Rattle.std.proofs.Common.{◌≡◌, ◌≢◌, ℕ, Result, Ok, Err, OnOk, ◌+◌, ◌-◌, ◌<◌, ◌≤◌, true, false, cond, eqb, List, [], ◌∷◌, ◌++◌, length, max, take, drop, set, get_or, Some, slice_get, sym, ◌∙◌, ap, subst, refl, inl, inr, arith}
 use Rattle.std.proofs.lemmas.Bool.{cases_eq, cases_Bool, cond-true, cond-false, eq-eqb, ne_eqb}
 use Rattle.std.proofs.lemmas.List.{length-set, get_or-set_same, get_or-set_other, take-append-drop}
 use Rattle.std.proofs.lemmas.Option.{slice_get_within, slice_get-get_or, get_or_from_slice_get}
@@ -19,10 +19,6 @@ use Rattle.arbiter_lane.specs.Lines.{Become, LosesSlots, AcknowledgesSlots, Deci
 -- the lines below a place have changed so, and the others not at all
 abbrev pub UpTo : (ℕ → LaneLine → LaneLine → Type 0) → ℕ → ℕ → LaneLine → LaneLine → Type 0
 UpTo relation at dst old new = (dst < at → relation dst old new) × (at ≤ dst → new ≡ old)
-
-pub neither : (a b : Bool) → (a || b) ≡ false → (a ≡ false) × (b ≡ false)
-neither false b none = (refl, none)
-neither true b none = absurd cc
 
 -- ---- one line, and one change after another
 

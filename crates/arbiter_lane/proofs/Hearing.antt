@@ -1,7 +1,7 @@
 -- What a lane stands for once a request of its connection has arrived.
 use Rattle.std.proofs.Common.{◌≡◌, ◌≢◌, ℕ, ◌+◌, ◌≤◌, Bool, true, false, cond, max, List, [], ◌∷◌, All, get_or, ap, ◌∙◌, sym, subst, refl, inl, inr, arith}
 use Rattle.std.specs.Prelude.{sum_by, ◌==◌}
-use Rattle.std.proofs.lemmas.Bool.{eq-eqb, ne_eqb, cases_Bool, and_from}
+use Rattle.std.proofs.lemmas.Bool.{eq-eqb, cases_Bool, and_from}
 use Rattle.std.proofs.lemmas.List.Elements.{All-head, All-tail}
 use Rattle.std.proofs.lemmas.List.Sums.{sum_by-cons}
 use Rattle.ack_window.specs.declared.send_window.Unresolved.{Unresolved}
@@ -17,9 +17,10 @@ use Rattle.endpoint_history.specs.Packets.{Telling, Requests, slots_to}
 use Rattle.endpoint_history.specs.Lane.{LaneHistory, TakesUp, epoch_of, version_of, is_current, arrived, takes, numbers}
 use Rattle.endpoint_history.specs.Counts.{Allocation, recorded, told}
 use Rattle.endpoint_history.specs.CountLaws.{ReadingDecides, CountsAddUp}
+use Rattle.endpoint_history.proofs.Named.{slots_to-own, total_named-own, total_named-most}
 use Rattle.arbiter_lane.specs.declared.line.LaneLine.{LaneLine}
 use Rattle.arbiter_lane.specs.State.{LaneState, IsFlow, IsSoundLane, AreSlots, unresolved_to}
-use Rattle.arbiter_lane.specs.Standing.{StandsForFlow, StandsFor, TellsSlots}
+use Rattle.arbiter_lane.specs.Standing.{StandsForFlow, LaneStandsFor, TellsSlots}
 use Rattle.arbiter_lane.specs.Lines.{Become, DecidesSlots, RisesTo, Hears, slots_shown, slots_lost}
 use Rattle.arbiter_lane.proofs.Changes.{line_between, Become-then, Become-none}
 use Rattle.arbiter_lane.proofs.Held.{each_line, open_to-is, open-told}
@@ -55,31 +56,7 @@ takes-fresh history packet current = rw current refl
 
 -- ---- totals
 
-pub total_named-own : (endpoint : ℕ) (demands : List Demand) → All (λ (demand : Demand). demand.dst ≢ endpoint) demands → total_named endpoint demands ≡ 0
-total_named-own endpoint [] others = refl
-total_named-own endpoint (demand ∷ demands) others =
-    rw (ne_eqb demand.dst endpoint (All-head (λ (demand : Demand). demand.dst ≢ endpoint) demand demands others))
-    (total_named-own endpoint demands (All-tail (λ (demand : Demand). demand.dst ≢ endpoint) demand demands others))
-
-pub total_named-most : (most dst : ℕ) (demands : List Demand) → All (λ (demand : Demand). demand.total ≤ most) demands → total_named dst demands ≤ most
-total_named-most most dst [] totals = omega arith
-total_named-most most dst (demand ∷ demands) totals =
-    let here = All-head (λ (demand : Demand). demand.total ≤ most) demand demands totals in
-    let rest = total_named-most most dst demands (All-tail (λ (demand : Demand). demand.total ≤ most) demand demands totals) in
-    elim (cases_Bool (demand.dst == dst)) [
-      | inl same ↦ rw same (omega (arith, here, rest))
-      | inr other ↦ rw other rest
-    ]
-
 -- ---- no slot is to the endpoint itself
-
-slots_to-own : (endpoint : ℕ) (told : List Told) → All (λ (slot : Told). slot.dst ≢ endpoint) told → slots_to endpoint told ≡ 0
-slots_to-own endpoint [] others = refl
-slots_to-own endpoint (slot ∷ told) others =
-    let both = sum_by-cons (λ (slot : Told). cond {A = ℕ} (slot.dst == endpoint) 1 0) slot told in
-    let here : cond {A = ℕ} (slot.dst == endpoint) 1 0 ≡ 0 = ap (λ b. cond {A = ℕ} b 1 0) (ne_eqb slot.dst endpoint (All-head (λ (slot : Told). slot.dst ≢ endpoint) slot told others)) in
-    let rest = slots_to-own endpoint told (All-tail (λ (slot : Told). slot.dst ≢ endpoint) slot told others) in
-    omega (arith, both, here, rest)
 
 pub told-own : (endpoints b endpoint : ℕ) (told : List Told) → AreSlots endpoints b endpoint told → slots_to endpoint told ≡ 0
 told-own endpoints b endpoint told slots = slots_to-own endpoint told slots.others
@@ -180,7 +157,7 @@ pub record HasHeardRequest (was : LaneState) (packet : Numbered (List Demand)) (
   pub change : Become (HearsRequest was history packet) was.lines lines
 
 pub stands-heard : (laws : ReadingDecides) (was : LaneState) (round : ℕ) (packet : Numbered (List Demand)) (arrived_now : Receiver) (sent : Sender Telling) (lines : List LaneLine) (history : LaneHistory) (allocations : List Allocation) →
-    HasHeardRequest was packet arrived_now sent lines history → StandsFor was history allocations → StandsFor (heard_lane was arrived_now sent lines) (TakesUp round (Requests packet) ∷ history) allocations
+    HasHeardRequest was packet arrived_now sent lines history → LaneStandsFor was history allocations → LaneStandsFor (heard_lane was arrived_now sent lines) (TakesUp round (Requests packet) ∷ history) allocations
 stands-heard laws was round packet arrived_now sent lines history allocations hears stands =
     let current = is_current-from history packet (hears.epoch ∙ stands.epoch) (hears.version ∙ stands.version) in
     let taken : takes history packet ≡ is_new was history packet.seq =
@@ -226,7 +203,7 @@ none-named false total h = refl
 
 -- what is open, acknowledged and lost is as much as before
 told-again : (laws : ReadingDecides) (sums : CountsAddUp) (was now : LaneState) (round : ℕ) (packet : Numbered (List Demand)) (history : LaneHistory) (allocations : List Allocation) (dst : ℕ) (old new : LaneLine) →
-    was.g ≡ now.g → was.sent.version ≡ was.version → now.sent.version ≡ was.version → StandsFor was history allocations → StandsFor now (TakesUp round (Requests packet) ∷ history) allocations →
+    was.g ≡ now.g → was.sent.version ≡ was.version → now.sent.version ≡ was.version → LaneStandsFor was history allocations → LaneStandsFor now (TakesUp round (Requests packet) ∷ history) allocations →
     StandsForFlow was.g history allocations dst old → StandsForFlow now.g (TakesUp round (Requests packet) ∷ history) allocations dst new →
     new.count.acknowledged + new.count.lost + unresolved_to dst now.sent ≡ old.count.acknowledged + old.count.lost + unresolved_to dst was.sent
 told-again laws sums was now round packet history allocations dst old new windows was_version now_version stood stands before after =
@@ -270,10 +247,10 @@ flow-sound was arrived_now sent lines shown lost total dst old new none_open mos
 
 pub sound-heard : (laws : ReadingDecides) (sums : CountsAddUp) (was : LaneState) (round : ℕ) (packet : Numbered (List Demand)) (arrived_now : Receiver) (sent : Sender Telling) (lines : List LaneLine) (history : LaneHistory) (allocations : List Allocation) →
     HasHeardRequest was packet arrived_now sent lines history → NamesOthers was packet.content → sent.outstanding.newest ≡ was.sent.outstanding.newest →
-    StandsFor was history allocations → TellsSlots was history → IsSoundLane was → IsSoundLane (heard_lane was arrived_now sent lines)
+    LaneStandsFor was history allocations → TellsSlots was history → IsSoundLane was → IsSoundLane (heard_lane was arrived_now sent lines)
 sound-heard laws sums was round packet arrived_now sent lines history allocations hears names newest stands tells sound =
     let now : LaneState = heard_lane was arrived_now sent lines in
-    let stands_now : StandsFor now (TakesUp round (Requests packet) ∷ history) allocations = stands-heard laws was round packet arrived_now sent lines history allocations hears stands in
+    let stands_now : LaneStandsFor now (TakesUp round (Requests packet) ∷ history) allocations = stands-heard laws was round packet arrived_now sent lines history allocations hears stands in
     let own_open = open-own was.endpoints was.b was.endpoint was.sent.outstanding.unresolved
     (open-told (λ (t : Telling). AreSlots was.endpoints was.b was.endpoint t.told) was.sent (numbers was.g history) stands.sent tells) in
     let fresh = is_new was history packet.seq in

@@ -16,7 +16,7 @@ use Rattle.endpoint_history.specs.Counts.{Allocation}
 use Rattle.endpoint_history.specs.Counts as counts
 use Rattle.arbiter_lane.specs.declared.line.LaneLine.{LaneLine}
 use Rattle.arbiter_lane.specs.Lines.{Become}
-use Rattle.arbiter_lane.specs.Standing.{StandsFor, FlowIsWithinLedger}
+use Rattle.arbiter_lane.specs.Standing.{LaneStandsFor, FlowIsWithinLedger}
 use Rattle.arbiter_lane.specs.State.{LaneState, IsSoundLane, unresolved_to}
 use Rattle.arbiter_lane.proofs.Changes.{line_between}
 
@@ -58,7 +58,7 @@ open_to-is g sent history dst version done =
 
 -- what is told is allocated, and that is owed
 pub told-is-owed : CountsAddUp → (lane : LaneState) → IsSoundLane lane → (history : LaneHistory) (allocations : List Allocation) (dst : ℕ) (line : LaneLine) → slice_get lane.lines dst ≡ Some line →
-    StandsFor lane history allocations → FlowIsWithinLedger lane.g history allocations dst
+    LaneStandsFor lane history allocations → FlowIsWithinLedger lane.g history allocations dst
 told-is-owed sums lane sound history allocations dst line here stands =
     let three = sums.three lane.g history dst in
     let open_slots = open_to-is lane.g lane.sent history dst stands.sent_version stands.sent in
@@ -95,7 +95,7 @@ line_here lines dst within = elim (slice_get_cases lines dst).1 [
 ]
 
 -- so it is of each flow
-pub each-told-is-owed : CountsAddUp → (lane : LaneState) → IsSoundLane lane → (history : LaneHistory) (allocations : List Allocation) → StandsFor lane history allocations →
+pub each-told-is-owed : CountsAddUp → (lane : LaneState) → IsSoundLane lane → (history : LaneHistory) (allocations : List Allocation) → LaneStandsFor lane history allocations →
     (dst : ℕ) → dst < lane.endpoints → FlowIsWithinLedger lane.g history allocations dst
 each-told-is-owed sums lane sound history allocations stands dst below =
     let as_many = sound.as_many in

@@ -23,7 +23,7 @@ use Rattle.endpoint_history.specs.Counts.{Allocation, told, lost}
 use Rattle.endpoint_history.specs.CountLaws.{MakingTells, CountsAddUp}
 use Rattle.arbiter_lane.specs.declared.line.LaneLine.{LaneLine}
 use Rattle.arbiter_lane.specs.State.{LaneState, IsFlow, IsSoundLane, AreSlots, AreAllocated, AreInFlight, unresolved_to}
-use Rattle.arbiter_lane.specs.Standing.{StandsForFlow, StandsFor, TellsSlots}
+use Rattle.arbiter_lane.specs.Standing.{StandsForFlow, LaneStandsFor, TellsSlots}
 use Rattle.arbiter_lane.specs.Lines.{Become, LosesSlots}
 use Rattle.arbiter_lane.specs.Parts.{packet_with, slots_to_tell, may_tell, events_after, lost_by}
 use Rattle.arbiter_lane.proofs.Changes.{line_between}
@@ -52,7 +52,7 @@ made_lane was sent lines = record {
 abbrev pub telling_of : LaneState → ℕ → List Told → Telling
 telling_of lane round slots = record { batch = round - 2 * lane.g; told = slots_to_tell lane round slots }
 
-abbrev telling_with : ℕ → List Told → Telling
+abbrev pub telling_with : ℕ → List Told → Telling
 telling_with batch slots = record { batch = batch; told = slots }
 
 telling-is : (lane : LaneState) (history : LaneHistory) (round : ℕ) (slots : List Told) → lane.last_reset ≡ last_reset history → telling_of lane round slots ≡ telling_in lane.g history round slots
@@ -107,7 +107,7 @@ may-is lane history version done =
     ∙ (ap (λ n. may_send_new (span_of lane.sent.version) n (open_numbers (reorder_of lane.sent.version) (span_of lane.sent.version) events)) (sym done.newest)
     ∙ ap (λ u. may_send_new (span_of lane.sent.version) lane.sent.outstanding.newest u) (sym done.unresolved))
 
-pub numbers-made : (lane : LaneState) (history : LaneHistory) (allocations : List Allocation) (round : ℕ) (slots : List Told) → lane.sent.version ≡ lane.version → StandsFor lane history allocations → 0 < lane.epoch →
+pub numbers-made : (lane : LaneState) (history : LaneHistory) (allocations : List Allocation) (round : ℕ) (slots : List Told) → lane.sent.version ≡ lane.version → LaneStandsFor lane history allocations → 0 < lane.epoch →
     numbers lane.g (MakesDown round slots ∷ history) ≡ events_after lane.sent (telling_of lane round slots) (numbers lane.g history)
 numbers-made lane history allocations round slots version stands begun =
     let events = numbers lane.g history in
@@ -125,16 +125,13 @@ pub record HasTold (was : LaneState) (round : ℕ) (slots : List Told) (sent : S
   pub newest : sent.outstanding.newest ≤ was.sent.outstanding.newest + 1
   pub change : Become (λ dst. LosesSlots (lost_by was.sent (slots_to_tell was round slots) dst)) was.lines lines
 
-abbrev pub with_slots : ℕ → List Told → Telling
-with_slots batch slots = record { batch = batch; told = slots }
-
 pub told-from : (was : LaneState) (round : ℕ) (slots : List Told) (batch : ℕ) (now : List Told) (sent : Sender Telling) (lines : List LaneLine) (content : Telling) → batch ≡ round - 2 * was.g → now ≡ slots_to_tell was round slots → length now ≤ 64 →
-    ((events : List (Event Telling)) → HasDone was.sent events → HasDone sent (events_after was.sent (with_slots batch now) events)) →
-    ((events : List (Event Telling)) → HasDone was.sent events → newest_content (events_after was.sent (with_slots batch now) events) ≡ Some content) →
+    ((events : List (Event Telling)) → HasDone was.sent events → HasDone sent (events_after was.sent (telling_with batch now) events)) →
+    ((events : List (Event Telling)) → HasDone was.sent events → newest_content (events_after was.sent (telling_with batch now) events) ≡ Some content) →
     sent.version ≡ was.sent.version → sent.outstanding.newest ≡ was.sent.outstanding.newest + cond (may_tell was.sent) 1 0 → Become (λ dst. LosesSlots (lost_by was.sent now dst)) was.lines lines →
     HasTold was round slots sent lines content
 told-from was round slots batch now sent lines content is_batch is_now few done says version newest change =
-    let telling : with_slots batch now ≡ telling_of was round slots = ap (λ b. with_slots b now) is_batch ∙ ap (λ xs. with_slots (round - 2 * was.g) xs) is_now in
+    let telling : telling_with batch now ≡ telling_of was round slots = ap (λ b. telling_with b now) is_batch ∙ ap (λ xs. telling_with (round - 2 * was.g) xs) is_now in
     let one = at_most_one (may_tell was.sent) in
     record {
       few = subst (λ (xs : List Told). length xs ≤ 64) is_now few;
@@ -151,7 +148,7 @@ told-from was round slots batch now sent lines content is_batch is_now few done 
 
 -- ---- what it stands for
 
-lost-made : (laws : MakingTells) (lane : LaneState) (history : LaneHistory) (allocations : List Allocation) (round : ℕ) (slots : List Told) (dst : ℕ) → lane.sent.version ≡ lane.version → StandsFor lane history allocations → 0 < lane.epoch →
+lost-made : (laws : MakingTells) (lane : LaneState) (history : LaneHistory) (allocations : List Allocation) (round : ℕ) (slots : List Told) (dst : ℕ) → lane.sent.version ≡ lane.version → LaneStandsFor lane history allocations → 0 < lane.epoch →
     lost lane.g (MakesDown round slots ∷ history) dst ≡ lost lane.g history dst + lost_by lane.sent (slots_to_tell lane round slots) dst
 lost-made laws lane history allocations round slots dst version stands begun =
     let above : 0 < epoch_of history = omega (arith, begun, stands.epoch) in
@@ -182,8 +179,8 @@ flow-made laws g round n slots history allocations dst old new law loses flow = 
 
 pub stands-made : (laws : MakingTells) (was : LaneState) (round : ℕ) (slots : List Told) (sent : Sender Telling) (lines : List LaneLine) (history : LaneHistory) (allocations : List Allocation) →
     was.sent.version ≡ was.version → sent.version ≡ was.sent.version → 0 < was.epoch → HasDone sent (events_after was.sent (telling_of was round slots) (numbers was.g history)) →
-    Become (λ dst. LosesSlots (lost_by was.sent (slots_to_tell was round slots) dst)) was.lines lines → StandsFor was history allocations →
-    StandsFor (made_lane was sent lines) (MakesDown round slots ∷ history) allocations
+    Become (λ dst. LosesSlots (lost_by was.sent (slots_to_tell was round slots) dst)) was.lines lines → LaneStandsFor was history allocations →
+    LaneStandsFor (made_lane was sent lines) (MakesDown round slots ∷ history) allocations
 stands-made laws was round slots sent lines history allocations version same begun done become stands = record {
   epoch = stands.epoch;
   version = stands.version;
@@ -212,7 +209,7 @@ tells-after was round slots events are tells =
     ]
 
 pub tells-made : (was : LaneState) (round : ℕ) (slots : List Told) (sent : Sender Telling) (lines : List LaneLine) (history : LaneHistory) (allocations : List Allocation) → was.sent.version ≡ was.version → 0 < was.epoch →
-    AreSlots was.endpoints was.b was.endpoint slots → StandsFor was history allocations → TellsSlots was history → TellsSlots (made_lane was sent lines) (MakesDown round slots ∷ history)
+    AreSlots was.endpoints was.b was.endpoint slots → LaneStandsFor was history allocations → TellsSlots was history → TellsSlots (made_lane was sent lines) (MakesDown round slots ∷ history)
 tells-made was round slots sent lines history allocations version begun are stands tells =
     subst (λ (e : List (Event Telling)). All (λ (number : Unresolved Telling). AreSlots was.endpoints was.b was.endpoint number.content.told) (numbers_sent e)) (sym (numbers-made was history allocations round slots version stands begun))
     (tells-after was round slots (numbers was.g history) are tells)
@@ -220,7 +217,7 @@ tells-made was round slots sent lines history allocations version begun are stan
 -- ---- it stays sound
 
 told-more : (laws : MakingTells) (sums : CountsAddUp) (was now : LaneState) (round : ℕ) (slots : List Told) (history : LaneHistory) (allocations : List Allocation) (dst : ℕ) (old new : LaneLine) →
-    was.g ≡ now.g → was.sent.version ≡ was.version → now.sent.version ≡ was.version → 0 < was.epoch → StandsFor was history allocations → StandsFor now (MakesDown round slots ∷ history) allocations →
+    was.g ≡ now.g → was.sent.version ≡ was.version → now.sent.version ≡ was.version → 0 < was.epoch → LaneStandsFor was history allocations → LaneStandsFor now (MakesDown round slots ∷ history) allocations →
     StandsForFlow was.g history allocations dst old → StandsForFlow now.g (MakesDown round slots ∷ history) allocations dst new →
     new.count.acknowledged + new.count.lost + unresolved_to dst now.sent ≡ old.count.acknowledged + old.count.lost + unresolved_to dst was.sent + slots_to dst (slots_to_tell was round slots)
 told-more laws sums was now round slots history allocations dst old new windows was_version now_version begun stood stands before after =
@@ -270,10 +267,10 @@ pub sound-made : (laws : MakingTells) (sums : CountsAddUp) (was : LaneState) (ro
     was.is_made ≡ false → was.round < 100000 → 0 < was.epoch → length (slots_to_tell was round slots) ≤ 64 → AreSlots was.endpoints was.b was.endpoint slots → AreAllocated was round slots →
     sent.version ≡ was.sent.version → sent.outstanding.newest ≤ was.sent.outstanding.newest + 1 → HasDone sent (events_after was.sent (telling_of was round slots) (numbers was.g history)) →
     Become (λ dst. LosesSlots (lost_by was.sent (slots_to_tell was round slots) dst)) was.lines lines →
-    StandsFor was history allocations → TellsSlots was history → IsSoundLane was → IsSoundLane (made_lane was sent lines)
+    LaneStandsFor was history allocations → TellsSlots was history → IsSoundLane was → IsSoundLane (made_lane was sent lines)
 sound-made laws sums was round slots sent lines history allocations once rounds begun short are allocated version newest done become stands tells sound =
     let now : LaneState = made_lane was sent lines in
-    let stands_now : StandsFor now (MakesDown round slots ∷ history) allocations = stands-made laws was round slots sent lines history allocations sound.sent_version version begun done become stands in
+    let stands_now : LaneStandsFor now (MakesDown round slots ∷ history) allocations = stands-made laws was round slots sent lines history allocations sound.sent_version version begun done become stands in
     let made = made-once was.is_made once in
     let numbered = sound.numbers in
     let none_open = open-own was.endpoints was.b was.endpoint was.sent.outstanding.unresolved (open-told (λ (t : Telling). AreSlots was.endpoints was.b was.endpoint t.told) was.sent (numbers was.g history) stands.sent tells) in
@@ -307,8 +304,8 @@ sound-made laws sums was round slots sent lines history allocations once rounds 
 
 -- ---- before the first reset
 
-pub stands-quiet : (laws : MakingTells) (was : LaneState) (round : ℕ) (slots : List Told) (history : LaneHistory) (allocations : List Allocation) → was.epoch ≡ 0 → StandsFor was history allocations →
-    StandsFor (made_lane was was.sent was.lines) (MakesDown round slots ∷ history) allocations
+pub stands-quiet : (laws : MakingTells) (was : LaneState) (round : ℕ) (slots : List Told) (history : LaneHistory) (allocations : List Allocation) → was.epoch ≡ 0 → LaneStandsFor was history allocations →
+    LaneStandsFor (made_lane was was.sent was.lines) (MakesDown round slots ∷ history) allocations
 stands-quiet laws was round slots history allocations none stands =
     let quiet : epoch_of history ≡ 0 = sym stands.epoch ∙ none in
     let still : nat_lt 0 (epoch_of history) ≡ false = le-ltb 0 (epoch_of history) (omega (arith, quiet)) in
@@ -375,7 +372,7 @@ framed endpoint version epoch seq ack content = framed_down endpoint (packet_of 
 -- it is the packet that the calls make
 pub packet-made : (lane : LaneState) (history : LaneHistory) (allocations : List Allocation) (round : ℕ) (slots : List Told) (sent : Sender Telling) (content : Telling) → lane.arrived.version ≡ lane.version → lane.sent.version ≡ lane.version → 0 < lane.epoch →
     HasDone sent (events_after lane.sent (telling_of lane round slots) (numbers lane.g history)) →
-    newest_content (events_after lane.sent (telling_of lane round slots) (numbers lane.g history)) ≡ Some content → StandsFor lane history allocations →
+    newest_content (events_after lane.sent (telling_of lane round slots) (numbers lane.g history)) ≡ Some content → LaneStandsFor lane history allocations →
     option_map (framed_down lane.endpoint) (packet_down lane.g history round slots) ≡ Some (packet_with lane sent.outstanding.newest content.batch content.told)
 unfolding packet_down
 packet-made lane history allocations round slots sent content heard_version sent_version begun done newest stands =
@@ -417,7 +414,7 @@ pub true-of_none : (P : DownPacket → Type 0) (o : Option DownPacket) → o ≡
 true-of_none P o is = subst (λ o. IfSome o P) (sym is) tt
 
 -- there is none before the first reset
-pub packet-none : (lane : LaneState) (history : LaneHistory) (allocations : List Allocation) (round : ℕ) (slots : List Told) → lane.epoch ≡ 0 → StandsFor lane history allocations → packet_down lane.g history round slots ≡ None
+pub packet-none : (lane : LaneState) (history : LaneHistory) (allocations : List Allocation) (round : ℕ) (slots : List Told) → lane.epoch ≡ 0 → LaneStandsFor lane history allocations → packet_down lane.g history round slots ≡ None
 unfolding packet_down
 packet-none lane history allocations round slots none stands = rw (le-ltb 0 (epoch_of history) (omega (arith, none, stands.epoch))) refl
 
@@ -443,7 +440,7 @@ allocation-made lane seq content sound begun counted mask width few slots = reco
 -- what is told keeps every rule
 pub rules-made : (was : LaneState) (round : ℕ) (slots : List Told) (sent : Sender Telling) (lines : List LaneLine) (content : Telling) (history : LaneHistory) (allocations : List Allocation) → IsSoundLane was → 0 < was.epoch →
     IsMask was.arrived.told.high was.arrived.told.mask → was.arrived.told.mask < 2 ^ mask_bits was.version → length content.told ≤ 64 → AreSlots was.endpoints was.b was.endpoint slots →
-    HasTold was round slots sent lines content → StandsFor was history allocations → TellsSlots was history → IsAllocation was.endpoints was.b (packet_with was sent.outstanding.newest content.batch content.told)
+    HasTold was round slots sent lines content → LaneStandsFor was history allocations → TellsSlots was history → IsAllocation was.endpoints was.b (packet_with was sent.outstanding.newest content.batch content.told)
 rules-made was round slots sent lines content history allocations sound begun mask width few are told stands tells =
     let events = numbers was.g history in
     let after = events_after was.sent (telling_of was round slots) events in

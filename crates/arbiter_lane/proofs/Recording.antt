@@ -11,13 +11,13 @@ use Rattle.greedy_rules.specs.declared.flows.Entry.{Entry}
 use Rattle.greedy_rules.specs.declared.flows.Flow.{Flow}
 use Rattle.endpoint_history.specs.Lane.{LaneHistory, Records}
 use Rattle.endpoint_history.specs.Counts.{Allocation}
-use Rattle.endpoint_history.specs.Entries.{is_reset, added, entry_with, entry_of, had}
+use Rattle.endpoint_history.specs.Entries.{is_reset, added, entry_with, next_entry, had}
 use Rattle.line_marks.specs.Places.{Places, is_marked}
 use Rattle.arbiter_lane.specs.declared.line.LaneLine.{LaneLine}
 use Rattle.arbiter_lane.specs.State.{LaneState, IsFlow, IsSoundLane}
-use Rattle.arbiter_lane.specs.Standing.{StandsForFlow, StandsFor}
+use Rattle.arbiter_lane.specs.Standing.{StandsForFlow, LaneStandsFor}
 use Rattle.arbiter_lane.specs.Lines.{Become, IsEntered, add_on, entry_on, has_entry}
-use Rattle.arbiter_lane.specs.Parts.{CanRise, AreMarked, HaveEntriesMarked, entry_of_line, entries_on}
+use Rattle.arbiter_lane.specs.Parts.{CanRise, RisenAreMarked, HaveEntriesMarked, entry_of_line, entries_on}
 use Rattle.arbiter_lane.proofs.Entering.{filter_map-more}
 use Rattle.arbiter_lane.proofs.Held.{each_line, line_here}
 
@@ -33,7 +33,7 @@ add-is : (g : ℕ) (history : LaneHistory) (allocations : List Allocation) (dst 
 add-is g history allocations dst line flow = omega (arith, flow.demanded, flow.lost, flow.entered)
 
 entry-is : (endpoint g : ℕ) (history : LaneHistory) (allocations : List Allocation) (dst : ℕ) (line : LaneLine) (resets : Bool) → resets ≡ is_reset history → StandsForFlow g history allocations dst line →
-    entry_on line (record { src = endpoint; dst = dst }) resets ≡ entry_of endpoint g history dst
+    entry_on line (record { src = endpoint; dst = dst }) resets ≡ next_entry endpoint g history dst
 entry-is endpoint g history allocations dst line resets reset flow =
     ap (λ a. entry_with endpoint dst line.opened (resets && line.opened) a) (add-is g history allocations dst line flow)
     ∙ (ap (λ o. entry_with endpoint dst o (resets && o) (added g history dst)) flow.opened
@@ -43,11 +43,11 @@ abbrev entry_for : ℕ → Bool → ℕ → Option LaneLine → Option Entry
 entry_for endpoint resets dst = option_and_then (λ (line : LaneLine). entry_on line (record { src = endpoint; dst = dst }) resets)
 
 -- the entries of all lines are those of the round
-pub entries-are : (lane : LaneState) (history : LaneHistory) (allocations : List Allocation) → length lane.lines ≡ lane.endpoints → StandsFor lane history allocations →
-    entries_on lane.lines lane.endpoint lane.is_reset ≡ filter_map (entry_of lane.endpoint lane.g history) (range_with_len 0 lane.endpoints)
+pub entries-are : (lane : LaneState) (history : LaneHistory) (allocations : List Allocation) → length lane.lines ≡ lane.endpoints → LaneStandsFor lane history allocations →
+    entries_on lane.lines lane.endpoint lane.is_reset ≡ filter_map (next_entry lane.endpoint lane.g history) (range_with_len 0 lane.endpoints)
 entries-are lane history allocations as_many stands =
     ap (λ n. filter_map (entry_of_line lane.lines lane.endpoint lane.is_reset) (range_with_len 0 n)) as_many
-    ∙ filter_map-same (entry_of_line lane.lines lane.endpoint lane.is_reset) (entry_of lane.endpoint lane.g history) 0 lane.endpoints
+    ∙ filter_map-same (entry_of_line lane.lines lane.endpoint lane.is_reset) (next_entry lane.endpoint lane.g history) 0 lane.endpoints
     (λ dst low high.
     let here = line_here lane.lines dst (omega (arith, high, as_many)) in
     ap (entry_for lane.endpoint lane.is_reset dst) here.1
@@ -59,7 +59,7 @@ unrisen-none : (line : LaneLine) → line.count.demanded + line.count.lost ≡ l
 unrisen-none line same = rw (le-ltb 0 (add_on line) (omega (arith, same))) refl
 
 -- where no reset was taken these are the lines that have risen
-pub entries-risen : (marks : Places) (lines : List LaneLine) → AreMarked marks lines → HaveEntriesMarked marks false lines
+pub entries-risen : (marks : Places) (lines : List LaneLine) → RisenAreMarked marks lines → HaveEntriesMarked marks false lines
 entries-risen marks lines marked dst line here none = unrisen-none line (marked dst line here none)
 
 no_entry : (line : LaneLine) (flow : Flow) (resets : Bool) → has_entry resets line ≡ false → entry_on line flow resets ≡ None
@@ -139,8 +139,8 @@ flow-recorded g round history allocations dst old new entered flow = record {
   opened = entered.opened ∙ (ap (λ a. nat_lt 0 a || old.opened) (add-is g history allocations dst old flow) ∙ ap (λ o. nat_lt 0 (added g history dst) || o) flow.opened);
 }
 
-pub stands-recorded : (was : LaneState) (round : ℕ) (lines : List LaneLine) (history : LaneHistory) (allocations : List Allocation) → was.round ≡ round → StandsFor was history allocations → Become (λ dst. IsEntered) was.lines lines →
-    StandsFor (recorded_lane was round lines) (Records round ∷ history) allocations
+pub stands-recorded : (was : LaneState) (round : ℕ) (lines : List LaneLine) (history : LaneHistory) (allocations : List Allocation) → was.round ≡ round → LaneStandsFor was history allocations → Become (λ dst. IsEntered) was.lines lines →
+    LaneStandsFor (recorded_lane was round lines) (Records round ∷ history) allocations
 stands-recorded was round lines history allocations now stands become = record {
   epoch = stands.epoch;
   version = stands.version;

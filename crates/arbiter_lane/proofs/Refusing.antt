@@ -1,18 +1,18 @@
 -- What a lane stands for after a packet that changes nothing of it.
-use Rattle.std.proofs.Common.{◌≡◌, ◌≢◌, ℕ, ◌≤◌, false, ◌==◌, List, ◌∷◌, ◌∙◌, sym, refl, arith}
+use Rattle.std.proofs.Common.{◌≡◌, ◌≢◌, ℕ, ◌≤◌, false, ◌==◌, List, ◌∷◌, ◌∙◌, sym, arith}
 use Rattle.std.proofs.lemmas.Bool.{le-ltb, ne_eqb, and_right, and_left}
 use Rattle.ack_window.specs.Ends.{Numbered}
 use Rattle.fcp_framing.specs.declared.packet.Demand.{Demand}
 use Rattle.endpoint_history.specs.Packets.{Resets, Requests}
-use Rattle.endpoint_history.specs.Lane.{LaneHistory, TakesUp, epoch_of, version_of, restarts, is_current, takes}
+use Rattle.endpoint_history.specs.Lane.{LaneHistory, TakesUp, epoch_of, version_of, restarts, is_current}
 use Rattle.endpoint_history.specs.Counts.{Allocation}
 use Rattle.endpoint_history.specs.CountLaws.{ReadingDecides, ResetsCountAnew}
 use Rattle.arbiter_lane.specs.State.{LaneState}
-use Rattle.arbiter_lane.specs.Standing.{StandsFor}
+use Rattle.arbiter_lane.specs.Standing.{LaneStandsFor}
 
 -- a reset of no greater epoch
-pub stands-reset_again : (laws : ResetsCountAnew) (lane : LaneState) (round epoch version : ℕ) (history : LaneHistory) (allocations : List Allocation) → epoch ≤ lane.epoch → StandsFor lane history allocations →
-    StandsFor lane (TakesUp round (Resets epoch version) ∷ history) allocations
+pub stands-reset_again : (laws : ResetsCountAnew) (lane : LaneState) (round epoch version : ℕ) (history : LaneHistory) (allocations : List Allocation) → epoch ≤ lane.epoch → LaneStandsFor lane history allocations →
+    LaneStandsFor lane (TakesUp round (Resets epoch version) ∷ history) allocations
 stands-reset_again laws lane round epoch version history allocations known stands =
     let stays : restarts history epoch ≡ false = le-ltb (epoch_of history) epoch (omega (arith, known, stands.epoch)) in
     record {
@@ -46,12 +46,8 @@ not_current-version : (history : LaneHistory) (packet : Numbered (List Demand)) 
 unfolding is_current
 not_current-version history packet other = and_right (packet.epoch == epoch_of history) (packet.version == version_of history) (ne_eqb packet.version (version_of history) other)
 
-not_taken : (history : LaneHistory) (packet : Numbered (List Demand)) → is_current history packet ≡ false → takes history packet ≡ false
-unfolding takes
-not_taken history packet other = rw other refl
-
 stands-other : (laws : ReadingDecides) (lane : LaneState) (round : ℕ) (packet : Numbered (List Demand)) (history : LaneHistory) (allocations : List Allocation) → is_current history packet ≡ false →
-    StandsFor lane history allocations → StandsFor lane (TakesUp round (Requests packet) ∷ history) allocations
+    LaneStandsFor lane history allocations → LaneStandsFor lane (TakesUp round (Requests packet) ∷ history) allocations
 stands-other laws lane round packet history allocations other stands = record {
   epoch = stands.epoch;
   version = stands.version;
@@ -77,12 +73,12 @@ stands-other laws lane round packet history allocations other stands = record {
 
 -- a request of another epoch
 pub stands-other_epoch : (laws : ReadingDecides) (lane : LaneState) (round : ℕ) (packet : Numbered (List Demand)) (history : LaneHistory) (allocations : List Allocation) → packet.epoch ≢ lane.epoch →
-    StandsFor lane history allocations → StandsFor lane (TakesUp round (Requests packet) ∷ history) allocations
+    LaneStandsFor lane history allocations → LaneStandsFor lane (TakesUp round (Requests packet) ∷ history) allocations
 stands-other_epoch laws lane round packet history allocations other stands =
     stands-other laws lane round packet history allocations (not_current-epoch history packet (λ h. other (h ∙ sym stands.epoch))) stands
 
 -- a request of the other version
 pub stands-other_version : (laws : ReadingDecides) (lane : LaneState) (round : ℕ) (packet : Numbered (List Demand)) (history : LaneHistory) (allocations : List Allocation) → packet.version ≢ lane.version →
-    StandsFor lane history allocations → StandsFor lane (TakesUp round (Requests packet) ∷ history) allocations
+    LaneStandsFor lane history allocations → LaneStandsFor lane (TakesUp round (Requests packet) ∷ history) allocations
 stands-other_version laws lane round packet history allocations other stands =
     stands-other laws lane round packet history allocations (not_current-version history packet (λ h. other (h ∙ sym stands.version))) stands

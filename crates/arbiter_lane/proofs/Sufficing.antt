@@ -13,11 +13,11 @@ use Rattle.endpoint_history.specs.Conditions.{LaneCall, Happens, Allocates, hist
 use Rattle.arbiter_lane.specs.declared.line.LaneLine.{LaneLine}
 use Rattle.arbiter_lane.specs.Laws.{ConditionsSuffice}
 use Rattle.arbiter_lane.specs.State.{LaneState, AreAllocated}
-use Rattle.arbiter_lane.specs.Standing.{StandsFor}
+use Rattle.arbiter_lane.specs.Standing.{LaneStandsFor}
 use Rattle.arbiter_lane.proofs.Held.{open_to-is}
 
 telling-meets : (laws : MakingTells) (sums : CountsAddUp) (ledger : LedgerIsWithin) (lane : LaneState) (calls : List LaneCall) (round : ℕ) (told : List Told) → MeetsConditions lane.g (Happens (MakesDown round told) ∷ calls) →
-    StandsFor lane (history_of calls) (allocations_of calls) → AreAllocated lane round told
+    LaneStandsFor lane (history_of calls) (allocations_of calls) → AreAllocated lane round told
 telling-meets laws sums ledger lane calls round told meets stands begun past since dst line here some =
     let history = history_of calls in
     let above : 0 < epoch_of history = omega (arith, begun, stands.epoch) in
@@ -35,7 +35,7 @@ telling-meets laws sums ledger lane calls round told meets stands begun past sin
     let lost = flow.lost in
     omega (arith, all, within, tells, three, open_slots, allocated, acknowledged, lost)
 
-allocating-meets : (lane : LaneState) (calls : List LaneCall) (allocation : Allocation) (line : LaneLine) → MeetsConditions lane.g (Allocates allocation ∷ calls) → StandsFor lane (history_of calls) (allocations_of calls) →
+allocating-meets : (lane : LaneState) (calls : List LaneCall) (allocation : Allocation) (line : LaneLine) → MeetsConditions lane.g (Allocates allocation ∷ calls) → LaneStandsFor lane (history_of calls) (allocations_of calls) →
     lane.last_reset ≤ allocation.batch → slice_get lane.lines allocation.dst ≡ Some line → allocation.slots ≤ pending line.count
 allocating-meets lane calls allocation line meets stands since here =
     let owed = meets.1 (omega (arith, since, stands.last_reset)) in

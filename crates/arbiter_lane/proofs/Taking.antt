@@ -17,7 +17,7 @@ use Rattle.endpoint_history.specs.Counts.{Allocation}
 use Rattle.endpoint_history.specs.CountLaws.{ReadingDecides, ResetsCountAnew}
 use Rattle.arbiter_lane.specs.State.{LaneState}
 use Rattle.arbiter_lane.specs.Refusals.{up_refusal, up_refusal_or, up_refusal_of_packet, up_refusal_of_number}
-use Rattle.arbiter_lane.specs.Standing.{StandsFor}
+use Rattle.arbiter_lane.specs.Standing.{LaneStandsFor}
 use Rattle.arbiter_lane.proofs.Hearing.{NamesOthers}
 use Rattle.arbiter_lane.proofs.Refusing.{stands-reset_again, stands-other_epoch, stands-other_version}
 
@@ -50,7 +50,7 @@ names_others lane endpoints bytes up spells request own =
 
 -- a request of the lane's epoch and version is refused for its number alone
 pub refusal-request : (lane : LaneState) (bytes : List ℕ) (up : Up) (history : LaneHistory) (allocations : List Allocation) → first_refusal (refuses_up lane.endpoints bytes) ≡ None → up ≡ up_of bytes → up.src ≡ lane.endpoint → up.epoch ≡ lane.epoch →
-    up.version ≡ lane.version → up.reset ≡ false → lane.arrived.version ≡ lane.version → StandsFor lane history allocations →
+    up.version ≡ lane.version → up.reset ≡ false → lane.arrived.version ≡ lane.version → LaneStandsFor lane history allocations →
     up_refusal lane.endpoint lane.endpoints history bytes ≡ up_refusal_of_number (receive_verdict (reorder_of lane.arrived.version) (arrived history) up.seq)
 refusal-request lane bytes up history allocations spelled read own epoch version request heard_version stands =
     let known : up.epoch ≡ epoch_of history = epoch ∙ stands.epoch in
@@ -65,28 +65,28 @@ IfSome-then P Q (Some x) p then = then x p
 
 -- ---- what changes nothing
 
-pub stands-old_epoch : (reads : ReadingDecides) (resets : ResetsCountAnew) (lane : LaneState) (round : ℕ) (up : Up) (history : LaneHistory) (allocations : List Allocation) → up.epoch < lane.epoch → StandsFor lane history allocations →
-    StandsFor lane (TakesUp round (up_packet up) ∷ history) allocations
+pub stands-old_epoch : (reads : ReadingDecides) (resets : ResetsCountAnew) (lane : LaneState) (round : ℕ) (up : Up) (history : LaneHistory) (allocations : List Allocation) → up.epoch < lane.epoch → LaneStandsFor lane history allocations →
+    LaneStandsFor lane (TakesUp round (up_packet up) ∷ history) allocations
 stands-old_epoch reads resets lane round up history allocations lower stands =
-    elim up.reset as (λ b. StandsFor lane (TakesUp round (cond b (Resets up.epoch up.version) (Requests (request_in up))) ∷ history) allocations) [
+    elim up.reset as (λ b. LaneStandsFor lane (TakesUp round (cond b (Resets up.epoch up.version) (Requests (request_in up))) ∷ history) allocations) [
       | true ↦ stands-reset_again resets lane round up.epoch up.version history allocations (omega (arith, lower)) stands
       | false ↦ stands-other_epoch reads lane round (request_in up) history allocations (λ h. omega (arith, h, lower)) stands
     ]
 
-pub stands-version : (reads : ReadingDecides) (resets : ResetsCountAnew) (lane : LaneState) (round : ℕ) (up : Up) (history : LaneHistory) (allocations : List Allocation) → up.epoch ≤ lane.epoch → up.version ≢ lane.version → StandsFor lane history allocations →
-    StandsFor lane (TakesUp round (up_packet up) ∷ history) allocations
+pub stands-version : (reads : ReadingDecides) (resets : ResetsCountAnew) (lane : LaneState) (round : ℕ) (up : Up) (history : LaneHistory) (allocations : List Allocation) → up.epoch ≤ lane.epoch → up.version ≢ lane.version → LaneStandsFor lane history allocations →
+    LaneStandsFor lane (TakesUp round (up_packet up) ∷ history) allocations
 stands-version reads resets lane round up history allocations known other stands =
-    elim up.reset as (λ b. StandsFor lane (TakesUp round (cond b (Resets up.epoch up.version) (Requests (request_in up))) ∷ history) allocations) [
+    elim up.reset as (λ b. LaneStandsFor lane (TakesUp round (cond b (Resets up.epoch up.version) (Requests (request_in up))) ∷ history) allocations) [
       | true ↦ stands-reset_again resets lane round up.epoch up.version history allocations known stands
       | false ↦ stands-other_version reads lane round (request_in up) history allocations other stands
     ]
 
-pub stands-unsynced : (reads : ReadingDecides) (lane : LaneState) (round : ℕ) (up : Up) (history : LaneHistory) (allocations : List Allocation) → up.reset ≡ false → lane.epoch < up.epoch → StandsFor lane history allocations →
-    StandsFor lane (TakesUp round (up_packet up) ∷ history) allocations
+pub stands-unsynced : (reads : ReadingDecides) (lane : LaneState) (round : ℕ) (up : Up) (history : LaneHistory) (allocations : List Allocation) → up.reset ≡ false → lane.epoch < up.epoch → LaneStandsFor lane history allocations →
+    LaneStandsFor lane (TakesUp round (up_packet up) ∷ history) allocations
 stands-unsynced reads lane round up history allocations request greater stands =
-    subst (λ p. StandsFor lane (TakesUp round p ∷ history) allocations) (sym (request-is up request)) (stands-other_epoch reads lane round (request_in up) history allocations (λ h. omega (arith, h, greater)) stands)
+    subst (λ p. LaneStandsFor lane (TakesUp round p ∷ history) allocations) (sym (request-is up request)) (stands-other_epoch reads lane round (request_in up) history allocations (λ h. omega (arith, h, greater)) stands)
 
-pub stands-again : (resets : ResetsCountAnew) (lane : LaneState) (round : ℕ) (up : Up) (history : LaneHistory) (allocations : List Allocation) → up.reset ≡ true → up.epoch ≤ lane.epoch → StandsFor lane history allocations →
-    StandsFor lane (TakesUp round (up_packet up) ∷ history) allocations
+pub stands-again : (resets : ResetsCountAnew) (lane : LaneState) (round : ℕ) (up : Up) (history : LaneHistory) (allocations : List Allocation) → up.reset ≡ true → up.epoch ≤ lane.epoch → LaneStandsFor lane history allocations →
+    LaneStandsFor lane (TakesUp round (up_packet up) ∷ history) allocations
 stands-again resets lane round up history allocations resets_it known stands =
-    subst (λ p. StandsFor lane (TakesUp round p ∷ history) allocations) (sym (reset-is up resets_it)) (stands-reset_again resets lane round up.epoch up.version history allocations known stands)
+    subst (λ p. LaneStandsFor lane (TakesUp round p ∷ history) allocations) (sym (reset-is up resets_it)) (stands-reset_again resets lane round up.epoch up.version history allocations known stands)

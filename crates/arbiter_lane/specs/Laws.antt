@@ -7,13 +7,13 @@ use Rattle.endpoint_history.specs.Counts.{Allocation}
 use Rattle.endpoint_history.specs.Conditions.{LaneCall, Happens, Allocates, history_of, allocations_of, MeetsConditions}
 use Rattle.arbiter_lane.specs.declared.line.LaneLine.{LaneLine}
 use Rattle.arbiter_lane.specs.State.{LaneState, AreAllocated}
-use Rattle.arbiter_lane.specs.Standing.{StandsFor}
+use Rattle.arbiter_lane.specs.Standing.{LaneStandsFor}
 
 pub record ConditionsSuffice : Type 0 where
   -- slots are counted as allocated before they are told, so they are in flight, beside those that are still open
   pub telling : (lane : LaneState) (calls : List LaneCall) (round : ℕ) (told : List Told) → MeetsConditions lane.g (Happens (MakesDown round told) ∷ calls) →
-      StandsFor lane (history_of calls) (allocations_of calls) → AreAllocated lane round told
+      LaneStandsFor lane (history_of calls) (allocations_of calls) → AreAllocated lane round told
   -- no more slots are allocated than are owed, so they are pending
   pub allocating : (lane : LaneState) (calls : List LaneCall) (allocation : Allocation) (line : LaneLine) → MeetsConditions lane.g (Allocates allocation ∷ calls) →
-      StandsFor lane (history_of calls) (allocations_of calls) → lane.last_reset ≤ allocation.batch → slice_get lane.lines allocation.dst ≡ Some line →
+      LaneStandsFor lane (history_of calls) (allocations_of calls) → lane.last_reset ≤ allocation.batch → slice_get lane.lines allocation.dst ≡ Some line →
       allocation.slots ≤ pending line.count

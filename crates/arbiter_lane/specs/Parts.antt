@@ -52,8 +52,8 @@ abbrev pub entries_on : List LaneLine → ℕ → Bool → List Entry
 entries_on lines endpoint resets = filter_map (entry_of_line lines endpoint resets) (range_with_len 0 (length lines))
 
 -- a line that has risen since it was entered last is marked; others may be, too
-abbrev pub AreMarked : Places → List LaneLine → Type 0
-AreMarked marks lines = (dst : ℕ) (line : LaneLine) → slice_get lines dst ≡ Some line → is_marked marks dst ≡ false → line.count.demanded + line.count.lost ≡ line.entered
+abbrev pub RisenAreMarked : Places → List LaneLine → Type 0
+RisenAreMarked marks lines = (dst : ℕ) (line : LaneLine) → slice_get lines dst ≡ Some line → is_marked marks dst ≡ false → line.count.demanded + line.count.lost ≡ line.entered
 
 -- only marked lines have an entry
 abbrev pub HaveEntriesMarked : Places → Bool → List LaneLine → Type 0

@@ -10,16 +10,16 @@ pub record TellingPlaces : Type 0 where
   pub first : ℕ
   pub tellings : List Telling
 
-abbrev pub place_of : ℕ → ℕ → ℕ
-place_of first number = (number % 129 + first) % 129
+abbrev pub table_place : ℕ → ℕ → ℕ
+table_place first number = (number % 129 + first) % 129
 
 -- what lies at the place of a number
 abbrev pub telling_at : TellingPlaces → ℕ → Telling
-telling_at places number = get_or places.tellings (place_of places.first number) (record { batch = 0; told = [] })
+telling_at places number = get_or places.tellings (table_place places.first number) (record { batch = 0; told = [] })
 
 -- the places with this at that of a number
 abbrev pub with_telling : TellingPlaces → ℕ → Telling → TellingPlaces
-with_telling places number new = record { first = places.first; tellings = set places.tellings (place_of places.first number) new }
+with_telling places number new = record { first = places.first; tellings = set places.tellings (table_place places.first number) new }
 
 -- a number, unresolved or decided, with what lies at its place
 abbrev pub unresolved_with : TellingPlaces → Unresolved (Unit {0}) → Unresolved Telling

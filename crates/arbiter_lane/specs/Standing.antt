@@ -18,7 +18,7 @@ pub record StandsForFlow (g : ℕ) (history : LaneHistory) (allocations : List A
   pub entered : line.entered ≡ owed g (counted_from history) dst
   pub opened : line.opened ≡ had g history dst
 
-pub record StandsFor (lane : LaneState) (history : LaneHistory) (allocations : List Allocation) : Type 0 where
+pub record LaneStandsFor (lane : LaneState) (history : LaneHistory) (allocations : List Allocation) : Type 0 where
   pub epoch : lane.epoch ≡ epoch_of history
   pub version : lane.version ≡ version_of history
   pub last_reset : lane.last_reset ≡ last_reset history
@@ -36,7 +36,7 @@ TellsSlots lane history = All (λ (number : Unresolved Telling). AreSlots lane.e
 
 -- there are calls for which it stands
 abbrev pub HasLaneHistory : LaneState → Type 0
-HasLaneHistory lane = (history : LaneHistory) × (allocations : List Allocation) × StandsFor lane history allocations × TellsSlots lane history
+HasLaneHistory lane = (history : LaneHistory) × (allocations : List Allocation) × LaneStandsFor lane history allocations × TellsSlots lane history
 
 -- of a flow no more slots are told than were counted as allocated, and no more are counted so than are owed
 pub record FlowIsWithinLedger (g : ℕ) (history : LaneHistory) (allocations : List Allocation) (dst : ℕ) : Type 0 where

@@ -10,7 +10,7 @@ ghost use Rattle.arbiter_lane.specs.Lines.{entry_on, Become, LosesSlots, Acknowl
 ghost use Rattle.std.specs.List.{filter_map};
 ghost use Rattle.greedy_rules.specs.Batches.{IsAboveLast};
 ghost use Rattle.arbiter_lane.specs.declared.line.LaneLine.{LaneLine as LineOf};
-ghost use Rattle.arbiter_lane.specs.Parts.{CanRise, AreMarked, HaveEntriesMarked, entries_on};
+ghost use Rattle.arbiter_lane.specs.Parts.{CanRise, RisenAreMarked, HaveEntriesMarked, entries_on};
 ghost use Rattle.endpoint_history.specs.Confirmed.{total_named};
 
 use crate::NoMemory;
@@ -27,7 +27,7 @@ pub(crate) fn lose(lines: &mut [LaneLine], risen: &mut Marks, told: &[Told])
     requires destinations { All (λ (slot : ToldSlot). slot.dst < length lines.old) told.now }
     requires in_flight { AreInFlight (λ dst. slots_to dst told.now) lines.old }
     ensures lost { Become (λ dst. LosesSlots (slots_to dst told.now)) lines.old lines.new }
-    ensures marked { AreMarked risen.old lines.old → AreMarked risen.new lines.new }
+    ensures marked { RisenAreMarked risen.old lines.old → RisenAreMarked risen.new lines.new }
 {
     for slot in told {
         lose_one(lines, risen, *slot);
@@ -39,7 +39,7 @@ fn lose_one(lines: &mut [LaneLine], risen: &mut Marks, slot: Told)
     requires destination { slot.dst < length lines.old }
     requires in_flight { AreInFlight (λ dst. slots_to dst (slot ∷ [])) lines.old }
     ensures lost { Become (λ dst. LosesSlots (slots_to dst (slot ∷ []))) lines.old lines.new }
-    ensures marked { AreMarked risen.old lines.old → AreMarked risen.new lines.new }
+    ensures marked { RisenAreMarked risen.old lines.old → RisenAreMarked risen.new lines.new }
 {
     lines[slot.dst as usize].count.lose(1);
     risen.set(slot.dst as usize);
@@ -69,7 +69,7 @@ pub(crate) fn raise(lines: &mut [LaneLine], risen: &mut Marks, demands: &[Demand
     requires few { length lines.old ≤ 256 }
     requires destinations { All (λ (demand : DemandItem). demand.dst < length lines.old) demands.now }
     ensures raised { Become (λ dst. RisesTo (total_named dst demands.now)) lines.old lines.new }
-    ensures marked { AreMarked risen.old lines.old → AreMarked risen.new lines.new }
+    ensures marked { RisenAreMarked risen.old lines.old → RisenAreMarked risen.new lines.new }
 {
     for demand in demands {
         raise_one(lines, risen, *demand);
@@ -80,7 +80,7 @@ fn raise_one(lines: &mut [LaneLine], risen: &mut Marks, demand: Demand)
     requires few { length lines.old ≤ 256 }
     requires destination { demand.dst < length lines.old }
     ensures raised { Become (λ dst. RisesTo (total_named dst (demand ∷ []))) lines.old lines.new }
-    ensures marked { AreMarked risen.old lines.old → AreMarked risen.new lines.new }
+    ensures marked { RisenAreMarked risen.old lines.old → RisenAreMarked risen.new lines.new }
 {
     let rises = lines[demand.dst as usize].count.raise(demand.total) > 0;
     if rises {
@@ -109,7 +109,7 @@ pub(crate) fn decide(
     requires destinations { All (λ (number : DecidedNumber TellingOf). All (λ (slot : ToldSlot). slot.dst < length lines.old) number.content.told) (map (decided_with places.now) found.now) }
     requires in_flight { AreInFlight (λ dst. slots_shown (map (decided_with places.now) found.now) dst + slots_lost (map (decided_with places.now) found.now) dst) lines.old }
     ensures decided { Become (λ dst. DecidesSlots (slots_shown (map (decided_with places.now) found.now) dst) (slots_lost (map (decided_with places.now) found.now) dst)) lines.old lines.new }
-    ensures marked { AreMarked risen.old lines.old → AreMarked risen.new lines.new }
+    ensures marked { RisenAreMarked risen.old lines.old → RisenAreMarked risen.new lines.new }
 {
     for number in found {
         decide_one(lines, risen, number, places);
@@ -127,7 +127,7 @@ pub(crate) fn decide_one(
     requires destinations { All (λ (slot : ToldSlot). slot.dst < length lines.old) (telling_at places.now number.now.number).told }
     requires in_flight { AreInFlight (λ dst. slots_to dst (telling_at places.now number.now.number).told) lines.old }
     ensures decided { Become (λ dst. DecidesSlots (slots_shown (decided_with places.now number.now ∷ []) dst) (slots_lost (decided_with places.now number.now ∷ []) dst)) lines.old lines.new }
-    ensures marked { AreMarked risen.old lines.old → AreMarked risen.new lines.new }
+    ensures marked { RisenAreMarked risen.old lines.old → RisenAreMarked risen.new lines.new }
 {
     let told = places.at(number.number).told();
     if number.lost {
@@ -149,12 +149,12 @@ pub(crate) fn record(
     requires few { length lines.old ≤ 256 }
     requires above { IsAboveLast batch.old.entries (record { src = endpoint; dst = 0 }) }
     requires can_rise { CanRise lines.old }
-    requires marked { AreMarked risen.old lines.old }
+    requires marked { RisenAreMarked risen.old lines.old }
     ensures entries { OnOk result (batch.new.entries ≡ batch.old.entries ++ entries_on lines.old endpoint resets) }
     ensures limits { batch.new.limits ≡ batch.old.limits }
     ensures entered { OnOk result (Become (λ dst. IsEntered) lines.old lines.new) }
     ensures unchanged { OnErr result (lines.new ≡ lines.old) }
-    ensures marked { AreMarked risen.new lines.new }
+    ensures marked { RisenAreMarked risen.new lines.new }
 {
     mark_entries(lines, risen, resets);
     if risen.next_from(0) >= lines.len() {
@@ -169,9 +169,9 @@ pub(crate) fn record(
 /// Marks every line in a round with a reset, since any flow that a batch has may start again.
 fn mark_entries(lines: &[LaneLine], risen: &mut Marks, resets: bool)
     requires few { length lines.now ≤ 256 }
-    requires marked { AreMarked risen.old lines.now }
+    requires marked { RisenAreMarked risen.old lines.now }
     ensures entries { HaveEntriesMarked risen.new resets lines.now }
-    ensures marked { AreMarked risen.new lines.now }
+    ensures marked { RisenAreMarked risen.new lines.now }
 {
     if resets {
         risen.set_all();
@@ -224,7 +224,7 @@ fn enter_one(line: &LaneLine, flow: Flow, resets: bool, batch: &mut Batch) -> Re
 /// Takes all that the marked flows have risen by for entered. The others have not risen.
 fn settle(lines: &mut [LaneLine], risen: &Marks)
     requires few { length lines.old ≤ 256 }
-    requires marked { AreMarked risen.now lines.old }
+    requires marked { RisenAreMarked risen.now lines.old }
     requires can_rise { CanRise lines.old }
     ensures { Become (λ dst. IsEntered) lines.old lines.new }
 {

@@ -19,13 +19,13 @@ ghost use Rattle.endpoint_history.specs.Packets.{Telling as TellingOf, Resets, s
 ghost use Rattle.endpoint_history.specs.Lane.{LaneHistory, MakesDown, TakesUp, Records, packet_down};
 ghost use Rattle.endpoint_history.specs.Confirmed.{total_named};
 ghost use Rattle.endpoint_history.specs.Counts.{Allocation, recorded, acknowledged, lost, allocated};
-ghost use Rattle.endpoint_history.specs.Entries.{had, entry_of};
+ghost use Rattle.endpoint_history.specs.Entries.{had, next_entry};
 ghost use Rattle.arbiter_lane.specs.State.{AreInFlight, IsSameLane, MayMakeDown, MayOpenLane, unresolved_to};
-ghost use Rattle.arbiter_lane.specs.Standing.{StandsFor, FlowIsWithinLedger};
+ghost use Rattle.arbiter_lane.specs.Standing.{LaneStandsFor, FlowIsWithinLedger};
 ghost use Rattle.arbiter_lane.specs.Refusals.{up_refusal, up_refusal_of_number, IsOwnUp};
 ghost use Rattle.arbiter_lane.specs.declared.line.LaneLine.{LaneLine as LineOf};
 ghost use Rattle.arbiter_lane.specs.Lines.{Become, LosesSlots, Hears, HasStartedAgain, slots_shown, slots_lost};
-ghost use Rattle.arbiter_lane.specs.Parts.{packet_with, slots_to_tell, acknowledgement_in, AreMarked};
+ghost use Rattle.arbiter_lane.specs.Parts.{packet_with, slots_to_tell, acknowledgement_in, RisenAreMarked};
 
 use crate::line::LaneLine;
 use crate::refusal::UpRefused;
@@ -73,7 +73,7 @@ impl Model for Lane {
     ghost use Rattle.std.specs.Prelude.{◌≡◌, []};
     ghost use Rattle.arbiter_lane.specs.State.{LaneState, IsSoundLane};
     ghost use Rattle.arbiter_lane.specs.Standing.{HasLaneHistory};
-    ghost use Rattle.arbiter_lane.specs.Parts.{AreMarked};
+    ghost use Rattle.arbiter_lane.specs.Parts.{RisenAreMarked};
 
     ghost Value = { LaneState };
 
@@ -109,7 +109,7 @@ impl Model for Lane {
           is_made = lane.is_made;
           is_reset = lane.is_reset;
         } in
-        IsSoundLane state × HasLaneHistory state × AreMarked lane.risen lane.lines.items };
+        IsSoundLane state × HasLaneHistory state × RisenAreMarked lane.risen lane.lines.items };
 }
 
 impl Lane {
@@ -128,7 +128,7 @@ impl Lane {
         ensures b { IfOk result (λ lane. lane.b ≡ b) }
         ensures g { IfOk result (λ lane. lane.g ≡ g) }
         ensures is_made { IfOk result (λ lane. lane.is_made ≡ false) }
-        ensures stands { IfOk result (λ lane. StandsFor lane [] []) }
+        ensures stands { IfOk result (λ lane. LaneStandsFor lane [] []) }
     {
         Ok(Lane {
             endpoint,
@@ -162,17 +162,17 @@ impl Lane {
         requires { MayMakeDown self.old round told.now.items }
         ensures none { IsNone result ↔ (self.old.epoch ≡ 0) }
         ensures packet { (history : LaneHistory) (allocations : List Allocation) →
-            StandsFor self.old history allocations →
+            LaneStandsFor self.old history allocations →
             option_map (λ length. take length buf.new) result ≡ option_map (λ packet. down_bytes (framed_down self.old.endpoint packet)) (packet_down self.old.g history round told.now.items) }
         ensures spelled { (history : LaneHistory) (allocations : List Allocation) →
-            StandsFor self.old history allocations →
+            LaneStandsFor self.old history allocations →
             IfSome (packet_down self.old.g history round told.now.items) (λ packet. SpellsDown self.old.endpoints self.old.b (take (unwrap_or result 0) buf.new) (framed_down self.old.endpoint packet)) }
         ensures room { unwrap_or result 0 ≤ 2048 }
         ensures rest { drop (unwrap_or result 0) buf.new ≡ drop (unwrap_or result 0) buf.old }
         ensures frame { self.new ≡ record self.old { sent = self.new.sent; lines = self.new.lines; is_made = true } }
         ensures stands { (history : LaneHistory) (allocations : List Allocation) →
-            StandsFor self.old history allocations →
-            StandsFor self.new (MakesDown round told.now.items ∷ history) allocations }
+            LaneStandsFor self.old history allocations →
+            LaneStandsFor self.new (MakesDown round told.now.items ∷ history) allocations }
     {
         lanes_count_slots();
         let told = self.slots_told(round, told);
@@ -206,7 +206,7 @@ impl Lane {
         // It is called between the `make_down` and the `record` of its round; of the bytes nothing is asked.
         requires round { round ≡ self.old.round }
         ensures answer { (history : LaneHistory) (allocations : List Allocation) →
-            StandsFor self.old history allocations →
+            LaneStandsFor self.old history allocations →
             result_err result ≡ up_refusal self.old.endpoint self.old.endpoints history bytes.now }
         ensures unchanged { IfSome (result_err result) (λ refusal.
             refusal ≢ UpRefused.OldSeq → refusal ≢ UpRefused.Repeat → self.new ≡ self.old) }
@@ -215,8 +215,8 @@ impl Lane {
         ensures same { IsSameLane self.old self.new }
         ensures stands { IsOwnUp self.old.endpoint self.old.endpoints bytes.now →
             (history : LaneHistory) (allocations : List Allocation) →
-            StandsFor self.old history allocations →
-            StandsFor self.new (TakesUp round (up_packet (up_of bytes.now)) ∷ history) allocations }
+            LaneStandsFor self.old history allocations →
+            LaneStandsFor self.new (TakesUp round (up_packet (up_of bytes.now)) ∷ history) allocations }
     {
         lanes_count_slots();
         if let Err(refusal) = decode_up(bytes, self.endpoints, &mut self.up) {
@@ -260,16 +260,16 @@ impl Lane {
         requires rounds { round < 100000 }
         requires above { IsAboveLast batch.old.entries (record { src = self.old.endpoint; dst = 0 }) }
         ensures entries { OnOk result ((history : LaneHistory) (allocations : List Allocation) →
-            StandsFor self.old history allocations →
-            batch.new.entries ≡ batch.old.entries ++ filter_map (entry_of self.old.endpoint self.old.g history) (range_with_len 0 self.old.endpoints)) }
+            LaneStandsFor self.old history allocations →
+            batch.new.entries ≡ batch.old.entries ++ filter_map (next_entry self.old.endpoint self.old.g history) (range_with_len 0 self.old.endpoints)) }
         ensures limits { batch.new.limits ≡ batch.old.limits }
         ensures frame { OnOk result (self.new ≡ record self.old { lines = self.new.lines; is_reset = false; is_made = false; round = round + 1 }) }
         ensures stands { OnOk result ((history : LaneHistory) (allocations : List Allocation) →
-            StandsFor self.old history allocations →
-            StandsFor self.new (Records round ∷ history) allocations) }
+            LaneStandsFor self.old history allocations →
+            LaneStandsFor self.new (Records round ∷ history) allocations) }
         // Of no flow more is told than is owed.
         ensures told { OnOk result ((history : LaneHistory) (allocations : List Allocation) →
-            StandsFor self.new history allocations →
+            LaneStandsFor self.new history allocations →
             (dst : ℕ) → dst < self.new.endpoints → FlowIsWithinLedger self.new.g history allocations dst) }
     {
         lanes_count_slots();
@@ -295,8 +295,8 @@ impl Lane {
         requires pending { self.old.last_reset ≤ batch → (line : LineOf) → slice_get self.old.lines dst ≡ Some line → n ≤ pending line.count }
         ensures frame { self.new ≡ record self.old { lines = self.new.lines } }
         ensures stands { (history : LaneHistory) (allocations : List Allocation) →
-            StandsFor self.old history allocations →
-            StandsFor self.new history (record { dst = dst; batch = batch; slots = n } ∷ allocations) }
+            LaneStandsFor self.old history allocations →
+            LaneStandsFor self.new history (record { dst = dst; batch = batch; slots = n } ∷ allocations) }
     {
         if batch >= self.last_reset {
             self.lines[dst as usize].count.allocate(n);
@@ -307,15 +307,15 @@ impl Lane {
     pub fn count(&self, dst: u16) -> Option<FlowCount>
         requires { dst < self.now.endpoints }
         ensures opened { (history : LaneHistory) (allocations : List Allocation) →
-            StandsFor self.now history allocations →
+            LaneStandsFor self.now history allocations →
             (IsSome result ↔ (had self.now.g history dst ≡ true)) }
         ensures line { (line : LineOf) → slice_get self.now.lines dst ≡ Some line → IfSome result (λ count. count ≡ line.count) }
         ensures counts { IfSome result (λ count. (history : LaneHistory) (allocations : List Allocation) →
-            StandsFor self.now history allocations →
+            LaneStandsFor self.now history allocations →
             (count.demanded ≡ recorded history dst) × (count.allocated ≡ allocated history allocations dst)
             × (count.acknowledged ≡ acknowledged self.now.g history dst) × (count.lost ≡ lost self.now.g history dst)) }
         ensures told { (history : LaneHistory) (allocations : List Allocation) →
-            StandsFor self.now history allocations →
+            LaneStandsFor self.now history allocations →
             FlowIsWithinLedger self.now.g history allocations dst }
     {
         lanes_count_slots();
@@ -357,8 +357,8 @@ impl Lane {
           is_reset = true;
         } }
         ensures stands { (history : LaneHistory) (allocations : List Allocation) →
-            StandsFor self.old history allocations →
-            StandsFor self.new (TakesUp self.old.round (Resets epoch version) ∷ history) allocations }
+            LaneStandsFor self.old history allocations →
+            LaneStandsFor self.new (TakesUp self.old.round (Resets epoch version) ∷ history) allocations }
     {
         lanes_count_slots();
         self.epoch = epoch;
@@ -432,7 +432,7 @@ fn take_request(
         HasDone sent.new (Reads (acknowledgement_in up.now) ∷ events) }
     ensures newest { sent.new.outstanding.newest ≡ sent.old.outstanding.newest }
     ensures version { sent.new.version ≡ sent.old.version }
-    ensures marked { AreMarked risen.old lines.old → AreMarked risen.new lines.new }
+    ensures marked { RisenAreMarked risen.old lines.old → RisenAreMarked risen.new lines.new }
 {
     sent.read_ack(up.high, up.mask, lines, risen);
     match arrived.take(up.seq) {

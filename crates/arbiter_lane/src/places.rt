@@ -1,6 +1,6 @@
 //! The places in which what is told lies.
 ghost use Rattle.std.specs.Prelude.{◌≡◌, ◌<◌, ◌≤◌, true, false, length, IfOk, set};
-ghost use Rattle.arbiter_lane.specs.Places.{place_of, telling_at, with_telling};
+ghost use Rattle.arbiter_lane.specs.Places.{table_place, telling_at, with_telling};
 
 use crate::NoMemory;
 use crate::telling::Telling;
@@ -60,7 +60,7 @@ impl Places {
     pub(crate) fn choose_place(&mut self, number: u32, is_settled: bool)
         ensures tellings { self.new.tellings ≡ self.old.tellings }
         ensures kept { is_settled ≡ false → self.new ≡ self.old }
-        ensures front { is_settled ≡ true → place_of self.new.first number ≡ 0 }
+        ensures front { is_settled ≡ true → table_place self.new.first number ≡ 0 }
     {
         if is_settled {
             self.first = first_before(number);
@@ -71,7 +71,7 @@ impl Places {
 /// The place of a number, where number 0 has this one.
 fn place(first: u32, number: u32) -> usize
     requires { first < 129 }
-    ensures place { result ≡ place_of first number }
+    ensures place { result ≡ table_place first number }
     ensures within { result < 129 }
 {
     let at = number % PLACES + first;
@@ -84,7 +84,7 @@ fn place(first: u32, number: u32) -> usize
 
 /// The place of number 0 where this number has the one in front.
 fn first_before(number: u32) -> u32
-    ensures front { place_of result number ≡ 0 }
+    ensures front { table_place result number ≡ 0 }
     ensures within { result < 129 }
 {
     let beyond = number % PLACES;

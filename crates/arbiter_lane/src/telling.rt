@@ -6,7 +6,7 @@ ghost use Rattle.ack_window.specs.Windows.{HasDone};
 ghost use Rattle.endpoint_history.specs.Packets.{Telling as TellingOf, slots_to};
 ghost use Rattle.arbiter_lane.specs.State.{AreInFlight};
 ghost use Rattle.arbiter_lane.specs.Lines.{Become, LosesSlots};
-ghost use Rattle.arbiter_lane.specs.Parts.{may_tell, events_after, lost_by, AreMarked};
+ghost use Rattle.arbiter_lane.specs.Parts.{may_tell, events_after, lost_by, RisenAreMarked};
 
 use crate::flows;
 use crate::line::LaneLine;
@@ -101,7 +101,7 @@ pub(crate) fn tell(
     ensures newest { sent.new.outstanding.newest ≡ sent.old.outstanding.newest + (if may_tell sent.old then 1 else 0) }
     ensures version { sent.new.version ≡ sent.old.version }
     ensures lines { Become (λ dst. LosesSlots (lost_by sent.old told.now dst)) lines.old lines.new }
-    ensures marked { AreMarked risen.old lines.old → AreMarked risen.new lines.new }
+    ensures marked { RisenAreMarked risen.old lines.old → RisenAreMarked risen.new lines.new }
     ensures content { (events : List (Event TellingOf)) →
         HasDone sent.old events →
         newest_content (events_after sent.old (record { batch = batch; told = told.now }) events) ≡ Some (record { batch = down.new.batch; told = down.new.told.items }) }

@@ -8,7 +8,7 @@ ghost use Rattle.ack_window.specs.Windows.{HasDone, MaySend};
 ghost use Rattle.endpoint_history.specs.Packets.{Telling as TellingOf};
 ghost use Rattle.arbiter_lane.specs.State.{AreInFlight, unresolved_to};
 ghost use Rattle.arbiter_lane.specs.Lines.{Become, DecidesSlots, slots_shown, slots_lost};
-ghost use Rattle.arbiter_lane.specs.Parts.{AreMarked};
+ghost use Rattle.arbiter_lane.specs.Parts.{RisenAreMarked};
 
 use crate::line::LaneLine;
 use crate::places::Places;
@@ -119,7 +119,7 @@ impl Tellings {
             HasDone self.new (Reads (record { high = high; mask = mask }) ∷ events) }
         ensures newest { self.new.outstanding.newest ≡ self.old.outstanding.newest }
         ensures version { self.new.version ≡ self.old.version }
-        ensures marked { AreMarked risen.old lines.old → AreMarked risen.new lines.new }
+        ensures marked { RisenAreMarked risen.old lines.old → RisenAreMarked risen.new lines.new }
     {
         readings_move_what_they_decide::<Telling>();
         senders_go_on_by_step::<Telling>();

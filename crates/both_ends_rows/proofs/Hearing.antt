@@ -7,14 +7,14 @@ use Rattle.ack_window.specs.declared.take_window.Taken.TheVariants.{Fresh, Repea
 use Rattle.ack_window.specs.Arrivals.{highest, has_come, is_fresh}
 use Rattle.ack_window.specs.Versions.{reorder_of}
 use Rattle.fcp_framing.specs.declared.packet.Down.{Down}
-use Rattle.fcp_framing.specs.declared.packet.Told.{Told}
 use Rattle.endpoint_history.specs.Agent.{AgentHistory, Boots, Asks, TakesDown, MakesUp, SendsDue, TakenDown, version_of, is_current, takes, arrived, taken, is_in_time, missed}
 use Rattle.endpoint_history.specs.AgentLaws.{TakingBringsSlots}
 use Rattle.endpoint_history.specs.Packets.{DownPacket, down_packet, slots_to}
 use Rattle.endpoint_history.specs.Tellings.{Among}
-use Rattle.endpoint_agent.specs.Standing.{StandsFor}
+use Rattle.endpoint_agent.specs.Standing.{AgentStandsFor}
 use Rattle.endpoint_agent.specs.State.{AgentState}
-use Rattle.endpoint_agent.specs.Timely.{AreApart, MayTake}
+use Rattle.endpoint_agent.specs.Timely.{BatchesAreApart, MayTake}
+use Rattle.endpoint_agent.proofs.Due.{nil_or}
 use Rattle.both_ends_rows.specs.Callers.{IsHeard, MayBeHeard}
 
 -- ---- a number that was taken is not taken again
@@ -65,10 +65,6 @@ clash b on off = cc
 
 -- ---- an allocation that is heard
 
-nil_or : (told : List Told) → (told ≡ []) ⊎ (told ≢ [])
-nil_or [] = inl refl
-nil_or (t ∷ told) = inr (λ e. cc)
-
 module _ (agent : AgentState) (round boots asks batch number : ℕ) (down : Down) (is : IsHeard agent round boots asks batch number) (may : MayBeHeard round batch number down) where
   once : takes is.calls (down_packet down) ≡ true → down.told.items ≢ [] → (t : TakenDown) → Among t (taken is.calls) → t.packet.content.told ≢ [] → t.packet.content.batch ≢ down.batch
   once fresh some t among told same =
@@ -90,12 +86,12 @@ module _ (agent : AgentState) (round boots asks batch number : ℕ) (down : Down
     apart = (once fresh, is.apart);
   }
 
-  apart-now : AreApart (taken (TakesDown round (down_packet down) ∷ is.calls))
+  apart-now : BatchesAreApart (taken (TakesDown round (down_packet down) ∷ is.calls))
   apart-now =
       let now : TakenDown = record { round = round; packet = down_packet down } in
       elim (cases_Bool (takes is.calls (down_packet down))) [
-        | inl on ↦ subst (λ (b : Bool). AreApart (cond b (now ∷ taken is.calls) (taken is.calls))) (sym on) (once on, is.apart)
-        | inr off ↦ subst (λ (b : Bool). AreApart (cond b (now ∷ taken is.calls) (taken is.calls))) (sym off) is.apart
+        | inl on ↦ subst (λ (b : Bool). BatchesAreApart (cond b (now ∷ taken is.calls) (taken is.calls))) (sym on) (once on, is.apart)
+        | inr off ↦ subst (λ (b : Bool). BatchesAreApart (cond b (now ∷ taken is.calls) (taken is.calls))) (sym off) is.apart
       ]
 
   -- what is told of earlier packets, once this one is the last
@@ -138,7 +134,7 @@ module _ (agent : AgentState) (round boots asks batch number : ℕ) (down : Down
         ]
 
     pub heard-one : (new : AgentState) → new.me ≡ agent.me → new.endpoints ≡ agent.endpoints → new.b ≡ agent.b → new.g ≡ agent.g → new.round ≡ agent.round → new.is_made ≡ agent.is_made → new.epoch ≡ agent.epoch →
-        StandsFor new (TakesDown round (down_packet down) ∷ is.calls) → IsHeard new round boots asks batch' number'
+        AgentStandsFor new (TakesDown round (down_packet down) ∷ is.calls) → IsHeard new round boots asks batch' number'
     heard-one new me endpoints b g at made epoch stands = record {
       me = me ∙ is.me;
       endpoints = endpoints ∙ is.endpoints;

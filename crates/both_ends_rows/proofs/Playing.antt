@@ -15,7 +15,7 @@ use Rattle.endpoint_history.specs.Lane.{MakesDown, TakesUp, Records}
 use Rattle.endpoint_history.specs.Counts.{Allocation, allocated, owed}
 use Rattle.endpoint_history.specs.Conditions.{LaneCall, Happens, Allocates, history_of, allocations_of, allocated_in, MeetsConditions}
 use Rattle.endpoint_history.specs.Entries.{rounds_recorded}
-use Rattle.endpoint_history.specs.Rounds.{Round, Played, arriving, then_each, begun, posted_down, heard, posted_up, read, after_round, played}
+use Rattle.endpoint_history.specs.Rounds.{Round, PlayedEnds, arriving, then_each, begun, posted_down, heard, posted_up, read, after_round, played}
 use Rattle.endpoint_history.specs.Steps.{Step, OfAgent, OfLane, agent_of, lane_of, rounds_begun}
 use Rattle.endpoint_agent.specs.Standing as agents
 use Rattle.arbiter_lane.specs.Laws.{ConditionsSuffice}
@@ -26,27 +26,27 @@ use Rattle.flow_ledger.specs.FlowCount.{pending}
 use Rattle.lane_rounds.specs.declared.events.Events.{Events}
 use Rattle.lane_rounds.specs.Outside.{round_with}
 use Rattle.lane_rounds.specs.State.{RoundsState, MayAsk, with_each}
-use Rattle.lane_rounds.specs.Standing.{StandsFor, played_by}
+use Rattle.lane_rounds.specs.Standing.{RoundsStandFor, played_by}
 use Rattle.lane_rounds.specs.Rounds.{HasRoundMore}
-use Rattle.both_ends_rows.specs.Callers.{told_of, HasPlayedRounds}
+use Rattle.both_ends_rows.specs.Callers.{told_of_one, HasPlayedRounds}
 
 -- ---- the slot that is told
 
 abbrev slot : ℕ → Told
 slot dst = record { offset = 0; core = 0; dst = dst }
 
-pub told-to : (dst other : ℕ) (one : Bool) → slots_to other (told_of dst one) ≡ cond one (cond (dst == other) 1 0) 0
+pub told-to : (dst other : ℕ) (one : Bool) → slots_to other (told_of_one dst one) ≡ cond one (cond (dst == other) 1 0) 0
 told-to dst other true = omega (arith, sum_by-cons (λ (t : Told). cond {A = ℕ} (t.dst == other) 1 0) (slot dst) [])
 told-to dst other false = refl
 
-pub told-few : (dst other n : ℕ) (one : Bool) → (one ≡ true → dst ≡ other → 1 ≤ n) → slots_to other (told_of dst one) ≤ n
+pub told-few : (dst other n : ℕ) (one : Bool) → (one ≡ true → dst ≡ other → 1 ≤ n) → slots_to other (told_of_one dst one) ≤ n
 told-few dst other n false few = omega (arith, told-to dst other false)
 told-few dst other n true few = elim (cases_eq dst other) [
   | inl same ↦ omega (arith, told-to dst other true, ap (λ (b : Bool). cond {A = ℕ} b 1 0) (eq-eqb dst other same), few refl same)
   | inr apart ↦ omega (arith, told-to dst other true, ap (λ (b : Bool). cond {A = ℕ} b 1 0) (ne_eqb dst other apart))
 ]
 
-pub told-slots : (endpoints b endpoint dst : ℕ) (one : Bool) → 1 ≤ b → dst < endpoints → dst ≢ endpoint → AreSlots endpoints b endpoint (told_of dst one)
+pub told-slots : (endpoints b endpoint dst : ℕ) (one : Bool) → 1 ≤ b → dst < endpoints → dst ≢ endpoint → AreSlots endpoints b endpoint (told_of_one dst one)
 told-slots endpoints b endpoint dst false some within other = record {
   rising = λ k past. absurd (omega (arith, past));
   offsets = All-nil (λ (t : Told). t.offset < b);
@@ -74,7 +74,7 @@ boots-count : (versions : List ℕ) (steps : List Step) → epoch_of (agent_of (
 boots-count [] steps = omega arith
 boots-count (v ∷ versions) steps = omega (arith, boots-count versions (OfAgent (Boots v) ∷ steps))
 
-module _ (endpoints g number : ℕ) (round : Round) (before : Played) where
+module _ (endpoints g number : ℕ) (round : Round) (before : PlayedEnds) where
   begun-epoch : epoch_of (agent_of (begun endpoints g number round before)) ≡ length round.boots + epoch_of (agent_of before.steps)
   begun-epoch =
       then_keeps (λ s. epoch_of (agent_of s) ≡ length round.boots + epoch_of (agent_of before.steps)) (λ (a : ℕ × ℕ). OfAgent (Asks a.0 a.1)) round.asks (then_each (λ version. OfAgent (Boots version)) round.boots before.steps)
@@ -130,7 +130,7 @@ takes-keeps g number started allocations packet steps has = record {
 abbrev pub AreCounted : ℕ → ℕ → List Told → List Allocation → Type 0
 AreCounted g number told allocations = 2 * g ≤ number → (dst : ℕ) → slots_to dst told ≤ allocated_in (number - 2 * g) allocations dst
 
-pub round-calls : (endpoints g number : ℕ) (round : Round) (before : Played) (allocations : List Allocation) → AreCounted g number round.told allocations →
+pub round-calls : (endpoints g number : ℕ) (round : Round) (before : PlayedEnds) (allocations : List Allocation) → AreCounted g number round.told allocations →
     HasCalls g number number allocations before.steps → HasCalls g (number + 1) (number + 1) allocations (after_round endpoints g number round before).steps
 round-calls endpoints g number round before allocations counted has =
     record {
@@ -193,7 +193,7 @@ one-ask me endpoints dst n most versions calls asks is other within few limit =
 -- ---- all that the caller keeps
 
 pub opened : (state : RoundsState) (dst endpoint : ℕ) → state.lane.endpoint ≡ endpoint → state.lane.endpoints ≡ 2 → state.lane.b ≡ 1 → state.lane.g ≡ 1 → state.is_whole ≡ true →
-    StandsFor state [] [] → dst < 2 → dst ≢ endpoint → HasPlayedRounds state dst 0 0 false false
+    RoundsStandFor state [] [] → dst < 2 → dst ≢ endpoint → HasPlayedRounds state dst 0 0 false false
 opened state dst endpoint own endpoints b g whole stands within other = record {
   whole = whole;
   endpoints = endpoints;
@@ -216,7 +216,7 @@ opened state dst endpoint own endpoints b g whole stands within other = record {
 }
 
 pub told-counted : (state : RoundsState) (dst number asks : ℕ) (before last : Bool) (is : HasPlayedRounds state dst number asks before last) →
-    AreCounted state.lane.g number (told_of dst before) (allocations_of is.calls)
+    AreCounted state.lane.g number (told_of_one dst before) (allocations_of is.calls)
 told-counted state dst number asks before last is late to =
     told-few dst to (allocated_in (number - 2 * state.lane.g) (allocations_of is.calls) to) before
     (λ on same. subst (λ (d : ℕ). 1 ≤ allocated_in (number - 2 * state.lane.g) (allocations_of is.calls) d) same
@@ -234,15 +234,15 @@ with_calls state dst number asks before last is = record {
 }
 
 telling-meets : (state : RoundsState) (dst number asks : ℕ) (before last : Bool) (is : HasPlayedRounds state dst number asks before last) →
-    MeetsConditions state.lane.g (Happens (MakesDown number (told_of dst before)) ∷ is.calls)
+    MeetsConditions state.lane.g (Happens (MakesDown number (told_of_one dst before)) ∷ is.calls)
 telling-meets state dst number asks before last is =
     (omega (arith, is.begun), λ late reset to. told-counted state dst number asks before last is late to, is.meets)
 
 round-played : (state new : RoundsState) (dst number asks n : ℕ) (before last : Bool) (events : Events) → HasPlayedRounds state dst number asks before last →
     events.asks ≡ (dst, n) ∷ [] → events.boots ≤ 1 →
     new.lane.endpoint ≡ state.lane.endpoint → new.lane.endpoints ≡ state.lane.endpoints → new.lane.b ≡ state.lane.b → new.lane.g ≡ state.lane.g → new.is_whole ≡ true → new.lane.round ≡ number + 1 →
-    ((rounds : List Round) (allocations : List Allocation) → StandsFor state rounds allocations →
-    StandsFor new (round_with state.lane.endpoint state.lane.endpoints events (told_of dst before) ∷ rounds) allocations) →
+    ((rounds : List Round) (allocations : List Allocation) → RoundsStandFor state rounds allocations →
+    RoundsStandFor new (round_with state.lane.endpoint state.lane.endpoints events (told_of_one dst before) ∷ rounds) allocations) →
     HasPlayedRounds new dst (number + 1) (asks + n) last false
 round-played state new dst number asks n before last events is asks_are boots same_endpoint same_endpoints same_b same_g whole at stands =
     record {
@@ -255,7 +255,7 @@ round-played state new dst number asks n before last events is asks_are boots sa
       other = λ same. is.other (same ∙ same_endpoint);
       rounds = round ∷ is.rounds;
       calls = all.calls;
-      stands = subst (λ (a : List Allocation). StandsFor new (round ∷ is.rounds) a) (sym all.same) (stands is.rounds (allocations_of is.calls) is.stands);
+      stands = subst (λ (a : List Allocation). RoundsStandFor new (round ∷ is.rounds) a) (sym all.same) (stands is.rounds (allocations_of is.calls) is.stands);
       count = omega (arith, is.count);
       history = all.history;
       meets = all.meets;
@@ -271,16 +271,16 @@ round-played state new dst number asks n before last events is asks_are boots sa
     }
   where
     round : Round
-    round = round_with state.lane.endpoint state.lane.endpoints events (told_of dst before)
+    round = round_with state.lane.endpoint state.lane.endpoints events (told_of_one dst before)
 
-    before_it : Played
+    before_it : PlayedEnds
     before_it = played_by state is.rounds
 
     shift : number + 1 - 2 ≡ number - 1
     shift = omega arith
 
-    counted : AreCounted state.lane.g (length is.rounds) (told_of dst before) (allocations_of is.calls)
-    counted = subst (λ (k : ℕ). AreCounted state.lane.g k (told_of dst before) (allocations_of is.calls)) (sym is.count) (told-counted state dst number asks before last is)
+    counted : AreCounted state.lane.g (length is.rounds) (told_of_one dst before) (allocations_of is.calls)
+    counted = subst (λ (k : ℕ). AreCounted state.lane.g k (told_of_one dst before) (allocations_of is.calls)) (sym is.count) (told-counted state dst number asks before last is)
 
     has : HasCalls state.lane.g (length is.rounds) (length is.rounds) (allocations_of is.calls) before_it.steps
     has = subst (λ (k : ℕ). HasCalls state.lane.g k k (allocations_of is.calls) before_it.steps) (sym is.count) (with_calls state dst number asks before last is)
@@ -310,7 +310,7 @@ counted-one dst batch before =
 -- the flow is owed one
 abbrev pub IsOwed : RoundsState → ℕ → Type 0
 IsOwed state dst =
-    (rounds : List Round) (allocations : List Allocation) → StandsFor state rounds allocations →
+    (rounds : List Round) (allocations : List Allocation) → RoundsStandFor state rounds allocations →
     allocated (lane_of (played_by state rounds).steps) allocations dst + 1 ≤ owed state.lane.g (lane_of (played_by state rounds).steps) dst
 
 pub may-allocate : (state : RoundsState) (dst number asks : ℕ) (before last : Bool) → HasPlayedRounds state dst number asks before last → IsOwed state dst →
@@ -324,7 +324,7 @@ may-allocate state dst number asks before last is owes line here =
 
 pub slot-allocated : (state new : RoundsState) (dst number asks : ℕ) (before : Bool) → HasPlayedRounds state dst (number + 1) asks before false → IsOwed state dst →
     new ≡ record state { lane = record state.lane { lines = new.lane.lines } } →
-    ((rounds : List Round) (allocations : List Allocation) → StandsFor state rounds allocations → StandsFor new rounds (record { dst = dst; batch = number; slots = 1 } ∷ allocations)) →
+    ((rounds : List Round) (allocations : List Allocation) → RoundsStandFor state rounds allocations → RoundsStandFor new rounds (record { dst = dst; batch = number; slots = 1 } ∷ allocations)) →
     HasPlayedRounds new dst (number + 1) asks before true
 slot-allocated state new dst number asks before is owes frame stands =
     let a : Allocation = record { dst = dst; batch = number; slots = 1 } in
@@ -361,26 +361,26 @@ pub epochs-fit : (state : RoundsState) (dst number asks boots : ℕ) (before las
 epochs-fit state dst number asks boots before last is few most = omega (arith, is.stands.agent.epoch, is.boots, few, most)
 
 pub asks-may : (state : RoundsState) (dst number asks n boots version : ℕ) (before last : Bool) (asked_now : List (ℕ × ℕ)) → HasPlayedRounds state dst number asks before last → asked_now ≡ (dst, n) ∷ [] → asks + n ≤ 100000000 →
-    (calls : AgentHistory) × agents.StandsFor state.agent calls × MayAsk state.lane.endpoint state.lane.endpoints (with_each Boots (replicate boots version) calls) asked_now
+    (calls : AgentHistory) × agents.AgentStandsFor state.agent calls × MayAsk state.lane.endpoint state.lane.endpoints (with_each Boots (replicate boots version) calls) asked_now
 asks-may state dst number asks n boots version before last asked_now is asks_are most = (
   agent_of (played_by state is.rounds).steps,
   is.stands.agent,
   one-ask state.lane.endpoint state.lane.endpoints dst n asks (replicate boots version) (agent_of (played_by state is.rounds).steps) asked_now asks_are is.other (subst (λ (e : ℕ). dst < e) (sym is.endpoints) is.within) is.asked most,
 )
 
-pub slots-are : (state : RoundsState) (dst number asks : ℕ) (before last : Bool) → HasPlayedRounds state dst number asks before last → AreSlots state.lane.endpoints state.lane.b state.lane.endpoint (told_of dst before)
+pub slots-are : (state : RoundsState) (dst number asks : ℕ) (before last : Bool) → HasPlayedRounds state dst number asks before last → AreSlots state.lane.endpoints state.lane.b state.lane.endpoint (told_of_one dst before)
 slots-are state dst number asks before last is =
     told-slots state.lane.endpoints state.lane.b state.lane.endpoint dst before (omega (arith, is.b)) (subst (λ (e : ℕ). dst < e) (sym is.endpoints) is.within) is.other
 
-pub slots-allocated : ConditionsSuffice → (state : RoundsState) (dst number asks : ℕ) (before last : Bool) → HasPlayedRounds state dst number asks before last → AreAllocated state.lane number (told_of dst before)
+pub slots-allocated : ConditionsSuffice → (state : RoundsState) (dst number asks : ℕ) (before last : Bool) → HasPlayedRounds state dst number asks before last → AreAllocated state.lane number (told_of_one dst before)
 slots-allocated suffice state dst number asks before last is =
-    suffice.telling state.lane is.calls number (told_of dst before) (telling-meets state dst number asks before last is)
-    (subst (λ h. lanes.StandsFor state.lane h (allocations_of is.calls)) (sym is.history) is.stands.lane)
+    suffice.telling state.lane is.calls number (told_of_one dst before) (telling-meets state dst number asks before last is)
+    (subst (λ h. lanes.LaneStandsFor state.lane h (allocations_of is.calls)) (sym is.history) is.stands.lane)
 
 -- a round that ends well
 pub round-ends : (state new : RoundsState) (dst number asks n : ℕ) (before last : Bool) (events : Events) (result : Result (Unit {0}) NoMemory) → HasPlayedRounds state dst number asks before last →
     events.asks ≡ (dst, n) ∷ [] → events.boots ≤ 1 →
-    OnOk result (HasRoundMore state number (round_with state.lane.endpoint state.lane.endpoints events (told_of dst before)) new) →
+    OnOk result (HasRoundMore state number (round_with state.lane.endpoint state.lane.endpoints events (told_of_one dst before)) new) →
     OnOk result (HasPlayedRounds new dst (number + 1) (asks + n) last false)
 round-ends state new dst number asks n before last events (Ok one) is asks_are boots more =
     round-played state new dst number asks n before last events is asks_are boots more.endpoint more.endpoints more.b more.g more.whole more.round more.stands

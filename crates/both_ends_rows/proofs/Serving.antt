@@ -13,11 +13,11 @@ use Rattle.endpoint_history.specs.Packets.{up_packet}
 use Rattle.endpoint_history.specs.Steps.{rounds_begun}
 use Rattle.arbiter_lane.specs.Laws.{ConditionsSuffice}
 use Rattle.arbiter_lane.specs.Refusals.{up_refusal, up_refusal_or, up_refusal_of_packet, IsOwnUp}
-use Rattle.arbiter_lane.specs.Standing.{StandsFor}
+use Rattle.arbiter_lane.specs.Standing.{LaneStandsFor}
 use Rattle.arbiter_lane.specs.State.{LaneState, AreAllocated}
 use Rattle.arbiter_lane.specs.declared.refusal.UpRefused.{UpRefused}
 use Rattle.arbiter_lane.specs.declared.refusal.UpRefused.TheVariants.{NotMine, OldSeq, Repeat}
-use Rattle.both_ends_rows.specs.Callers.{told_of, IsServed}
+use Rattle.both_ends_rows.specs.Callers.{told_of_one, IsServed}
 use Rattle.both_ends_rows.proofs.Playing.{told-few, counted-more, counted-one}
 
 -- ---- bytes that are a packet of another endpoint, or none
@@ -36,7 +36,7 @@ module _ (lane : LaneState) (dst number made : ℕ) (before last : Bool) (is : I
 
   -- what a call keeps that leaves the sizes as they are
   pub called : (new : LaneState) (number' made' : ℕ) (before' last' : Bool) (calls : List LaneCall) → new.endpoint ≡ lane.endpoint → new.endpoints ≡ lane.endpoints → new.b ≡ lane.b → new.g ≡ lane.g →
-      new.round ≡ number' → (made' ≡ 0 → new.is_made ≡ false) → StandsFor new (history_of calls) (allocations_of calls) → MeetsConditions 1 calls → rounds_begun (history_of calls) ≡ number' + made' →
+      new.round ≡ number' → (made' ≡ 0 → new.is_made ≡ false) → LaneStandsFor new (history_of calls) (allocations_of calls) → MeetsConditions 1 calls → rounds_begun (history_of calls) ≡ number' + made' →
       (before' ≡ true → 1 ≤ allocated_in (number' - 2) (allocations_of calls) dst) → (last' ≡ true → 1 ≤ allocated_in (number' - 1) (allocations_of calls) dst) →
       IsServed new dst number' made' before' last'
   called new number' made' before' last' calls endpoint endpoints b g at made_is stands meets begun was is_last = record {
@@ -58,7 +58,7 @@ module _ (lane : LaneState) (dst number made : ℕ) (before last : Bool) (is : I
 -- ---- each call
 
 module _ (lane : LaneState) (dst number : ℕ) (before last : Bool) where
-  meets-told : (is : IsServed lane dst number 0 before last) → MeetsConditions 1 (Happens (MakesDown number (told_of dst before)) ∷ is.calls)
+  meets-told : (is : IsServed lane dst number 0 before last) → MeetsConditions 1 (Happens (MakesDown number (told_of_one dst before)) ∷ is.calls)
   meets-told is = (
     let begun = is.begun in omega (arith, begun),
     λ late reset to. told-few dst to (allocated_in (number - 2) (allocations_of is.calls) to) before
@@ -66,14 +66,14 @@ module _ (lane : LaneState) (dst number : ℕ) (before last : Bool) where
     is.meets,
   )
 
-  pub slot-allocated : ConditionsSuffice → IsServed lane dst number 0 before last → AreAllocated lane number (told_of dst before)
+  pub slot-allocated : ConditionsSuffice → IsServed lane dst number 0 before last → AreAllocated lane number (told_of_one dst before)
   slot-allocated suffice is =
-      suffice.telling lane is.calls number (told_of dst before) (subst (λ (g : ℕ). MeetsConditions g (Happens (MakesDown number (told_of dst before)) ∷ is.calls)) (sym is.g) (meets-told is)) is.stands
+      suffice.telling lane is.calls number (told_of_one dst before) (subst (λ (g : ℕ). MeetsConditions g (Happens (MakesDown number (told_of_one dst before)) ∷ is.calls)) (sym is.g) (meets-told is)) is.stands
 
   pub served-told : (new : LaneState) → (is : IsServed lane dst number 0 before last) → new ≡ record lane { sent = new.sent; lines = new.lines; is_made = true } →
-      StandsFor new (MakesDown number (told_of dst before) ∷ history_of is.calls) (allocations_of is.calls) → IsServed new dst number 1 before last
+      LaneStandsFor new (MakesDown number (told_of_one dst before) ∷ history_of is.calls) (allocations_of is.calls) → IsServed new dst number 1 before last
   served-told new is frame stands =
-      called lane dst number 0 before last is new number 1 before last (Happens (MakesDown number (told_of dst before)) ∷ is.calls)
+      called lane dst number 0 before last is new number 1 before last (Happens (MakesDown number (told_of_one dst before)) ∷ is.calls)
       (ap (λ (l : LaneState). l.endpoint) frame) (ap (λ (l : LaneState). l.endpoints) frame) (ap (λ (l : LaneState). l.b) frame) (ap (λ (l : LaneState). l.g) frame)
       (ap (λ (l : LaneState). l.round) frame ∙ is.at) (λ no. absurd (omega (arith, no))) stands (meets-told is) refl is.counted_before is.counted_last
 
@@ -81,7 +81,7 @@ module _ (lane : LaneState) (dst number : ℕ) (before last : Bool) where
       new.endpoint ≡ lane.endpoint → new.endpoints ≡ lane.endpoints → new.b ≡ lane.b → new.g ≡ lane.g → new.round ≡ lane.round →
       given ≡ up_refusal lane.endpoint lane.endpoints (history_of is.calls) bytes →
       IfSome given (λ refusal. refusal ≢ OldSeq → refusal ≢ Repeat → new ≡ lane) →
-      (IsOwnUp lane.endpoint lane.endpoints bytes → StandsFor new (TakesUp number (up_packet (up_of bytes)) ∷ history_of is.calls) (allocations_of is.calls)) →
+      (IsOwnUp lane.endpoint lane.endpoints bytes → LaneStandsFor new (TakesUp number (up_packet (up_of bytes)) ∷ history_of is.calls) (allocations_of is.calls)) →
       IsServed new dst number 1 before last
   served-read new bytes given is endpoint endpoints b g round answer unchanged stands =
       elim (own-or-same lane new (first_refusal (refuses_up lane.endpoints bytes)) ((up_of bytes).src == lane.endpoint) (up_refusal_of_packet lane.endpoint (history_of is.calls) (up_of bytes)) given
@@ -96,7 +96,7 @@ module _ (lane : LaneState) (dst number : ℕ) (before last : Bool) where
       ]
 
   pub served-recorded : (new : LaneState) → (is : IsServed lane dst number 1 before last) → new ≡ record lane { lines = new.lines; is_reset = false; is_made = false; round = number + 1 } →
-      StandsFor new (Records number ∷ history_of is.calls) (allocations_of is.calls) → IsServed new dst (number + 1) 0 last false
+      LaneStandsFor new (Records number ∷ history_of is.calls) (allocations_of is.calls) → IsServed new dst (number + 1) 0 last false
   served-recorded new is frame stands =
       let begun = is.begun in
       let shift : number - 1 ≡ number + 1 - 2 = omega arith in
@@ -107,7 +107,7 @@ module _ (lane : LaneState) (dst number : ℕ) (before last : Bool) where
 
 pub served-counted : (lane new : LaneState) (dst batch : ℕ) (before : Bool) → (is : IsServed lane dst (batch + 1) 0 before false) → new ≡ record lane { lines = new.lines } →
     allocated (history_of is.calls) (allocations_of is.calls) dst + 1 ≤ owed lane.g (history_of is.calls) dst →
-    StandsFor new (history_of is.calls) (record { dst = dst; batch = batch; slots = 1 } ∷ allocations_of is.calls) → IsServed new dst (batch + 1) 0 before true
+    LaneStandsFor new (history_of is.calls) (record { dst = dst; batch = batch; slots = 1 } ∷ allocations_of is.calls) → IsServed new dst (batch + 1) 0 before true
 served-counted lane new dst batch before is frame owes stands =
     let a : Allocation = record { dst = dst; batch = batch; slots = 1 } in
     let back : batch ≡ batch + 1 - 1 = omega arith in

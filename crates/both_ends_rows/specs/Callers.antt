@@ -9,16 +9,16 @@ use Rattle.endpoint_history.specs.Rounds.{Round}
 use Rattle.endpoint_history.specs.Steps.{agent_of, lane_of, rounds_begun}
 use Rattle.endpoint_history.specs.Tellings.{Among}
 use Rattle.endpoint_agent.specs.State.{AgentState}
-use Rattle.endpoint_agent.specs.Timely.{AreApart}
+use Rattle.endpoint_agent.specs.Timely.{BatchesAreApart}
 use Rattle.endpoint_agent.specs.Standing as agents
 use Rattle.arbiter_lane.specs.State.{LaneState}
 use Rattle.arbiter_lane.specs.Standing as lanes
 use Rattle.lane_rounds.specs.State.{RoundsState}
-use Rattle.lane_rounds.specs.Standing.{StandsFor, played_by}
+use Rattle.lane_rounds.specs.Standing.{RoundsStandFor, played_by}
 
 -- the slot of a batch, where it has one
-abbrev pub told_of : ℕ → Bool → List Told
-told_of dst one = if one then record { offset = 0; core = 0; dst = dst } ∷ [] else []
+abbrev pub told_of_one : ℕ → Bool → List Told
+told_of_one dst one = if one then record { offset = 0; core = 0; dst = dst } ∷ [] else []
 
 -- so many rounds were played, with at most one boot in each and asks to one destination, and the slots of the last two batches are
 -- counted as allocated
@@ -32,7 +32,7 @@ pub record HasPlayedRounds (state : RoundsState) (dst number asks : ℕ) (before
   pub other : dst ≢ state.lane.endpoint
   pub rounds : List Round
   pub calls : List LaneCall
-  pub stands : StandsFor state rounds (allocations_of calls)
+  pub stands : RoundsStandFor state rounds (allocations_of calls)
   pub count : length rounds ≡ number
   pub history : history_of calls ≡ lane_of (played_by state rounds).steps
   pub meets : MeetsConditions state.lane.g calls
@@ -54,9 +54,9 @@ pub record IsHeard (agent : AgentState) (round boots asks batch number : ℕ) : 
   pub not_made : agent.is_made ≡ false
   pub epoch : agent.epoch ≡ boots
   pub calls : AgentHistory
-  pub stands : agents.StandsFor agent calls
+  pub stands : agents.AgentStandsFor agent calls
   pub asked : asked calls 1 ≤ asks
-  pub apart : AreApart (taken calls)
+  pub apart : BatchesAreApart (taken calls)
   pub told : (t : TakenDown) → Among t (taken calls) → t.packet.content.told ≢ [] →
       (t.packet.content.batch < batch) ⊎ ((t.packet.content.batch ≡ batch) × (t.packet.seq ≡ number))
 
@@ -80,7 +80,7 @@ pub record IsServed (lane : LaneState) (dst number made : ℕ) (before last : Bo
   pub within : dst < 2
   pub other : dst ≢ lane.endpoint
   pub calls : List LaneCall
-  pub stands : lanes.StandsFor lane (history_of calls) (allocations_of calls)
+  pub stands : lanes.LaneStandsFor lane (history_of calls) (allocations_of calls)
   pub meets : MeetsConditions 1 calls
   pub begun : rounds_begun (history_of calls) ≡ number + made
   pub counted_before : before ≡ true → 1 ≤ allocated_in (number - 2) (allocations_of calls) dst

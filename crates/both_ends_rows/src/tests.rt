@@ -1,5 +1,5 @@
 ghost use Rattle.std.specs.Prelude.{◌≡◌};
-ghost use Rattle.both_ends_rows.specs.Callers.{told_of};
+ghost use Rattle.both_ends_rows.specs.Callers.{told_of_one};
 
 use arrayvec::ArrayVec;
 use endpoint_agent::Sent;
@@ -542,7 +542,7 @@ fn what_comes(comes: &[(u32, u32, Comes)], round: u32) -> Outside {
 
 /// The slot of a batch, where it has one.
 fn told(dst: u16, one: bool) -> ArrayVec<Told, 64>
-    ensures { result.items ≡ told_of dst one }
+    ensures { result.items ≡ told_of_one dst one }
 {
     let mut told = ArrayVec::new();
     if one {

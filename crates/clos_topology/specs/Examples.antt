@@ -7,8 +7,8 @@ use Rattle.clos_topology.specs.Limits.{network_of}
 use Rattle.clos_topology.specs.Links.{links, up, rise, fall, down}
 use Rattle.clos_topology.specs.RackGraph.{rack_edges}
 
-abbrev pub flow : ℕ → ℕ → Flow
-flow src dst = record { src = src; dst = dst }
+abbrev pub flow_between : ℕ → ℕ → Flow
+flow_between src dst = record { src = src; dst = dst }
 
 abbrev pub edge : ℕ → ℕ → ℕ → Edge
 edge source left right = record { source = source; left = left; right = right }
@@ -32,5 +32,5 @@ LinksBetweenRacksAndWithinOne =
 -- The packet from 4 to 5 stays in rack 2.
 abbrev pub EdgesOfASlot : Type 0
 EdgesOfASlot =
-    rack_edges 2 (flow 0 2 ∷ flow 1 4 ∷ flow 4 5 ∷ flow 5 0 ∷ [])
+    rack_edges 2 (flow_between 0 2 ∷ flow_between 1 4 ∷ flow_between 4 5 ∷ flow_between 5 0 ∷ [])
     ≡ edge 0 0 1 ∷ edge 1 0 2 ∷ edge 5 2 0 ∷ []

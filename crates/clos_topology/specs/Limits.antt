@@ -8,13 +8,13 @@ abbrev pub is_size : ℕ → Bool
 is_size number = nat_le 1 number && nat_le number 64
 
 -- each number is 1 to 64, and there are at most 256 endpoints
-abbrev pub is_in_range : ℕ → ℕ → ℕ → Bool
-is_in_range racks hosts cores = is_size racks && is_size hosts && is_size cores && nat_le (racks * hosts) 256
+abbrev pub are_sizes_in_range : ℕ → ℕ → ℕ → Bool
+are_sizes_in_range racks hosts cores = is_size racks && is_size hosts && is_size cores && nat_le (racks * hosts) 256
 
 -- the network of three numbers, or why there is none
 abbrev pub network_of : ℕ → ℕ → ℕ → Result Network NetRefused
 network_of racks hosts cores =
-    if is_in_range racks hosts cores then Ok (record { racks = racks; hosts = hosts; cores = cores }) else Err Range
+    if are_sizes_in_range racks hosts cores then Ok (record { racks = racks; hosts = hosts; cores = cores }) else Err Range
 
 -- what holds of every network
 pub record IsNetwork (net : Network) : Type 0 where

@@ -18,7 +18,7 @@ use Rattle.edge_colouring.specs.Colouring.{AreApart, IsColouring, MakesClean}
 abbrev stays : ℕ → Flow → Bool
 stays hosts flow = rack_of hosts flow.src == rack_of hosts flow.dst
 
-abbrev edge_of : ℕ → Flow → Edge
+abbrev pub edge_of : ℕ → Flow → Edge
 edge_of hosts flow = record { source = flow.src; left = rack_of hosts flow.src; right = rack_of hosts flow.dst }
 
 -- what holds of the packets that leave their rack, by their edges

@@ -7,7 +7,7 @@ use Rattle.std.proofs.lemmas.Option.{same_Some}
 use Rattle.clos_topology.specs.declared.graph.Edge.{Edge}
 use Rattle.edge_colouring.specs.Degrees.{rack_on, racks_on, degree_on, HasDegreesWithin}
 use Rattle.edge_colouring.specs.Cores.{core_in}
-use Rattle.edge_colouring.specs.Holders.{holder, Holds}
+use Rattle.edge_colouring.specs.Holders.{holder, HoldsColours}
 use Rattle.edge_colouring.specs.Painted.{AreNamed, IsPainted}
 use Rattle.edge_colouring.proofs.HoldsLemmas.{rack_at}
 use Rattle.edge_colouring.proofs.PaintLemmas.{is_below, taken_below, one_le}
@@ -80,7 +80,7 @@ taken_none t (r ∷ racks) (o ∷ c) =
     omega arith
 
 -- no more edges of a rack have a core below m than there are such cores
-few_taken : (racks : List ℕ) (c H : List (Option ℕ)) (t m : ℕ) → Holds racks c H → m ≤ 64 → taken_below m t racks c ≤ m
+few_taken : (racks : List ℕ) (c H : List (Option ℕ)) (t m : ℕ) → HoldsColours racks c H → m ≤ 64 → taken_below m t racks c ≤ m
 few_taken racks c H t zero held small = let none : taken_below 0 t racks c ≡ 0 = taken_none t racks c in omega arith
 few_taken racks c H t (suc m) held small =
     let holds : (at : ℕ) → rack_at racks at ≡ t → core_in c at ≡ Some m → holder H t m ≡ Some at = λ at rack has. ap (λ (r : ℕ). holder H r m) (sym rack) ∙ held.held at m (omega arith) has in

@@ -3,7 +3,7 @@ use Rattle.std.proofs.Common.{◌≡◌, ◌≢◌, ◌<◌, ◌+◌, ◌*◌, �
 use Rattle.std.proofs.lemmas.Bool.{cases_eq}
 use Rattle.std.proofs.lemmas.List.{get_or-set_same, get_or-set_other, get_or_past, set-set, set_comm, set_at, length_push, length-set}
 use Rattle.edge_colouring.specs.Cores.{core_in}
-use Rattle.edge_colouring.specs.Holders.{holder, with_holder, IsRackOf, Holds}
+use Rattle.edge_colouring.specs.Holders.{holder, with_holder, IsRackOf, HoldsColours}
 
 -- the rack of an edge
 abbrev pub rack_at : List ℕ → ℕ → ℕ
@@ -27,15 +27,15 @@ named-within (o ∷ c) (suc at) core is = let rest : at < length c = named-withi
 same_core : (c : List (Option ℕ)) (f g x y : ℕ) → f ≡ g → core_in c f ≡ Some x → core_in c g ≡ Some y → x ≡ y
 same_core c f g x y same p q = let e : core_in c f ≡ core_in c g = ap (core_in c) same in cc
 
-pub Holds-none : (racks : List ℕ) (n : ℕ) → Holds racks [] (replicate n None)
+pub Holds-none : (racks : List ℕ) (n : ℕ) → HoldsColours racks [] (replicate n None)
 Holds-none racks n = record {
   held = λ at core lt is. cc;
   holds = λ rack core at lt is. let none : get_or (replicate n None) (rack * 64 + core) None ≡ None = get_or-no_holders n (rack * 64 + core) in cc;
 }
 
 -- an edge without a core takes one that is free at its rack
-pub Holds-put : (racks : List ℕ) (c H : List (Option ℕ)) (f y : ℕ) → Holds racks c H → f < length c → core_in c f ≡ None → y < 64 → IsRackOf H (rack_at racks f) → holder H (rack_at racks f) y ≡ None
-    → Holds racks (set c f (Some y)) (with_holder H (rack_at racks f) y (Some f))
+pub Holds-put : (racks : List ℕ) (c H : List (Option ℕ)) (f y : ℕ) → HoldsColours racks c H → f < length c → core_in c f ≡ None → y < 64 → IsRackOf H (rack_at racks f) → holder H (rack_at racks f) y ≡ None
+    → HoldsColours racks (set c f (Some y)) (with_holder H (rack_at racks f) y (Some f))
 Holds-put racks c H f y old in_c none small room free =
     let t : ℕ = rack_at racks f in
     let q : ℕ = t * 64 + y in
@@ -71,8 +71,8 @@ Holds-put racks c H f y old in_c none small room free =
     }
 
 -- an edge leaves its core
-pub Holds-remove : (racks : List ℕ) (c H : List (Option ℕ)) (f x : ℕ) → Holds racks c H → core_in c f ≡ Some x → x < 64 → IsRackOf H (rack_at racks f)
-    → Holds racks (set c f None) (with_holder H (rack_at racks f) x None)
+pub Holds-remove : (racks : List ℕ) (c H : List (Option ℕ)) (f x : ℕ) → HoldsColours racks c H → core_in c f ≡ Some x → x < 64 → IsRackOf H (rack_at racks f)
+    → HoldsColours racks (set c f None) (with_holder H (rack_at racks f) x None)
 Holds-remove racks c H f x old named small room =
     let t : ℕ = rack_at racks f in
     let q : ℕ = t * 64 + x in
@@ -98,25 +98,25 @@ Holds-remove racks c H f x old named small room =
     }
 
 -- an edge goes over to a core that is free at its rack
-pub Holds-moved : (racks : List ℕ) (c H : List (Option ℕ)) (f x y : ℕ) → Holds racks c H → core_in c f ≡ Some x → x < 64 → y < 64 → x ≢ y → IsRackOf H (rack_at racks f) → holder H (rack_at racks f) y ≡ None
-    → Holds racks (set c f (Some y)) (with_holder (with_holder H (rack_at racks f) y (Some f)) (rack_at racks f) x None)
+pub Holds-moved : (racks : List ℕ) (c H : List (Option ℕ)) (f x y : ℕ) → HoldsColours racks c H → core_in c f ≡ Some x → x < 64 → y < 64 → x ≢ y → IsRackOf H (rack_at racks f) → holder H (rack_at racks f) y ≡ None
+    → HoldsColours racks (set c f (Some y)) (with_holder (with_holder H (rack_at racks f) y (Some f)) (rack_at racks f) x None)
 Holds-moved racks c H f x y old named small_x small_y differ room free =
     let t : ℕ = rack_at racks f in
     let px : ℕ = t * 64 + x in
     let py : ℕ = t * 64 + y in
     let in_c : f < length c = named-within c f x named in
     let apart : py ≢ px = λ e. differ (omega arith) in
-    let left : Holds racks (set c f None) (set H px None) = Holds-remove racks c H f x old named small_x room in
-    let moved : Holds racks (set (set c f None) f (Some y)) (set (set H px None) py (Some f)) =
+    let left : HoldsColours racks (set c f None) (set H px None) = Holds-remove racks c H f x old named small_x room in
+    let moved : HoldsColours racks (set (set c f None) f (Some y)) (set (set H px None) py (Some f)) =
     Holds-put racks (set c f None) (set H px None) f y left (omega (arith, length-set c f None)) (get_or-set_same c f None None in_c) small_y (omega (arith, length-set H px None))
     (get_or-set_other H px py None None apart ∙ free) in
     let colours : set (set c f None) f (Some y) ≡ set c f (Some y) = set-set c f None (Some y) in
     let holders : set (set H px None) py (Some f) ≡ set (set H py (Some f)) px None = set_comm H px py None (Some f) (λ e. apart (sym e)) in
-    subst (λ h. Holds racks (set c f (Some y)) h) holders (subst (λ k. Holds racks k (set (set H px None) py (Some f))) colours moved)
+    subst (λ h. HoldsColours racks (set c f (Some y)) h) holders (subst (λ k. HoldsColours racks k (set (set H px None) py (Some f))) colours moved)
 
 -- two edges of a rack exchange their cores
-pub Holds-exchanged : (racks : List ℕ) (c H : List (Option ℕ)) (f g x y : ℕ) → Holds racks c H → core_in c f ≡ Some x → x < 64 → y < 64 → x ≢ y → IsRackOf H (rack_at racks f) → holder H (rack_at racks f) y ≡ Some g
-    → Holds racks (set (set c f (Some y)) g (Some x)) (with_holder (with_holder H (rack_at racks f) y (Some f)) (rack_at racks f) x (Some g))
+pub Holds-exchanged : (racks : List ℕ) (c H : List (Option ℕ)) (f g x y : ℕ) → HoldsColours racks c H → core_in c f ≡ Some x → x < 64 → y < 64 → x ≢ y → IsRackOf H (rack_at racks f) → holder H (rack_at racks f) y ≡ Some g
+    → HoldsColours racks (set (set c f (Some y)) g (Some x)) (with_holder (with_holder H (rack_at racks f) y (Some f)) (rack_at racks f) x (Some g))
 Holds-exchanged racks c H f g x y old named small_x small_y differ room taken =
     let t : ℕ = rack_at racks f in
     let px : ℕ = t * 64 + x in
@@ -137,11 +137,11 @@ Holds-exchanged racks c H f g x y old named small_x small_y differ room taken =
     let room1 : IsRackOf Ha t = omega (arith, length-set H px none) in
     let room2 : IsRackOf Hb t = omega (arith, length-set Ha py none) in
     let room3 : IsRackOf Hc t = omega (arith, length-set Hb py (Some f)) in
-    let one : Holds racks c1 Ha = Holds-remove racks c H f x old named small_x room in
-    let two : Holds racks c2 (set Ha (rack_at racks g * 64 + y) None) =
+    let one : HoldsColours racks c1 Ha = Holds-remove racks c H f x old named small_x room in
+    let two : HoldsColours racks c2 (set Ha (rack_at racks g * 64 + y) None) =
     Holds-remove racks c1 Ha g y one (get_or-set_other c f g None None (λ e. other (sym e)) ∙ there.1) small_y (omega (arith, rack_is, room1)) in
-    let two' : Holds racks c2 Hb = subst (λ r. Holds racks c2 (set Ha (r * 64 + y) None)) rack_is two in
-    let three : Holds racks c3 Hc =
+    let two' : HoldsColours racks c2 Hb = subst (λ r. HoldsColours racks c2 (set Ha (r * 64 + y) None)) rack_is two in
+    let three : HoldsColours racks c3 Hc =
     Holds-put racks c2 Hb f y two' (omega (arith, length-set c1 g none, length-set c f none))
     (get_or-set_other c1 g f None None other ∙ get_or-set_same c f None None in_c) small_y room2
     (get_or-set_same Ha py None None (omega (arith, room1))) in
@@ -149,10 +149,10 @@ Holds-exchanged racks c H f g x y old named small_x small_y differ room taken =
     ap (λ (r : ℕ). holder Hc r x) rack_is
     ∙ (get_or-set_other Hb py px (Some f) None (λ e. apart (sym e))
     ∙ (get_or-set_other Ha py px None None (λ e. apart (sym e)) ∙ get_or-set_same H px None None (omega arith))) in
-    let four : Holds racks (set c3 g (Some x)) (set Hc (rack_at racks g * 64 + x) (Some g)) =
+    let four : HoldsColours racks (set c3 g (Some x)) (set Hc (rack_at racks g * 64 + x) (Some g)) =
     Holds-put racks c3 Hc g x three (omega (arith, length-set c2 f (Some y), length-set c1 g none, length-set c f none))
     (get_or-set_other c2 f g (Some y) None (λ e. other (sym e)) ∙ get_or-set_same c1 g None None (omega (arith, length-set c f none))) small_x (omega (arith, rack_is, room3)) free in
-    let four' : Holds racks (set c3 g (Some x)) (set Hc px (Some g)) = subst (λ r. Holds racks (set c3 g (Some x)) (set Hc (r * 64 + x) (Some g))) rack_is four in
+    let four' : HoldsColours racks (set c3 g (Some x)) (set Hc px (Some g)) = subst (λ r. HoldsColours racks (set c3 g (Some x)) (set Hc (r * 64 + x) (Some g))) rack_is four in
     let colours : set c3 g (Some x) ≡ set (set c f (Some y)) g (Some x) =
     ap (λ (k : List (Option ℕ)). set k g (Some x)) (set_comm c1 g f none (Some y) (λ e. other (sym e)))
     ∙ (set-set (set c1 f (Some y)) g none (Some x)
@@ -161,10 +161,10 @@ Holds-exchanged racks c H f g x y old named small_x small_y differ room taken =
     ap (λ (k : List (Option ℕ)). set k px (Some g)) (set-set Ha py none (Some f))
     ∙ (ap (λ (k : List (Option ℕ)). set k px (Some g)) (set_comm H px py none (Some f) (λ e. apart (sym e)))
     ∙ set-set (set H py (Some f)) px none (Some g)) in
-    subst (λ h. Holds racks (set (set c f (Some y)) g (Some x)) h) holders (subst (λ k. Holds racks k (set Hc px (Some g))) colours four')
+    subst (λ h. HoldsColours racks (set (set c f (Some y)) g (Some x)) h) holders (subst (λ k. HoldsColours racks k (set Hc px (Some g))) colours four')
 
 -- no two edges of a rack have one core
-pub one_holder : (racks : List ℕ) (c H : List (Option ℕ)) (f g x : ℕ) → Holds racks c H → x < 64 → rack_at racks f ≡ rack_at racks g → core_in c f ≡ Some x → core_in c g ≡ Some x → f ≡ g
+pub one_holder : (racks : List ℕ) (c H : List (Option ℕ)) (f g x : ℕ) → HoldsColours racks c H → x < 64 → rack_at racks f ≡ rack_at racks g → core_in c f ≡ Some x → core_in c g ≡ Some x → f ≡ g
 one_holder racks c H f g x old small same f_has g_has =
     let at_f : holder H (rack_at racks f) x ≡ Some f = old.held f x small f_has in
     let at_g : holder H (rack_at racks g) x ≡ Some g = old.held g x small g_has in
@@ -178,16 +178,16 @@ core_in_push (o ∷ c) zero = refl
 core_in_push (o ∷ c) (suc at) = core_in_push c at
 
 -- the next edge takes a core that is free at its rack
-pub Holds-push : (racks : List ℕ) (c H : List (Option ℕ)) (n y : ℕ) → Holds racks c H → length c ≡ n → y < 64 → IsRackOf H (rack_at racks n) → holder H (rack_at racks n) y ≡ None
-    → Holds racks (c ++ Some y ∷ []) (with_holder H (rack_at racks n) y (Some n))
+pub Holds-push : (racks : List ℕ) (c H : List (Option ℕ)) (n y : ℕ) → HoldsColours racks c H → length c ≡ n → y < 64 → IsRackOf H (rack_at racks n) → holder H (rack_at racks n) y ≡ None
+    → HoldsColours racks (c ++ Some y ∷ []) (with_holder H (rack_at racks n) y (Some n))
 Holds-push racks c H n y old count small room free =
     let none : Option ℕ = None in
     let waits : List (Option ℕ) = c ++ none ∷ [] in
-    let waiting : Holds racks waits H = record {
+    let waiting : HoldsColours racks waits H = record {
       held = λ at core lt is. old.held at core lt (sym (core_in_push c at) ∙ is);
       holds = λ rack core at lt is. let was = old.holds rack core at lt is in (was.0, core_in_push c at ∙ was.1);
     } in
     let last : core_in waits n ≡ None = core_in_push c n ∙ get_or_past c n None (omega arith) in
-    let put : Holds racks (set waits n (Some y)) (with_holder H (rack_at racks n) y (Some n)) =
+    let put : HoldsColours racks (set waits n (Some y)) (with_holder H (rack_at racks n) y (Some n)) =
     Holds-put racks waits H n y waiting (omega (arith, length_push c none)) last small room free in
-    subst (λ k. Holds racks k (with_holder H (rack_at racks n) y (Some n))) (set_at c none [] (Some y) n count) put
+    subst (λ k. HoldsColours racks k (with_holder H (rack_at racks n) y (Some n))) (set_at c none [] (Some y) n count) put

@@ -9,9 +9,7 @@ use Rattle.greedy_rules.specs.Limits.{rack_of, KeepsLimits}
 use Rattle.clos_topology.specs.declared.graph.Edge.{Edge}
 use Rattle.clos_topology.specs.RackGraph.{rack_edges}
 use Rattle.edge_colouring.specs.Degrees.{rack_on, degree_on, LimitsAreDegrees}
-
-edge_of : ℕ → Flow → Edge
-edge_of hosts flow = record { source = flow.src; left = rack_of hosts flow.src; right = rack_of hosts flow.dst }
+use Rattle.edge_colouring.proofs.CleanLemmas.{edge_of}
 
 -- the end of a flow that counts on a side: at the left its source, at the right its destination
 abbrev end_on : Bool → Flow → ℕ

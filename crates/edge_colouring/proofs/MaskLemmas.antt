@@ -5,11 +5,12 @@ use Rattle.std.specs.Option.{is_some}
 use Rattle.std.proofs.lemmas.Bool.{cond-true, cond-false, cases_eq, eq-eqb, ne_eqb}
 use Rattle.std.proofs.lemmas.List.{get_or-replicate, get_or-set_same, get_or-set_other, get_or_read, length-replicate, length-set}
 use Rattle.std.proofs.lemmas.Nat.Bits.{bit_at_set_same, bit_at_set_other, bit_at_clear_same, bit_at_clear_other, bit_at-trailing_zeros, bit_at-zero, bit_at_ones, bit_at_and}
-use Rattle.edge_colouring.specs.Holders.{Holders, is_free, IsLowest}
+use Rattle.list_facts.proofs.Bools.{bit_test}
+use Rattle.edge_colouring.specs.Holders.{Holders, is_free_holder, IsLowest}
 
 -- the masks of a side: at each rack a bit for each core, 1 where it is free
 abbrev pub AreMasks : List ℕ → Holders → Type 0
-AreMasks masks holders = (rack core : ℕ) → rack < length masks → core < 64 → bit_at (get_or masks rack 0) core ≡ cond (is_free holders rack core) 1 0
+AreMasks masks holders = (rack core : ℕ) → rack < length masks → core < 64 → bit_at (get_or masks rack 0) core ≡ cond (is_free_holder holders rack core) 1 0
 
 pub bit_set : (mask at i : ℕ) (bit : Bool) → at < 64 → bit ≡ true → bit_at (bit_or mask (1 * 2 ^ at % 2 ^ 64)) i ≡ cond (i == at) (cond bit 1 0) (bit_at mask i)
 bit_set mask at i bit small is =
@@ -60,10 +61,6 @@ IsLowest-same p q core agree is = record {
   first = λ k lt. let b : core ≤ 64 = is.bound in sym (agree k (omega arith)) ∙ is.first k lt;
 }
 
-bit_test : (b : Bool) → (cond b 1 0 == 1) ≡ b
-bit_test true = refl
-bit_test false = refl
-
 both_test : (a b : Bool) → (min (cond a 1 0) (cond b 1 0) == 1) ≡ (a && b)
 both_test true true = refl
 both_test true false = refl
@@ -71,24 +68,24 @@ both_test false true = refl
 both_test false false = refl
 
 pub lowest_free_is : (masks : List ℕ) (H : List (Option ℕ)) (rack core : ℕ) → AreMasks masks H → rack < length masks
-    → IsLowest (λ k. bit_at (get_or masks rack 0) k == 1) core → IsLowest (is_free H rack) core
+    → IsLowest (λ k. bit_at (get_or masks rack 0) k == 1) core → IsLowest (is_free_holder H rack) core
 lowest_free_is masks H rack core are below is =
-    IsLowest-same (λ k. bit_at (get_or masks rack 0) k == 1) (is_free H rack) core (λ k lt. ap (λ (n : ℕ). n == 1) (are rack k below lt) ∙ bit_test (is_free H rack k)) is
+    IsLowest-same (λ k. bit_at (get_or masks rack 0) k == 1) (is_free_holder H rack) core (λ k lt. ap (λ (n : ℕ). n == 1) (are rack k below lt) ∙ bit_test (is_free_holder H rack k)) is
 
 pub lowest_common_is : (masks other_masks : List ℕ) (H other : List (Option ℕ)) (rack other_rack core : ℕ) → AreMasks masks H → AreMasks other_masks other → rack < length masks → other_rack < length other_masks
-    → IsLowest (λ k. bit_at (bit_and (get_or masks rack 0) (get_or other_masks other_rack 0)) k == 1) core → IsLowest (λ k. is_free H rack k && is_free other other_rack k) core
+    → IsLowest (λ k. bit_at (bit_and (get_or masks rack 0) (get_or other_masks other_rack 0)) k == 1) core → IsLowest (λ k. is_free_holder H rack k && is_free_holder other other_rack k) core
 lowest_common_is masks other_masks H other rack other_rack core are others below other_below is =
-    IsLowest-same (λ k. bit_at (bit_and (get_or masks rack 0) (get_or other_masks other_rack 0)) k == 1) (λ k. is_free H rack k && is_free other other_rack k) core
+    IsLowest-same (λ k. bit_at (bit_and (get_or masks rack 0) (get_or other_masks other_rack 0)) k == 1) (λ k. is_free_holder H rack k && is_free_holder other other_rack k) core
     (λ k lt.
     ap (λ (n : ℕ). n == 1) (bit_at_and (get_or masks rack 0) (get_or other_masks other_rack 0) k)
     ∙ (ap (λ (n : ℕ). min n (bit_at (get_or other_masks other_rack 0) k) == 1) (are rack k below lt)
-    ∙ (ap (λ (n : ℕ). min (cond (is_free H rack k) 1 0) n == 1) (others other_rack k other_below lt)
-    ∙ both_test (is_free H rack k) (is_free other other_rack k)))) is
+    ∙ (ap (λ (n : ℕ). min (cond (is_free_holder H rack k) 1 0) n == 1) (others other_rack k other_below lt)
+    ∙ both_test (is_free_holder H rack k) (is_free_holder other other_rack k)))) is
 
 -- the same of masks as they are read
 pub lowest_common_read : (masks other_masks : List ℕ) (H other : List (Option ℕ)) (rack other_rack core m n : ℕ) → AreMasks masks H → AreMasks other_masks other → rack < length masks → other_rack < length other_masks
     → m ≡ get_or masks rack m → n ≡ get_or other_masks other_rack n
-    → IsLowest (λ k. bit_at (bit_and m n) k == 1) core → IsLowest (λ k. is_free H rack k && is_free other other_rack k) core
+    → IsLowest (λ k. bit_at (bit_and m n) k == 1) core → IsLowest (λ k. is_free_holder H rack k && is_free_holder other other_rack k) core
 lowest_common_read masks other_masks H other rack other_rack core m n are others below other_below m_is n_is is =
     let m_at : m ≡ get_or masks rack 0 = get_or_read masks rack m below m_is 0 in
     let n_at : n ≡ get_or other_masks other_rack 0 = get_or_read other_masks other_rack n other_below n_is 0 in

@@ -8,7 +8,7 @@ use Rattle.std.proofs.lemmas.List.Sums.{sum_by-cons}
 use Rattle.clos_topology.specs.declared.graph.Edge.{Edge}
 use Rattle.edge_colouring.specs.Degrees.{rack_on, racks_on, degree_on, HasDegreesWithin}
 use Rattle.edge_colouring.specs.Cores.{core_in}
-use Rattle.edge_colouring.specs.Holders.{holder, with_holder, is_free, IsRackOf, IsLowest, Holds}
+use Rattle.edge_colouring.specs.Holders.{holder, with_holder, is_free_holder, IsRackOf, IsLowest, HoldsColours}
 use Rattle.edge_colouring.specs.Turns.{IsTurned, AreTurned, BeginsPath}
 use Rattle.edge_colouring.specs.Painted.{AreNamed, HasRacks, IsPainted, Awaits}
 use Rattle.edge_colouring.proofs.HoldsLemmas.{rack_at, IsTakenAt, named-within, Holds-push}
@@ -108,15 +108,15 @@ all_taken racks c t (suc m) count taken =
     subst P same (omega arith)
 
 -- who holds a core that is not free
-taken_by : (racks : List ℕ) (c H : List (Option ℕ)) (t k : ℕ) → Holds racks c H → k < 64 → is_free H t k ≡ false → IsTakenAt racks c t k
+taken_by : (racks : List ℕ) (c H : List (Option ℕ)) (t k : ℕ) → HoldsColours racks c H → k < 64 → is_free_holder H t k ≡ false → IsTakenAt racks c t k
 taken_by racks c H t k held small taken =
     let who = holder_of (holder H t k) taken in
     let is = held.holds t k who.0 small who.1 in
     (who.0, is.0, is.1)
 
 -- the lowest free core at the next edge's rack is below the degrees' bound
-pub free_below : (left : Bool) (edges : List Edge) (c H : List (Option ℕ)) (most t core : ℕ) → Holds (racks_on left edges) c H → length c < length edges → most ≤ 64
-    → degree_on left t edges ≤ most → rack_at (racks_on left edges) (length c) ≡ t → IsLowest (is_free H t) core → core < most
+pub free_below : (left : Bool) (edges : List Edge) (c H : List (Option ℕ)) (most t core : ℕ) → HoldsColours (racks_on left edges) c H → length c < length edges → most ≤ 64
+    → degree_on left t edges ≤ most → rack_at (racks_on left edges) (length c) ≡ t → IsLowest (is_free_holder H t) core → core < most
 free_below left edges c H most t core held short small degree is lowest =
     elim (cases_lt core most) [
       | inl below ↦ below
@@ -138,28 +138,28 @@ left_room {edges} {most} {n} {c} {L} {R} l next is = rack_room true edges L n l 
 pub right_room : {edges : List Edge} {most n : ℕ} {c L R : List (Option ℕ)} (r : ℕ) → Awaits edges most c L R n → r ≡ rack_at (racks_on false edges) n → IsRackOf R r
 right_room {edges} {most} {n} {c} {L} {R} r next is = rack_room false edges R n r next.right_racks next.within is
 
-pub left_below : {edges : List Edge} {most n : ℕ} {c L R : List (Option ℕ)} (l a : ℕ) → HasDegreesWithin most edges → Awaits edges most c L R n → l ≡ rack_at (racks_on true edges) n → IsLowest (is_free L l) a → a < most
+pub left_below : {edges : List Edge} {most n : ℕ} {c L R : List (Option ℕ)} (l a : ℕ) → HasDegreesWithin most edges → Awaits edges most c L R n → l ≡ rack_at (racks_on true edges) n → IsLowest (is_free_holder L l) a → a < most
 left_below {edges} {most} {n} {c} {L} {R} l a degrees next is lowest =
     free_below true edges c L most l a next.painted.left_side (omega (arith, next.within, next.count)) next.small (degrees true l) (ap (rack_at (racks_on true edges)) next.count ∙ sym is) lowest
 
-pub right_below : {edges : List Edge} {most n : ℕ} {c L R : List (Option ℕ)} (r b : ℕ) → HasDegreesWithin most edges → Awaits edges most c L R n → r ≡ rack_at (racks_on false edges) n → IsLowest (is_free R r) b → b < most
+pub right_below : {edges : List Edge} {most n : ℕ} {c L R : List (Option ℕ)} (r b : ℕ) → HasDegreesWithin most edges → Awaits edges most c L R n → r ≡ rack_at (racks_on false edges) n → IsLowest (is_free_holder R r) b → b < most
 right_below {edges} {most} {n} {c} {L} {R} r b degrees next is lowest =
     free_below false edges c R most r b next.painted.right_side (omega (arith, next.within, next.count)) next.small (degrees false r) (ap (rack_at (racks_on false edges)) next.count ∙ sym is) lowest
 
 -- it takes a core on one side
-takes_at : (racks : List ℕ) (c H : List (Option ℕ)) (n t y : ℕ) → Holds racks c H → length c ≡ n → y < 64 → IsRackOf H t → t ≡ rack_at racks n → IsTrue (is_free H t y) → Holds racks (c ++ Some y ∷ []) (with_holder H t y (Some n))
+takes_at : (racks : List ℕ) (c H : List (Option ℕ)) (n t y : ℕ) → HoldsColours racks c H → length c ≡ n → y < 64 → IsRackOf H t → t ≡ rack_at racks n → IsTrue (is_free_holder H t y) → HoldsColours racks (c ++ Some y ∷ []) (with_holder H t y (Some n))
 takes_at racks c H n t y held count small room is free =
-    let P : ℕ → Type 0 = λ k. Holds racks (c ++ Some y ∷ []) (with_holder H k y (Some n)) in
+    let P : ℕ → Type 0 = λ k. HoldsColours racks (c ++ Some y ∷ []) (with_holder H k y (Some n)) in
     let Q : ℕ → Type 0 = λ k. holder H k y ≡ None in
     let room' : IsRackOf H (rack_at racks n) = omega arith in
     subst P (sym is) (Holds-push racks c H n y held count small room' (subst Q is (nobody (holder H t y) free)))
 
 pub takes_common : {edges : List Edge} {most n : ℕ} {c L R : List (Option ℕ)} (l r common : ℕ) → Awaits edges most c L R n → l ≡ rack_at (racks_on true edges) n → r ≡ rack_at (racks_on false edges) n
-    → IsLowest (λ k. is_free L l k && is_free R r k) common → common < most
+    → IsLowest (λ k. is_free_holder L l k && is_free_holder R r k) common → common < most
     → IsPainted edges most (c ++ Some common ∷ []) (with_holder L l common (Some n)) (with_holder R r common (Some n))
 takes_common {edges} {most} {n} {c} {L} {R} l r common next left_is right_is lowest below =
     let small : common < 64 = omega (arith, next.small) in
-    let free = and_parts (is_free L l common) (is_free R r common) (lowest.passes small) in
+    let free = and_parts (is_free_holder L l common) (is_free_holder R r common) (lowest.passes small) in
     record {
       named = All-push (λ o. IsSomeAnd o (λ core. core < most)) c (Some common) next.painted.named below;
       left_side = takes_at (racks_on true edges) c L n l common next.painted.left_side next.count small (left_room l next left_is) left_is free.0;
@@ -171,13 +171,13 @@ same_racks left edges H H' same racks = λ k d below. let room = racks k d below
 
 -- where no core below the bound is common, it takes the one on the left side and the other on the right side
 pub begins_path : {edges : List Edge} {most n : ℕ} {c L R : List (Option ℕ)} (l r common a b : ℕ) → Awaits edges most c L R n → l ≡ rack_at (racks_on true edges) n → r ≡ rack_at (racks_on false edges) n
-    → IsLowest (λ k. is_free L l k && is_free R r k) common → most ≤ common → IsLowest (is_free L l) a → IsLowest (is_free R r) b → a < most → b < most
+    → IsLowest (λ k. is_free_holder L l k && is_free_holder R r k) common → most ≤ common → IsLowest (is_free_holder L l) a → IsLowest (is_free_holder R r) b → a < most → b < most
     → BeginsPath edges a b n (c ++ Some b ∷ []) (with_holder L l a (Some n)) (with_holder R r b (Some n))
 begins_path {edges} {most} {n} {c} {L} {R} l r common a b next left_is right_is lowest none lowest_a lowest_b below_a below_b =
     let small_a : a < 64 = omega (arith, next.small) in
     let small_b : b < 64 = omega (arith, next.small) in
-    let free_a : is_free L l a ≡ true = lowest_a.passes small_a in
-    let free_b : is_free R r b ≡ true = lowest_b.passes small_b in
+    let free_a : is_free_holder L l a ≡ true = lowest_a.passes small_a in
+    let free_b : is_free_holder R r b ≡ true = lowest_b.passes small_b in
     record {
       count = omega (arith, length_push c (Some b), next.within, next.count);
       left_racks = same_racks true edges L (with_holder L l a (Some n)) (length-set L (l * 64 + a) (Some n)) next.left_racks;
@@ -185,11 +185,11 @@ begins_path {edges} {most} {n} {c} {L} {R} l r common a b next left_is right_is 
       small_a = small_a;
       small_b = small_b;
       differ = λ same.
-          let both : (is_free L l a && is_free R r a) ≡ true = and_from (is_free L l a) (is_free R r a) free_a (ap (is_free R r) same ∙ free_b) in
-          let not_both : (is_free L l a && is_free R r a) ≡ false = lowest.first a (omega arith) in
+          let both : (is_free_holder L l a && is_free_holder R r a) ≡ true = and_from (is_free_holder L l a) (is_free_holder R r a) free_a (ap (is_free_holder R r) same ∙ free_b) in
+          let not_both : (is_free_holder L l a && is_free_holder R r a) ≡ false = lowest.first a (omega arith) in
           cc;
       core = get_or_push c (Some b) None n next.count;
-      left_side = subst (λ k. Holds (racks_on true edges) k (with_holder L l a (Some n))) (sym (set_at c (Some b) [] (Some a) n next.count))
+      left_side = subst (λ k. HoldsColours (racks_on true edges) k (with_holder L l a (Some n))) (sym (set_at c (Some b) [] (Some a) n next.count))
           (takes_at (racks_on true edges) c L n l a next.painted.left_side next.count small_a (left_room l next left_is) left_is free_a);
       right_side = takes_at (racks_on false edges) c R n r b next.painted.right_side next.count small_b (right_room r next right_is) right_is free_b;
     }

@@ -5,7 +5,8 @@ use Rattle.std.specs.Option.{is_some, is_none, unwrap_or}
 use Rattle.std.proofs.lemmas.Bool.{cases_eq, cond-true, cond-false, eq-eqb, ne_eqb}
 use Rattle.std.proofs.lemmas.List.{get_or_read, get_or-replicate, get_or-set_same, get_or-set_other, length-replicate, length-set}
 use Rattle.std.proofs.lemmas.Nat.Bits.{bit_at-lt, bit_at_ones}
-use Rattle.edge_colouring.specs.Holders.{shown_from, shown, is_free, IsRackOf}
+use Rattle.list_facts.proofs.Bools.{bit_test}
+use Rattle.edge_colouring.specs.Holders.{shown_from, holders_shown, is_free_holder, IsRackOf}
 
 -- what a place shows
 abbrev pub cell : List ℕ → ℕ → ℕ → Option ℕ
@@ -22,10 +23,10 @@ get_or-shown_from place masks (edge ∷ edges) (suc k) below =
     let same : place + 1 + k ≡ place + suc k = omega arith in
     get_or-shown_from (place + 1) masks edges k (omega (arith, below)) ∙ ap (λ (p : ℕ). cell masks p (get_or edges k 0)) same
 
-pub length-shown : (masks edges : List ℕ) → length (shown masks edges) ≡ length edges
+pub length-shown : (masks edges : List ℕ) → length (holders_shown masks edges) ≡ length edges
 length-shown masks edges = length-shown_from 0 masks edges
 
-pub get_or-shown : (masks edges : List ℕ) (k : ℕ) → k < length edges → get_or (shown masks edges) k None ≡ cell masks k (get_or edges k 0)
+pub get_or-shown : (masks edges : List ℕ) (k : ℕ) → k < length edges → get_or (holders_shown masks edges) k None ≡ cell masks k (get_or edges k 0)
 get_or-shown masks edges k below = let same : 0 + k ≡ k = omega arith in get_or-shown_from 0 masks edges k below ∙ ap (λ (p : ℕ). cell masks p (get_or edges k 0)) same
 
 -- lists with the same elements
@@ -49,10 +50,10 @@ pub cell-place : (masks : List ℕ) (rack core edge : ℕ) → core < 64 → cel
 cell-place masks rack core edge small = λ i. cond (bit_at (get_or masks (place-rack rack core small i) 0) (place-core rack core small i) == 1) None (Some edge)
 
 -- all cores free
-pub shown-free : (masks edges : List ℕ) → length edges ≤ length masks * 64 → ((rack : ℕ) → rack < length masks → get_or masks rack 0 ≡ 2 ^ 64 - 1) → shown masks edges ≡ replicate (length edges) None
+pub shown-free : (masks edges : List ℕ) → length edges ≤ length masks * 64 → ((rack : ℕ) → rack < length masks → get_or masks rack 0 ≡ 2 ^ 64 - 1) → holders_shown masks edges ≡ replicate (length edges) None
 shown-free masks edges room ones =
     let none : Option ℕ = None in
-    same_lists (shown masks edges) (replicate (length edges) none) (length-shown masks edges ∙ sym (length-replicate (length edges) none)) (λ k below.
+    same_lists (holders_shown masks edges) (replicate (length edges) none) (length-shown masks edges ∙ sym (length-replicate (length edges) none)) (λ k below.
     let in_edges : k < length edges = omega (arith, below, length-shown masks edges) in
     let rack : k / 64 < length masks = omega (arith, in_edges, room) in
     let core : k % 64 < 64 = omega arith in
@@ -65,12 +66,12 @@ shown-free masks edges room ones =
 pub shown-put : (masks new edges written : List ℕ) (rack core : ℕ) (o : Option ℕ) → core < 64 → rack * 64 + core < length edges → length written ≡ length edges
     → ((r : ℕ) → r ≢ rack → get_or new r 0 ≡ get_or masks r 0) → ((c : ℕ) → c < 64 → c ≢ core → bit_at (get_or new rack 0) c ≡ bit_at (get_or masks rack 0) c)
     → ((k : ℕ) → k ≢ rack * 64 + core → get_or written k 0 ≡ get_or edges k 0) → cell new (rack * 64 + core) (get_or written (rack * 64 + core) 0) ≡ o
-    → shown new written ≡ set (shown masks edges) (rack * 64 + core) o
+    → holders_shown new written ≡ set (holders_shown masks edges) (rack * 64 + core) o
 shown-put masks new edges written rack core o small within len racks bits others here =
     let place : ℕ = rack * 64 + core in
-    let old : List (Option ℕ) = shown masks edges in
+    let old : List (Option ℕ) = holders_shown masks edges in
     let room : place < length old = omega (arith, within, length-shown masks edges) in
-    same_lists (shown new written) (set old place o) (omega (arith, len, length-shown new written, length-shown masks edges, length-set old place o)) (λ k below.
+    same_lists (holders_shown new written) (set old place o) (omega (arith, len, length-shown new written, length-shown masks edges, length-set old place o)) (λ k below.
     let in_written : k < length written = omega (arith, below, length-shown new written) in
     get_or-shown new written k in_written
     ∙ elim (cases_eq k place) [
@@ -96,21 +97,21 @@ free_bit (suc zero) edge small = refl
 free_bit (suc (suc bit)) edge small = absurd (omega (arith, small))
 
 -- the masks tell which cores are free
-pub masks_tell : (masks edges : List ℕ) → length edges ≡ length masks * 64 → (rack core : ℕ) → rack < length masks → core < 64 → bit_at (get_or masks rack 0) core ≡ cond (is_free (shown masks edges) rack core) 1 0
+pub masks_tell : (masks edges : List ℕ) → length edges ≡ length masks * 64 → (rack core : ℕ) → rack < length masks → core < 64 → bit_at (get_or masks rack 0) core ≡ cond (is_free_holder (holders_shown masks edges) rack core) 1 0
 masks_tell masks edges len rack core below small =
     let edge : ℕ = get_or edges (rack * 64 + core) 0 in
     let bit : ℕ = bit_at (get_or masks rack 0) core in
-    let shows : get_or (shown masks edges) (rack * 64 + core) None ≡ cond (bit == 1) None (Some edge) = get_or-shown masks edges (rack * 64 + core) (omega (arith, below, small, len)) ∙ cell-place masks rack core edge small in
+    let shows : get_or (holders_shown masks edges) (rack * 64 + core) None ≡ cond (bit == 1) None (Some edge) = get_or-shown masks edges (rack * 64 + core) (omega (arith, below, small, len)) ∙ cell-place masks rack core edge small in
     free_bit bit edge (bit_at-lt (get_or masks rack 0) core) ∙ ap (λ (o : Option ℕ). cond (not (is_some o)) 1 0) (sym shows)
 
 -- a rack of a side lies within its masks and its edges
-pub rack_fits : {Y Z : Type 0} (free : Vec ℕ Y) (holders : Vec ℕ Z) (side : List (Option ℕ)) (rack : ℕ) → shown free.items holders.items ≡ side → vec_len holders ≡ vec_len free * 64 → IsRackOf side rack → (rack < vec_len free) × (rack * 64 + 64 ≤ vec_len holders)
+pub rack_fits : {Y Z : Type 0} (free : Vec ℕ Y) (holders : Vec ℕ Z) (side : List (Option ℕ)) (rack : ℕ) → holders_shown free.items holders.items ≡ side → vec_len holders ≡ vec_len free * 64 → IsRackOf side rack → (rack < vec_len free) × (rack * 64 + 64 ≤ vec_len holders)
 rack_fits free holders side rack is size within =
     let len : length side ≡ vec_len holders = ap (λ (xs : List (Option ℕ)). length xs) (sym is) ∙ (length-shown free.items holders.items ∙ sym holders.ok.0) in
     (omega (arith, len, size, within), omega (arith, len, within))
 
 -- who holds a core that is free, and one that isn't
-pub held-free : (masks edges : List ℕ) (rack core mask : ℕ) → core < 64 → rack * 64 + core < length edges → rack < length masks → mask ≡ get_or masks rack mask → (bit_at mask core == 1) ≡ true → None ≡ get_or (shown masks edges) (rack * 64 + core) None
+pub held-free : (masks edges : List ℕ) (rack core mask : ℕ) → core < 64 → rack * 64 + core < length edges → rack < length masks → mask ≡ get_or masks rack mask → (bit_at mask core == 1) ≡ true → None ≡ get_or (holders_shown masks edges) (rack * 64 + core) None
 held-free masks edges rack core mask small within below is set =
     let edge : ℕ = get_or edges (rack * 64 + core) 0 in
     let at : mask ≡ get_or masks rack 0 = get_or_read masks rack mask below is 0 in
@@ -118,7 +119,7 @@ held-free masks edges rack core mask small within below is set =
     ∙ cond-true (bit_at (get_or masks rack 0) core == 1) None (Some edge) (ap (λ (m : ℕ). bit_at m core == 1) (sym at) ∙ set)))
 
 pub held-by : (masks edges : List ℕ) (rack core mask place edge : ℕ) → core < 64 → rack * 64 + core < length edges → rack < length masks → mask ≡ get_or masks rack mask → place ≡ rack * 64 + core → edge ≡ get_or edges place edge → (bit_at mask core == 1) ≡ false
-    → Some edge ≡ get_or (shown masks edges) (rack * 64 + core) None
+    → Some edge ≡ get_or (holders_shown masks edges) (rack * 64 + core) None
 held-by masks edges rack core mask place edge small within below is place_is edge_is clear =
     let at : mask ≡ get_or masks rack 0 = get_or_read masks rack mask below is 0 in
     let edge_at : edge ≡ get_or edges (rack * 64 + core) 0 = get_or_read edges place edge (omega (arith, place_is, within)) edge_is 0 ∙ ap (λ (p : ℕ). get_or edges p 0) place_is in
@@ -130,10 +131,6 @@ written_cell : (edge : Option ℕ) → cond (is_none edge) None (Some (unwrap_or
 written_cell None = refl
 written_cell (Some e) = refl
 
-one_test : (b : Bool) → (cond b 1 0 == 1) ≡ b
-one_test true = refl
-one_test false = refl
-
 pub none_is : (edge : Option ℕ) (b : Bool) → is_some edge ≡ not b → b ≡ is_none edge
 none_is None true is = refl
 none_is None false is = absurd (cc)
@@ -142,7 +139,7 @@ none_is (Some e) false is = refl
 
 -- a mask and an edge are written
 pub shown-written : (masks edges : List ℕ) (rack core mask bits place : ℕ) (edge : Option ℕ) → core < 64 → rack * 64 + core < length edges → rack < length masks → mask ≡ get_or masks rack mask → place ≡ rack * 64 + core
-    → ((i : ℕ) → i < 64 → bit_at bits i ≡ cond (i == core) (cond (is_none edge) 1 0) (bit_at mask i)) → shown (set masks rack bits) (set edges place (unwrap_or edge 0)) ≡ set (shown masks edges) (rack * 64 + core) edge
+    → ((i : ℕ) → i < 64 → bit_at bits i ≡ cond (i == core) (cond (is_none edge) 1 0) (bit_at mask i)) → holders_shown (set masks rack bits) (set edges place (unwrap_or edge 0)) ≡ set (holders_shown masks edges) (rack * 64 + core) edge
 shown-written masks edges rack core mask bits place edge small within below is place_is bits_are =
     let at : mask ≡ get_or masks rack 0 = get_or_read masks rack mask below is 0 in
     let new : List ℕ = set masks rack bits in
@@ -154,8 +151,8 @@ shown-written masks edges rack core mask bits place edge small within below is p
     ap (λ (m : ℕ). bit_at m core) mask_is ∙ (bits_are core small ∙ cond-true (core == core) (cond (is_none edge) 1 0) (bit_at mask core) (eq-eqb core core refl)) in
     let here : cell new (rack * 64 + core) (get_or written (rack * 64 + core) 0) ≡ edge =
     cell-place new rack core (get_or written (rack * 64 + core) 0) small
-    ∙ ((λ i. cond (bit i == 1) None (Some (edge_is i))) ∙ (ap (λ (b : Bool). cond b None (Some held)) (one_test (is_none edge)) ∙ written_cell edge)) in
-    ap (λ (p : ℕ). shown new (set edges p held)) place_is
+    ∙ ((λ i. cond (bit i == 1) None (Some (edge_is i))) ∙ (ap (λ (b : Bool). cond b None (Some held)) (bit_test (is_none edge)) ∙ written_cell edge)) in
+    ap (λ (p : ℕ). holders_shown new (set edges p held)) place_is
     ∙ shown-put masks new edges written rack core edge small within (length-set edges (rack * 64 + core) held) (λ r other. get_or-set_other masks rack r bits 0 other)
     (λ c c_small other. ap (λ (m : ℕ). bit_at m c) mask_is ∙ (bits_are c c_small ∙ (cond-false (c == core) (cond (is_none edge) 1 0) (bit_at mask c) (ne_eqb c core other) ∙ ap (λ (m : ℕ). bit_at m c) at)))
     (λ k other. get_or-set_other edges (rack * 64 + core) k held 0 other) here

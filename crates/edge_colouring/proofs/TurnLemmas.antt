@@ -8,20 +8,20 @@ use Rattle.std.proofs.lemmas.List.{get_or-set_same, get_or-set_other, length-set
 use Rattle.clos_topology.specs.declared.graph.Edge.{Edge}
 use Rattle.edge_colouring.specs.Degrees.{rack_on, racks_on}
 use Rattle.edge_colouring.specs.Cores.{core_in}
-use Rattle.edge_colouring.specs.Holders.{holder, with_holder, IsRackOf, Holds}
+use Rattle.edge_colouring.specs.Holders.{holder, with_holder, IsRackOf, HoldsColours}
 use Rattle.edge_colouring.specs.Turns.{IsTurned, AreTurned, IsTurn, BeginsPath, handed_on}
 use Rattle.edge_colouring.proofs.HoldsLemmas.{rack_at, named-within, Holds-moved, Holds-exchanged, one_holder}
 
 pub record IsDisplaced (far near : List ℕ) (x y : ℕ) (T N c : List (Option ℕ)) (f : ℕ) : Type 0 where
-  pub far_side : Holds far c T
-  pub near_side : Holds near (set c f (Some y)) N
+  pub far_side : HoldsColours far c T
+  pub near_side : HoldsColours near (set c f (Some y)) N
   pub now : core_in c f ≡ Some x
 
 -- nobody held y there: the path ends
 pub path_ends : (far near : List ℕ) (x y : ℕ) (T N c : List (Option ℕ)) (f : ℕ) → IsDisplaced far near x y T N c f → x < 64 → y < 64 → x ≢ y → IsRackOf T (rack_at far f) → holder T (rack_at far f) y ≡ None
-    → Holds far (set c f (Some y)) (handed_on far x y T f)
+    → HoldsColours far (set c f (Some y)) (handed_on far x y T f)
 path_ends far near x y T N c f is small_x small_y differ room free =
-    subst (λ o. Holds far (set c f (Some y)) (with_holder (with_holder T (rack_at far f) y (Some f)) (rack_at far f) x o)) (sym free)
+    subst (λ o. HoldsColours far (set c f (Some y)) (with_holder (with_holder T (rack_at far f) y (Some f)) (rack_at far f) x o)) (sym free)
     (Holds-moved far c T f x y is.far_side is.now small_x small_y differ room free)
 
 -- who held y there is displaced next
@@ -32,7 +32,7 @@ path_goes_on far near x y T N c f g is small_x small_y differ room taken =
     let other : g ≢ f = λ e. let same : core_in c g ≡ core_in c f = ap (core_in c) e in let meet : Some y ≡ Some x = sym there.1 ∙ (same ∙ is.now) in let equal : y ≡ x = cc in differ (sym equal) in
     record {
       far_side = is.near_side;
-      near_side = subst (λ o. Holds far (set (set c f (Some y)) g (Some x)) (with_holder (with_holder T (rack_at far f) y (Some f)) (rack_at far f) x o)) (sym taken)
+      near_side = subst (λ o. HoldsColours far (set (set c f (Some y)) g (Some x)) (with_holder (with_holder T (rack_at far f) y (Some f)) (rack_at far f) x o)) (sym taken)
           (Holds-exchanged far c T f g x y is.far_side is.now small_x small_y differ room taken);
       now = get_or-set_other c f g (Some y) None other ∙ there.1;
     }
@@ -95,8 +95,8 @@ path_step {far} {near} {x} {y} {c0} {T} {T'} {N} {c} {c'} {f} {g} {o} path turn 
     subst (λ k. IsOnPath near far y x c0 N T' k g) (sym turn.colours) (subst (λ h. IsOnPath near far y x c0 N h (set c f (Some y)) g) (sym turn.holders) step)
 
 pub record HasEnded (far near : List ℕ) (x y : ℕ) (c0 T N c : List (Option ℕ)) : Type 0 where
-  pub far_side : Holds far c T
-  pub near_side : Holds near c N
+  pub far_side : HoldsColours far c T
+  pub near_side : HoldsColours near c N
   pub turned : AreTurned x y c0 c
 
 pub path_end : {far near : List ℕ} {x y : ℕ} {c0 T T' N c c' : List (Option ℕ)} {f : ℕ} {o : Option ℕ} → IsOnPath far near x y c0 T N c f → IsTurn far x y T T' c c' f o → x < 64 → y < 64 → x ≢ y
@@ -153,7 +153,7 @@ turn_is_smaller {far} {near} {x} {y} {c0} {T} {T'} {N} {c} {c'} {f} {o} path tur
     ap (λ (k : List (Option ℕ)). unmoved k c0 + 1) turn.colours ∙ unmoved-set c c0 f x y path.displaced.now path.before differ
 
 -- no two edges of a rack had one core, by who held it
-pub HadOneEach-from_held : (racks : List ℕ) (c0 H0 : List (Option ℕ)) (x : ℕ) → Holds racks c0 H0 → x < 64 → HadOneEach racks c0 x
+pub HadOneEach-from_held : (racks : List ℕ) (c0 H0 : List (Option ℕ)) (x : ℕ) → HoldsColours racks c0 H0 → x < 64 → HadOneEach racks c0 x
 HadOneEach-from_held racks c0 H0 x held small = λ k l same k_has l_has. one_holder racks c0 H0 k l x held small same k_has l_has
 
 -- nor without an edge that has this core later
@@ -165,7 +165,7 @@ HadOneEach-from_set racks c0 first a b one differ is k l same k_has l_has =
     (get_or-set_other c0 first l (Some a) None (apart l l_has) ∙ l_has)
 
 -- the same on the side where the first edge is held at a already
-pub HadOneEach-from_first : (racks : List ℕ) (c0 H0 : List (Option ℕ)) (first a b : ℕ) → Holds racks (set c0 first (Some a)) H0 → a < 64 → a ≢ b → core_in c0 first ≡ Some b → HadOneEach racks c0 a
+pub HadOneEach-from_first : (racks : List ℕ) (c0 H0 : List (Option ℕ)) (first a b : ℕ) → HoldsColours racks (set c0 first (Some a)) H0 → a < 64 → a ≢ b → core_in c0 first ≡ Some b → HadOneEach racks c0 a
 HadOneEach-from_first racks c0 H0 first a b held small differ is =
     HadOneEach-from_set racks c0 first a b (HadOneEach-from_held racks (set c0 first (Some a)) H0 a held small) differ is
 

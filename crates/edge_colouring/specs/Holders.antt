@@ -14,8 +14,8 @@ holder holders rack core = slice_index_or holders (rack * 64 + core) None
 abbrev pub with_holder : Holders → ℕ → ℕ → Option ℕ → Holders
 with_holder holders rack core edge = slice_set holders (rack * 64 + core) edge
 
-abbrev pub is_free : Holders → ℕ → ℕ → Bool
-is_free holders rack core = not (is_some (holder holders rack core))
+abbrev pub is_free_holder : Holders → ℕ → ℕ → Bool
+is_free_holder holders rack core = not (is_some (holder holders rack core))
 
 -- a rack of a side
 abbrev pub IsRackOf : Holders → ℕ → Type 0
@@ -33,10 +33,10 @@ shown_from place masks [] = []
 shown_from place masks (edge ∷ edges) =
     (if bit_at (slice_index masks (place / 64)) (place % 64) == 1 then None else Some edge) ∷ shown_from (place + 1) masks edges
 
-abbrev pub shown : List ℕ → List ℕ → Holders
-shown masks edges = shown_from 0 masks edges
+abbrev pub holders_shown : List ℕ → List ℕ → Holders
+holders_shown masks edges = shown_from 0 masks edges
 
 -- each edge that has a core holds it at its rack, and nothing else is held
-pub record Holds (racks : List ℕ) (colours holders : List (Option ℕ)) : Type 0 where
+pub record HoldsColours (racks : List ℕ) (colours holders : List (Option ℕ)) : Type 0 where
   pub held : (at core : ℕ) → core < 64 → core_in colours at ≡ Some core → holder holders (slice_index racks at) core ≡ Some at
   pub holds : (rack core at : ℕ) → core < 64 → holder holders rack core ≡ Some at → (slice_index racks at ≡ rack) × (core_in colours at ≡ Some core)

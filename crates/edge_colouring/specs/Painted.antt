@@ -4,7 +4,7 @@ use Rattle.std.specs.List.{slice_index_or}
 use Rattle.clos_topology.specs.declared.graph.Edge.{Edge}
 use Rattle.edge_colouring.specs.Degrees.{racks_on}
 use Rattle.edge_colouring.specs.Cores.{core_in}
-use Rattle.edge_colouring.specs.Holders.{Holders, IsRackOf, Holds}
+use Rattle.edge_colouring.specs.Holders.{Holders, IsRackOf, HoldsColours}
 
 abbrev pub AreNamed : ℕ → List (Option ℕ) → Type 0
 AreNamed most colours = All (λ colour. IsSomeAnd colour (λ core. core < most)) colours
@@ -16,8 +16,8 @@ HasRacks left edges holders = All (IsRackOf holders) (racks_on left edges)
 -- the first edges have cores below this number, which the two sides hold for them
 pub record IsPainted (edges : List Edge) (most : ℕ) (colours left right : List (Option ℕ)) : Type 0 where
   pub named : AreNamed most colours
-  pub left_side : Holds (racks_on true edges) colours left
-  pub right_side : Holds (racks_on false edges) colours right
+  pub left_side : HoldsColours (racks_on true edges) colours left
+  pub right_side : HoldsColours (racks_on false edges) colours right
 
 -- as many edges as this one's place are painted, and it can be
 pub record Awaits (edges : List Edge) (most : ℕ) (colours left right : List (Option ℕ)) (edge : ℕ) : Type 0 where

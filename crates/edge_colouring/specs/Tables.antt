@@ -4,7 +4,7 @@ use Rattle.clos_topology.specs.Network.{endpoints_of}
 use Rattle.clos_topology.specs.Limits.{IsNetwork}
 use Rattle.edge_colouring.specs.declared.table.Table.TheInside.{Inside}
 
-pub record IsTable (table : Inside) : Type 0 where
+pub record IsColourTable (table : Inside) : Type 0 where
   pub net : IsNetwork table.net
   pub cores : vec_len table.cores ≡ endpoints_of table.net
   pub degrees : vec_len table.degrees ≡ table.net.racks

@@ -3,7 +3,7 @@ use Rattle.std.specs.Prelude.{◌≡◌, ◌≢◌, ◌<◌, ◌≤◌, ◌⊎�
 use Rattle.clos_topology.specs.declared.graph.Edge.{Edge}
 use Rattle.edge_colouring.specs.Degrees.{racks_on}
 use Rattle.edge_colouring.specs.Cores.{core_in}
-use Rattle.edge_colouring.specs.Holders.{Holders, holder, with_holder, IsRackOf, Holds}
+use Rattle.edge_colouring.specs.Holders.{Holders, holder, with_holder, IsRackOf, HoldsColours}
 
 -- the core of an edge before and after: the same, or one of the two and then the other
 abbrev pub IsTurned : ℕ → ℕ → Option ℕ → Option ℕ → Type 0
@@ -35,5 +35,5 @@ pub record BeginsPath (edges : List Edge) (a b first : ℕ) (colours left right 
   pub small_b : b < 64
   pub differ : a ≢ b
   pub core : core_in colours first ≡ Some b
-  pub left_side : Holds (racks_on true edges) (slice_set colours first (Some a)) left
-  pub right_side : Holds (racks_on false edges) colours right
+  pub left_side : HoldsColours (racks_on true edges) (slice_set colours first (Some a)) left
+  pub right_side : HoldsColours (racks_on false edges) colours right

@@ -1,6 +1,6 @@
 ghost use Rattle.std.specs.Prelude.{◌≡◌, ◌<◌, ◌≤◌, ◌+◌, ◌*◌, [], length, replicate, true, false, None, IfOk, IsTrue, slice_index, vec_len, vec_capacity};
 ghost use Rattle.edge_colouring.specs.Degrees.{racks_on, HasDegreesWithin};
-ghost use Rattle.edge_colouring.specs.Holders.{holder, Holds, IsRackOf};
+ghost use Rattle.edge_colouring.specs.Holders.{holder, HoldsColours, IsRackOf};
 ghost use Rattle.edge_colouring.specs.Turns.{AreTurned, IsTurn, BeginsPath};
 ghost use Rattle.edge_colouring.specs.Painted.{IsPainted, Awaits, HasRacks};
 
@@ -138,8 +138,8 @@ fn exchange(
     b: u16,
 )
     requires { BeginsPath graph.now.edges a b first colours.old left.old right.old }
-    ensures left { Holds (racks_on true graph.now.edges) colours.new left.new }
-    ensures right { Holds (racks_on false graph.now.edges) colours.new right.new }
+    ensures left { HoldsColours (racks_on true graph.now.edges) colours.new left.new }
+    ensures right { HoldsColours (racks_on false graph.now.edges) colours.new right.new }
     ensures left_room { length left.new ≡ length left.old }
     ensures right_room { length right.new ≡ length right.old }
     ensures turned { AreTurned a b colours.old colours.new }

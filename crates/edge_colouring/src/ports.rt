@@ -1,6 +1,6 @@
 ghost use Rattle.std.specs.Prelude.{◌≡◌, ◌<◌, ◌≤◌, ◌+◌, ◌*◌, ◌^◌, ℕ, List, length, replicate, None, Bool, IfOk, ◌&&◌, ◌==◌, is_some, if◌then◌else◌};
 ghost use Rattle.std.specs.Int.{bit_at};
-ghost use Rattle.edge_colouring.specs.Holders.{holder, with_holder, is_free, IsRackOf, IsLowest};
+ghost use Rattle.edge_colouring.specs.Holders.{holder, with_holder, is_free_holder, IsRackOf, IsLowest};
 
 use no_memory::NoMemory;
 use std::alloc::Global;
@@ -19,11 +19,11 @@ pub(crate) struct Ports {
 
 impl Model for Ports {
     ghost use Rattle.std.specs.Prelude.{◌≡◌, ◌*◌, ℕ, List, Option, vec_len};
-    ghost use Rattle.edge_colouring.specs.Holders.{shown};
+    ghost use Rattle.edge_colouring.specs.Holders.{holders_shown};
 
     ghost Value = { List (Option ℕ) };
 
-    ghost view = { λ p. shown p.free.items p.holders.items };
+    ghost view = { λ p. holders_shown p.free.items p.holders.items };
 
     ghost invariant = { λ p. vec_len p.holders ≡ vec_len p.free * 64 };
 }
@@ -72,7 +72,7 @@ impl Ports {
     /// The lowest core that is free at the rack, or 64.
     pub(crate) fn lowest_free(&self, rack: u16) -> u16
         requires { IsRackOf self.now rack }
-        ensures { IsLowest (is_free self.now rack) result }
+        ensures { IsLowest (is_free_holder self.now rack) result }
     {
         lowest(self.free[rack as usize])
     }
@@ -81,7 +81,7 @@ impl Ports {
     pub(crate) fn lowest_common(&self, rack: u16, other: &Ports, other_rack: u16) -> u16
         requires rack { IsRackOf self.now rack }
         requires other_rack { IsRackOf other.now other_rack }
-        ensures { IsLowest (λ core. is_free self.now rack core && is_free other.now other_rack core) result }
+        ensures { IsLowest (λ core. is_free_holder self.now rack core && is_free_holder other.now other_rack core) result }
     {
         lowest(self.free[rack as usize] & other.free[other_rack as usize])
     }

@@ -27,11 +27,11 @@ impl Model for Table {
 
     ghost Value = { Cores };
 
-    ghost use Rattle.edge_colouring.specs.Tables.{IsTable};
+    ghost use Rattle.edge_colouring.specs.Tables.{IsColourTable};
 
     ghost view = { λ t. record { net = t.net; cores = t.cores.items } };
 
-    ghost invariant = { IsTable };
+    ghost invariant = { IsColourTable };
 }
 
 impl Table {

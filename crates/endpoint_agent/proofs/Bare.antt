@@ -1,7 +1,7 @@
 -- Numbers without what their requests name.
 use Rattle.std.proofs.Common.{◌≡◌, ℕ, zero, suc, ◌+◌, ◌<◌, ◌≤◌, max, Bool, true, false, cond, List, [], ◌∷◌, ◌++◌, map, Option, Some, None, unwrap_or, refl, sym, ◌∙◌, ap, inl, inr, arith}
 use Rattle.std.specs.Prelude.{is_none}
-use Rattle.std.proofs.lemmas.Bool.{cases_Bool, cases_lt, lt-ltb, le-ltb, eq-eqb, ne_eqb, false≢true}
+use Rattle.std.proofs.lemmas.Bool.{cases_Bool, eq-eqb, false≢true}
 use Rattle.std.proofs.lemmas.List.{map-append}
 use Rattle.ack_window.specs.declared.acknowledgement.Acknowledgement.{Acknowledgement}
 use Rattle.ack_window.specs.declared.acknowledgement.Decision.{Decision}
@@ -13,6 +13,7 @@ use Rattle.ack_window.specs.Ends.{content_of}
 use Rattle.ack_window.specs.Outstanding.{may_send_new, decided_in, left_in}
 use Rattle.ack_window.specs.Sends.{Event, Sends, Reads, newest_of, newest_content, numbers_sent, decision_of, first_decision, open_numbers, decided_by}
 use Rattle.fcp_framing.specs.declared.packet.Demand.{Demand}
+use Rattle.endpoint_history.proofs.CallCounts.{read-above}
 use Rattle.endpoint_agent.specs.Carrying.{bare, greatest_in, greatest_acknowledged, greatest_shown}
 
 pub bare-newest : (sent : List (Event (List Demand))) → newest_of (map bare sent) ≡ newest_of sent
@@ -94,13 +95,6 @@ newest-content (Sends demands ∷ earlier) some =
 newest-content (Reads ack ∷ earlier) some = newest-content earlier some
 
 -- ---- what an acknowledgement shows
-
-read-above : (reorder span newest : ℕ) (ack : Acknowledgement) (number : ℕ) → newest < number → decision_read reorder span newest ack number ≡ None
-read-above reorder span newest ack number above = elim (cases_lt newest ack.high) [
-  | inl passed ↦ rw (lt-ltb newest ack.high passed) refl
-  | inr low ↦
-      rw (le-ltb newest ack.high low, ne_eqb number ack.high (λ e. omega (arith, e, low, above)), le-ltb number ack.high (omega (arith, low, above)), le-ltb (number + reorder) ack.high (omega (arith, low, above))) refl
-]
 
 undecided-above : (reorder span : ℕ) (sent : List (Event (Unit {0}))) (number : ℕ) → newest_of sent < number → decision_of reorder span sent number ≡ None
 undecided-above reorder span [] number above = refl

@@ -14,11 +14,11 @@ use Rattle.fcp_framing.specs.declared.packet.Told.{Told}
 use Rattle.endpoint_history.specs.Packets.{DownPacket, slots_to}
 use Rattle.endpoint_history.specs.Agent.{AgentHistory, Boots, Asks, TakesDown, MakesUp, SendsDue, TakenDown, version_of, epoch_of, is_current, takes, arrived, taken, is_none_taken, is_in_time, asked, missed, sends_new, unconfirmed, numbers}
 use Rattle.endpoint_history.specs.AgentLaws.{TakingBringsSlots}
-use Rattle.endpoint_history.specs.Sending.{slots_of, due, sent_of, sent_now, sends, sent_in}
+use Rattle.endpoint_history.specs.Sending.{slots_of_telling, due, sent_of, sent_now, sends, sent_in}
 use Rattle.endpoint_agent.specs.declared.lines.FlowLine.{FlowLine}
 use Rattle.endpoint_agent.specs.Carrying.{bare, bare_numbers, greatest_acknowledged, greatest_shown, carried_from}
 use Rattle.endpoint_agent.specs.Lines.{with_asked, with_missed, with_sent}
-use Rattle.endpoint_agent.specs.Standing.{line_of, StandsFor}
+use Rattle.endpoint_agent.specs.Standing.{line_of, AgentStandsFor}
 use Rattle.endpoint_agent.specs.Timely.{AreTold}
 use Rattle.endpoint_agent.specs.State.{AgentState, line_at, first_waiting, waits_of}
 use Rattle.endpoint_agent.proofs.Bare.{bare-newest, bare-may_send, greatest-sends, greatest-reads}
@@ -27,7 +27,7 @@ use Rattle.endpoint_agent.proofs.Sound.{opened}
 use Rattle.endpoint_agent.proofs.Walking.{no_line, to}
 
 -- the number of the next request
-pub next-number : (agent : AgentState) (history : AgentHistory) → StandsFor agent history → agent.sent.outstanding.newest + 1 ≡ newest_of (numbers agent.endpoints agent.g history) + 1
+pub next-number : (agent : AgentState) (history : AgentHistory) → AgentStandsFor agent history → agent.sent.outstanding.newest + 1 ≡ newest_of (numbers agent.endpoints agent.g history) + 1
 next-number agent history stands = ap (λ (n : ℕ). n + 1) (stands.sent.newest ∙ bare-newest (numbers agent.endpoints agent.g history))
 
 -- ---- asking
@@ -56,9 +56,9 @@ line_at-asks lines dst n next line within changed other = elim (cases_eq dst oth
       ∙ sym (cond-false (dst == other) (with_asked next n (line_at lines other)) (line_at lines other) (ne_eqb dst other away))
 ]
 
-pub StandsFor-asks : (agent : AgentState) (history : AgentHistory) (dst n : ℕ) (lines : List FlowLine) → StandsFor agent history
+pub StandsFor-asks : (agent : AgentState) (history : AgentHistory) (dst n : ℕ) (lines : List FlowLine) → AgentStandsFor agent history
     → ((other : ℕ) → line_at lines other ≡ cond (dst == other) (with_asked (agent.sent.outstanding.newest + 1) n (line_at agent.lines other)) (line_at agent.lines other))
-    → StandsFor (record agent { lines = lines }) (Asks dst n ∷ history)
+    → AgentStandsFor (record agent { lines = lines }) (Asks dst n ∷ history)
 StandsFor-asks agent history dst n lines stands asks = record {
   epoch = stands.epoch;
   version = stands.version;
@@ -89,14 +89,14 @@ no-either : (b : Bool) → cond b nothing nothing ≡ nothing
 no-either true = refl
 no-either false = refl
 
-no-waits : (b g round batch : ℕ) → slots_of b (record { batch = batch; told = waits_of g round (nothing ∷ nothing ∷ nothing ∷ []) batch }) ≡ []
+no-waits : (b g round batch : ℕ) → slots_of_telling b (record { batch = batch; told = waits_of g round (nothing ∷ nothing ∷ nothing ∷ []) batch }) ≡ []
 no-waits b g round batch =
-    ap (λ (told : List Told). slots_of b (record { batch = batch; told = told }))
+    ap (λ (told : List Told). slots_of_telling b (record { batch = batch; told = told }))
     (ap (λ (told : List Told). cond (leb batch (first_waiting g round + 2)) told nothing) (no-place (batch % 3)) ∙ no-either (leb batch (first_waiting g round + 2)))
 
-pub StandsFor-boots : (agent : AgentState) (history : AgentHistory) (version : ℕ) (heard : Receiver) (sent : Sender (Unit {0})) (lines : List FlowLine) → StandsFor agent history
+pub StandsFor-boots : (agent : AgentState) (history : AgentHistory) (version : ℕ) (heard : Receiver) (sent : Sender (Unit {0})) (lines : List FlowLine) → AgentStandsFor agent history
     → heard.version ≡ version → sent.version ≡ version → HasHeard heard [] → HasDone sent [] → ((dst : ℕ) → line_at lines dst ≡ no_line)
-    → StandsFor (record agent { epoch = agent.epoch + 1; version = version; arrived = heard; sent = sent; has_begun = false; acknowledged = 0; named = []; lines = lines; waiting = [] ∷ [] ∷ [] ∷ [] }) (Boots version ∷ history)
+    → AgentStandsFor (record agent { epoch = agent.epoch + 1; version = version; arrived = heard; sent = sent; has_begun = false; acknowledged = 0; named = []; lines = lines; waiting = [] ∷ [] ∷ [] ∷ [] }) (Boots version ∷ history)
 StandsFor-boots agent history version heard sent lines stands heard_version sent_version hears does none = record {
   epoch = ap (λ (n : ℕ). n + 1) stands.epoch;
   version = refl;
@@ -112,7 +112,7 @@ StandsFor-boots agent history version heard sent lines stands heard_version sent
 }
 
 pub StandsFor-opens : (me endpoints b g : ℕ) (heard : Receiver) (sent : Sender (Unit {0})) (lines : List FlowLine) → HasHeard heard [] → HasDone sent [] → ((dst : ℕ) → line_at lines dst ≡ no_line)
-    → StandsFor (opened me endpoints b g heard sent lines) []
+    → AgentStandsFor (opened me endpoints b g heard sent lines) []
 StandsFor-opens me endpoints b g heard sent lines hears does none = record {
   epoch = refl;
   version = refl;
@@ -137,10 +137,10 @@ AreTold-later : (round : ℕ) (ts : List TakenDown) → AreTold round ts → Are
 AreTold-later round [] told = tt
 AreTold-later round (t ∷ ts) told = (told.0, λ some. let low = told.1 some in omega arith, AreTold-later round ts told.2)
 
-pub StandsFor-ends : (agent : AgentState) (history : AgentHistory) (round : ℕ) (lines : List FlowLine) (waiting : List (List Told)) → StandsFor agent history → round ≡ agent.round
+pub StandsFor-ends : (agent : AgentState) (history : AgentHistory) (round : ℕ) (lines : List FlowLine) (waiting : List (List Told)) → AgentStandsFor agent history → round ≡ agent.round
     → ((dst : ℕ) → dst < agent.endpoints → line_at lines dst ≡ with_sent (to dst (sent_in agent.b agent.g history round)) (line_at agent.lines dst))
     → Waits agent.b agent.g (round + 1) waiting (taken history)
-    → StandsFor (record agent { lines = lines; waiting = waiting; round = round + 1; is_made = false }) (SendsDue round ∷ history)
+    → AgentStandsFor (record agent { lines = lines; waiting = waiting; round = round + 1; is_made = false }) (SendsDue round ∷ history)
 StandsFor-ends agent history round lines waiting stands now counted waits = record {
   epoch = stands.epoch;
   version = stands.version;
@@ -166,7 +166,7 @@ sends_new-is history sent = refl
 abbrev pub may_of : Sender (Unit {0}) → Bool
 may_of sent = may_send_new (span_of sent.version) sent.outstanding.newest sent.outstanding.unresolved
 
-pub may-is : (agent : AgentState) (history : AgentHistory) → StandsFor agent history → agent.sent.version ≡ agent.version →
+pub may-is : (agent : AgentState) (history : AgentHistory) → AgentStandsFor agent history → agent.sent.version ≡ agent.version →
     may_of agent.sent
     ≡ may_send_new (span_of (version_of history)) (newest_of (numbers agent.endpoints agent.g history)) (open_numbers (reorder_of (version_of history)) (span_of (version_of history)) (numbers agent.endpoints agent.g history))
 may-is agent history stands same =
@@ -177,7 +177,7 @@ may-is agent history stands same =
     ∙ ap (λ (v : ℕ). may_send_new (span_of v) (newest_of sent) (open_numbers (reorder_of v) (span_of v) sent)) is
     ∙ bare-may_send (reorder_of (version_of history)) (span_of (version_of history)) (numbers agent.endpoints agent.g history)
 
-pub sends_new-by : (agent : AgentState) (history : AgentHistory) → StandsFor agent history → agent.sent.version ≡ agent.version →
+pub sends_new-by : (agent : AgentState) (history : AgentHistory) → AgentStandsFor agent history → agent.sent.version ≡ agent.version →
     sends_new history (numbers agent.endpoints agent.g history) ≡ (agent.has_begun && may_of agent.sent)
 sends_new-by agent history stands same =
     sends_new-is history (numbers agent.endpoints agent.g history)
@@ -192,7 +192,7 @@ numbers-again : (endpoints g : ℕ) (history : AgentHistory) → sends_new histo
 numbers-again endpoints g history again =
     cond-false (sends_new history (numbers endpoints g history)) (Sends (unconfirmed endpoints g history (numbers endpoints g history)) ∷ numbers endpoints g history) (numbers endpoints g history) again
 
-pub StandsFor-again : (agent : AgentState) (history : AgentHistory) → StandsFor agent history → sends_new history (numbers agent.endpoints agent.g history) ≡ false → StandsFor (record agent { is_made = true }) (MakesUp ∷ history)
+pub StandsFor-again : (agent : AgentState) (history : AgentHistory) → AgentStandsFor agent history → sends_new history (numbers agent.endpoints agent.g history) ≡ false → AgentStandsFor (record agent { is_made = true }) (MakesUp ∷ history)
 StandsFor-again agent history stands again =
     let is = sym (numbers-again agent.endpoints agent.g history again) in
     record {
@@ -209,9 +209,9 @@ StandsFor-again agent history stands again =
       told = stands.told;
     }
 
-pub StandsFor-new : (agent : AgentState) (history : AgentHistory) (sent : Sender (Unit {0})) (named : List Demand) → StandsFor agent history → sends_new history (numbers agent.endpoints agent.g history) ≡ true
+pub StandsFor-new : (agent : AgentState) (history : AgentHistory) (sent : Sender (Unit {0})) (named : List Demand) → AgentStandsFor agent history → sends_new history (numbers agent.endpoints agent.g history) ≡ true
     → HasDone sent (Sends tt ∷ bare_numbers agent.endpoints agent.g history) → named ≡ unconfirmed agent.endpoints agent.g history (numbers agent.endpoints agent.g history)
-    → StandsFor (record agent { sent = sent; named = named; is_made = true }) (MakesUp ∷ history)
+    → AgentStandsFor (record agent { sent = sent; named = named; is_made = true }) (MakesUp ∷ history)
 StandsFor-new agent history sent named stands new done names =
     let is = sym (numbers-new agent.endpoints agent.g history new) in
     record {
@@ -277,8 +277,8 @@ unfolding takes
 takes-is history packet = refl
 
 -- of another epoch or version
-pub StandsFor-passed : (agent : AgentState) (history : AgentHistory) (round : ℕ) (packet : DownPacket) → StandsFor agent history → (packet.epoch == epoch_of history && packet.version == version_of history) ≡ false
-    → StandsFor agent (TakesDown round packet ∷ history)
+pub StandsFor-passed : (agent : AgentState) (history : AgentHistory) (round : ℕ) (packet : DownPacket) → AgentStandsFor agent history → (packet.epoch == epoch_of history && packet.version == version_of history) ≡ false
+    → AgentStandsFor agent (TakesDown round packet ∷ history)
 StandsFor-passed agent history round packet stands other =
     let past = current-is history packet ∙ other in
     let left : takes history packet ≡ false = takes-is history packet ∙ ap (λ (b : Bool). b && is_fresh (receive_verdict (reorder_of (version_of history)) (arrived history) packet.seq)) past in
@@ -317,7 +317,7 @@ acknowledges-more agent history packet heard sent acknowledged read =
     let least = at_least agent.acknowledged (decided_by (reorder_of agent.sent.version) (span_of agent.sent.version) (bare_numbers agent.endpoints agent.g history) packet.ack) in
     omega (arith, read.2, least)
 
-read-acknowledged : (agent : AgentState) (history : AgentHistory) (packet : DownPacket) (acknowledged : ℕ) → StandsFor agent history → agent.sent.version ≡ agent.version
+read-acknowledged : (agent : AgentState) (history : AgentHistory) (packet : DownPacket) (acknowledged : ℕ) → AgentStandsFor agent history → agent.sent.version ≡ agent.version
     → acknowledged ≡ greatest_shown agent.acknowledged (decided_by (reorder_of agent.sent.version) (span_of agent.sent.version) (bare_numbers agent.endpoints agent.g history) packet.ack)
     → acknowledged ≡ greatest_acknowledged (reorder_of agent.version) (span_of agent.version) (Reads packet.ack ∷ bare_numbers agent.endpoints agent.g history)
 read-acknowledged agent history packet acknowledged stands same is =
@@ -344,9 +344,9 @@ takes-by history packet fresh current verdict =
     takes-is history packet ∙ ap (λ (b : Bool). b && is_fresh (receive_verdict (reorder_of (version_of history)) (arrived history) packet.seq)) (current-from history packet current) ∙ verdict
 
 -- its number is old, or came before
-pub StandsFor-read : (agent : AgentState) (history : AgentHistory) (round : ℕ) (packet : DownPacket) (heard : Receiver) (sent : Sender (Unit {0})) (acknowledged : ℕ) → StandsFor agent history → agent.sent.version ≡ agent.version
+pub StandsFor-read : (agent : AgentState) (history : AgentHistory) (round : ℕ) (packet : DownPacket) (heard : Receiver) (sent : Sender (Unit {0})) (acknowledged : ℕ) → AgentStandsFor agent history → agent.sent.version ≡ agent.version
     → Current history packet → is_fresh (receive_verdict (reorder_of (version_of history)) (arrived history) packet.seq) ≡ false → Read agent history packet heard sent acknowledged
-    → StandsFor (record agent { arrived = heard; sent = sent; acknowledged = acknowledged }) (TakesDown round packet ∷ history)
+    → AgentStandsFor (record agent { arrived = heard; sent = sent; acknowledged = acknowledged }) (TakesDown round packet ∷ history)
 StandsFor-read agent history round packet heard sent acknowledged stands same current verdict (hears, does, shows) =
     let is_now = current-from history packet current in
     let left = takes-by history packet false current verdict in
@@ -368,13 +368,13 @@ StandsFor-read agent history round packet heard sent acknowledged stands same cu
 
 -- its number is fresh
 pub StandsFor-takes : (taking : TakingBringsSlots) (agent : AgentState) (history : AgentHistory) (round : ℕ) (packet : DownPacket) (heard : Receiver) (sent : Sender (Unit {0})) (acknowledged : ℕ) (lines : List FlowLine) (waiting : List (List Told))
-    → StandsFor agent history → agent.sent.version ≡ agent.version
+    → AgentStandsFor agent history → agent.sent.version ≡ agent.version
     → Current history packet → is_fresh (receive_verdict (reorder_of (version_of history)) (arrived history) packet.seq) ≡ true → Read agent history packet heard sent acknowledged
     → ((dst : ℕ) → line_at lines dst
     ≡ with_missed (agent.sent.outstanding.newest + 1) (cond (is_in_time agent.g (record { round = round; packet = packet })) 0 (slots_to dst packet.content.told)) (line_at agent.lines dst))
     → Waits agent.b agent.g agent.round waiting (record { round = round; packet = packet } ∷ taken history)
     → length packet.content.told ≤ 64 → (packet.content.told ≢ [] → packet.content.batch ≤ agent.round)
-    → StandsFor (record agent { arrived = heard; sent = sent; has_begun = true; acknowledged = acknowledged; lines = lines; waiting = waiting }) (TakesDown round packet ∷ history)
+    → AgentStandsFor (record agent { arrived = heard; sent = sent; has_begun = true; acknowledged = acknowledged; lines = lines; waiting = waiting }) (TakesDown round packet ∷ history)
 StandsFor-takes taking agent history round packet heard sent acknowledged lines waiting stands same current verdict (hears, does, shows) counted waits few late =
     let is_now = current-from history packet current in
     let takes_it = takes-by history packet true current verdict in

@@ -1,7 +1,7 @@
 mod Bare
 mod Calls
 mod Confirmed
-mod Due
+pub mod Due
 mod Ends
 mod Making
 mod Members

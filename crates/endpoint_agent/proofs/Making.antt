@@ -10,7 +10,7 @@ use Rattle.endpoint_history.specs.AgentLaws.{TakingBringsSlots}
 use Rattle.endpoint_agent.specs.declared.lines.FlowLine.{FlowLine}
 use Rattle.endpoint_agent.specs.Carrying.{bare_numbers, greatest_acknowledged}
 use Rattle.endpoint_agent.specs.Lines.{demand_at, unconfirmed_in}
-use Rattle.endpoint_agent.specs.Standing.{StandsFor}
+use Rattle.endpoint_agent.specs.Standing.{AgentStandsFor}
 use Rattle.endpoint_agent.specs.State.{AgentState, line_at, IsSound}
 use Rattle.endpoint_agent.proofs.Bare.{bare-newest, bare-greatest, newest-counted}
 use Rattle.endpoint_agent.proofs.Calls.{may_of, may-is, sends_new-by, StandsFor-again, StandsFor-new}
@@ -20,7 +20,7 @@ use Rattle.endpoint_agent.proofs.Totals.{unconfirmed-by_number}
 
 -- ---- a reset
 
-pub resets : (agent : AgentState) (history : AgentHistory) → IsSound agent → StandsFor agent history → agent.has_begun ≡ false → StandsFor (record agent { is_made = true }) (MakesUp ∷ history)
+pub resets : (agent : AgentState) (history : AgentHistory) → IsSound agent → AgentStandsFor agent history → agent.has_begun ≡ false → AgentStandsFor (record agent { is_made = true }) (MakesUp ∷ history)
 resets agent history sound stands begun =
     StandsFor-again agent history stands (sends_new-by agent history stands sound.sent_version ∙ and_left agent.has_begun (may_of agent.sent) begun)
 
@@ -32,7 +32,7 @@ Sound-resets agent sound once = Sound-makes agent agent.sent agent.named sound r
 
 -- ---- a request
 
-named-is : (taking : TakingBringsSlots) (agent : AgentState) (history : AgentHistory) → IsSound agent → StandsFor agent history
+named-is : (taking : TakingBringsSlots) (agent : AgentState) (history : AgentHistory) → IsSound agent → AgentStandsFor agent history
     → unconfirmed_in agent.acknowledged (length agent.lines) agent.lines ≡ unconfirmed agent.endpoints agent.g history (numbers agent.endpoints agent.g history)
 named-is taking agent history sound stands =
     let lines = agent.lines in
@@ -54,10 +54,10 @@ pub record IsRenewed (agent : AgentState) (sent : Sender (Unit {0})) (named : Li
 
 pub record IsMade (agent : AgentState) (history : AgentHistory) : Type 0 where
   pub sound : IsSound agent
-  pub stands : StandsFor agent (MakesUp ∷ history)
+  pub stands : AgentStandsFor agent (MakesUp ∷ history)
   pub counted : 1 ≤ agent.sent.outstanding.newest
 
-renewed : (taking : TakingBringsSlots) (agent : AgentState) (history : AgentHistory) (sent : Sender (Unit {0})) (named : List Demand) → IsSound agent → agent.is_made ≡ false → StandsFor agent history → agent.has_begun ≡ true
+renewed : (taking : TakingBringsSlots) (agent : AgentState) (history : AgentHistory) (sent : Sender (Unit {0})) (named : List Demand) → IsSound agent → agent.is_made ≡ false → AgentStandsFor agent history → agent.has_begun ≡ true
     → IsRenewed agent sent named → may_of agent.sent ≡ true → IsMade (record agent { sent = sent; named = named; is_made = true }) history
 renewed taking agent history sent named sound once stands begun is may =
     let new : sends_new history (numbers agent.endpoints agent.g history) ≡ true =
@@ -70,7 +70,7 @@ renewed taking agent history sent named sound once stands begun is may =
       counted = omega (arith, number);
     }
 
-repeated : (agent : AgentState) (history : AgentHistory) → IsSound agent → agent.is_made ≡ false → StandsFor agent history → agent.has_begun ≡ true
+repeated : (agent : AgentState) (history : AgentHistory) → IsSound agent → agent.is_made ≡ false → AgentStandsFor agent history → agent.has_begun ≡ true
     → may_of agent.sent ≡ false → IsMade (record agent { is_made = true }) history
 repeated agent history sound once stands begun closed =
     let sent = numbers agent.endpoints agent.g history in
@@ -85,7 +85,7 @@ repeated agent history sound once stands begun closed =
       counted = omega (arith, some, newest);
     }
 
-pub made : (taking : TakingBringsSlots) (agent : AgentState) (history : AgentHistory) (sent : Sender (Unit {0})) (named : List Demand) → IsSound agent → agent.is_made ≡ false → StandsFor agent history → agent.has_begun ≡ true
+pub made : (taking : TakingBringsSlots) (agent : AgentState) (history : AgentHistory) (sent : Sender (Unit {0})) (named : List Demand) → IsSound agent → agent.is_made ≡ false → AgentStandsFor agent history → agent.has_begun ≡ true
     → IsRenewed agent sent named → IsMade (record agent { sent = sent; named = named; is_made = true }) history
 made taking agent history sent named sound once stands begun is = elim (cases_Bool (may_of agent.sent)) [
   | inl may ↦ renewed taking agent history sent named sound once stands begun is may

@@ -4,18 +4,13 @@ use Rattle.std.specs.List.{range_with_len}
 use Rattle.std.proofs.lemmas.Bool.{cases_lt, cond-false, le-ltb, false≢true}
 use Rattle.std.proofs.lemmas.List.{map-append, get_or_past}
 use Rattle.std.proofs.lemmas.List.Elements.{filter-append}
+use Rattle.list_facts.proofs.Lists.{range-last}
 use Rattle.fcp_framing.specs.declared.packet.Demand.{Demand}
 use Rattle.endpoint_agent.specs.declared.lines.FlowLine.{FlowLine}
-use Rattle.endpoint_agent.specs.State.{line_at, AreMarked}
+use Rattle.endpoint_agent.specs.State.{line_at, UnconfirmedAreMarked}
 use Rattle.endpoint_agent.specs.Lines.{demand_at, unconfirmed_in}
 use Rattle.endpoint_agent.proofs.Walking.{no_line}
 use Rattle.line_marks.specs.Places.{Places, is_marked}
-
-pub range-last : (a n : ℕ) → range_with_len a (suc n) ≡ range_with_len a n ++ (a + n) ∷ []
-range-last a zero = let e : a ≡ a + zero = omega arith in ap (λ (k : ℕ). k ∷ []) e
-range-last a (suc n) =
-    let e : a + 1 + n ≡ a + suc n = omega arith in
-    ap (λ (xs : List ℕ). a ∷ xs) (range-last (a + 1) n ∙ ap (λ (k : ℕ). range_with_len (a + 1) n ++ k ∷ []) e)
 
 one_named : (f : ℕ → Demand) (test : Bool) (n : ℕ) → map f (cond test (n ∷ []) []) ≡ cond test (f n ∷ []) []
 one_named f true n = refl
@@ -113,8 +108,8 @@ pub past-lines : (acknowledged : ℕ) (lines : List FlowLine) (dst : ℕ) → le
 past-lines acknowledged lines dst past = let is = ap (λ (l : FlowLine). l.carried_from) (get_or_past lines dst no_line past) in omega (arith, is)
 
 -- once a flow is named or has lost its mark, every flow that may be named is marked
-pub marked-still : (acknowledged : ℕ) (old new : Places) (lines : List FlowLine) (at : ℕ) (line : FlowLine) → AreMarked acknowledged old lines → line ≡ line_at lines at →
-    ((place : ℕ) → is_marked new place ≡ false → (is_marked old place ≡ false) ⊎ ((place ≡ at) × (line.carried_from ≤ acknowledged))) → AreMarked acknowledged new lines
+pub marked-still : (acknowledged : ℕ) (old new : Places) (lines : List FlowLine) (at : ℕ) (line : FlowLine) → UnconfirmedAreMarked acknowledged old lines → line ≡ line_at lines at →
+    ((place : ℕ) → is_marked new place ≡ false → (is_marked old place ≡ false) ⊎ ((place ≡ at) × (line.carried_from ≤ acknowledged))) → UnconfirmedAreMarked acknowledged new lines
 marked-still acknowledged old new lines at line marked here moved = λ dst none. elim (moved dst none) [
   | inl was ↦ marked dst was
   | inr (same, low) ↦ let is = ap (λ (l : FlowLine). l.carried_from) here ∙ ap (λ (k : ℕ). (line_at lines k).carried_from) (sym same) in omega (arith, is, low)

@@ -13,11 +13,12 @@ use Rattle.fcp_framing.specs.Spelling.{IsMask, IsReset, IsRequest, reset_of}
 use Rattle.endpoint_history.specs.Packets.{UpPacket, Resets, Requests, framed_up}
 use Rattle.endpoint_history.specs.Agent.{AgentHistory, MakesUp, epoch_of, version_of, arrived, taken, is_none_taken, total, numbers, packet_up}
 use Rattle.endpoint_history.specs.AgentLaws.{TakingBringsSlots, NamesTotals, RequestsNameTotals}
+use Rattle.endpoint_history.proofs.Totals.{total-is}
 use Rattle.endpoint_agent.specs.declared.lines.FlowLine.{FlowLine}
-use Rattle.endpoint_agent.specs.Standing.{StandsFor}
+use Rattle.endpoint_agent.specs.Standing.{AgentStandsFor}
 use Rattle.endpoint_agent.specs.State.{AgentState, IsSound}
 use Rattle.endpoint_agent.proofs.Bare.{bare-newest, newest-content}
-use Rattle.endpoint_agent.proofs.Totals.{total-is, carrying_of}
+use Rattle.endpoint_agent.proofs.Totals.{carrying_of}
 
 -- ---- a reset
 
@@ -25,7 +26,7 @@ packet_up-resets : (endpoints g : ℕ) (history : AgentHistory) → is_none_take
 unfolding packet_up
 packet_up-resets endpoints g history none = cond-true (is_none_taken (taken history)) (Resets (epoch_of history) (version_of history)) _ none
 
-pub reset-is : (agent : AgentState) (history : AgentHistory) → StandsFor agent history → agent.has_begun ≡ false →
+pub reset-is : (agent : AgentState) (history : AgentHistory) → AgentStandsFor agent history → agent.has_begun ≡ false →
     reset_of agent.version agent.me agent.epoch ≡ framed_up agent.me (packet_up agent.endpoints agent.g history)
 reset-is agent history stands begun =
     let none : is_none_taken (taken history) ≡ true = not-false (is_none_taken (taken history)) (sym stands.has_begun ∙ begun) in
@@ -63,7 +64,7 @@ packet_up-requests : (endpoints g : ℕ) (history : AgentHistory) → is_none_ta
 unfolding packet_up
 packet_up-requests endpoints g history some = cond-false (is_none_taken (taken history)) (Resets (epoch_of history) (version_of history)) (request_after endpoints g history) some
 
-pub request-is : (agent : AgentState) (history : AgentHistory) → StandsFor agent (MakesUp ∷ history) → agent.has_begun ≡ true → agent.arrived.version ≡ agent.version →
+pub request-is : (agent : AgentState) (history : AgentHistory) → AgentStandsFor agent (MakesUp ∷ history) → agent.has_begun ≡ true → agent.arrived.version ≡ agent.version →
     request_in agent ≡ framed_up agent.me (packet_up agent.endpoints agent.g history)
 request-is agent history stands begun heard =
     let some : is_none_taken (taken history) ≡ false = not-true (is_none_taken (taken history)) (sym stands.has_begun ∙ begun) in
@@ -106,7 +107,7 @@ few xs n me rising below others within = elim (cases_lt (length xs) n) [
       absurd (others me 0 (omega (arith, within, long)) (omega (arith, from_start, start, to_end, end, within)))
 ]
 
-pub request-ok : (names : RequestsNameTotals) (taking : TakingBringsSlots) (agent : AgentState) (history : AgentHistory) → StandsFor agent history → IsSound agent → 1 ≤ agent.sent.outstanding.newest
+pub request-ok : (names : RequestsNameTotals) (taking : TakingBringsSlots) (agent : AgentState) (history : AgentHistory) → AgentStandsFor agent history → IsSound agent → 1 ≤ agent.sent.outstanding.newest
     → IsMask agent.arrived.told.high agent.arrived.told.mask → agent.arrived.told.mask < 2 ^ span_of agent.arrived.version → IsRequest agent.endpoints (request_in agent)
 request-ok names taking agent history stands sound some is_mask fits =
     let endpoints = agent.endpoints in

@@ -1,6 +1,6 @@
 -- What the numbers of an agent keep to after each of its calls.
 use Rattle.std.proofs.Common.{◌≡◌, ◌≢◌, ℕ, zero, suc, get_or, ◌+◌, ◌<◌, ◌≤◌, Bool, true, false, cond, ◌==◌, ◌||◌, List, [], ◌∷◌, length, set, replicate, All, refl, sym, ◌∙◌, ap, subst, inl, inr, arith}
-use Rattle.std.proofs.lemmas.Bool.{cases_eq, cases_lt, cond-false, eq-eqb, ne_eqb, eqb-true, false≢true}
+use Rattle.std.proofs.lemmas.Bool.{cases_eq, cases_lt, cond-false, eq-eqb, ne_eqb, eqb-true, false≢true, or_parts}
 use Rattle.std.proofs.lemmas.List.{get_or-set_same, get_or-set_other, get_or-replicate, get_or_past, length-replicate}
 use Rattle.std.proofs.lemmas.List.Elements.{All-nil, All-from_get_or}
 use Rattle.ack_window.specs.Windows.{Receiver, Sender}
@@ -10,12 +10,12 @@ use Rattle.fcp_framing.specs.Versions.{IsVersion}
 use Rattle.line_marks.specs.Places.{Places, is_marked}
 use Rattle.endpoint_agent.specs.declared.lines.FlowLine.{FlowLine}
 use Rattle.endpoint_agent.specs.Lines.{with_asked, with_missed, with_sent}
-use Rattle.endpoint_agent.specs.State.{AgentState, line_at, IsLine, IsSound, AreMarked, IsKept}
+use Rattle.endpoint_agent.specs.State.{AgentState, line_at, IsFlowLine, IsSound, UnconfirmedAreMarked, AgentIsKept}
 use Rattle.endpoint_agent.proofs.Walking.{no_line}
 
 -- ---- lines
 
-IsLine-asks : (b : Bool) (next n : ℕ) (line : FlowLine) → IsLine line → (b ≡ true → line.asked + n ≤ 100000000) → IsLine (cond b (with_asked next n line) line)
+IsLine-asks : (b : Bool) (next n : ℕ) (line : FlowLine) → IsFlowLine line → (b ≡ true → line.asked + n ≤ 100000000) → IsFlowLine (cond b (with_asked next n line) line)
 IsLine-asks true next n line sound most = record { asked = most refl; missed = sound.missed }
 IsLine-asks false next n line sound most = sound
 
@@ -56,7 +56,7 @@ Sound-asks agent dst n next lines sound other most long asks = record {
   rounds = sound.rounds;
   numbers = sound.numbers;
   as_many = long ∙ sound.as_many;
-  lines = λ to. subst IsLine (sym (asks to))
+  lines = λ to. subst IsFlowLine (sym (asks to))
       (IsLine-asks (dst == to) next n (line_at agent.lines to) (sound.lines to)
       (λ is. subst (λ (k : ℕ). (line_at agent.lines k).asked + n ≤ 100000000) (eqb-true dst to is) most));
   own_line = ap (λ (l : FlowLine). l.carried_from)
@@ -79,7 +79,7 @@ Sound-boots agent version heard sent lines sound is heard_version sent_version n
   rounds = sound.rounds;
   numbers = omega (arith, none);
   as_many = long ∙ sound.as_many;
-  lines = λ dst. subst IsLine (sym (blank dst)) (record { asked = omega arith; missed = omega arith });
+  lines = λ dst. subst IsFlowLine (sym (blank dst)) (record { asked = omega arith; missed = omega arith });
   own_line = ap (λ (l : FlowLine). l.carried_from) (blank agent.me);
   three = refl;
   waiting = Below-none agent.endpoints;
@@ -98,7 +98,7 @@ Sound-ends agent round lines waiting n sound now few long counted three below = 
   rounds = omega (arith, few);
   numbers = at_end agent.is_made agent.round agent.sent.outstanding.newest round now sound.numbers;
   as_many = long ∙ sound.as_many;
-  lines = λ dst. subst IsLine (sym (counted dst)) (record { asked = (sound.lines dst).asked; missed = (sound.lines dst).missed });
+  lines = λ dst. subst IsFlowLine (sym (counted dst)) (record { asked = (sound.lines dst).asked; missed = (sound.lines dst).missed });
   own_line = ap (λ (l : FlowLine). l.carried_from) (counted agent.me) ∙ sound.own_line;
   three = three;
   waiting = below;
@@ -145,7 +145,7 @@ Sound-reads agent heard sent acknowledged sound heard_same sent_same newest_same
   waiting = sound.waiting;
 }
 
-missed-line : (next n : ℕ) (line : FlowLine) → IsLine line → line.missed + n ≤ 100000000 → IsLine (with_missed next n line)
+missed-line : (next n : ℕ) (line : FlowLine) → IsFlowLine line → line.missed + n ≤ 100000000 → IsFlowLine (with_missed next n line)
 missed-line next n line sound most = record { asked = sound.asked; missed = most }
 
 pub Sound-takes : (agent : AgentState) (lines : List FlowLine) (waiting : List (List Told)) (next : ℕ) (n : ℕ → ℕ) → IsSound agent → length lines ≡ length agent.lines
@@ -162,7 +162,7 @@ Sound-takes agent lines waiting next n sound long counted none few three below =
   rounds = sound.rounds;
   numbers = sound.numbers;
   as_many = long ∙ sound.as_many;
-  lines = λ dst. subst IsLine (sym (counted dst)) (missed-line next (n dst) (line_at agent.lines dst) (sound.lines dst) (few dst));
+  lines = λ dst. subst IsFlowLine (sym (counted dst)) (missed-line next (n dst) (line_at agent.lines dst) (sound.lines dst) (few dst));
   own_line = ap (λ (l : FlowLine). l.carried_from) (counted agent.me ∙ ap (λ (k : ℕ). with_missed next k (line_at agent.lines agent.me)) none) ∙ sound.own_line;
   three = three;
   waiting = below;
@@ -210,7 +210,7 @@ Sound-opens me endpoints b g heard sent lines own most heard_version sent_versio
   rounds = omega arith;
   numbers = omega (arith, none);
   as_many = long;
-  lines = λ dst. subst IsLine (sym (blank dst)) (record { asked = omega arith; missed = omega arith });
+  lines = λ dst. subst IsFlowLine (sym (blank dst)) (record { asked = omega arith; missed = omega arith });
   own_line = ap (λ (l : FlowLine). l.carried_from) (blank me);
   three = refl;
   waiting = Below-none endpoints;
@@ -218,18 +218,14 @@ Sound-opens me endpoints b g heard sent lines own most heard_version sent_versio
 
 -- ---- marked flows
 
-neither : (a b : Bool) → (a || b) ≡ false → (a ≡ false) × (b ≡ false)
-neither true b none = absurd (false≢true (sym none))
-neither false b none = (refl, none)
-
-pub Kept-asks : (agent : AgentState) (seq dst n : ℕ) (marks marks' : Places) (lines : List FlowLine) → IsKept seq marks agent
+pub Kept-asks : (agent : AgentState) (seq dst n : ℕ) (marks marks' : Places) (lines : List FlowLine) → AgentIsKept seq marks agent
     → ((place : ℕ) → is_marked marks' place ≡ (is_marked marks place || place == dst))
     → ((other : ℕ) → line_at lines other ≡ cond (dst == other) (with_asked (agent.sent.outstanding.newest + 1) n (line_at agent.lines other)) (line_at agent.lines other))
-    → IsKept seq marks' (record agent { lines = lines })
+    → AgentIsKept seq marks' (record agent { lines = lines })
 Kept-asks agent seq dst n marks marks' lines kept set asks = record {
   number = kept.number;
   marked = λ other none.
-      let (was, apart) = neither (is_marked marks other) (other == dst) (sym (set other) ∙ none) in
+      let (was, apart) = or_parts (is_marked marks other) (other == dst) (sym (set other) ∙ none) in
       let old = line_at agent.lines other in
       let away : (dst == other) ≡ false = ne_eqb dst other (λ e. false≢true (sym apart ∙ eq-eqb other dst (sym e))) in
       let is = ap (λ (l : FlowLine). l.carried_from) (asks other ∙ cond-false (dst == other) (with_asked (agent.sent.outstanding.newest + 1) n old) old away) in
@@ -237,8 +233,8 @@ Kept-asks agent seq dst n marks marks' lines kept set asks = record {
       omega (arith, is, low);
 }
 
-pub Kept-ends : (agent after : AgentState) (seq : ℕ) (marks : Places) (n : ℕ → ℕ) → IsKept seq marks agent → after.sent ≡ agent.sent → after.acknowledged ≡ agent.acknowledged
-    → ((dst : ℕ) → line_at after.lines dst ≡ with_sent (n dst) (line_at agent.lines dst)) → IsKept seq marks after
+pub Kept-ends : (agent after : AgentState) (seq : ℕ) (marks : Places) (n : ℕ → ℕ) → AgentIsKept seq marks agent → after.sent ≡ agent.sent → after.acknowledged ≡ agent.acknowledged
+    → ((dst : ℕ) → line_at after.lines dst ≡ with_sent (n dst) (line_at agent.lines dst)) → AgentIsKept seq marks after
 Kept-ends agent after seq marks n kept same known counted =
     let newest = ap (λ (s : Sender (Unit {0})). s.outstanding.newest) same in
     record {
@@ -250,8 +246,8 @@ Kept-ends agent after seq marks n kept same known counted =
     }
 
 -- no line changes
-pub Kept-makes : (agent after : AgentState) (seq : ℕ) (marks : Places) → AreMarked agent.acknowledged marks agent.lines → after.lines ≡ agent.lines → agent.acknowledged ≤ after.acknowledged
-    → seq ≡ after.sent.outstanding.newest → IsKept seq marks after
+pub Kept-makes : (agent after : AgentState) (seq : ℕ) (marks : Places) → UnconfirmedAreMarked agent.acknowledged marks agent.lines → after.lines ≡ agent.lines → agent.acknowledged ≤ after.acknowledged
+    → seq ≡ after.sent.outstanding.newest → AgentIsKept seq marks after
 Kept-makes agent after seq marks marked same later number = record {
   number = number;
   marked = λ dst none.
@@ -261,9 +257,9 @@ Kept-makes agent after seq marks marked same later number = record {
 }
 
 -- slots are taken: the flows of those that are missed are marked
-pub Kept-takes : (agent after : AgentState) (seq : ℕ) (marks marks' : Places) (n : ℕ → ℕ) → IsKept seq marks agent → after.sent.outstanding.newest ≡ agent.sent.outstanding.newest → agent.acknowledged ≤ after.acknowledged
+pub Kept-takes : (agent after : AgentState) (seq : ℕ) (marks marks' : Places) (n : ℕ → ℕ) → AgentIsKept seq marks agent → after.sent.outstanding.newest ≡ agent.sent.outstanding.newest → agent.acknowledged ≤ after.acknowledged
     → ((dst : ℕ) → line_at after.lines dst ≡ with_missed (agent.sent.outstanding.newest + 1) (n dst) (line_at agent.lines dst))
-    → ((dst : ℕ) → is_marked marks' dst ≡ false → (is_marked marks dst ≡ false) × (n dst ≡ 0)) → IsKept seq marks' after
+    → ((dst : ℕ) → is_marked marks' dst ≡ false → (is_marked marks dst ≡ false) × (n dst ≡ 0)) → AgentIsKept seq marks' after
 Kept-takes agent after seq marks marks' n kept newest later counted missed =
     let next = agent.sent.outstanding.newest + 1 in
     record {

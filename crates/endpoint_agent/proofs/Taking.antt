@@ -1,9 +1,8 @@
 -- A packet is taken, whole.
 use Rattle.std.proofs.Common.{◌≡◌, ◌≢◌, ◌⊎◌, ℕ, ◌+◌, ◌*◌, ◌%◌, ◌<◌, ◌≤◌, Bool, true, false, cond, ◌==◌, leb, List, [], ◌∷◌, length, set, All, refl, sym, ◌∙◌, ap, subst, inl, inr, arith, length-set}
-use Rattle.std.proofs.lemmas.Bool.{cases_lt, ne_eqb, le-leb, false≢true}
-use Rattle.std.proofs.lemmas.List.Elements.{All-head, All-tail}
+use Rattle.std.proofs.lemmas.Bool.{cases_lt, le-leb, false≢true}
 use Rattle.std.proofs.lemmas.List.{get_or_past}
-use Rattle.std.proofs.lemmas.List.Sums.{sum_by-cons, count_by-le-length}
+use Rattle.std.proofs.lemmas.List.Sums.{count_by-le-length}
 use Rattle.ack_window.specs.declared.take_window.Taken.{Taken}
 use Rattle.ack_window.specs.declared.take_window.Taken.TheVariants.{Fresh}
 use Rattle.ack_window.specs.Arrivals.{receive_verdict, is_fresh}
@@ -15,9 +14,10 @@ use Rattle.fcp_framing.specs.Spelling.{IsAllocation}
 use Rattle.endpoint_history.specs.Packets.{slots_to, down_packet}
 use Rattle.endpoint_history.specs.Agent.{AgentHistory, TakesDown, takes, taken, version_of, arrived}
 use Rattle.endpoint_history.specs.AgentLaws.{TakingBringsSlots}
+use Rattle.endpoint_history.proofs.Named.{slots_to-own}
 use Rattle.endpoint_agent.specs.declared.lines.FlowLine.{FlowLine}
 use Rattle.endpoint_agent.specs.Lines.{with_missed}
-use Rattle.endpoint_agent.specs.Standing.{StandsFor}
+use Rattle.endpoint_agent.specs.Standing.{AgentStandsFor}
 use Rattle.endpoint_agent.specs.State.{AgentState, line_at, IsSound}
 use Rattle.endpoint_agent.proofs.Calls.{Current, Read, takes-by, StandsFor-read, StandsFor-takes}
 use Rattle.endpoint_agent.proofs.Due.{nil_or, Waits-takes}
@@ -32,25 +32,25 @@ pub record IsMine (agent : AgentState) (down : Down) : Type 0 where
   pub epoch : down.epoch ≡ agent.epoch
   pub version : down.version ≡ agent.version
 
-pub current-of : (agent : AgentState) (history : AgentHistory) (down : Down) → StandsFor agent history → IsMine agent down → Current history (down_packet down)
+pub current-of : (agent : AgentState) (history : AgentHistory) (down : Down) → AgentStandsFor agent history → IsMine agent down → Current history (down_packet down)
 current-of agent history down stands mine = (mine.epoch ∙ stands.epoch, mine.version ∙ stands.version)
 
-verdict-of : (agent : AgentState) (history : AgentHistory) (down : Down) (verdict : Taken) → StandsFor agent history → IsSound agent
+verdict-of : (agent : AgentState) (history : AgentHistory) (down : Down) (verdict : Taken) → AgentStandsFor agent history → IsSound agent
     → verdict ≡ receive_verdict (reorder_of agent.arrived.version) (arrived history) down.seq
     → is_fresh (receive_verdict (reorder_of (version_of history)) (arrived history) down.seq) ≡ is_fresh verdict
 verdict-of agent history down verdict stands sound is =
     sym (ap is_fresh (is ∙ ap (λ (v : ℕ). receive_verdict (reorder_of v) (arrived history) down.seq) (sound.heard_version ∙ stands.version)))
 
-pub takes-it : (agent : AgentState) (history : AgentHistory) (down : Down) → StandsFor agent history → IsSound agent → IsMine agent down
+pub takes-it : (agent : AgentState) (history : AgentHistory) (down : Down) → AgentStandsFor agent history → IsSound agent → IsMine agent down
     → Fresh ≡ receive_verdict (reorder_of agent.arrived.version) (arrived history) down.seq → takes history (down_packet down) ≡ true
 takes-it agent history down stands sound mine is =
     takes-by history (down_packet down) true (current-of agent history down stands mine) (verdict-of agent history down Fresh stands sound is)
 
 -- ---- a number that is old or came before
 
-pub reads : (agent : AgentState) (history : AgentHistory) (round : ℕ) (down : Down) (heard : Receiver) (sent : Sender (Unit {0})) (acknowledged : ℕ) (verdict : Taken) → StandsFor agent history → IsSound agent → IsMine agent down
+pub reads : (agent : AgentState) (history : AgentHistory) (round : ℕ) (down : Down) (heard : Receiver) (sent : Sender (Unit {0})) (acknowledged : ℕ) (verdict : Taken) → AgentStandsFor agent history → IsSound agent → IsMine agent down
     → verdict ≡ receive_verdict (reorder_of agent.arrived.version) (arrived history) down.seq → is_fresh verdict ≡ false → Read agent history (down_packet down) heard sent acknowledged
-    → StandsFor (record agent { arrived = heard; sent = sent; acknowledged = acknowledged }) (TakesDown round (down_packet down) ∷ history)
+    → AgentStandsFor (record agent { arrived = heard; sent = sent; acknowledged = acknowledged }) (TakesDown round (down_packet down) ∷ history)
 reads agent history round down heard sent acknowledged verdict stands sound mine is stale read =
     StandsFor-read agent history round (down_packet down) heard sent acknowledged stands sound.sent_version (current-of agent history down stands mine)
     (verdict-of agent history down verdict stands sound is ∙ stale) read
@@ -66,9 +66,9 @@ pub record AreTaken (agent : AgentState) (round : ℕ) (down : Down) (lines : Li
   pub kept : (down.told.items ≡ []) ⊎ (down.batch + 2 * agent.g + 2 < round) → waiting ≡ agent.waiting
 
 pub takes-slots : (taking : TakingBringsSlots) (agent : AgentState) (history : AgentHistory) (round : ℕ) (down : Down) (heard : Receiver) (sent : Sender (Unit {0})) (acknowledged : ℕ) (lines : List FlowLine) (waiting : List (List Told))
-    → StandsFor agent history → IsSound agent → IsMine agent down → round ≡ agent.round → HasRoom agent round (down_packet down)
+    → AgentStandsFor agent history → IsSound agent → IsMine agent down → round ≡ agent.round → HasRoom agent round (down_packet down)
     → Fresh ≡ receive_verdict (reorder_of agent.arrived.version) (arrived history) down.seq → Read agent history (down_packet down) heard sent acknowledged → AreTaken agent round down lines waiting
-    → StandsFor (record agent { arrived = heard; sent = sent; has_begun = true; acknowledged = acknowledged; lines = lines; waiting = waiting }) (TakesDown round (down_packet down) ∷ history)
+    → AgentStandsFor (record agent { arrived = heard; sent = sent; has_begun = true; acknowledged = acknowledged; lines = lines; waiting = waiting }) (TakesDown round (down_packet down) ∷ history)
 takes-slots taking agent history round down heard sent acknowledged lines waiting stands sound mine now may is read slots =
     StandsFor-takes taking agent history round (down_packet down) heard sent acknowledged lines waiting stands sound.sent_version (current-of agent history down stands mine)
     (verdict-of agent history down Fresh stands sound is) read slots.counted
@@ -80,14 +80,6 @@ takes-slots taking agent history round down heard sent acknowledged lines waitin
     (λ why. slots.kept (elim why [ inl none ↦ inl none | inr late ↦ inr (omega (arith, late, now)) ]))
     stands.waiting)
     mine.rules.count (λ some. let e = may.late some in omega (arith, e, now))
-
-none-to : (me : ℕ) (told : List Told) → All (λ (t : Told). t.dst ≢ me) told → slots_to me told ≡ 0
-none-to me [] others = refl
-none-to me (t ∷ told) others =
-    let push = sum_by-cons (λ (x : Told). cond (x.dst == me) 1 0) t told in
-    let here : cond (t.dst == me) 1 0 ≡ 0 = ap {B = ℕ} (λ (b : Bool). cond b 1 0) (ne_eqb t.dst me (All-head (λ (x : Told). x.dst ≢ me) t told others)) in
-    let rest = none-to me told (All-tail (λ (x : Told). x.dst ≢ me) t told others) in
-    omega (arith, push, here, rest)
 
 missed-few : (b : Bool) (missed more most : ℕ) → missed ≤ most → (b ≡ false → missed + more ≤ most) → missed + cond b 0 more ≤ most
 missed-few true missed more most low few = omega (arith, low)
@@ -138,4 +130,4 @@ Sound-slots agent round down heard sent acknowledged lines waiting sound mine ma
     ] in
     Sound-takes (record agent { arrived = heard; sent = sent; acknowledged = acknowledged }) lines waiting (agent.sent.outstanding.newest + 1) (λ dst. cond in_time 0 (slots_to dst told))
     (Sound-reads agent heard sent acknowledged sound heard_same sent_same newest_same) slots.long slots.counted
-    (either-none in_time (slots_to agent.me told) (none-to agent.me told others)) few places.0 places.1
+    (either-none in_time (slots_to agent.me told) (slots_to-own agent.me told others)) few places.0 places.1

@@ -9,16 +9,16 @@ use Rattle.list_facts.specs.Order.{sort_by}
 use Rattle.fcp_framing.specs.declared.packet.Told.{Told}
 use Rattle.endpoint_history.specs.Packets.{DownPacket, slots_to}
 use Rattle.endpoint_history.specs.Agent.{AgentHistory, TakenDown, taken, is_in_time}
-use Rattle.endpoint_history.specs.Sending.{Slot, slots_of}
+use Rattle.endpoint_history.specs.Sending.{Slot, slots_of_telling}
 use Rattle.endpoint_history.specs.Tellings.{Among}
 use Rattle.endpoint_agent.specs.declared.lines.FlowLine.{FlowLine}
-use Rattle.endpoint_agent.specs.Standing.{StandsFor}
-use Rattle.endpoint_agent.specs.Timely.{AreApart, AreTold, MayTake}
-use Rattle.endpoint_agent.specs.State.{AgentState, line_at, place_of, first_waiting, waits_of}
+use Rattle.endpoint_agent.specs.Standing.{AgentStandsFor}
+use Rattle.endpoint_agent.specs.Timely.{BatchesAreApart, AreTold, MayTake}
+use Rattle.endpoint_agent.specs.State.{AgentState, line_at, batch_place, first_waiting, waits_of}
 use Rattle.endpoint_agent.proofs.Due.{is_due, due_of, nil_or}
 
 abbrev slots_in : ℕ → List TakenDown → List Slot
-slots_in b ts = flat_map (λ (t : TakenDown). slots_of b t.packet.content) ts
+slots_in b ts = flat_map (λ (t : TakenDown). slots_of_telling b t.packet.content) ts
 
 -- where no packet tells slots of a batch, none are due when it is used
 none-due : (b g batch : ℕ) (ts : List TakenDown) → ((t : TakenDown) → Among t ts → t.packet.content.told ≢ [] → t.packet.content.batch ≢ batch)
@@ -35,25 +35,25 @@ none-due b g batch (t ∷ ts) once =
           elim (nil_or t.packet.content.told) [
             | inl none ↦
                 ap (slots_in b) (cond-true test (t ∷ kept) kept due)
-                ∙ ap (λ (told : List Told). slots_of b (record { batch = t.packet.content.batch; told = told }) ++ slots_in b kept) none
+                ∙ ap (λ (told : List Told). slots_of_telling b (record { batch = t.packet.content.batch; told = told }) ++ slots_in b kept) none
                 ∙ rest
             | inr some ↦ absurd (once t (inl refl) some (omega (arith, same)))
           ]
     ]
 
-no-slots : (b batch : ℕ) (told : List Told) → slots_of b (record { batch = batch; told = told }) ≡ [] → told ≡ []
+no-slots : (b batch : ℕ) (told : List Told) → slots_of_telling b (record { batch = batch; told = told }) ≡ [] → told ≡ []
 no-slots b batch [] none = refl
 no-slots b batch (t ∷ told) none = absurd cc
 
-free : (agent : AgentState) (history : AgentHistory) (packet : DownPacket) → StandsFor agent history → packet.content.batch + 2 * agent.g ≤ agent.round
+free : (agent : AgentState) (history : AgentHistory) (packet : DownPacket) → AgentStandsFor agent history → packet.content.batch + 2 * agent.g ≤ agent.round
     → ((t : TakenDown) → Among t (taken history) → t.packet.content.told ≢ [] → t.packet.content.batch ≢ packet.content.batch)
-    → agent.round ≤ packet.content.batch + 2 * agent.g + 2 → place_of agent.waiting packet.content.batch ≡ []
+    → agent.round ≤ packet.content.batch + 2 * agent.g + 2 → batch_place agent.waiting packet.content.batch ≡ []
 free agent history packet stands late once in_time =
     let k = packet.content.batch in
     let b = agent.b in
     let g = agent.g in
-    let waits : waits_of g agent.round agent.waiting k ≡ place_of agent.waiting k =
-    ap (λ (c : Bool). cond c (place_of agent.waiting k) []) (le-leb k (first_waiting g agent.round + 2) (omega (arith, late))) in
+    let waits : waits_of g agent.round agent.waiting k ≡ batch_place agent.waiting k =
+    ap (λ (c : Bool). cond c (batch_place agent.waiting k) []) (le-leb k (first_waiting g agent.round + 2) (omega (arith, late))) in
     let none : due_of b g (k + 2 * g + 2) (taken history) ≡ [] =
     ap (sort_by (λ (s : Slot). s.slot)) (none-due b g k (taken history) once) in
     sym waits ∙ no-slots b k (waits_of g agent.round agent.waiting k) (stands.waiting k (omega (arith, in_time)) ∙ none)
@@ -100,7 +100,7 @@ module _ (g dst : ℕ) where
       by true = refl
       by false = refl
 
-  one-batch : (k round : ℕ) (ts : List TakenDown) → AreApart ts → AreTold round ts → sum_by (of_batch k) ts ≤ 64
+  one-batch : (k round : ℕ) (ts : List TakenDown) → BatchesAreApart ts → AreTold round ts → sum_by (of_batch k) ts ≤ 64
   one-batch k round [] apart told = omega arith
   one-batch k round (t ∷ ts) apart told =
       let rest = one-batch k round ts apart.1 told.2 in
@@ -130,7 +130,7 @@ module _ (g dst : ℕ) where
       by : (k m : ℕ) → cond (nat_lt k (n + 1)) m 0 ≡ cond (nat_lt k n) m 0 + cond (k == n) m 0
       by k m = grind (arith, nat_tests)
 
-  lower-few : (round : ℕ) (ts : List TakenDown) → AreApart ts → AreTold round ts → (n : ℕ) → sum_by (of_lower n) ts ≤ 64 * n
+  lower-few : (round : ℕ) (ts : List TakenDown) → BatchesAreApart ts → AreTold round ts → (n : ℕ) → sum_by (of_lower n) ts ≤ 64 * n
   lower-few round ts apart told zero = none ts
     where
       none : (ts : List TakenDown) → sum_by (of_lower 0) ts ≤ 0
@@ -158,7 +158,7 @@ module _ (g dst : ℕ) where
       by true m none = refl
       by false m none = sym none
 
-  pub few-missed : (round : ℕ) (ts : List TakenDown) → AreApart ts → AreTold round ts → sum_by (missed_of g dst) ts ≤ 64 * (round + 1)
+  pub few-missed : (round : ℕ) (ts : List TakenDown) → BatchesAreApart ts → AreTold round ts → sum_by (missed_of g dst) ts ≤ 64 * (round + 1)
   few-missed round ts apart told =
       let all = all-lower round ts told in
       let few = lower-few round ts apart told (round + 1) in
@@ -170,11 +170,11 @@ module _ (g dst : ℕ) where
 -- are not, they and those that were missed before are few enough to be counted
 pub record HasRoom (agent : AgentState) (round : ℕ) (packet : DownPacket) : Type 0 where
   pub late : packet.content.told ≢ [] → packet.content.batch + 2 * agent.g ≤ round
-  pub apart : packet.content.told ≢ [] → round ≤ packet.content.batch + 2 * agent.g + 2 → place_of agent.waiting packet.content.batch ≡ []
+  pub apart : packet.content.told ≢ [] → round ≤ packet.content.batch + 2 * agent.g + 2 → batch_place agent.waiting packet.content.batch ≡ []
   pub fits : packet.content.told ≢ [] → packet.content.batch + 2 * agent.g + 2 < round →
       (dst : ℕ) → dst < agent.endpoints → (line_at agent.lines dst).missed + slots_to dst packet.content.told ≤ 100000000
 
-pub has-room : (agent : AgentState) (history : AgentHistory) (packet : DownPacket) → StandsFor agent history → agent.round < 100000 → length packet.content.told ≤ 64
+pub has-room : (agent : AgentState) (history : AgentHistory) (packet : DownPacket) → AgentStandsFor agent history → agent.round < 100000 → length packet.content.told ≤ 64
     → MayTake agent.g history agent.round packet → HasRoom agent agent.round packet
 has-room agent history packet stands rounds few may = record {
   late = may.late;

@@ -8,13 +8,10 @@ use Rattle.fcp_framing.specs.declared.packet.Demand.{Demand}
 use Rattle.endpoint_history.specs.Packets.{DownPacket}
 use Rattle.endpoint_history.specs.Agent.{AgentHistory, Boots, Asks, TakesDown, MakesUp, SendsDue, version_of, is_current, takes, asked, missed, total, was_carried, sends_new, unconfirmed, numbers}
 use Rattle.endpoint_history.specs.AgentLaws.{TakingBringsSlots}
+use Rattle.endpoint_history.proofs.Totals.{total-is}
 use Rattle.endpoint_agent.specs.Carrying.{carried_from, greatest_acknowledged}
 use Rattle.endpoint_agent.proofs.Members.{Has-filter, Has-filtered, Has-map, Has-mapped, Has-range, any_from, any_to}
 use Rattle.endpoint_agent.proofs.Confirmed.{Requests, demand_of, carries, Carrying, Carrying-none, Carrying-grows, Carrying-reads, Carrying-sends, confirmed_by_number}
-
-pub total-is : (g : ℕ) (history : AgentHistory) (dst : ℕ) → total g history dst ≡ asked history dst + missed g history dst
-unfolding total
-total-is g history dst = refl
 
 -- ---- what a request names
 

@@ -10,7 +10,7 @@ use Rattle.endpoint_history.specs.Sending.{Slot, sent_of}
 use Rattle.endpoint_agent.specs.declared.lines.FlowLine.{FlowLine}
 use Rattle.endpoint_agent.specs.declared.lines.Sent.{Sent}
 use Rattle.endpoint_agent.specs.State.{line_at}
-use Rattle.endpoint_agent.specs.Lines.{slots_sent, with_sent, slots_after, left_in}
+use Rattle.endpoint_agent.specs.Lines.{slots_sent, with_sent, slots_from_first, left_in}
 
 abbrev pub no_line : FlowLine
 no_line = record { asked = 0; sent = 0; missed = 0; carried_from = 0 }
@@ -113,8 +113,8 @@ counted-step lines s rest line dst within changed =
           ∙ ap (λ (n : ℕ). with_sent n (line_at lines dst)) is
     ]
 
-pub slots_after-next : (first i : ℕ) (told : List Told) → i < length told → slots_after first (drop i told) ≡ slot_at first (told_at told i) ∷ slots_after first (drop (i + 1) told)
-slots_after-next first i told within = ap (slots_after first) (drop_more told i no_told within)
+pub slots_after-next : (first i : ℕ) (told : List Told) → i < length told → slots_from_first first (drop i told) ≡ slot_at first (told_at told i) ∷ slots_from_first first (drop (i + 1) told)
+slots_after-next first i told within = ap (slots_from_first first) (drop_more told i no_told within)
 
 slots_sent-cond : (test : Bool) (slot dst : ℕ) → slots_sent (cond test (record { slot = slot; dst = dst } ∷ []) []) ≡ cond test (record { slot = slot; dst = dst } ∷ []) []
 slots_sent-cond true slot dst = refl

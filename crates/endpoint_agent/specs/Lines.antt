@@ -49,8 +49,8 @@ unconfirmed_in acknowledged endpoints lines =
     map (demand_at lines) (filter (λ dst. nat_lt acknowledged (line_at lines dst).carried_from) (range_with_len 0 endpoints))
 
 -- the slots of a batch, from its first one on
-abbrev pub slots_after : ℕ → List Told → List Slot
-slots_after first told = map (λ (t : Told). record { slot = first + t.offset; dst = t.dst }) told
+abbrev pub slots_from_first : ℕ → List Told → List Slot
+slots_from_first first told = map (λ (t : Told). record { slot = first + t.offset; dst = t.dst }) told
 
 -- how many slots are left of each flow
 abbrev pub left_in : List FlowLine → ℕ → ℕ

@@ -36,8 +36,8 @@ abbrev pub line_at : List FlowLine → ℕ → FlowLine
 line_at lines dst = get_or lines dst (record { asked = 0; sent = 0; missed = 0; carried_from = 0 })
 
 -- batch k has the place k % 3
-abbrev pub place_of : List (List Told) → ℕ → List Told
-place_of waiting batch = get_or waiting (batch % 3) []
+abbrev pub batch_place : List (List Told) → ℕ → List Told
+batch_place waiting batch = get_or waiting (batch % 3) []
 
 -- the first of the three batches that may wait: the one that is used at the end of this round, or batch 0
 abbrev pub first_waiting : ℕ → ℕ → ℕ
@@ -45,11 +45,11 @@ first_waiting g round = round - (2 * g + 2)
 
 -- the slots that wait of a batch that is still to be used
 abbrev pub waits_of : ℕ → ℕ → List (List Told) → ℕ → List Told
-waits_of g round waiting batch = if nat_le batch (first_waiting g round + 2) then place_of waiting batch else []
+waits_of g round waiting batch = if nat_le batch (first_waiting g round + 2) then batch_place waiting batch else []
 
 -- ---- what the numbers of every agent keep to
 
-pub record IsLine (line : FlowLine) : Type 0 where
+pub record IsFlowLine (line : FlowLine) : Type 0 where
   pub asked : line.asked ≤ 100000000
   pub missed : line.missed ≤ 100000000
 
@@ -67,16 +67,16 @@ pub record IsSound (agent : AgentState) : Type 0 where
   pub rounds : agent.round ≤ 100000
   pub numbers : agent.sent.outstanding.newest ≤ rounds_made agent
   pub as_many : length agent.lines ≡ agent.endpoints
-  pub lines : (dst : ℕ) → IsLine (line_at agent.lines dst)
+  pub lines : (dst : ℕ) → IsFlowLine (line_at agent.lines dst)
   pub own_line : (line_at agent.lines agent.me).carried_from ≡ 0
   pub three : length agent.waiting ≡ 3
   pub waiting : (place : ℕ) → All (λ (t : Told). t.dst < agent.endpoints) (get_or agent.waiting place [])
 
 -- a flow whose total no request up to this number carries is marked; others may be, too
-abbrev pub AreMarked : ℕ → Places → List FlowLine → Type 0
-AreMarked acknowledged marks lines = (dst : ℕ) → is_marked marks dst ≡ false → (line_at lines dst).carried_from ≤ acknowledged
+abbrev pub UnconfirmedAreMarked : ℕ → Places → List FlowLine → Type 0
+UnconfirmedAreMarked acknowledged marks lines = (dst : ℕ) → is_marked marks dst ≡ false → (line_at lines dst).carried_from ≤ acknowledged
 
 -- what is stored twice: the newest number with the newest request, and which flows may be named
-pub record IsKept (seq : ℕ) (unconfirmed : Places) (agent : AgentState) : Type 0 where
+pub record AgentIsKept (seq : ℕ) (unconfirmed : Places) (agent : AgentState) : Type 0 where
   pub number : seq ≡ agent.sent.outstanding.newest
-  pub marked : AreMarked agent.acknowledged unconfirmed agent.lines
+  pub marked : UnconfirmedAreMarked agent.acknowledged unconfirmed agent.lines

@@ -12,11 +12,11 @@ ghost use Rattle.endpoint_history.specs.Packets.{down_packet, framed_up, slots_t
 ghost use Rattle.endpoint_history.specs.Agent.{AgentHistory, Boots, Asks, TakesDown, MakesUp, SendsDue, takes, packet_up, missed};
 ghost use Rattle.endpoint_history.specs.Sending.{Slot, sends, sent_in, sent_of};
 ghost use Rattle.endpoint_agent.specs.Carrying.{greatest_shown};
-ghost use Rattle.endpoint_agent.specs.Lines.{slots_sent, with_missed, with_sent, unconfirmed_in, slots_after, left_in};
+ghost use Rattle.endpoint_agent.specs.Lines.{slots_sent, with_missed, with_sent, unconfirmed_in, slots_from_first, left_in};
 ghost use Rattle.endpoint_agent.specs.declared.lines.FlowLine.{FlowLine as FlowLineItem};
 ghost use Rattle.endpoint_agent.specs.Refusals.{refusal_of, IsOwn};
-ghost use Rattle.endpoint_agent.specs.Standing.{StandsFor};
-ghost use Rattle.endpoint_agent.specs.State.{line_at, place_of, AreMarked};
+ghost use Rattle.endpoint_agent.specs.Standing.{AgentStandsFor};
+ghost use Rattle.endpoint_agent.specs.State.{line_at, batch_place, UnconfirmedAreMarked};
 ghost use Rattle.endpoint_agent.specs.Timely.{MayTake};
 ghost use Rattle.line_marks.specs.Places.{is_marked};
 
@@ -65,7 +65,7 @@ pub struct Agent {
 
 impl Model for Agent {
     ghost use Rattle.std.specs.Prelude.{◌≡◌, false};
-    ghost use Rattle.endpoint_agent.specs.State.{AgentState, IsSound, IsKept};
+    ghost use Rattle.endpoint_agent.specs.State.{AgentState, IsSound, AgentIsKept};
     ghost use Rattle.endpoint_agent.specs.Standing.{HasHistory};
 
     ghost Value = { AgentState };
@@ -106,7 +106,7 @@ impl Model for Agent {
           round = agent.round;
           is_made = agent.is_made;
         } in
-        IsSound state × HasHistory state × IsKept agent.request.seq agent.unconfirmed state };
+        IsSound state × HasHistory state × AgentIsKept agent.request.seq agent.unconfirmed state };
 }
 
 impl Agent {
@@ -120,7 +120,7 @@ impl Agent {
         ensures b { IfOk result (λ agent. agent.b ≡ b) }
         ensures g { IfOk result (λ agent. agent.g ≡ g) }
         ensures is_made { IfOk result (λ agent. agent.is_made ≡ false) }
-        ensures stands { IfOk result (λ agent. StandsFor agent []) }
+        ensures stands { IfOk result (λ agent. AgentStandsFor agent []) }
     {
         let sent = SendWindow::open(alloc, FIRST_VERSION)?;
         let lines = vec![in alloc; FlowLine::default(); endpoints as usize]?;
@@ -162,8 +162,8 @@ impl Agent {
           waiting = self.new.waiting;
         } }
         ensures stands { (calls : AgentHistory) →
-            StandsFor self.old calls →
-            StandsFor self.new (Boots version ∷ calls) }
+            AgentStandsFor self.old calls →
+            AgentStandsFor self.new (Boots version ∷ calls) }
     {
         self.epoch += 1;
         self.version = version;
@@ -185,8 +185,8 @@ impl Agent {
         requires most { (line_at self.old.lines dst).asked + n ≤ 100000000 }
         ensures frame { self.new ≡ record self.old { lines = self.new.lines } }
         ensures stands { (calls : AgentHistory) →
-            StandsFor self.old calls →
-            StandsFor self.new (Asks dst n ∷ calls) }
+            AgentStandsFor self.old calls →
+            AgentStandsFor self.new (Asks dst n ∷ calls) }
     {
         if n > 0 {
             let line = &mut self.lines[dst as usize];
@@ -202,10 +202,10 @@ impl Agent {
     pub fn take_down(&mut self, round: u32, bytes: &[u8]) -> Result<(), DownRefused>
         requires round { round ≡ self.old.round }
         requires rounds { round < 100000 }
-        requires may_take { (calls : AgentHistory) × StandsFor self.old calls
+        requires may_take { (calls : AgentHistory) × AgentStandsFor self.old calls
             × (IsOwn self.old.me self.old.endpoints self.old.b bytes.now → takes calls (down_packet (down_of bytes.now)) ≡ true → MayTake self.old.g calls round (down_packet (down_of bytes.now))) }
         ensures answer { (calls : AgentHistory) →
-            StandsFor self.old calls →
+            AgentStandsFor self.old calls →
             result_err result ≡ refusal_of self.old.me self.old.endpoints self.old.b calls bytes.now }
         ensures unchanged { IfSome (result_err result) (λ refusal.
             refusal ≢ DownRefused.OldSeq → refusal ≢ DownRefused.Repeat → self.new ≡ self.old) }
@@ -220,8 +220,8 @@ impl Agent {
         } }
         ensures stands { IsOwn self.old.me self.old.endpoints self.old.b bytes.now →
             (calls : AgentHistory) →
-            StandsFor self.old calls →
-            StandsFor self.new (TakesDown round (down_packet (down_of bytes.now)) ∷ calls) }
+            AgentStandsFor self.old calls →
+            AgentStandsFor self.new (TakesDown round (down_packet (down_of bytes.now)) ∷ calls) }
     {
         if let Err(refusal) = decode_down(bytes, self.endpoints, self.b, &mut self.down) {
             return Err(DownRefused::Frame(refusal));
@@ -263,17 +263,17 @@ impl Agent {
     pub fn make_up(&mut self, buf: &mut [u8; 2048]) -> usize
         requires once { self.old.is_made ≡ false }
         ensures packet { (calls : AgentHistory) →
-            StandsFor self.old calls →
+            AgentStandsFor self.old calls →
             take result buf.new ≡ up_bytes (framed_up self.old.me (packet_up self.old.endpoints self.old.g calls)) }
         ensures spelled { (calls : AgentHistory) →
-            StandsFor self.old calls →
+            AgentStandsFor self.old calls →
             SpellsUp self.old.endpoints (take result buf.new) (framed_up self.old.me (packet_up self.old.endpoints self.old.g calls)) }
         ensures within { result ≤ 2048 }
         ensures rest { drop result buf.new ≡ drop result buf.old }
         ensures frame { self.new ≡ record self.old { sent = self.new.sent; named = self.new.named; is_made = true } }
         ensures stands { (calls : AgentHistory) →
-            StandsFor self.old calls →
-            StandsFor self.new (MakesUp ∷ calls) }
+            AgentStandsFor self.old calls →
+            AgentStandsFor self.new (MakesUp ∷ calls) }
     {
         agents_count_slots();
         requests_name_unconfirmed_totals();
@@ -304,12 +304,12 @@ impl Agent {
         requires rounds { round < 100000 }
         requires empty { into.old.items ≡ [] }
         ensures sends { (calls : AgentHistory) →
-            StandsFor self.old calls →
+            AgentStandsFor self.old calls →
             slots_sent into.new.items ≡ sent_in self.old.b self.old.g calls round }
         ensures frame { self.new ≡ record self.old { lines = self.new.lines; waiting = self.new.waiting; round = round + 1; is_made = false } }
         ensures stands { (calls : AgentHistory) →
-            StandsFor self.old calls →
-            StandsFor self.new (SendsDue round ∷ calls) }
+            AgentStandsFor self.old calls →
+            AgentStandsFor self.new (SendsDue round ∷ calls) }
     {
         self.round = round + 1;
         self.is_made = false;
@@ -326,10 +326,10 @@ impl Agent {
     pub fn totals(&self, dst: u16) -> (u32, u32)
         requires { dst < self.now.endpoints }
         ensures sent { (calls : AgentHistory) →
-            StandsFor self.now calls →
+            AgentStandsFor self.now calls →
             result.0 ≡ sends self.now.b self.now.g calls dst }
         ensures missed { (calls : AgentHistory) →
-            StandsFor self.now calls →
+            AgentStandsFor self.now calls →
             result.1 ≡ missed self.now.g calls dst }
     {
         let line = &self.lines[dst as usize];
@@ -408,12 +408,12 @@ fn renew(
     requires most { length lines.now ≤ 256 }
     requires totals { All (λ (line : FlowLineItem). line.asked + line.missed ≤ 200000000) lines.now }
     requires own { (me : ℕ) × (me < length lines.now) × ((line_at lines.now me).carried_from ≡ 0) }
-    requires marked { AreMarked acknowledged unconfirmed.old lines.now }
+    requires marked { UnconfirmedAreMarked acknowledged unconfirmed.old lines.now }
     ensures again { ¬ MaySend sent.old → (sent.new ≡ sent.old) × (request.new ≡ request.old) }
     ensures number { MaySend sent.old → (request.new.seq ≡ sent.old.outstanding.newest + 1) × (sent.new.outstanding.newest ≡ sent.old.outstanding.newest + 1) }
     ensures version { sent.new.version ≡ sent.old.version }
     ensures named { MaySend sent.old → request.new.demands.items ≡ unconfirmed_in acknowledged (length lines.now) lines.now }
-    ensures marked { AreMarked acknowledged unconfirmed.new lines.now }
+    ensures marked { UnconfirmedAreMarked acknowledged unconfirmed.new lines.now }
     ensures stands { MaySend sent.old → (events : List (Event (Unit {0}))) →
         HasDone sent.old events →
         HasDone sent.new (Sends tt ∷ events) }
@@ -477,13 +477,13 @@ fn send_batch(
     into: &mut ArrayVec<Sent, 64>,
 )
     requires three { length waiting.old ≡ 3 }
-    requires destinations { All (λ (t : ToldSlot). t.dst < length lines.old) (place_of waiting.old batch) }
+    requires destinations { All (λ (t : ToldSlot). t.dst < length lines.old) (batch_place waiting.old batch) }
     requires slots { first_slot + 256 ≤ 2 ^ 32 }
     requires empty { into.old.items ≡ [] }
     ensures length { length lines.new ≡ length lines.old }
-    ensures sent { slots_sent into.new.items ≡ sent_of (left_in lines.old) (slots_after first_slot (place_of waiting.old batch)) }
+    ensures sent { slots_sent into.new.items ≡ sent_of (left_in lines.old) (slots_from_first first_slot (batch_place waiting.old batch)) }
     ensures counted { (dst : ℕ) → line_at lines.new dst
-        ≡ with_sent (count_by (λ (s : Slot). s.dst == dst) (sent_of (left_in lines.old) (slots_after first_slot (place_of waiting.old batch)))) (line_at lines.old dst) }
+        ≡ with_sent (count_by (λ (s : Slot). s.dst == dst) (sent_of (left_in lines.old) (slots_from_first first_slot (batch_place waiting.old batch)))) (line_at lines.old dst) }
     ensures waiting { waiting.new ≡ slice_set waiting.old (batch % 3) [] }
 {
     let told = &mut waiting[(batch % 3) as usize];

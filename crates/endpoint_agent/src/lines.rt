@@ -3,8 +3,8 @@ ghost use Rattle.std.specs.Prelude.{◌≡◌, ◌<◌, ◌≤◌, ◌+◌, ◌^
 ghost use Rattle.endpoint_history.specs.Packets.{slots_to};
 ghost use Rattle.endpoint_history.specs.Sending.{Slot, sent_of};
 ghost use Rattle.line_marks.specs.Places.{is_marked};
-ghost use Rattle.endpoint_agent.specs.State.{line_at, AreMarked};
-ghost use Rattle.endpoint_agent.specs.Lines.{slots_sent, with_missed, with_sent, unconfirmed_in, slots_after, left_in};
+ghost use Rattle.endpoint_agent.specs.State.{line_at, UnconfirmedAreMarked};
+ghost use Rattle.endpoint_agent.specs.Lines.{slots_sent, with_missed, with_sent, unconfirmed_in, slots_from_first, left_in};
 
 use arrayvec::ArrayVec;
 use fcp_framing::{Demand, Told};
@@ -39,9 +39,9 @@ pub(crate) fn name_unconfirmed(
     requires most { length lines.now ≤ 256 }
     requires totals { All (λ line. line.asked + line.missed ≤ 200000000) lines.now }
     requires own { (me : ℕ) × (me < length lines.now) × ((line_at lines.now me).carried_from ≡ 0) }
-    requires marked { AreMarked acknowledged unconfirmed.old lines.now }
+    requires marked { UnconfirmedAreMarked acknowledged unconfirmed.old lines.now }
     ensures named { demands.new.items ≡ unconfirmed_in acknowledged (length lines.now) lines.now }
-    ensures marked { AreMarked acknowledged unconfirmed.new lines.now }
+    ensures marked { UnconfirmedAreMarked acknowledged unconfirmed.new lines.now }
 {
     let mut dst = unconfirmed.next_from(0);
     while dst < lines.len() {
@@ -111,9 +111,9 @@ pub(crate) fn send_all(
     requires slots { first_slot + 256 ≤ 2 ^ 32 }
     requires room { length into.old.items + length told.now ≤ 64 }
     ensures length { length lines.new ≡ length lines.old }
-    ensures sent { slots_sent into.new.items ≡ slots_sent into.old.items ++ sent_of (left_in lines.old) (slots_after first_slot told.now) }
+    ensures sent { slots_sent into.new.items ≡ slots_sent into.old.items ++ sent_of (left_in lines.old) (slots_from_first first_slot told.now) }
     ensures counted { (dst : ℕ) → line_at lines.new dst
-        ≡ with_sent (count_by (λ (s : Slot). s.dst == dst) (sent_of (left_in lines.old) (slots_after first_slot told.now))) (line_at lines.old dst) }
+        ≡ with_sent (count_by (λ (s : Slot). s.dst == dst) (sent_of (left_in lines.old) (slots_from_first first_slot told.now))) (line_at lines.old dst) }
 {
     for slot in told {
         send_one(

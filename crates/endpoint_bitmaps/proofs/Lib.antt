@@ -1,5 +1,5 @@
 mod CountLemmas
-mod WordLemmas
+pub mod WordLemmas
 mod LowestLemmas
 mod NamingLemmas
 mod MapLemmas

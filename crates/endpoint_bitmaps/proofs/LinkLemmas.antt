@@ -4,9 +4,10 @@ use Rattle.std.specs.Int.{trailing_zeros}
 use Rattle.std.proofs.lemmas.Bool.{cases_eq, and_right, and_parts, eq-eqb, ne_eqb, lt-ltb, le-ltb, both_ways, eqb-true}
 use Rattle.std.proofs.lemmas.List.{get_or-set_same, get_or-set_other, get_or_read, length-set, length-replicate, get_or-replicate}
 use Rattle.std.proofs.lemmas.Nat.Bits.{bit_at-pow_same, bit_at-pow_other}
+use Rattle.list_facts.proofs.Bools.{and_true, none_yet}
 use Rattle.endpoint_bitmaps.specs.Slots.{has_slot}
 use Rattle.endpoint_bitmaps.specs.Links.{taken_in, HasTakenLinks, ShowsLeft}
-use Rattle.endpoint_bitmaps.proofs.WordLemmas.{has_slot-without, has_slot-first, and_true, lowest_is, without_lowest}
+use Rattle.endpoint_bitmaps.proofs.WordLemmas.{has_slot-without, has_slot-first, lowest_is, without_lowest}
 
 pub shows_cleared : (cores before : ℕ) (counts words counts' words' : List ℕ) → 1 ≤ cores → ShowsLeft before counts words → counts' ≡ replicate (length counts) 0
     → words' ≡ replicate (length words) (2 ^ 64 - 1) → ShowsLeft cores counts' words'
@@ -71,10 +72,6 @@ pub record IsTaking (cores rack slots rest : ℕ) (old counts words : List ℕ) 
   pub taken : HasTakenLinks rack (λ k. has_slot slots k && not (has_slot rest k)) old counts
   pub shows : ShowsLeft cores counts words
   pub part : (k : ℕ) → has_slot rest k ≡ true → has_slot slots k ≡ true
-
-none_yet : (b : Bool) → (b && not b) ≡ false
-none_yet true = refl
-none_yet false = refl
 
 counted_no : (n : ℕ) (here p : Bool) → p ≡ false → n ≡ n + cond (here && p) 1 0
 counted_no n here p off = ap (λ (m : ℕ). m) (omega arith) ∙ ap (λ (b : Bool). n + cond b 1 0) (sym (and_right here p off))

@@ -2,9 +2,10 @@
 use Rattle.std.proofs.Common.{◌≡◌, ◌<◌, ◌+◌, ◌-◌, cond, false, arith, ◌^◌, ℕ, List, length, get_or, set, Bool, not, ◌==◌, ◌&&◌, ◌||◌, bit_and, refl, sym, ap, ◌∙◌, inl, inr}
 use Rattle.std.proofs.lemmas.Bool.{cases_eq, and_left, eq-eqb, ne_eqb}
 use Rattle.std.proofs.lemmas.List.{get_or-set_same, get_or-set_other, get_or_read}
+use Rattle.list_facts.proofs.Bools.{and_true}
 use Rattle.endpoint_bitmaps.specs.Slots.{has_slot}
-use Rattle.endpoint_bitmaps.specs.FreeSlots.{FreeSlots, may_send, may_receive, leaving_in, entering_in, rack_in, is_between, has_links, is_common, HasTaken}
-use Rattle.endpoint_bitmaps.proofs.WordLemmas.{has_slot-both, has_slot-without, has_slot-none, and_true}
+use Rattle.endpoint_bitmaps.specs.FreeSlots.{FreeSlots, is_free_to_send, may_receive, leaving_in, entering_in, rack_in, is_between_racks, has_links, is_common, HasTaken}
+use Rattle.endpoint_bitmaps.proofs.WordLemmas.{has_slot-both, has_slot-without, has_slot-none}
 
 -- what two endpoints have in common
 pub common_is : (senders receivers : List ℕ) (src dst s r slot : ℕ) → src < length senders → dst < length receivers → s ≡ get_or senders src s → r ≡ get_or receivers dst r
@@ -35,10 +36,10 @@ pub none_taken : (src dst taken : ℕ) (maps : FreeSlots) → taken ≡ 0 → Ha
 none_taken src dst taken maps none = record {
   endpoints = refl;
   limits = refl;
-  senders = λ endpoint slot. stays (may_send maps endpoint slot) (endpoint == src) (has_slot taken slot) (no_slot slot);
+  senders = λ endpoint slot. stays (is_free_to_send maps endpoint slot) (endpoint == src) (has_slot taken slot) (no_slot slot);
   receivers = λ endpoint slot. stays (may_receive maps endpoint slot) (endpoint == dst) (has_slot taken slot) (no_slot slot);
-  leaving = λ rack slot below. no_more (leaving_in maps rack slot) (rack == rack_in maps src) (is_between maps src dst) (has_slot taken slot) (no_slot slot);
-  entering = λ rack slot below. no_more (entering_in maps rack slot) (rack == rack_in maps dst) (is_between maps src dst) (has_slot taken slot) (no_slot slot);
+  leaving = λ rack slot below. no_more (leaving_in maps rack slot) (rack == rack_in maps src) (is_between_racks maps src dst) (has_slot taken slot) (no_slot slot);
+  entering = λ rack slot below. no_more (entering_in maps rack slot) (rack == rack_in maps dst) (is_between_racks maps src dst) (has_slot taken slot) (no_slot slot);
 }
   where
     no_slot : (slot : ℕ) → has_slot taken slot ≡ false
@@ -51,5 +52,5 @@ none_taken src dst taken maps none = record {
     no_more n here between taken none = grind arith
 
 -- where either end isn't free, the slot is not common
-pub none_common : (maps : FreeSlots) (src dst slot : ℕ) → false ≡ (may_send maps src slot && may_receive maps dst slot) → false ≡ is_common maps src dst slot
-none_common maps src dst slot none = ap (λ (b : Bool). b && (not (is_between maps src dst) || has_links maps src dst slot)) none
+pub none_common : (maps : FreeSlots) (src dst slot : ℕ) → false ≡ (is_free_to_send maps src slot && may_receive maps dst slot) → false ≡ is_common maps src dst slot
+none_common maps src dst slot none = ap (λ (b : Bool). b && (not (is_between_racks maps src dst) || has_links maps src dst slot)) none

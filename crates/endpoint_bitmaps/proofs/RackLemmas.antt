@@ -8,7 +8,7 @@ use Rattle.greedy_rules.specs.Limits.{rack_of, is_outward}
 use Rattle.endpoint_bitmaps.specs.Slots.{has_slot}
 use Rattle.endpoint_bitmaps.specs.Links.{taken_in, ShowsLeft, HasTakenLinks}
 use Rattle.endpoint_bitmaps.specs.Fit.{Fit}
-use Rattle.endpoint_bitmaps.specs.FreeSlots.{FreeSlots, may_send, may_receive, leaving_in, entering_in, rack_in, is_between, has_links, is_common}
+use Rattle.endpoint_bitmaps.specs.FreeSlots.{FreeSlots, is_free_to_send, may_receive, leaving_in, entering_in, rack_in, is_between_racks, has_links, is_common}
 use Rattle.endpoint_bitmaps.proofs.WordLemmas.{has_slot-both, has_slot-above}
 
 module _ (n : ℕ) (limits : Limits) (senders receivers racks leaving leaving_left entering entering_left : List ℕ)
@@ -34,10 +34,10 @@ module _ (n : ℕ) (limits : Limits) (senders receivers racks leaving leaving_le
 
   -- within a rack it is enough that both are free
   pub common_within : (src dst from to free slot : ℕ) → from ≡ rack_of limits.hosts src → to ≡ rack_of limits.hosts dst → from ≡ to
-      → has_slot free slot ≡ (may_send maps src slot && may_receive maps dst slot) → has_slot free slot ≡ is_common maps src dst slot
+      → has_slot free slot ≡ (is_free_to_send maps src slot && may_receive maps dst slot) → has_slot free slot ≡ is_common maps src dst slot
   common_within src dst from to free slot from_is to_is same free_is =
       let level : (rack_of limits.hosts src == rack_of limits.hosts dst) ≡ true = eq-eqb _ _ (sym from_is ∙ (same ∙ to_is)) in
-      free_is ∙ within_rack (may_send maps src slot && may_receive maps dst slot) (rack_of limits.hosts src == rack_of limits.hosts dst) (has_links maps src dst slot) level
+      free_is ∙ within_rack (is_free_to_send maps src slot && may_receive maps dst slot) (rack_of limits.hosts src == rack_of limits.hosts dst) (has_links maps src dst slot) level
     where
       within_rack : (both level links : Bool) → level ≡ true → both ≡ (both && (not (not level) || links))
       within_rack true true links is = refl
@@ -52,10 +52,10 @@ module _ (n : ℕ) (limits : Limits) (senders receivers racks leaving leaving_le
   -- between racks both racks need a link, too
   pub common_between : (src dst from to free up down slot : ℕ) → src < length senders → dst < length senders → free < 2 ^ 64 → from ≡ rack_of limits.hosts src
       → to ≡ rack_of limits.hosts dst → from ≢ to → up ≡ get_or leaving_left from up → down ≡ get_or entering_left to down
-      → has_slot free slot ≡ (may_send maps src slot && may_receive maps dst slot) → has_slot (bit_and free (bit_and up down)) slot ≡ is_common maps src dst slot
+      → has_slot free slot ≡ (is_free_to_send maps src slot && may_receive maps dst slot) → has_slot (bit_and free (bit_and up down)) slot ≡ is_common maps src dst slot
   common_between src dst from to free up down slot src_below dst_below fits from_is to_is differ up_is down_is free_is =
       let apart : (rack_of limits.hosts src == rack_of limits.hosts dst) ≡ false = ne_eqb _ _ (λ same. differ (from_is ∙ (same ∙ sym to_is))) in
-      let both : Bool = may_send maps src slot && may_receive maps dst slot in
+      let both : Bool = is_free_to_send maps src slot && may_receive maps dst slot in
       has_slot-both free (bit_and up down) slot
       ∙ elim (cases_lt slot 64) [
         | inl within ↦
@@ -71,7 +71,7 @@ module _ (n : ℕ) (limits : Limits) (senders receivers racks leaving leaving_le
         | inr from_64 ↦
             let none : has_slot free slot ≡ false = has_slot-above free slot fits from_64 in
             and_left (has_slot free slot) (has_slot (bit_and up down) slot) none
-            ∙ sym (and_left both (not (is_between maps src dst) || has_links maps src dst slot) (sym free_is ∙ none))
+            ∙ sym (and_left both (not (is_between_racks maps src dst) || has_links maps src dst slot) (sym free_is ∙ none))
       ]
     where
       between : (both level links : Bool) → level ≡ false → (both && links) ≡ (both && (not (not level) || links))
@@ -81,7 +81,7 @@ module _ (n : ℕ) (limits : Limits) (senders receivers racks leaving leaving_le
   -- in a common slot of two racks both have a link left
   pub links_left : (src dst slot : ℕ) → is_common maps src dst slot ≡ true → (rack_of limits.hosts src == rack_of limits.hosts dst) ≡ false → has_links maps src dst slot ≡ true
   links_left src dst slot common apart =
-      needs (may_send maps src slot && may_receive maps dst slot) (rack_of limits.hosts src == rack_of limits.hosts dst) (has_links maps src dst slot) common apart
+      needs (is_free_to_send maps src slot && may_receive maps dst slot) (rack_of limits.hosts src == rack_of limits.hosts dst) (has_links maps src dst slot) common apart
     where
       needs : (both level links : Bool) → (both && (not (not level) || links)) ≡ true → level ≡ false → links ≡ true
       needs both false links all is = (and_parts both links all).1

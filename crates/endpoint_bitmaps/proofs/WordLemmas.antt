@@ -4,17 +4,10 @@ use Rattle.std.specs.Int.{bit_at, trailing_zeros}
 use Rattle.std.specs.Int.Count.{ones_step}
 use Rattle.std.proofs.lemmas.Bool.{cases_lt, cases_eq, and_left, and_right, lt-ltb, le-ltb, eq-eqb, ne_eqb, both_ways}
 use Rattle.std.proofs.lemmas.Nat.Bits.{bit_at-lt, bit_at_lowest, bit_at-suc, bit_at-zero, bit_at_and, bit_at_not, bit_at_above, bit_at_ones, bit_at_ones_above, bit_at-trailing_zeros}
+use Rattle.list_facts.proofs.Numbers.{both_bits}
+use Rattle.list_facts.proofs.Bools.{and_true}
 use Rattle.endpoint_bitmaps.specs.Slots.{has_slot, count_below}
 use Rattle.endpoint_bitmaps.proofs.CountLemmas.{count_below-same, count_below-more}
-
-both_bits : (x y : ℕ) → x < 2 → y < 2 → (min x y == 1) ≡ ((x == 1) && (y == 1))
-both_bits zero zero x_is y_is = refl
-both_bits zero (suc zero) x_is y_is = refl
-both_bits zero (suc (suc y)) x_is y_is = absurd (omega arith)
-both_bits (suc zero) zero x_is y_is = refl
-both_bits (suc zero) (suc zero) x_is y_is = refl
-both_bits (suc zero) (suc (suc y)) x_is y_is = absurd (omega arith)
-both_bits (suc (suc x)) y x_is y_is = absurd (omega arith)
 
 other_bit : (x : ℕ) → x < 2 → (1 - x == 1) ≡ not (x == 1)
 other_bit zero is = refl
@@ -60,10 +53,6 @@ others_stay n (suc t) (suc k) is none other =
     let half : (n - 1) / 2 ≡ n / 2 - 1 = omega arith in
     let rest = others_stay (n / 2) t k (sym (bit_at-suc n t) ∙ is) (λ j below. sym (bit_at-suc n j) ∙ none (suc j) (omega arith)) (λ e. other (ap suc e)) in
     omega (arith, rest, bit_at-suc n k, bit_at-suc (n - 1) k ∙ ap (λ (m : ℕ). bit_at m k) half)
-
-pub and_true : (b : Bool) → (b && true) ≡ b
-and_true true = refl
-and_true false = refl
 
 pub has_slot-without_lowest : (n t k : ℕ) → bit_at n t ≡ 1 → ((j : ℕ) → j < t → bit_at n j ≡ 0) → has_slot (bit_and n (n - 1)) k ≡ (has_slot n k && not (k == t))
 has_slot-without_lowest n t k is none =

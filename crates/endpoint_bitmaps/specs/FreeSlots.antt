@@ -18,15 +18,15 @@ pub record FreeSlots : Type 0 where
   pub leaving : List ℕ
   pub entering : List ℕ
 
-abbrev pub may_send : FreeSlots → ℕ → ℕ → Bool
-may_send maps src slot = has_slot (slice_index_or maps.to_send src 0) slot
+abbrev pub is_free_to_send : FreeSlots → ℕ → ℕ → Bool
+is_free_to_send maps src slot = has_slot (slice_index_or maps.to_send src 0) slot
 
 abbrev pub may_receive : FreeSlots → ℕ → ℕ → Bool
 may_receive maps dst slot = has_slot (slice_index_or maps.to_receive dst 0) slot
 
 -- no endpoint may send in any slot
 abbrev pub NoneMaySend : FreeSlots → Type 0
-NoneMaySend maps = (src slot : ℕ) → may_send maps src slot ≡ false
+NoneMaySend maps = (src slot : ℕ) → is_free_to_send maps src slot ≡ false
 
 -- how many of the flows taken in the slot go from this rack to others, and how many come to it from others
 abbrev pub leaving_in : FreeSlots → ℕ → ℕ → ℕ
@@ -39,12 +39,12 @@ abbrev pub rack_in : FreeSlots → ℕ → ℕ
 rack_in maps endpoint = rack_of maps.limits.hosts endpoint
 
 -- the flow goes from one rack into another
-abbrev pub is_between : FreeSlots → ℕ → ℕ → Bool
-is_between maps src dst = is_outward maps.limits.hosts (record { src = src; dst = dst })
+abbrev pub is_between_racks : FreeSlots → ℕ → ℕ → Bool
+is_between_racks maps src dst = is_outward maps.limits.hosts (record { src = src; dst = dst })
 
 -- every endpoint is free in the slots below this one, and in no other
 pub record IsFreeBelow (slots : ℕ) (maps : FreeSlots) : Type 0 where
-  pub senders : (src slot : ℕ) → src < maps.endpoints → may_send maps src slot ≡ nat_lt slot slots
+  pub senders : (src slot : ℕ) → src < maps.endpoints → is_free_to_send maps src slot ≡ nat_lt slot slots
   pub receivers : (dst slot : ℕ) → dst < maps.endpoints → may_receive maps dst slot ≡ nat_lt slot slots
 
 -- no flow between racks is taken in any slot
@@ -59,16 +59,16 @@ has_links maps src dst slot =
 
 -- the source may send in the slot, and the destination may receive; and so may their racks, where these differ
 abbrev pub is_common : FreeSlots → ℕ → ℕ → ℕ → Bool
-is_common maps src dst slot = (may_send maps src slot && may_receive maps dst slot) && (not (is_between maps src dst) || has_links maps src dst slot)
+is_common maps src dst slot = (is_free_to_send maps src slot && may_receive maps dst slot) && (not (is_between_racks maps src dst) || has_links maps src dst slot)
 
 -- these slots are taken: in them the source no longer sends, and the destination no longer receives, and their racks, where
 -- these differ, have one flow more; the rest stays
 pub record HasTaken (src dst : ℕ) (is_taken : ℕ → Bool) (old new : FreeSlots) : Type 0 where
   pub endpoints : new.endpoints ≡ old.endpoints
   pub limits : new.limits ≡ old.limits
-  pub senders : (endpoint slot : ℕ) → may_send new endpoint slot ≡ (may_send old endpoint slot && not ((endpoint == src) && is_taken slot))
+  pub senders : (endpoint slot : ℕ) → is_free_to_send new endpoint slot ≡ (is_free_to_send old endpoint slot && not ((endpoint == src) && is_taken slot))
   pub receivers : (endpoint slot : ℕ) → may_receive new endpoint slot ≡ (may_receive old endpoint slot && not ((endpoint == dst) && is_taken slot))
   pub leaving : (rack slot : ℕ) → slot < 64
-      → leaving_in new rack slot ≡ leaving_in old rack slot + (if (rack == rack_in old src) && (is_between old src dst && is_taken slot) then 1 else 0)
+      → leaving_in new rack slot ≡ leaving_in old rack slot + (if (rack == rack_in old src) && (is_between_racks old src dst && is_taken slot) then 1 else 0)
   pub entering : (rack slot : ℕ) → slot < 64
-      → entering_in new rack slot ≡ entering_in old rack slot + (if (rack == rack_in old dst) && (is_between old src dst && is_taken slot) then 1 else 0)
+      → entering_in new rack slot ≡ entering_in old rack slot + (if (rack == rack_in old dst) && (is_between_racks old src dst && is_taken slot) then 1 else 0)

@@ -4,7 +4,7 @@ ghost use Rattle.greedy_rules.specs.Limits.{AreLimits};
 ghost use Rattle.endpoint_bitmaps.specs.Slots.{has_slot, count_below, is_among_lowest, NoneFrom};
 ghost use Rattle.endpoint_bitmaps.specs.Links.{HasTakenLinks, ShowsLeft, IsUsed};
 ghost use Rattle.endpoint_bitmaps.specs.Fit.{AreRacks, naming};
-ghost use Rattle.endpoint_bitmaps.specs.FreeSlots.{may_send, may_receive, IsFreeBelow, HasNoneBetween, is_common, NoneMaySend, HasTaken};
+ghost use Rattle.endpoint_bitmaps.specs.FreeSlots.{is_free_to_send, may_receive, IsFreeBelow, HasNoneBetween, is_common, NoneMaySend, HasTaken};
 
 use crate::rack_links::RackLinks;
 use greedy_rules::Limits;
@@ -91,7 +91,7 @@ impl FreeMaps {
     pub fn may_share(&self, src: u16, dst: u16) -> u64
         requires src_in_range { src < self.now.endpoints }
         requires dst_in_range { dst < self.now.endpoints }
-        ensures { (slot : ℕ) → has_slot result slot ≡ (may_send self.now src slot && may_receive self.now dst slot) }
+        ensures { (slot : ℕ) → has_slot result slot ≡ (is_free_to_send self.now src slot && may_receive self.now dst slot) }
     {
         self.senders[src as usize] & self.receivers[dst as usize]
     }

@@ -1,14 +1,15 @@
 -- What each call changes of a lane's counts.
-use Rattle.std.proofs.Common.{◌≡◌, ℕ, ◌+◌, ◌<◌, Bool, true, false, ◌&&◌, cond, nat_lt, List, [], ◌∷◌, Option, None, ◌∙◌, ap, refl, inl, inr, arith}
+use Rattle.std.proofs.Common.{◌≡◌, ℕ, ◌+◌, ◌<◌, Bool, true, false, ◌&&◌, cond, nat_lt, List, ◌∷◌, Option, None, ◌∙◌, ap, refl, inl, inr, arith}
 use Rattle.std.proofs.lemmas.Bool.{cases_Bool, cases_lt, lt-ltb, le-ltb, ne_eqb}
 use Rattle.std.proofs.lemmas.List.Sums.{sum_by-cons}
 use Rattle.ack_window.specs.declared.acknowledgement.Acknowledgement.{Acknowledgement}
 use Rattle.ack_window.specs.declared.acknowledgement.Decision.{Decision}
 use Rattle.ack_window.specs.Acknowledgement.{decision_read, is_acknowledged, is_found_lost}
 use Rattle.ack_window.specs.Ends.{Numbered}
-use Rattle.ack_window.specs.Sends.{Event, Sends, Reads, newest_of, decision_of, decided_by}
+use Rattle.ack_window.specs.Sends.{newest_of, decision_of, decided_by}
 use Rattle.ack_window.specs.Versions.{reorder_of, span_of}
 use Rattle.ack_window.specs.Weights.{weight_lost, weight_shown}
+use Rattle.ack_window.proofs.Sending.{decision_of-above}
 use Rattle.fcp_framing.specs.declared.packet.Demand.{Demand}
 use Rattle.fcp_framing.specs.declared.packet.Told.{Told}
 use Rattle.endpoint_history.specs.Packets.{Telling, Resets, Requests, slots_to}
@@ -22,17 +23,12 @@ use Rattle.endpoint_history.proofs.SlotSums.{to, slots_in-reads, slots_in-sends}
 
 -- ---- a number that is not sent yet is not decided
 
-read-above : (reorder span newest : ℕ) (ack : Acknowledgement) (number : ℕ) → newest < number → decision_read reorder span newest ack number ≡ None
+pub read-above : (reorder span newest : ℕ) (ack : Acknowledgement) (number : ℕ) → newest < number → decision_read reorder span newest ack number ≡ None
 read-above reorder span newest ack number above =
     elim (cases_lt newest ack.high) [
       | inl past ↦ rw (lt-ltb newest ack.high past) refl
       | inr known ↦ rw (le-ltb newest ack.high known, ne_eqb number ack.high (omega arith), le-ltb number ack.high (omega arith), le-ltb (number + reorder) ack.high (omega arith)) refl
     ]
-
-pub undecided-above : {T : Type 0} (reorder span : ℕ) (sent : List (Event T)) (number : ℕ) → newest_of sent < number → decision_of reorder span sent number ≡ None
-undecided-above reorder span [] number above = refl
-undecided-above reorder span (Sends content ∷ sent) number above = undecided-above reorder span sent number (omega arith)
-undecided-above reorder span (Reads ack ∷ sent) number above = rw (undecided-above reorder span sent number above) (read-above reorder span (newest_of sent) ack number above)
 
 -- ---- a downward packet is made
 
@@ -48,7 +44,7 @@ decided-makes w test none_yet g round slots history dst =
       | inr again ↦ rw again (refl {a = slots_in (decides test history sent) sent dst})
       | inl new ↦
           let push = slots_in-sends w (decides test history sent) (telling_in g history round slots) sent dst in
-          let none = ap (λ d. cond (test d) (telling_to g history round slots dst) 0) (undecided-above (reorder_of (version_of history)) (span_of (version_of history)) sent (newest_of sent + 1) (omega arith))
+          let none = ap (λ d. cond (test d) (telling_to g history round slots dst) 0) (decision_of-above (reorder_of (version_of history)) (span_of (version_of history)) sent (newest_of sent + 1) (omega arith))
           ∙ ap (λ b. cond b (telling_to g history round slots dst) 0) none_yet in
           rw new (omega arith)
     ]
@@ -113,7 +109,7 @@ told-requests w g round packet history dst =
       | inr other ↦ rw other refl
     ]
 
-not-taken : (history : LaneHistory) (packet : Numbered (List Demand)) → is_current history packet ≡ false → takes history packet ≡ false
+pub not-taken : (history : LaneHistory) (packet : Numbered (List Demand)) → is_current history packet ≡ false → takes history packet ≡ false
 unfolding takes
 not-taken history packet other = rw other refl
 

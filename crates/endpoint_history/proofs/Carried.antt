@@ -11,12 +11,12 @@ use Rattle.ack_window.specs.Ends.{content_of}
 use Rattle.ack_window.specs.Outstanding.{decided_in, left_in}
 use Rattle.ack_window.specs.Sends.{Event, Sends, Reads, newest_of, numbers_sent, decision_of, first_decision}
 use Rattle.ack_window.specs.Versions.{reorder_of, span_of}
+use Rattle.ack_window.proofs.Sending.{decision_of-above}
 use Rattle.fcp_framing.specs.declared.packet.Demand.{Demand}
 use Rattle.endpoint_history.specs.Agent.{version_of, numbers, total}
 use Rattle.endpoint_history.specs.Confirmed.{total_named, carried_in, carried, carried_by}
 use Rattle.endpoint_history.specs.Tellings.{Among}
 use Rattle.endpoint_history.specs.AgentLaws.{ConfirmedByGreatest, CarriedIsWhatIsShown}
-use Rattle.endpoint_history.proofs.CallCounts.{undecided-above}
 use Rattle.endpoint_history.proofs.Totals.{named-total}
 use Rattle.endpoint_history.proofs.Members.{among-append}
 
@@ -107,7 +107,7 @@ carried-sends : (reorder span : ℕ) (content : List Demand) (sent : List (Event
 carried-sends reorder span content sent dst =
     let test = λ (n : ℕ). is_acknowledged (decision_of reorder span sent n) in
     let parts = carried-append test dst (numbers_sent sent) (record { number = newest_of sent + 1; content = content } ∷ []) in
-    let none : carried_in test dst (record { number = newest_of sent + 1; content = content } ∷ []) ≡ 0 = ap (λ d. cond (is_acknowledged d) (max (total_named dst content) 0) 0) (undecided-above reorder span sent (newest_of sent + 1) (omega arith)) in
+    let none : carried_in test dst (record { number = newest_of sent + 1; content = content } ∷ []) ≡ 0 = ap (λ d. cond (is_acknowledged d) (max (total_named dst content) 0) 0) (decision_of-above reorder span sent (newest_of sent + 1) (omega arith)) in
     omega arith
 
 -- acknowledged before, and shown now

@@ -10,7 +10,7 @@ use Rattle.endpoint_history.specs.Agent.{AgentHistory, Boots, Asks, TakesDown, M
 use Rattle.endpoint_history.specs.Lane as lane
 use Rattle.endpoint_history.specs.Lane.{LaneHistory, MakesDown, TakesUp, Records, telling_in}
 use Rattle.endpoint_history.specs.Steps.{ups_made, downs_made, rounds_begun, RoundsRise}
-use Rattle.endpoint_history.specs.Tellings.{AreWithin, RisesFrom, AreTo}
+use Rattle.endpoint_history.specs.Tellings.{SlotsAreWithin, RisesFrom, AreTo}
 use Rattle.endpoint_history.specs.Bounds.{NumbersAreFew, ToldIsFew, NoneIsToldBeyond, RecordedIsNamed}
 use Rattle.endpoint_history.specs.Windows.{Windows}
 use Rattle.endpoint_history.proofs.CallCounts.{making_tells, reading_decides, resets_count_anew}
@@ -56,7 +56,7 @@ numbers_are_few = record { up = λ endpoints g history. few-up endpoints g histo
 -- ---- slots
 
 -- slots that rise within a batch
-slots-few : (b dst low : ℕ) (slots : List Told) → AreWithin b slots → RisesFrom low slots → low ≤ b → slots_to dst slots + low ≤ b
+slots-few : (b dst low : ℕ) (slots : List Told) → SlotsAreWithin b slots → RisesFrom low slots → low ≤ b → slots_to dst slots + low ≤ b
 slots-few b dst low [] within rises under = omega arith
 slots-few b dst low (t ∷ slots) within rises under =
     let below = within.0 in
@@ -68,7 +68,7 @@ slots-few b dst low (t ∷ slots) within rises under =
       | inr other ↦ let it = ap (λ c. cond c (1 + slots_to dst slots) (slots_to dst slots)) other in omega arith
     ]
 
-telling-few : (b g round : ℕ) (slots : List Told) (history : LaneHistory) (dst : ℕ) → AreWithin b slots → RisesFrom 0 slots → slots_to dst (telling_in g history round slots).told ≤ b
+telling-few : (b g round : ℕ) (slots : List Told) (history : LaneHistory) (dst : ℕ) → SlotsAreWithin b slots → RisesFrom 0 slots → slots_to dst (telling_in g history round slots).told ≤ b
 telling-few b g round slots history dst within rises =
     let few = slots-few b dst 0 slots within rises (omega arith) in
     elim (nat_le (2 * g) round && nat_le (lane.last_reset history) (round - 2 * g)) as (λ t. slots_to dst (cond t slots []) ≤ b) [ true ↦ omega arith | false ↦ omega arith ]

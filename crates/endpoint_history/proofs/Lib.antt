@@ -1,7 +1,7 @@
 mod AgentEnd
 mod AgentSlots
 mod BothEnds
-mod CallCounts
+pub mod CallCounts
 mod Carried
 mod Examples
 mod Few
@@ -11,19 +11,20 @@ mod Issues
 mod LaneEnd
 mod Ledger
 mod Members
-mod NeverSent
-mod NeverTaken
-mod Once
-mod OneContent
+pub mod NeverSent
+pub mod NeverTaken
+pub mod Once
+pub mod OneContent
 mod OneRest
-mod Reading
+pub mod Reading
 mod Requests
-mod Rounds
-mod Sending
+pub mod Rounds
+pub mod Sending
 mod SlotSums
-mod Slots
+pub mod Slots
 mod TakenFew
 mod TakenOnce
 mod TakenForGood
-mod Totals
+pub mod Totals
 mod Unharmed
+pub mod Named

@@ -4,10 +4,10 @@ use Rattle.std.specs.Prelude.{nat_le}
 use Rattle.std.proofs.lemmas.Bool.{cases_eq, cases_Bool, cases_lt, eq-eqb, ne_eqb}
 use Rattle.fcp_framing.specs.declared.packet.Told.{Told}
 use Rattle.endpoint_history.specs.Packets.{Telling, Resets, Requests}
-use Rattle.endpoint_history.specs.Sending.{Slot, slots_of}
+use Rattle.endpoint_history.specs.Sending.{Slot, slots_of_telling}
 use Rattle.endpoint_history.specs.Lane.{LaneHistory, MakesDown, TakesUp, Records, epoch_of, last_reset, restarts, telling_in, may_send, numbers, untold}
 use Rattle.endpoint_history.specs.Steps.{Step, OfAgent, OfLane, agent_of, lane_of}
-use Rattle.endpoint_history.specs.Tellings.{Among, Issue, issued, AreWithin, ToldWithin}
+use Rattle.endpoint_history.specs.Tellings.{Among, Issue, issued, SlotsAreWithin, ToldWithin}
 use Rattle.endpoint_history.specs.NumberLaws.{LostIsNeverSent}
 use Rattle.endpoint_history.specs.Windows.{Windows}
 use Rattle.endpoint_history.proofs.Issues.{content-came, packet-came}
@@ -16,11 +16,11 @@ use Rattle.endpoint_history.proofs.TakenOnce.{sent_was_taken}
 
 -- ---- what is told is within its batch
 
-telling-within : (b g : ℕ) (history : LaneHistory) (round : ℕ) (told : List Told) → AreWithin b told → AreWithin b (telling_in g history round told).told
+telling-within : (b g : ℕ) (history : LaneHistory) (round : ℕ) (told : List Told) → SlotsAreWithin b told → SlotsAreWithin b (telling_in g history round told).told
 telling-within b g history round told within =
-    elim (nat_le (2 * g) round && nat_le (last_reset history) (round - 2 * g)) as (λ t. AreWithin b (cond t told [])) [ true ↦ within | false ↦ tt ]
+    elim (nat_le (2 * g) round && nat_le (last_reset history) (round - 2 * g)) as (λ t. SlotsAreWithin b (cond t told [])) [ true ↦ within | false ↦ tt ]
 
-pub issued-within : (b g : ℕ) (history : LaneHistory) (round : ℕ) (issue : Issue) → ToldWithin b history → issued g history round ≡ Some issue → AreWithin b issue.content.told
+pub issued-within : (b g : ℕ) (history : LaneHistory) (round : ℕ) (issue : Issue) → ToldWithin b history → issued g history round ≡ Some issue → SlotsAreWithin b issue.content.told
 issued-within b g [] round issue within is = absurd (cc)
 issued-within b g (TakesUp number up ∷ history) round issue within is = issued-within b g history round issue within is
 issued-within b g (Records number ∷ history) round issue within is = issued-within b g history round issue within is
@@ -33,7 +33,7 @@ issued-within b g (MakesDown number told ∷ history) round issue within is =
             | inl new ↦
                 let it = rw (eq-eqb number round same, new) at is in
                 let content : telling_in g history number told ≡ issue.content = inside (telling_in g history number told) issue it in
-                subst (λ (t : Telling). AreWithin b t.told) content (telling-within b g history number told within.0)
+                subst (λ (t : Telling). SlotsAreWithin b t.told) content (telling-within b g history number told within.0)
           ]
     ]
   where
@@ -44,7 +44,7 @@ issued-within b g (MakesDown number told ∷ history) round issue within is =
         content_in None = t
         content_in (Some x) = x.content
 
-untold-within : (b g : ℕ) (history : LaneHistory) (telling : Telling) → ToldWithin b history → Among telling (untold g history) → AreWithin b telling.told
+untold-within : (b g : ℕ) (history : LaneHistory) (telling : Telling) → ToldWithin b history → Among telling (untold g history) → SlotsAreWithin b telling.told
 untold-within b g [] telling within among = absurd among
 untold-within b g (Records round ∷ history) telling within among = untold-within b g history telling within among
 untold-within b g (TakesUp round (Requests packet) ∷ history) telling within among = untold-within b g history telling within among
@@ -57,7 +57,7 @@ untold-within b g (MakesDown round told ∷ history) telling within among =
     elim (cases_Bool (nat_lt 0 (epoch_of history) && not (may_send history (numbers g history)))) [
       | inr tells ↦ untold-within b g history telling within.1 (rw tells at among)
       | inl stopped ↦ elim (rw stopped at among) [
-        | inl same ↦ subst (λ (t : Telling). AreWithin b t.told) same (telling-within b g history round told within.0)
+        | inl same ↦ subst (λ (t : Telling). SlotsAreWithin b t.told) same (telling-within b g history round told within.0)
         | inr before ↦ untold-within b g history telling within.1 before
       ]
     ]
@@ -69,15 +69,15 @@ pub record InBatch (b batch slot : ℕ) : Type 0 where
   pub below : offset < b
   pub is : slot ≡ batch * b + 1 + offset
 
-in_batch : (b : ℕ) (batch : ℕ) (told : List Told) (s : Slot) → AreWithin b told → Among s (slots_of b (record { batch = batch; told = told })) → InBatch b batch s.slot
+in_batch : (b : ℕ) (batch : ℕ) (told : List Told) (s : Slot) → SlotsAreWithin b told → Among s (slots_of_telling b (record { batch = batch; told = told })) → InBatch b batch s.slot
 in_batch b batch [] s within among = absurd among
 in_batch b batch (t ∷ told) s within among = elim among [
   | inl here ↦ record { offset = t.offset; below = within.0; is = ap (λ (x : Slot). x.slot) (sym here) }
   | inr there ↦ in_batch b batch told s within.1 there
 ]
 
-some_told : (b : ℕ) (telling : Telling) (s : Slot) → Among s (slots_of b telling) → telling.told ≢ []
-some_told b telling s among none = subst (λ (xs : List Told). Among s (slots_of b (record { batch = telling.batch; told = xs }))) none among
+pub some_told : (b : ℕ) (telling : Telling) (s : Slot) → Among s (slots_of_telling b telling) → telling.told ≢ []
+some_told b telling s among none = subst (λ (xs : List Told). Among s (slots_of_telling b (record { batch = telling.batch; told = xs }))) none among
 
 pub one_batch : (b k m slot : ℕ) → InBatch b k slot → InBatch b m slot → k ≡ m
 one_batch b k m slot one other =
@@ -112,7 +112,7 @@ lost_is_never_sent w endpoints b g later earlier arrives rise within lost is_los
     let came = packet-came w g (lane_of steps) t.packet rise made some_taken in
     let taken_within = issued-within b g (lane_of steps) (t.packet.content.batch + 2 * g) _ within came.issue in
     let before = within-before b later earlier within in
-    let lost_within : AreWithin b lost.told = elim is_lost [
+    let lost_within : SlotsAreWithin b lost.told = elim is_lost [
       | inr untold_it ↦ untold-within b g (lane_of earlier) lost before untold_it
       | inl found ↦ issued-within b g (lane_of earlier) (lost.batch + 2 * g) _ before (content-came g (lane_of earlier) found.0 lost (risen later earlier rise) found.2 some_lost).issue
     ] in

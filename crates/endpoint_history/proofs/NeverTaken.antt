@@ -1,7 +1,7 @@
 -- What is lost is never taken in.
 use Rattle.std.proofs.Common.{◌≡◌, ℕ, ◌+◌, ◌*◌, ◌<◌, ◌≤◌, true, false, List, [], ◌∷◌, ◌++◌, Some, None, sym, ◌∙◌, ap, subst, refl, inl, inr, arith, append_assoc}
 use Rattle.std.proofs.lemmas.Bool.{cases_Bool, and_parts}
-use Rattle.ack_window.specs.Arrivals.{highest, receive_verdict, is_fresh, is_taken}
+use Rattle.ack_window.specs.Arrivals.{highest, receive_verdict, is_fresh, is_number_taken}
 use Rattle.ack_window.specs.Versions.{reorder_of}
 use Rattle.endpoint_history.specs.Packets.{Telling, DownPacket}
 use Rattle.endpoint_history.specs.Agent as agent
@@ -10,7 +10,7 @@ use Rattle.endpoint_history.specs.Lane as lane
 use Rattle.endpoint_history.specs.Lane.{LaneEvent, LaneHistory, MakesDown, TakesUp, Records}
 use Rattle.endpoint_history.specs.Steps.{Step, OfAgent, OfLane, agent_of, lane_of, WasMadeDown, ArrivesFromOther, rounds_begun, RoundsRise}
 use Rattle.endpoint_history.specs.Tellings.{Among, Issue, issued}
-use Rattle.endpoint_history.specs.NumberLaws.{LostIsNeverTaken}
+use Rattle.endpoint_history.specs.NumberLaws.{LostNumbersAreNeverTaken}
 use Rattle.endpoint_history.specs.Windows.{Windows}
 use Rattle.endpoint_history.proofs.AgentEnd.{until-here, until-cases, epoch-grows, current-parts}
 use Rattle.endpoint_history.proofs.BothEnds.{ends_agree}
@@ -54,7 +54,7 @@ Extends-then a b c one two = record {
   version = two.version ∙ one.version;
 }
 
-pub Extends-taken : (w : Windows) (a b : AgentHistory) (number : ℕ) → Extends a b → is_taken (reorder_of (agent.version_of a)) (agent.arrived a) number ≡ true → is_taken (reorder_of (agent.version_of b)) (agent.arrived b) number ≡ true
+pub Extends-taken : (w : Windows) (a b : AgentHistory) (number : ℕ) → Extends a b → is_number_taken (reorder_of (agent.version_of a)) (agent.arrived a) number ≡ true → is_number_taken (reorder_of (agent.version_of b)) (agent.arrived b) number ≡ true
 Extends-taken w a b number e taken = rw (e.arrived, e.version) (w.for_good.taken (reorder_of (agent.version_of a)) e.more (agent.arrived a) number taken)
 
 pub Extends-steps : (epoch : ℕ) (later earlier : List Step) → epoch ≤ agent.epoch_of (agent_of earlier) → Extends (until epoch (agent_of earlier)) (until epoch (agent_of (later ++ earlier))) × (epoch ≤ agent.epoch_of (agent_of (later ++ earlier)))
@@ -72,7 +72,7 @@ Extends-steps epoch (OfAgent event ∷ later) earlier begun =
 -- ---- what was ever taken
 
 abbrev pub WasTaken : AgentHistory → DownPacket → Type 0
-WasTaken history packet = (packet.epoch ≤ agent.epoch_of history) × (is_taken (reorder_of (agent.version_of (until packet.epoch history))) (agent.arrived (until packet.epoch history)) packet.seq ≡ true)
+WasTaken history packet = (packet.epoch ≤ agent.epoch_of history) × (is_number_taken (reorder_of (agent.version_of (until packet.epoch history))) (agent.arrived (until packet.epoch history)) packet.seq ≡ true)
 
 WasTaken-later : (w : Windows) (event : AgentEvent) (history : AgentHistory) (packet : DownPacket) → WasTaken history packet → WasTaken (event ∷ history) packet
 WasTaken-later w event history packet was =
@@ -169,7 +169,7 @@ risen (OfLane event ∷ after) before r = risen after before (rise-before event 
 abbrev pub issue_of : ℕ → ℕ → Telling → Issue
 issue_of epoch number content = record { epoch = epoch; number = number; content = content }
 
-pub lost_is_never_taken_in : (w : Windows) → LostIsNeverTaken
+pub lost_is_never_taken_in : (w : Windows) → LostNumbersAreNeverTaken
 lost_is_never_taken_in w endpoints g later earlier arrives rise lost is_lost some t among some_taken same =
     let steps = later ++ earlier in
     let made = ever_taken-made endpoints g steps t arrives among in
@@ -198,13 +198,13 @@ lost_is_never_taken_in w endpoints g later earlier arrives rise lost is_lost som
           let now = until (lane.epoch_of (lane_of earlier)) (agent_of steps) in
           let goes_on = (Extends-steps (lane.epoch_of (lane_of earlier)) later earlier j.epochs).0 in
           let v = agent.version_of boot in
-          let missing : is_taken (reorder_of v) (agent.arrived boot) found.0 ≡ false = rw j.version at (j.down.lost found.0 found.1 found.3) in
+          let missing : is_number_taken (reorder_of v) (agent.arrived boot) found.0 ≡ false = rw j.version at (j.down.lost found.0 found.1 found.3) in
           let far : found.0 + reorder_of v < highest (agent.arrived boot) = rw j.version at (j.down.for_good found.0 found.1 found.3) in
-          let never : is_taken (reorder_of (agent.version_of now)) (agent.arrived now) found.0 ≡ false =
+          let never : is_number_taken (reorder_of (agent.version_of now)) (agent.arrived now) found.0 ≡ false =
           rw (goes_on.arrived, goes_on.version) (w.for_good.never (reorder_of v) goes_on.more (agent.arrived boot) found.0 far missing) in
-          let taken : is_taken (reorder_of (agent.version_of now)) (agent.arrived now) found.0 ≡ true =
-          subst (λ (n : ℕ). is_taken (reorder_of (agent.version_of now)) (agent.arrived now) n ≡ true) number
-          (subst (λ (e : ℕ). is_taken (reorder_of (agent.version_of (until e (agent_of steps)))) (agent.arrived (until e (agent_of steps))) t.packet.seq ≡ true) epoch was.1) in
+          let taken : is_number_taken (reorder_of (agent.version_of now)) (agent.arrived now) found.0 ≡ true =
+          subst (λ (n : ℕ). is_number_taken (reorder_of (agent.version_of now)) (agent.arrived now) n ≡ true) number
+          (subst (λ (e : ℕ). is_number_taken (reorder_of (agent.version_of (until e (agent_of steps)))) (agent.arrived (until e (agent_of steps))) t.packet.seq ≡ true) epoch was.1) in
           let clash : true ≡ false = sym taken ∙ never in
           absurd (cc)
     ]

@@ -4,6 +4,7 @@ use Rattle.std.specs.Prelude.{nat_le, sum_by, count_by, filter}
 use Rattle.std.specs.List.{flat_map}
 use Rattle.std.proofs.lemmas.Bool.{cases_eq, cases_Bool, cases_lt, eqb-true, eq-eqb, ne_eqb, and_parts, lt-leb, le-leb}
 use Rattle.std.proofs.lemmas.List.Sums.{sum_by-cons}
+use Rattle.list_facts.proofs.Counting.{count-append}
 use Rattle.ack_window.specs.Arrivals.{receive_verdict}
 use Rattle.ack_window.specs.Versions.{reorder_of}
 use Rattle.fcp_framing.specs.declared.packet.Told.{Told}
@@ -11,17 +12,17 @@ use Rattle.endpoint_history.specs.Packets.{Telling, DownPacket}
 use Rattle.endpoint_history.specs.Agent as agent
 use Rattle.endpoint_history.specs.Agent.{AgentEvent, AgentHistory, Boots, Asks, TakesDown, MakesUp, SendsDue, TakenDown, is_in_time}
 use Rattle.endpoint_history.specs.Sending as sending
-use Rattle.endpoint_history.specs.Sending.{Slot, slots_of, sent_of, due, ever_sent, rounds_sent, SendsRise}
+use Rattle.endpoint_history.specs.Sending.{Slot, slots_of_telling, sent_of, due, ever_sent, rounds_sent, SendsRise}
 use Rattle.endpoint_history.specs.Lane.{LaneHistory, MakesDown, TakesUp, Records, epoch_of, last_reset, telling_in, may_send, numbers}
 use Rattle.endpoint_history.specs.Steps.{Step, OfAgent, OfLane, agent_of, lane_of, WasMadeDown, RoundsRise, ArrivesFromLane}
-use Rattle.endpoint_history.specs.Tellings.{Among, Issue, issued, AreWithin, ToldWithin, RisesFrom, ToldRises}
+use Rattle.endpoint_history.specs.Tellings.{Among, Issue, issued, SlotsAreWithin, ToldWithin, RisesFrom, ToldRises}
 use Rattle.endpoint_history.specs.ForgedLaws.{SentOnce}
 use Rattle.endpoint_history.specs.Windows.{Windows}
 use Rattle.endpoint_history.proofs.AgentEnd.{takes-current}
 use Rattle.endpoint_history.proofs.Slots.{fresh_is, takes-fresh}
 use Rattle.endpoint_history.proofs.Issues.{packet-came, one_number_for_a_batch}
 use Rattle.endpoint_history.proofs.NeverSent.{InBatch, one_batch, issued-within}
-use Rattle.endpoint_history.proofs.Sending.{count_by-cons, count_by-append, count-sort_by, sent_now-is}
+use Rattle.endpoint_history.proofs.Sending.{count_by-cons, count-sort_by, sent_now-is}
 use Rattle.endpoint_history.proofs.TakenOnce.{taken-once, with_number}
 
 -- the slot's number
@@ -30,38 +31,38 @@ numbered slot s = s.slot == slot
 
 -- ---- a telling has a slot once, and only of its batch
 
-slots-once : (b batch low slot : ℕ) (told : List Told) → RisesFrom low told → count_by (numbered slot) (slots_of b (record { batch = batch; told = told })) ≤ cond (nat_le (batch * b + 1 + low) slot) 1 0
+slots-once : (b batch low slot : ℕ) (told : List Told) → RisesFrom low told → count_by (numbered slot) (slots_of_telling b (record { batch = batch; told = told })) ≤ cond (nat_le (batch * b + 1 + low) slot) 1 0
 slots-once b batch low slot [] rises = elim (nat_le (batch * b + 1 + low) slot) as (λ c. 0 ≤ cond c 1 0) [ true ↦ omega arith | false ↦ omega arith ]
 slots-once b batch low slot (t ∷ told) rises =
     let low_t = rises.0 in
     let rest = slots-once b batch (t.offset + 1) slot told rises.1 in
-    let all = count_by-cons (numbered slot) (record { slot = batch * b + 1 + t.offset; dst = t.dst }) (slots_of b (record { batch = batch; told = told })) in
+    let all = count_by-cons (numbered slot) (record { slot = batch * b + 1 + t.offset; dst = t.dst }) (slots_of_telling b (record { batch = batch; told = told })) in
     elim (cases_eq (batch * b + 1 + t.offset) slot) [
       | inl same ↦
-          let none : count_by (numbered slot) (slots_of b (record { batch = batch; told = told })) ≤ 0 = subst (λ (c : Bool). count_by (numbered slot) (slots_of b (record { batch = batch; told = told })) ≤ cond c 1 0) (lt-leb (batch * b + 1 + (t.offset + 1)) slot (omega arith)) rest in
-          let one = ap (λ c. cond c (1 + count_by (numbered slot) (slots_of b (record { batch = batch; told = told }))) (count_by (numbered slot) (slots_of b (record { batch = batch; told = told })))) (eq-eqb (batch * b + 1 + t.offset) slot same) in
+          let none : count_by (numbered slot) (slots_of_telling b (record { batch = batch; told = told })) ≤ 0 = subst (λ (c : Bool). count_by (numbered slot) (slots_of_telling b (record { batch = batch; told = told })) ≤ cond c 1 0) (lt-leb (batch * b + 1 + (t.offset + 1)) slot (omega arith)) rest in
+          let one = ap (λ c. cond c (1 + count_by (numbered slot) (slots_of_telling b (record { batch = batch; told = told }))) (count_by (numbered slot) (slots_of_telling b (record { batch = batch; told = told })))) (eq-eqb (batch * b + 1 + t.offset) slot same) in
           rw (le-leb (batch * b + 1 + low) slot (omega arith)) (omega arith)
       | inr other ↦
-          let skip = ap (λ c. cond c (1 + count_by (numbered slot) (slots_of b (record { batch = batch; told = told }))) (count_by (numbered slot) (slots_of b (record { batch = batch; told = told })))) (ne_eqb (batch * b + 1 + t.offset) slot other) in
+          let skip = ap (λ c. cond c (1 + count_by (numbered slot) (slots_of_telling b (record { batch = batch; told = told }))) (count_by (numbered slot) (slots_of_telling b (record { batch = batch; told = told })))) (ne_eqb (batch * b + 1 + t.offset) slot other) in
           elim (cases_lt slot (batch * b + 1 + (t.offset + 1))) [
             | inl below ↦
-                let none : count_by (numbered slot) (slots_of b (record { batch = batch; told = told })) ≤ 0 = subst (λ (c : Bool). count_by (numbered slot) (slots_of b (record { batch = batch; told = told })) ≤ cond c 1 0) (lt-leb (batch * b + 1 + (t.offset + 1)) slot below) rest in
-                elim (nat_le (batch * b + 1 + low) slot) as (λ c. count_by (numbered slot) (slots_of b (record { batch = batch; told = t ∷ told })) ≤ cond c 1 0) [ true ↦ omega arith | false ↦ omega arith ]
+                let none : count_by (numbered slot) (slots_of_telling b (record { batch = batch; told = told })) ≤ 0 = subst (λ (c : Bool). count_by (numbered slot) (slots_of_telling b (record { batch = batch; told = told })) ≤ cond c 1 0) (lt-leb (batch * b + 1 + (t.offset + 1)) slot below) rest in
+                elim (nat_le (batch * b + 1 + low) slot) as (λ c. count_by (numbered slot) (slots_of_telling b (record { batch = batch; told = t ∷ told })) ≤ cond c 1 0) [ true ↦ omega arith | false ↦ omega arith ]
             | inr above ↦
-                let one : count_by (numbered slot) (slots_of b (record { batch = batch; told = told })) ≤ 1 = subst (λ (c : Bool). count_by (numbered slot) (slots_of b (record { batch = batch; told = told })) ≤ cond c 1 0) (le-leb (batch * b + 1 + (t.offset + 1)) slot above) rest in
+                let one : count_by (numbered slot) (slots_of_telling b (record { batch = batch; told = told })) ≤ 1 = subst (λ (c : Bool). count_by (numbered slot) (slots_of_telling b (record { batch = batch; told = told })) ≤ cond c 1 0) (le-leb (batch * b + 1 + (t.offset + 1)) slot above) rest in
                 rw (le-leb (batch * b + 1 + low) slot (omega arith)) (omega arith)
           ]
     ]
 
 -- a slot counted is in the batch
-slots-batch : (b batch slot : ℕ) (told : List Told) → AreWithin b told → 1 ≤ count_by (numbered slot) (slots_of b (record { batch = batch; told = told })) → InBatch b batch slot × (told ≢ [])
+slots-batch : (b batch slot : ℕ) (told : List Told) → SlotsAreWithin b told → 1 ≤ count_by (numbered slot) (slots_of_telling b (record { batch = batch; told = told })) → InBatch b batch slot × (told ≢ [])
 slots-batch b batch slot [] within some = absurd (omega arith)
 slots-batch b batch slot (t ∷ told) within some =
-    let all = count_by-cons (numbered slot) (record { slot = batch * b + 1 + t.offset; dst = t.dst }) (slots_of b (record { batch = batch; told = told })) in
+    let all = count_by-cons (numbered slot) (record { slot = batch * b + 1 + t.offset; dst = t.dst }) (slots_of_telling b (record { batch = batch; told = told })) in
     elim (cases_eq (batch * b + 1 + t.offset) slot) [
       | inl same ↦ (record { offset = t.offset; below = within.0; is = sym same }, λ h. cc)
       | inr other ↦
-          let skip = ap (λ c. cond c (1 + count_by (numbered slot) (slots_of b (record { batch = batch; told = told }))) (count_by (numbered slot) (slots_of b (record { batch = batch; told = told })))) (ne_eqb (batch * b + 1 + t.offset) slot other) in
+          let skip = ap (λ c. cond c (1 + count_by (numbered slot) (slots_of_telling b (record { batch = batch; told = told }))) (count_by (numbered slot) (slots_of_telling b (record { batch = batch; told = told })))) (ne_eqb (batch * b + 1 + t.offset) slot other) in
           let it = slots-batch b batch slot told within.1 (omega arith) in
           (it.0, λ h. cc)
     ]
@@ -72,7 +73,7 @@ telling-rises : (g : ℕ) (history : LaneHistory) (round : ℕ) (told : List Tol
 telling-rises g history round told rises =
     elim (nat_le (2 * g) round && nat_le (last_reset history) (round - 2 * g)) as (λ t. RisesFrom 0 (cond t told [])) [ true ↦ rises | false ↦ tt ]
 
-abbrev content_in : Telling → Option Issue → Telling
+abbrev pub content_in : Telling → Option Issue → Telling
 content_in t None = t
 content_in t (Some x) = x.content
 
@@ -96,7 +97,7 @@ issued-rises g (MakesDown number told ∷ history) round issue rises is =
 -- ---- a slot stands in at most one packet of a boot
 
 abbrev pub weight : ℕ → ℕ → TakenDown → ℕ
-weight b slot t = count_by (numbered slot) (slots_of b t.packet.content)
+weight b slot t = count_by (numbered slot) (slots_of_telling b t.packet.content)
 
 pub taken-made : (g : ℕ) (steps : List Step) (t : TakenDown) → ArrivesFromLane g steps → Among t (agent.taken (agent_of steps)) → WasMadeDown g (lane_of steps) t.packet
 taken-made g [] t arrives among = absurd among
@@ -142,7 +143,7 @@ has_slot w b g slot history t rise within rises made some =
     ] in
     record { in_it = it.0; some = told; once = omega arith }
   where
-    some_told : (xs : List Told) → 1 ≤ count_by (numbered slot) (slots_of b (record { batch = t.packet.content.batch; told = xs })) → xs ≢ []
+    some_told : (xs : List Told) → 1 ≤ count_by (numbered slot) (slots_of_telling b (record { batch = t.packet.content.batch; told = xs })) → xs ≢ []
     some_told [] h = absurd (omega arith)
     some_told (x ∷ xs) h = λ e. cc
 
@@ -230,7 +231,7 @@ count-flat test f p (t ∷ ts) =
     elim (cases_Bool (p t)) [
       | inr fails ↦ rw fails (omega arith, λ h. let it = rest.1 h in (it.0, inr it.1, it.2, it.3))
       | inl holds ↦
-          let both = count_by-append test (f t) (flat_map f (filter p ts)) in
+          let both = count-append test (f t) (flat_map f (filter p ts)) in
           rw holds (
             omega arith,
             λ h. elim (cases_lt 0 (count_by test (f t))) [
@@ -288,14 +289,14 @@ sent-so_far w b g slot (OfAgent (SendsDue round) ∷ steps) o rise =
     let before = s.once in
     let low = rise.0 in
     let now = sending.sent_in b g history round in
-    let all = count_by-append (numbered slot) (ever_sent b g history) now in
+    let all = count-append (numbered slot) (ever_sent b g history) now in
     let timely = λ (t : TakenDown). is_in_time g t && round == t.packet.content.batch + 2 * g + 2 in
-    let flat = count-flat (numbered slot) (λ t. slots_of b t.packet.content) timely (agent.taken history) in
+    let flat = count-flat (numbered slot) (λ t. slots_of_telling b t.packet.content) timely (agent.taken history) in
     let flat_low = flat.0 in
     let total = boot-once w b g slot steps ordered in
     let walked : count_by (numbered slot) now ≤ count_by (numbered slot) (due b g history round) =
     rw (sent_now-is b g history (λ d. sending.sends b g history d) round) (walk-count (numbered slot) (λ dst. agent.asked history dst - sending.sends b g history dst) (due b g history round)) in
-    let sorted = count-sort_by (numbered slot) (flat_map (λ (t : TakenDown). slots_of b t.packet.content) (filter timely (agent.taken history))) in
+    let sorted = count-sort_by (numbered slot) (flat_map (λ (t : TakenDown). slots_of_telling b t.packet.content) (filter timely (agent.taken history))) in
     elim (cases_lt 0 (count_by (numbered slot) now)) [
       | inr none ↦
           record {

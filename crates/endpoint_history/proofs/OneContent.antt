@@ -12,7 +12,7 @@ use Rattle.endpoint_history.specs.Windows.{Windows}
 use Rattle.endpoint_history.proofs.AgentEnd.{made-is_of}
 use Rattle.endpoint_history.proofs.LaneEnd.{made-was_made, packet_down-is}
 
-some-same : {T : Type 0} (x y : T) → Some x ≡ Some y → x ≡ y
+pub some-same : {T : Type 0} (x y : T) → Some x ≡ Some y → x ≡ y
 some-same x y same = cc
 
 up-content : (w : Windows) (endpoints g : ℕ) (history : AgentHistory) (one other : Numbered (List Demand)) → WasMadeUp endpoints g history (Requests one) → WasMadeUp endpoints g history (Requests other) →

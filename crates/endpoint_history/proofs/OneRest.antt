@@ -8,8 +8,8 @@ use Rattle.greedy_rules.specs.Balance.{clears}
 use Rattle.greedy_rules.specs.Demands.{need_with}
 use Rattle.endpoint_history.specs.Packets.{Resets, Requests}
 use Rattle.endpoint_history.specs.Lane.{LaneHistory, MakesDown, TakesUp, Records, restarts, last_reset}
-use Rattle.endpoint_history.specs.Entries.{added, is_reset, had, entry_with, entry_of, rounds_recorded, adds, entries_of}
-use Rattle.endpoint_history.specs.Rest.{need_through, need_left, FitNeeds, slots_from, add_of, adds_from, NoneClears, ClearsAt, OpensFrom}
+use Rattle.endpoint_history.specs.Entries.{added, is_reset, had, entry_with, next_entry, rounds_recorded, adds, entries_of_batches}
+use Rattle.endpoint_history.specs.Rest.{need_through, need_left, FitNeeds, slots_from, add_of, adds_from, NoEntryClears, EntryClearsAt, EntryOpensFrom}
 use Rattle.endpoint_history.specs.Steps.{TakesInRound}
 use Rattle.endpoint_history.specs.LedgerLaws.{EntriesSumToOwed, CountsBeginAtTheLastClear, OneRest}
 use Rattle.endpoint_history.specs.Windows.{Windows}
@@ -33,7 +33,7 @@ none-allocated : (entries : List (Option Entry)) (need : ℕ) → need_left entr
 none-allocated [] need = refl
 none-allocated (entry ∷ entries) need = refl
 
-left-after : (entries : List (Option Entry)) (allocated : List ℕ) (need : ℕ) → NoneClears entries → FitNeeds entries allocated need →
+left-after : (entries : List (Option Entry)) (allocated : List ℕ) (need : ℕ) → NoEntryClears entries → FitNeeds entries allocated need →
     need_left entries allocated need + slots_from zero allocated ≡ need + adds_from zero entries
 left-after [] [] need none fits = refl
 left-after [] (slots ∷ allocated) need none fits = absurd fits
@@ -48,7 +48,7 @@ left-after (entry ∷ entries) (slots ∷ allocated) need none fits =
     let within = fits.0 in
     omega arith
 
-left-cleared : (batch : ℕ) (entries : List (Option Entry)) (allocated : List ℕ) (need : ℕ) → ClearsAt batch entries → FitNeeds entries allocated need →
+left-cleared : (batch : ℕ) (entries : List (Option Entry)) (allocated : List ℕ) (need : ℕ) → EntryClearsAt batch entries → FitNeeds entries allocated need →
     need_left entries allocated need + slots_from batch allocated ≡ adds_from batch entries
 left-cleared batch [] allocated need at_it fits = absurd at_it
 left-cleared zero (entry ∷ entries) [] need at_it fits =
@@ -67,7 +67,7 @@ left-cleared (suc batch) (entry ∷ entries) [] need at_it fits =
     omega arith
 left-cleared (suc batch) (entry ∷ entries) (slots ∷ allocated) need at_it fits = left-cleared batch entries allocated (need_with entry need - slots) at_it fits.1
 
-left-opened : (batch : ℕ) (entries : List (Option Entry)) (allocated : List ℕ) → OpensFrom batch entries → FitNeeds entries allocated 0 →
+left-opened : (batch : ℕ) (entries : List (Option Entry)) (allocated : List ℕ) → EntryOpensFrom batch entries → FitNeeds entries allocated 0 →
     need_left entries allocated 0 + slots_from batch allocated ≡ adds_from batch entries
 left-opened batch [] allocated opens fits = absurd opens
 left-opened zero (entry ∷ entries) allocated opens fits = left-after (entry ∷ entries) allocated 0 opens fits ∙ nothing (adds_from zero (entry ∷ entries))
@@ -91,25 +91,25 @@ left-opened (suc batch) (entry ∷ entries) (slots ∷ allocated) opens fits =
 
 -- ---- one batch more
 
-NoneClears-more : (entries : List (Option Entry)) (entry : Option Entry) → NoneClears entries → clears entry ≡ false → NoneClears (entries ++ entry ∷ [])
+NoneClears-more : (entries : List (Option Entry)) (entry : Option Entry) → NoEntryClears entries → clears entry ≡ false → NoEntryClears (entries ++ entry ∷ [])
 NoneClears-more [] entry none h = (h, tt)
 NoneClears-more (e ∷ entries) entry none h = (none.0, NoneClears-more entries entry none.1 h)
 
-ClearsAt-more : (batch : ℕ) (entries : List (Option Entry)) (entry : Option Entry) → ClearsAt batch entries → clears entry ≡ false → ClearsAt batch (entries ++ entry ∷ [])
+ClearsAt-more : (batch : ℕ) (entries : List (Option Entry)) (entry : Option Entry) → EntryClearsAt batch entries → clears entry ≡ false → EntryClearsAt batch (entries ++ entry ∷ [])
 ClearsAt-more batch [] entry at_it h = absurd at_it
 ClearsAt-more zero (e ∷ entries) entry at_it h = (at_it.0, NoneClears-more entries entry at_it.1 h)
 ClearsAt-more (suc batch) (e ∷ entries) entry at_it h = ClearsAt-more batch entries entry at_it h
 
-OpensFrom-more : (batch : ℕ) (entries : List (Option Entry)) (entry : Option Entry) → OpensFrom batch entries → clears entry ≡ false → OpensFrom batch (entries ++ entry ∷ [])
+OpensFrom-more : (batch : ℕ) (entries : List (Option Entry)) (entry : Option Entry) → EntryOpensFrom batch entries → clears entry ≡ false → EntryOpensFrom batch (entries ++ entry ∷ [])
 OpensFrom-more batch [] entry opens h = absurd opens
 OpensFrom-more zero (e ∷ entries) entry opens h = (opens.0, NoneClears-more entries entry opens.1 h)
 OpensFrom-more (suc batch) (e ∷ entries) entry opens h = (opens.0, OpensFrom-more batch entries entry opens.1 h)
 
-ClearsAt-last : (entries : List (Option Entry)) (entry : Option Entry) → clears entry ≡ true → ClearsAt (length entries) (entries ++ entry ∷ [])
+ClearsAt-last : (entries : List (Option Entry)) (entry : Option Entry) → clears entry ≡ true → EntryClearsAt (length entries) (entries ++ entry ∷ [])
 ClearsAt-last [] entry h = (h, tt)
 ClearsAt-last (e ∷ entries) entry h = ClearsAt-last entries entry h
 
-OpensFrom-last : (entries : List (Option Entry)) (entry : Option Entry) → AllNone entries → clears entry ≡ false → OpensFrom (length entries) (entries ++ entry ∷ [])
+OpensFrom-last : (entries : List (Option Entry)) (entry : Option Entry) → AllNone entries → clears entry ≡ false → EntryOpensFrom (length entries) (entries ++ entry ∷ [])
 OpensFrom-last [] entry none h = (h, tt)
 OpensFrom-last (e ∷ entries) entry none h = (none.0, OpensFrom-last entries entry none.1 h)
 
@@ -146,24 +146,24 @@ entry-none : (endpoint dst add : ℕ) (had_it clear : Bool) → nat_lt 0 add ≡
 entry-none endpoint dst add had_it clear none kept_it = rw (none, kept_it) refl
 
 pub record Standing (endpoint g : ℕ) (history : LaneHistory) (dst : ℕ) : Type 0 where
-  pub long : length (entries_of endpoint g history dst) ≡ rounds_recorded history
-  pub none : had g history dst ≡ false → AllNone (entries_of endpoint g history dst)
+  pub long : length (entries_of_batches endpoint g history dst) ≡ rounds_recorded history
+  pub none : had g history dst ≡ false → AllNone (entries_of_batches endpoint g history dst)
   pub reset : is_reset history ≡ true → (last_reset history ≡ rounds_recorded history) × (adds g history dst ≡ 0)
   pub steady : is_reset history ≡ false →
       ((rounds_recorded history ≡ 0) × (last_reset history ≡ 0) × (adds g history dst ≡ 0))
       ⊎ ((last_reset history < rounds_recorded history)
-      × (ClearsAt (last_reset history) (entries_of endpoint g history dst) ⊎ OpensFrom (last_reset history) (entries_of endpoint g history dst))
-      × (adds_from (last_reset history) (entries_of endpoint g history dst) ≡ adds g history dst))
+      × (EntryClearsAt (last_reset history) (entries_of_batches endpoint g history dst) ⊎ EntryOpensFrom (last_reset history) (entries_of_batches endpoint g history dst))
+      × (adds_from (last_reset history) (entries_of_batches endpoint g history dst) ≡ adds g history dst))
 
 standing-records : (endpoint g round : ℕ) (history : LaneHistory) (dst : ℕ) → Standing endpoint g history dst → Standing endpoint g (Records round ∷ history) dst
 standing-records endpoint g round history dst s =
     record { long = longer; none = all_none; reset = λ h. absurd (cc); steady = λ h. inr now }
   where
     es : List (Option Entry)
-    es = entries_of endpoint g history dst
+    es = entries_of_batches endpoint g history dst
 
     e : Option Entry
-    e = entry_of endpoint g history dst
+    e = next_entry endpoint g history dst
 
     adds_it : add_of e ≡ added g history dst
     adds_it = entry-add endpoint dst (added g history dst) (had g history dst) (is_reset history && had g history dst)
@@ -194,7 +194,7 @@ standing-records endpoint g round history dst s =
         and_false false = refl
 
     now : (last_reset history < rounds_recorded history + 1)
-        × (ClearsAt (last_reset history) (es ++ e ∷ []) ⊎ OpensFrom (last_reset history) (es ++ e ∷ []))
+        × (EntryClearsAt (last_reset history) (es ++ e ∷ []) ⊎ EntryOpensFrom (last_reset history) (es ++ e ∷ []))
         × (adds_from (last_reset history) (es ++ e ∷ []) ≡ adds g history dst + added g history dst)
     now = elim (cases_Bool (is_reset history)) [
       | inl resets ↦
@@ -206,7 +206,7 @@ standing-records endpoint g round history dst s =
           let ended = adds_from-end es in
           let adds_now : adds_from (length es) (es ++ e ∷ []) ≡ adds g history dst + added g history dst = omega (arith, adds_it) in (
             omega arith,
-            subst (λ (n : ℕ). ClearsAt n (es ++ e ∷ []) ⊎ OpensFrom n (es ++ e ∷ [])) (sym at_end)
+            subst (λ (n : ℕ). EntryClearsAt n (es ++ e ∷ []) ⊎ EntryOpensFrom n (es ++ e ∷ [])) (sym at_end)
                 (elim (cases_Bool (had g history dst)) [
                   | inl has ↦ inl (ClearsAt-last es e (clears_it ∙ ap (λ b. b && had g history dst) resets ∙ has))
                   | inr has_not ↦ inr (OpensFrom-last es e (s.none has_not) (clears_it ∙ ap (λ b. b && had g history dst) resets ∙ has_not))
@@ -226,7 +226,7 @@ standing-records endpoint g round history dst s =
                 let ended = adds_from-end es in
                 let adds_now : adds_from (length es) (es ++ e ∷ []) ≡ adds g history dst + added g history dst = omega (arith, adds_it) in (
                   omega arith,
-                  subst (λ (n : ℕ). ClearsAt n (es ++ e ∷ []) ⊎ OpensFrom n (es ++ e ∷ [])) (sym at_end) (inr (OpensFrom-last es e (no_entries es empty) keeps)),
+                  subst (λ (n : ℕ). EntryClearsAt n (es ++ e ∷ []) ⊎ EntryOpensFrom n (es ++ e ∷ [])) (sym at_end) (inr (OpensFrom-last es e (no_entries es empty) keeps)),
                   subst (λ (n : ℕ). adds_from n (es ++ e ∷ []) ≡ adds g history dst + added g history dst) (sym at_end) adds_now,
                 )
             | inr on ↦
@@ -293,7 +293,7 @@ one_rest w endpoint g round history dst allocated rounds fits =
       | inr on ↦
           let same = on.2 in
           elim on.1 [
-            | inl at_it ↦ let left = left-cleared (last_reset history) (entries_of endpoint g (Records round ∷ history) dst) allocated 0 at_it fits in omega arith
-            | inr opens ↦ let left = left-opened (last_reset history) (entries_of endpoint g (Records round ∷ history) dst) allocated opens fits in omega arith
+            | inl at_it ↦ let left = left-cleared (last_reset history) (entries_of_batches endpoint g (Records round ∷ history) dst) allocated 0 at_it fits in omega arith
+            | inr opens ↦ let left = left-opened (last_reset history) (entries_of_batches endpoint g (Records round ∷ history) dst) allocated opens fits in omega arith
           ]
     ]

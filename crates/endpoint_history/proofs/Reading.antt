@@ -23,17 +23,17 @@ spelled_alike = record { up = λ spell posted round. arrivals-spelled spell post
 
 -- ---- one after the other
 
-not_asked : (round : ℕ) (history : List WorldCall) → AsksBelow round history → is_asked history round ≡ false
+pub not_asked : (round : ℕ) (history : List WorldCall) → AsksBelow round history → is_asked history round ≡ false
 not_asked round [] below = refl
 not_asked round (Departs packet ∷ history) below = not_asked round history below
 not_asked round (AsksFor asked ∷ history) below = let low = below.0 in rw (ne_eqb asked round (omega arith)) (not_asked round history below.1)
 
-asked_below : (round : ℕ) (history : List WorldCall) → AsksBelow round history → asked_of history ≤ round
+pub asked_below : (round : ℕ) (history : List WorldCall) → AsksBelow round history → asked_of history ≤ round
 asked_below round [] below = omega arith
 asked_below round (Departs packet ∷ history) below = asked_below round history below
 asked_below round (AsksFor asked ∷ history) below = let low = below.0 in let rest = asked_below round history below.1 in omega arith
 
-below_next : (round : ℕ) (history : List WorldCall) → AsksBelow round history → AsksBelow (round + 1) history
+pub below_next : (round : ℕ) (history : List WorldCall) → AsksBelow round history → AsksBelow (round + 1) history
 below_next round [] below = tt
 below_next round (Departs packet ∷ history) below = below_next round history below
 below_next round (AsksFor asked ∷ history) below = let low = below.0 in (omega arith, below_next round history below.1)

@@ -8,7 +8,7 @@ use Rattle.endpoint_history.specs.Sending.{rounds_sent, SendsRise}
 use Rattle.endpoint_history.specs.Lane.{LaneEvent, LaneHistory, MakesDown, TakesUp, Records, packet_down}
 use Rattle.endpoint_history.specs.Entries.{rounds_recorded}
 use Rattle.endpoint_history.specs.Steps.{Step, OfAgent, OfLane, agent_of, lane_of, WasMadeUp, WasMadeDown, ArrivesFromOther, rounds_begun, ups_made, RoundsRise, ArrivesFromLane, TakesInRound}
-use Rattle.endpoint_history.specs.Rounds.{Round, Posted, arriving, Played, then_each, begun, posted_down, heard, posted_up, read, after_round, played, NamedByNoRaw}
+use Rattle.endpoint_history.specs.Rounds.{Round, Posted, arriving, PlayedEnds, then_each, begun, posted_down, heard, posted_up, read, after_round, played, NamedByNoRaw}
 use Rattle.endpoint_history.specs.RoundLaws.{RoundsArriveFromOther, RoundsAreInOrder, GoesOn, RoundsGoOn}
 
 -- ---- what arrives was posted
@@ -88,7 +88,7 @@ module _ (endpoints g : ℕ) where
 
   -- ---- a round
 
-  record Going (p : Played) : Type 0 where
+  record Going (p : PlayedEnds) : Type 0 where
     arrives : ArrivesFromOther endpoints g p.steps
     down : EachPosted (MadeDown p.steps) p.down
     up : EachPosted (MadeUp p.steps) p.up
@@ -98,7 +98,7 @@ module _ (endpoints g : ℕ) where
   posted-made number round history None made = tt
   posted-made number round history (Some packet) made = (made packet refl, tt)
 
-  one_round : (number : ℕ) (round : Round) (before : Played) → round.raw ≡ [] → Going before → Going (after_round endpoints g number round before)
+  one_round : (number : ℕ) (round : Round) (before : PlayedEnds) → round.raw ≡ [] → Going before → Going (after_round endpoints g number round before)
   one_round number round before quiet go =
       record { arrives = arrives_read; down = down_read; up = up_read }
     where
@@ -226,11 +226,11 @@ module _ (endpoints g : ℕ) where
   made-reads [] number steps packet made = made
   made-reads (x ∷ xs) number steps packet made = made-reads xs number (OfLane (TakesUp number x) ∷ steps) packet made
 
-  record Ordered (done : ℕ) (p : Played) : Type 0 where
+  record Ordered (done : ℕ) (p : PlayedEnds) : Type 0 where
     order : InOrder done done p.steps
     down : EachPosted (MadeDown endpoints g p.steps) p.down
 
-  order-round : (number : ℕ) (round : Round) (before : Played) → Ordered number before → Ordered (number + 1) (after_round endpoints g number round before)
+  order-round : (number : ℕ) (round : Round) (before : PlayedEnds) → Ordered number before → Ordered (number + 1) (after_round endpoints g number round before)
   order-round number round before o =
       record {
         order = record {
@@ -330,7 +330,7 @@ module _ (endpoints g : ℕ) where
   ups-each event [] steps none = refl
   ups-each event (x ∷ xs) steps none = ups-each event xs (OfAgent (event x) ∷ steps) none ∙ none x (agent_of steps)
 
-  ups-round : (number : ℕ) (round : Round) (before : Played) → ups_made (agent_of (after_round endpoints g number round before).steps) ≡ ups_made (agent_of before.steps) + 1
+  ups-round : (number : ℕ) (round : Round) (before : PlayedEnds) → ups_made (agent_of (after_round endpoints g number round before).steps) ≡ ups_made (agent_of before.steps) + 1
   ups-round number round before =
       let booted = then_each (λ version. OfAgent (Boots version)) round.boots before.steps in
       let started = begun endpoints g number round before in
@@ -364,7 +364,7 @@ on-each : {X : Type 0} (step : X → Step) (xs : List X) (earlier steps : List S
 on-each step [] earlier steps on = on
 on-each step (x ∷ xs) earlier steps on = on-each step xs earlier (step x ∷ steps) (on-call (step x) earlier steps on)
 
-on-round : (endpoints g number : ℕ) (round : Round) (before : Played) (earlier : List Step) → GoesOn earlier before.steps → GoesOn earlier (after_round endpoints g number round before).steps
+on-round : (endpoints g number : ℕ) (round : Round) (before : PlayedEnds) (earlier : List Step) → GoesOn earlier before.steps → GoesOn earlier (after_round endpoints g number round before).steps
 on-round endpoints g number round before earlier on =
     let booted = then_each (λ version. OfAgent (Boots version)) round.boots before.steps in
     let started = begun endpoints g number round before in
@@ -385,3 +385,11 @@ pub rounds_go_on : RoundsGoOn
 rounds_go_on endpoints g [] earlier = record { later = []; parts = refl }
 rounds_go_on endpoints g (round ∷ later) earlier =
     on-round endpoints g (length (later ++ earlier)) round (played endpoints g (later ++ earlier)) (played endpoints g earlier).steps (rounds_go_on endpoints g later earlier)
+
+pub agent-lane : {X : Type 0} (event : X → LaneEvent) (xs : List X) (steps : List Step) → agent_of (then_each (λ x. OfLane (event x)) xs steps) ≡ agent_of steps
+agent-lane event [] steps = refl
+agent-lane event (x ∷ xs) steps = agent-lane event xs (OfLane (event x) ∷ steps)
+
+pub lane-agent : {X : Type 0} (event : X → AgentEvent) (xs : List X) (steps : List Step) → lane_of (then_each (λ x. OfAgent (event x)) xs steps) ≡ lane_of steps
+lane-agent event [] steps = refl
+lane-agent event (x ∷ xs) steps = lane-agent event xs (OfAgent (event x) ∷ steps)

@@ -1,16 +1,17 @@
 -- Every slot in time is sent in.
-use Rattle.std.proofs.Common.{◌≡◌, ℕ, ◌+◌, ◌-◌, ◌*◌, ◌≤◌, Bool, true, false, ◌&&◌, not, cond, nat_lt, ◌==◌, List, [], ◌∷◌, ◌++◌, sym, ◌∙◌, ap, refl, inl, inr, arith}
+use Rattle.std.proofs.Common.{◌≡◌, ℕ, ◌+◌, ◌-◌, ◌*◌, ◌≤◌, Bool, true, false, ◌&&◌, not, cond, nat_lt, ◌==◌, List, [], ◌∷◌, sym, ◌∙◌, ap, refl, inl, inr, arith}
 use Rattle.std.specs.Prelude.{nat_le, sum_by, count_by, filter}
 use Rattle.std.specs.List.{flat_map}
 use Rattle.std.proofs.lemmas.Bool.{cases_eq, cases_Bool, cases_lt, lt-ltb, leb-true, le-leb, lt-leb, eq-eqb, ne_eqb}
 use Rattle.std.proofs.lemmas.List.Sums.{sum_by-cons, sum_by-le-sum_by}
 use Rattle.std.proofs.lemmas.List.Concat.{flat_map-cons}
 use Rattle.list_facts.specs.Order.{insert_by, sort_by}
+use Rattle.list_facts.proofs.Counting.{count-append}
 use Rattle.fcp_framing.specs.declared.packet.Told.{Told}
 use Rattle.endpoint_history.specs.Packets.{slots_to}
 use Rattle.endpoint_history.specs.Agent as agent
 use Rattle.endpoint_history.specs.Agent.{AgentHistory, Boots, Asks, TakesDown, MakesUp, SendsDue, TakenDown, taken, is_in_time, in_time, asked}
-use Rattle.endpoint_history.specs.Sending.{Slot, slots_of, sent_of, sent_now, sends, due, rounds_sent, SendsRise, is_over, in_time_before}
+use Rattle.endpoint_history.specs.Sending.{Slot, slots_of_telling, sent_of, sent_now, sends, due, rounds_sent, SendsRise, is_over, in_time_before}
 use Rattle.endpoint_history.specs.Steps.{agent_of}
 use Rattle.endpoint_history.specs.SlotLaws.{SendsAndWaitingAreAsked, NoneIsPassedOver}
 use Rattle.endpoint_history.specs.Windows.{Windows}
@@ -27,18 +28,6 @@ count_by-cons test x xs = sum_by-cons (λ y. cond (test y) 1 0) x xs ∙ add (te
     add : (b : Bool) (n : ℕ) → cond b 1 0 + n ≡ cond b (1 + n) n
     add true n = refl
     add false n = omega arith
-
-pub count_by-append : {X : Type 0} (test : X → Bool) (xs ys : List X) → count_by test (xs ++ ys) ≡ count_by test xs + count_by test ys
-count_by-append test [] ys = omega arith
-count_by-append test (x ∷ xs) ys =
-    count_by-cons test x (xs ++ ys)
-    ∙ ap (λ n. cond (test x) (1 + n) n) (count_by-append test xs ys)
-    ∙ more (test x) (count_by test xs) (count_by test ys)
-    ∙ ap (λ n. n + count_by test ys) (sym (count_by-cons test x xs))
-  where
-    more : (b : Bool) (m n : ℕ) → cond b (1 + (m + n)) (m + n) ≡ cond b (1 + m) m + n
-    more true m n = omega arith
-    more false m n = refl
 
 count-insert_by : (test : Slot → Bool) (s : Slot) (slots : List Slot) → count_by test (insert_by (λ x. x.slot) s slots) ≡ count_by test (s ∷ slots)
 count-insert_by test s [] = refl
@@ -69,21 +58,21 @@ count-sort_by test (s ∷ slots) =
     ∙ ap (λ n. cond (test s) (1 + n) n) rest
     ∙ sym (count_by-cons test s slots)
 
-count-slots_of : (b dst : ℕ) (batch : ℕ) (told : List Told) → count_by (to dst) (slots_of b (record { batch = batch; told = told })) ≡ slots_to dst told
+count-slots_of : (b dst : ℕ) (batch : ℕ) (told : List Told) → count_by (to dst) (slots_of_telling b (record { batch = batch; told = told })) ≡ slots_to dst told
 count-slots_of b dst batch [] = refl
 count-slots_of b dst batch (t ∷ told) =
-    count_by-cons (to dst) (record { slot = batch * b + 1 + t.offset; dst = t.dst }) (slots_of b (record { batch = batch; told = told }))
+    count_by-cons (to dst) (record { slot = batch * b + 1 + t.offset; dst = t.dst }) (slots_of_telling b (record { batch = batch; told = told }))
     ∙ ap (λ n. cond (t.dst == dst) (1 + n) n) (count-slots_of b dst batch told)
     ∙ sym (count_by-cons (λ (x : Told). x.dst == dst) t told)
 
 -- the slots due in a round are those that are used before the next and not before it
 count-due : (b g round dst : ℕ) (ts : List TakenDown) →
     sum_by (λ (t : TakenDown). cond (is_in_time g t && is_over g round t) (slots_to dst t.packet.content.told) 0) ts
-    + count_by (to dst) (flat_map (λ (t : TakenDown). slots_of b t.packet.content) (filter (λ (t : TakenDown). is_in_time g t && round == t.packet.content.batch + 2 * g + 2) ts))
+    + count_by (to dst) (flat_map (λ (t : TakenDown). slots_of_telling b t.packet.content) (filter (λ (t : TakenDown). is_in_time g t && round == t.packet.content.batch + 2 * g + 2) ts))
     ≡ sum_by (λ (t : TakenDown). cond (is_in_time g t && is_over g (round + 1) t) (slots_to dst t.packet.content.told) 0) ts
 count-due b g round dst [] = refl
 count-due b g round dst (t ∷ ts) =
-    let f = λ (x : TakenDown). slots_of b x.packet.content in
+    let f = λ (x : TakenDown). slots_of_telling b x.packet.content in
     let due_of = λ (xs : List TakenDown). filter (λ (x : TakenDown). is_in_time g x && round == x.packet.content.batch + 2 * g + 2) xs in
     let rest = count-due b g round dst ts in
     let before = sum_by-cons (λ (x : TakenDown). cond (is_in_time g x && is_over g round x) (slots_to dst x.packet.content.told) 0) t ts in
@@ -91,7 +80,7 @@ count-due b g round dst (t ∷ ts) =
     let batch = t.packet.content.batch in
     let slots = slots_to dst t.packet.content.told in
     let with_it : count_by (to dst) (flat_map f (t ∷ due_of ts)) ≡ slots + count_by (to dst) (flat_map f (due_of ts)) =
-    ap (λ xs. count_by (to dst) xs) (flat_map-cons f t (due_of ts)) ∙ count_by-append (to dst) (f t) (flat_map f (due_of ts)) ∙ ap (λ n. n + count_by (to dst) (flat_map f (due_of ts))) (count-slots_of b dst t.packet.content.batch t.packet.content.told) in
+    ap (λ xs. count_by (to dst) xs) (flat_map-cons f t (due_of ts)) ∙ count-append (to dst) (f t) (flat_map f (due_of ts)) ∙ ap (λ n. n + count_by (to dst) (flat_map f (due_of ts))) (count-slots_of b dst t.packet.content.batch t.packet.content.told) in
     let here : cond (is_in_time g t && is_over g round t) slots 0 + count_by (to dst) (flat_map f (cond (is_in_time g t && round == batch + 2 * g + 2) (t ∷ due_of ts) (due_of ts)))
     ≡ cond (is_in_time g t && is_over g (round + 1) t) slots 0 + count_by (to dst) (flat_map f (due_of ts)) =
     elim (is_in_time g t) as (λ timely. cond (timely && is_over g round t) slots 0 + count_by (to dst) (flat_map f (cond (timely && round == batch + 2 * g + 2) (t ∷ due_of ts) (due_of ts)))
@@ -164,7 +153,7 @@ sent_now-is b g history so_far round = refl
 
 counted-due : (b g : ℕ) (history : AgentHistory) (round dst : ℕ) → in_time_before g history round dst + count_by (to dst) (due b g history round) ≡ in_time_before g history (round + 1) dst
 counted-due b g history round dst =
-    ap (λ n. in_time_before g history round dst + n) (count-sort_by (to dst) (flat_map (λ (t : TakenDown). slots_of b t.packet.content) (filter (λ (t : TakenDown). is_in_time g t && round == t.packet.content.batch + 2 * g + 2) (taken history))))
+    ap (λ n. in_time_before g history round dst + n) (count-sort_by (to dst) (flat_map (λ (t : TakenDown). slots_of_telling b t.packet.content) (filter (λ (t : TakenDown). is_in_time g t && round == t.packet.content.batch + 2 * g + 2) (taken history))))
     ∙ count-due b g round dst (taken history)
 
 before-grows : (g less more dst : ℕ) (ts : List TakenDown) → less ≤ more →

@@ -7,9 +7,9 @@ use Rattle.fcp_framing.specs.declared.packet.Told.{Told}
 use Rattle.endpoint_history.specs.Packets.{slots_to}
 use Rattle.endpoint_history.specs.Agent as agent
 use Rattle.endpoint_history.specs.Agent.{TakenDown}
-use Rattle.endpoint_history.specs.Sending.{Slot, slots_of}
+use Rattle.endpoint_history.specs.Sending.{Slot, slots_of_telling}
 use Rattle.endpoint_history.specs.Steps.{agent_of, lane_of, rounds_begun}
-use Rattle.endpoint_history.specs.Tellings.{Among, AreWithin}
+use Rattle.endpoint_history.specs.Tellings.{Among, SlotsAreWithin}
 use Rattle.endpoint_history.specs.Bounds.{TakenIsFew}
 use Rattle.endpoint_history.specs.Windows.{Windows}
 use Rattle.endpoint_history.proofs.Issues.{packet-came}
@@ -58,19 +58,19 @@ exchange w (t ∷ ts) n =
     ∙ ap (λ m. sum_to (λ i. w i t) n + m) (exchange w ts n)
     ∙ sym (sum_by-cons (λ x. sum_to (λ i. w i x) n) t ts)
 
-counted : (b batch most dst : ℕ) (told : List Told) → AreWithin b told → batch * b + b ≤ most →
-    slots_to dst told ≤ sum_to (λ i. count_by (numbered i) (slots_of b (record { batch = batch; told = told }))) most
+counted : (b batch most dst : ℕ) (told : List Told) → SlotsAreWithin b told → batch * b + b ≤ most →
+    slots_to dst told ≤ sum_to (λ i. count_by (numbered i) (slots_of_telling b (record { batch = batch; told = told }))) most
 counted b batch most dst [] within high = omega arith
 counted b batch most dst (t ∷ told) within high =
     let low_t = within.0 in
     let rest = counted b batch most dst told within.1 high in
     let one = sum_to-one (batch * b + 1 + t.offset) most (omega arith) (omega arith) in
     let here = count_by-cons (λ (x : Told). x.dst == dst) t told in
-    let rest_of = λ (i : ℕ). count_by (numbered i) (slots_of b (record { batch = batch; told = told })) in
-    let all : sum_to (λ i. count_by (numbered i) (slots_of b (record { batch = batch; told = t ∷ told }))) most
+    let rest_of = λ (i : ℕ). count_by (numbered i) (slots_of_telling b (record { batch = batch; told = told })) in
+    let all : sum_to (λ i. count_by (numbered i) (slots_of_telling b (record { batch = batch; told = t ∷ told }))) most
     ≡ sum_to (λ i. cond (batch * b + 1 + t.offset == i) 1 0) most + sum_to rest_of most =
-    sum_to-same (λ i. count_by (numbered i) (slots_of b (record { batch = batch; told = t ∷ told }))) (λ i. cond (batch * b + 1 + t.offset == i) 1 0 + rest_of i) most
-    (λ i. sum_by-cons (λ (s : Slot). cond (s.slot == i) 1 0) (record { slot = batch * b + 1 + t.offset; dst = t.dst }) (slots_of b (record { batch = batch; told = told })))
+    sum_to-same (λ i. count_by (numbered i) (slots_of_telling b (record { batch = batch; told = t ∷ told }))) (λ i. cond (batch * b + 1 + t.offset == i) 1 0 + rest_of i) most
+    (λ i. sum_by-cons (λ (s : Slot). cond (s.slot == i) 1 0) (record { slot = batch * b + 1 + t.offset; dst = t.dst }) (slots_of_telling b (record { batch = batch; told = told })))
     ∙ sum_to-add (λ i. cond (batch * b + 1 + t.offset == i) 1 0) rest_of most in
     elim (cases_Bool (t.dst == dst)) [
       | inl same ↦ let it = ap (λ c. cond c (1 + slots_to dst told) (slots_to dst told)) same in omega arith

@@ -1,6 +1,6 @@
 -- The slots of an acknowledged number were taken in once, and never by another number.
 use Rattle.std.proofs.Common.{◌≡◌, ℕ, ◌+◌, ◌*◌, true, cond, ◌++◌, Some, sym, ◌∙◌, ap}
-use Rattle.ack_window.specs.Arrivals.{is_taken}
+use Rattle.ack_window.specs.Arrivals.{is_number_taken}
 use Rattle.ack_window.specs.Versions.{reorder_of}
 use Rattle.endpoint_history.specs.Agent as agent
 use Rattle.endpoint_history.specs.Agent.{until}
@@ -24,8 +24,8 @@ acknowledged_slots_are_taken_once w endpoints g later earlier arrives rise numbe
     let now = until epoch (agent_of steps) in
     let goes_on = (Extends-steps epoch later earlier j.epochs).0 in
     let v = agent.version_of boot in
-    let was : is_taken (reorder_of v) (agent.arrived boot) number ≡ true = rw j.version at (j.down.shown number counted shown) in
-    let still : is_taken (reorder_of (agent.version_of now)) (agent.arrived now) number ≡ true = Extends-taken w boot now number goes_on was in
+    let was : is_number_taken (reorder_of v) (agent.arrived boot) number ≡ true = rw j.version at (j.down.shown number counted shown) in
+    let still : is_number_taken (reorder_of (agent.version_of now)) (agent.arrived now) number ≡ true = Extends-taken w boot now number goes_on was in
     let then = acknowledged_is_taken_once w endpoints g earlier arrived_before number counted shown in
     let from = content-came g (lane_of earlier) number telling (risen later earlier rise) is some in
     let moved = issued-steps g later earlier (telling.batch + 2 * g) rise from.begun in

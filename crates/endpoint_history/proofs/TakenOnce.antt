@@ -4,13 +4,13 @@ use Rattle.std.specs.Prelude.{count_by, filter}
 use Rattle.std.specs.List.{flat_map}
 use Rattle.std.proofs.lemmas.Bool.{cases_eq, cases_Bool, eq-eqb, ne_eqb}
 use Rattle.list_facts.specs.Order.{insert_by, sort_by}
-use Rattle.ack_window.specs.Arrivals.{receive_verdict, is_fresh, is_taken}
+use Rattle.ack_window.specs.Arrivals.{receive_verdict, is_fresh, is_number_taken}
 use Rattle.ack_window.specs.Ends.{content_of}
 use Rattle.ack_window.specs.Versions.{reorder_of}
 use Rattle.endpoint_history.specs.Agent as agent
 use Rattle.endpoint_history.specs.Agent.{AgentEvent, AgentHistory, Boots, Asks, TakesDown, MakesUp, SendsDue, TakenDown, until, is_in_time, ever_taken}
 use Rattle.endpoint_history.specs.Sending as sending
-use Rattle.endpoint_history.specs.Sending.{Slot, slots_of, sent_of, due, ever_sent}
+use Rattle.endpoint_history.specs.Sending.{Slot, slots_of_telling, sent_of, due, ever_sent}
 use Rattle.endpoint_history.specs.Lane as lane
 use Rattle.endpoint_history.specs.Lane.{LaneEvent, LaneHistory, MakesDown, TakesUp, Records}
 use Rattle.endpoint_history.specs.Steps.{agent_of, lane_of}
@@ -31,7 +31,7 @@ use Rattle.endpoint_history.proofs.Members.{among-append}
 abbrev pub with_number : ℕ → TakenDown → Bool
 with_number number t = t.packet.seq == number
 
-pub taken-once : (w : Windows) (history : AgentHistory) (number : ℕ) → count_by (with_number number) (agent.taken history) ≡ cond (is_taken (reorder_of (agent.version_of history)) (agent.arrived history) number) 1 0
+pub taken-once : (w : Windows) (history : AgentHistory) (number : ℕ) → count_by (with_number number) (agent.taken history) ≡ cond (is_number_taken (reorder_of (agent.version_of history)) (agent.arrived history) number) 1 0
 taken-once w [] number = refl
 taken-once w (Boots version ∷ history) number = refl
 taken-once w (Asks dst slots ∷ history) number = taken-once w history number
@@ -51,16 +51,16 @@ taken-once w (TakesDown round packet ∷ history) number =
                 let is = fresh_is (receive_verdict (reorder_of v) (agent.arrived history) packet.seq) fresh in
                 let push = count_by-cons (with_number number) (record { round = round; packet = packet }) (agent.taken history) in
                 let so_far = count_by (with_number number) (agent.taken history) in
-                let now = is_taken (reorder_of v) (packet.seq ∷ agent.arrived history) number in
+                let now = is_number_taken (reorder_of v) (packet.seq ∷ agent.arrived history) number in
                 let more : cond (packet.seq == number) (1 + so_far) so_far ≡ cond now 1 0 =
                 elim (cases_eq packet.seq number) [
                   | inl same ↦
-                      let none : so_far ≡ 0 = before ∙ ap (λ b. cond b 1 0) (ap (λ n. is_taken (reorder_of v) (agent.arrived history) n) (sym same) ∙ w.once.first (reorder_of v) (agent.arrived history) packet.seq is) in
-                      let one : cond now 1 0 ≡ 1 = ap (λ b. cond b 1 0) (sym (ap (λ n. is_taken (reorder_of v) (packet.seq ∷ agent.arrived history) n) same) ∙ w.once.fresh (reorder_of v) (agent.arrived history) packet.seq is) in
+                      let none : so_far ≡ 0 = before ∙ ap (λ b. cond b 1 0) (ap (λ n. is_number_taken (reorder_of v) (agent.arrived history) n) (sym same) ∙ w.once.first (reorder_of v) (agent.arrived history) packet.seq is) in
+                      let one : cond now 1 0 ≡ 1 = ap (λ b. cond b 1 0) (sym (ap (λ n. is_number_taken (reorder_of v) (packet.seq ∷ agent.arrived history) n) same) ∙ w.once.fresh (reorder_of v) (agent.arrived history) packet.seq is) in
                       let first : cond (packet.seq == number) (1 + so_far) so_far ≡ 1 + so_far = ap (λ b. cond b (1 + so_far) so_far) (eq-eqb packet.seq number same) in
                       first ∙ ap (λ n. 1 + n) none ∙ sym one
                   | inr differs ↦
-                      let rest : cond now 1 0 ≡ cond (is_taken (reorder_of v) (agent.arrived history) number) 1 0 = ap (λ b. cond b 1 0) (w.once.other (reorder_of v) packet.seq (agent.arrived history) number differs) in
+                      let rest : cond now 1 0 ≡ cond (is_number_taken (reorder_of v) (agent.arrived history) number) 1 0 = ap (λ b. cond b 1 0) (w.once.other (reorder_of v) packet.seq (agent.arrived history) number differs) in
                       let first : cond (packet.seq == number) (1 + so_far) so_far ≡ so_far = ap (λ b. cond b (1 + so_far) so_far) (ne_eqb packet.seq number differs) in
                       first ∙ before ∙ sym rest
                 ] in
@@ -134,7 +134,7 @@ acknowledged_is_taken_once w endpoints g steps arrives number counted shown =
     let boot = until epoch history in
     let j = ends_agree w endpoints g steps arrives in
     let taken = j.down.shown number counted shown in (
-      taken-once w boot number ∙ ap (λ v. cond (is_taken (reorder_of v) (agent.arrived boot) number) 1 0) (sym j.version) ∙ ap (λ b. cond b 1 0) taken,
+      taken-once w boot number ∙ ap (λ v. cond (is_number_taken (reorder_of v) (agent.arrived boot) number) 1 0) (sym j.version) ∙ ap (λ b. cond b 1 0) taken,
       λ t among same.
           let of_epoch = taken-epoch boot t among ∙ until-epoch epoch history t among in
           let made = ever_taken-made endpoints g steps t arrives (ever-until epoch history t (taken-ever boot t among)) in
@@ -167,14 +167,14 @@ among-sort_by : (slots : List Slot) (s : Slot) → Among s (sort_by (λ y. y.slo
 among-sort_by [] s among = among
 among-sort_by (x ∷ slots) s among = elim (among-insert_by x (sort_by (λ y. y.slot) slots) s among) [ inl here ↦ inl here | inr there ↦ inr (among-sort_by slots s there) ]
 
-among-due : (b : ℕ) (test : TakenDown → Bool) (ts : List TakenDown) (s : Slot) → Among s (flat_map (λ (t : TakenDown). slots_of b t.packet.content) (filter test ts)) →
-    (t : TakenDown) × Among t ts × Among s (slots_of b t.packet.content)
+among-due : (b : ℕ) (test : TakenDown → Bool) (ts : List TakenDown) (s : Slot) → Among s (flat_map (λ (t : TakenDown). slots_of_telling b t.packet.content) (filter test ts)) →
+    (t : TakenDown) × Among t ts × Among s (slots_of_telling b t.packet.content)
 among-due b test [] s among = absurd among
 among-due b test (t ∷ ts) s among =
     elim (cases_Bool (test t)) [
       | inr fails ↦ let it = among-due b test ts s (rw fails at among) in (it.0, inr it.1, it.2)
       | inl holds ↦
-          elim (among-append s (slots_of b t.packet.content) (flat_map (λ (x : TakenDown). slots_of b x.packet.content) (filter test ts)) (rw holds at among)) [
+          elim (among-append s (slots_of_telling b t.packet.content) (flat_map (λ (x : TakenDown). slots_of_telling b x.packet.content) (filter test ts)) (rw holds at among)) [
             | inl here ↦ (t, inl refl, here)
             | inr there ↦ let it = among-due b test ts s there in (it.0, inr it.1, it.2)
           ]

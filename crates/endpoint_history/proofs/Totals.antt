@@ -143,7 +143,7 @@ totals_agree w endpoints g (OfLane (Records round) ∷ steps) arrives = lane-rec
 
 -- ---- slots in time are asked for
 
-total-is : (g : ℕ) (history : AgentHistory) (dst : ℕ) → agent.total g history dst ≡ agent.asked history dst + agent.missed g history dst
+pub total-is : (g : ℕ) (history : AgentHistory) (dst : ℕ) → agent.total g history dst ≡ agent.asked history dst + agent.missed g history dst
 unfolding agent.total
 total-is g history dst = refl
 

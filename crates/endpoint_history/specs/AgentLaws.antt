@@ -8,7 +8,7 @@ use Rattle.ack_window.specs.Versions.{reorder_of, span_of}
 use Rattle.fcp_framing.specs.declared.packet.Demand.{Demand}
 use Rattle.endpoint_history.specs.Packets.{DownPacket, slots_to}
 use Rattle.endpoint_history.specs.Agent.{AgentHistory, TakesDown, TakenDown, version_of, takes, ever_taken, is_in_time, in_time, missed, slots_taken, asked, total, numbers, was_carried}
-use Rattle.endpoint_history.specs.Sending.{Slot, slots_of, sends, ever_sent}
+use Rattle.endpoint_history.specs.Sending.{Slot, slots_of_telling, sends, ever_sent}
 use Rattle.endpoint_history.specs.Confirmed.{carried, carried_by}
 use Rattle.endpoint_history.specs.Tellings.{Among}
 
@@ -32,7 +32,7 @@ SendsAreAsked = (b g : ℕ) (history : AgentHistory) (dst : ℕ) → sends b g h
 abbrev pub SentWasTaken : Type 0
 SentWasTaken =
     (b g : ℕ) (history : AgentHistory) (s : Slot) → Among s (ever_sent b g history) →
-    (t : TakenDown) × Among t (ever_taken history) × Among s (slots_of b t.packet.content)
+    (t : TakenDown) × Among t (ever_taken history) × Among s (slots_of_telling b t.packet.content)
 
 -- a request names destinations that rise, each with a total that is not 0 and at most the present one
 pub record NamesTotals (endpoints g : ℕ) (history : AgentHistory) (demands : List Demand) : Type 0 where

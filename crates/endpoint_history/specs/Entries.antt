@@ -43,14 +43,14 @@ had g (Records round ∷ earlier) dst = nat_lt 0 (added g earlier dst) || had g 
 had g (_ ∷ earlier) dst = had g earlier dst
 
 -- the flow's entry in the batch that is recorded next; it clears where a reset was taken and some batch has the flow
-abbrev pub entry_of : ℕ → ℕ → LaneHistory → ℕ → Option Entry
-entry_of endpoint g history dst = entry_with endpoint dst (had g history dst) (is_reset history && had g history dst) (added g history dst)
+abbrev pub next_entry : ℕ → ℕ → LaneHistory → ℕ → Option Entry
+next_entry endpoint g history dst = entry_with endpoint dst (had g history dst) (is_reset history && had g history dst) (added g history dst)
 
 -- its entry in each batch recorded, the first batch first
-abbrev pub entries_of : ℕ → ℕ → LaneHistory → ℕ → List (Option Entry)
-entries_of endpoint g [] dst = []
-entries_of endpoint g (Records round ∷ earlier) dst = entries_of endpoint g earlier dst ++ entry_of endpoint g earlier dst ∷ []
-entries_of endpoint g (_ ∷ earlier) dst = entries_of endpoint g earlier dst
+abbrev pub entries_of_batches : ℕ → ℕ → LaneHistory → ℕ → List (Option Entry)
+entries_of_batches endpoint g [] dst = []
+entries_of_batches endpoint g (Records round ∷ earlier) dst = entries_of_batches endpoint g earlier dst ++ next_entry endpoint g earlier dst ∷ []
+entries_of_batches endpoint g (_ ∷ earlier) dst = entries_of_batches endpoint g earlier dst
 
 -- what the batches since the last reset add, with that of its round
 abbrev pub adds : ℕ → LaneHistory → ℕ → ℕ

@@ -63,11 +63,11 @@ then zero round earlier = earlier
 then (suc n) round earlier = round ∷ then n round earlier
 
 -- an entry that opens the flow, one that adds to it, and a slot
-abbrev pub opening : ℕ → Entry
-opening add = record { flow = record { src = 0; dst = 1 }; opens = true; clear = false; add = add }
+abbrev pub entry_opening : ℕ → Entry
+entry_opening add = record { flow = record { src = 0; dst = 1 }; opens = true; clear = false; add = add }
 
-abbrev pub adding : ℕ → Entry
-adding add = record { flow = record { src = 0; dst = 1 }; opens = false; clear = false; add = add }
+abbrev pub entry_adding : ℕ → Entry
+entry_adding add = record { flow = record { src = 0; dst = 1 }; opens = false; clear = false; add = add }
 
 abbrev clearing : Entry
 clearing = record { flow = record { src = 0; dst = 1 }; opens = false; clear = true; add = 0 }
@@ -76,16 +76,16 @@ abbrev pub slot : ℕ → Slot
 slot number = record { slot = number; dst = 1 }
 
 -- one slot is asked for; the allocation of round 3 tells it, and this is that round
-abbrev one_slot : Round → List Round
-one_slot third = third ∷ then 2 quiet (asking 1 ∷ [])
+abbrev one_slot_told : Round → List Round
+one_slot_told third = third ∷ then 2 quiet (asking 1 ∷ [])
 
 -- the allocation is lost; what is found lost is told again in round 10
 abbrev lost_allocation : List Round
-lost_allocation = then 3 quiet (telling ∷ then 6 quiet (one_slot (record telling { down = Some Lose })))
+lost_allocation = then 3 quiet (telling ∷ then 6 quiet (one_slot_told (record telling { down = Some Lose })))
 
 -- it comes so many rounds late
 abbrev late_allocation : ℕ → List Round
-late_allocation rounds = one_slot (record telling { down = Some (Hold rounds) })
+late_allocation rounds = one_slot_told (record telling { down = Some (Hold rounds) })
 
 -- the first request and the allocation both come twice
 abbrev repeated_packets : List Round
@@ -94,7 +94,7 @@ repeated_packets = then 3 quiet (record telling { down = Some Twice } ∷ quiet 
 -- every packet of the rounds 3 to 72 is lost, so both ends have no new number left; the slot is told again in round 75
 abbrev pub closed_span : List Round
 closed_span =
-    then 14 quiet (telling ∷ then 2 quiet (then 69 (record quiet { up = Some Lose; down = Some Lose }) (one_slot (record telling { up = Some Lose; down = Some Lose }))))
+    then 14 quiet (telling ∷ then 2 quiet (then 69 (record quiet { up = Some Lose; down = Some Lose }) (one_slot_told (record telling { up = Some Lose; down = Some Lose }))))
 
 -- the endpoint boots in round 4 with slots on the way; a request of its first boot is held until round 6
 abbrev boot_with_strays : List Round
@@ -110,17 +110,17 @@ second_version =
 -- ---- what they show
 
 pub record WorkedRounds : Type 0 where
-  pub one : Show (then 3 quiet (one_slot telling)) ((1, opening 1) ∷ []) ((5, slot 2) ∷ []) (record { demanded = 1; acknowledged = 1; lost = 0; sent = 1; missed = 0 })
-  pub lost : Show lost_allocation ((1, opening 1) ∷ (8, adding 1) ∷ []) ((12, slot 9) ∷ []) (record { demanded = 1; acknowledged = 1; lost = 1; sent = 1; missed = 0 })
+  pub one : Show (then 3 quiet (one_slot_told telling)) ((1, entry_opening 1) ∷ []) ((5, slot 2) ∷ []) (record { demanded = 1; acknowledged = 1; lost = 0; sent = 1; missed = 0 })
+  pub lost : Show lost_allocation ((1, entry_opening 1) ∷ (8, entry_adding 1) ∷ []) ((12, slot 9) ∷ []) (record { demanded = 1; acknowledged = 1; lost = 1; sent = 1; missed = 0 })
   -- two rounds late is in time
-  pub in_time : Show (then 3 quiet (late_allocation 2)) ((1, opening 1) ∷ []) ((5, slot 2) ∷ []) (record { demanded = 1; acknowledged = 1; lost = 0; sent = 1; missed = 0 })
+  pub in_time : Show (then 3 quiet (late_allocation 2)) ((1, entry_opening 1) ∷ []) ((5, slot 2) ∷ []) (record { demanded = 1; acknowledged = 1; lost = 0; sent = 1; missed = 0 })
   -- three rounds late is not: the total becomes 2
-  pub missed : Show (then 3 quiet (telling ∷ then 4 quiet (late_allocation 3))) ((1, opening 1) ∷ (6, adding 1) ∷ []) ((10, slot 7) ∷ []) (record { demanded = 2; acknowledged = 2; lost = 0; sent = 1; missed = 1 })
-  pub repeated : Show repeated_packets ((1, opening 1) ∷ []) ((5, slot 2) ∷ []) (record { demanded = 1; acknowledged = 1; lost = 0; sent = 1; missed = 0 })
+  pub missed : Show (then 3 quiet (telling ∷ then 4 quiet (late_allocation 3))) ((1, entry_opening 1) ∷ (6, entry_adding 1) ∷ []) ((10, slot 7) ∷ []) (record { demanded = 2; acknowledged = 2; lost = 0; sent = 1; missed = 1 })
+  pub repeated : Show repeated_packets ((1, entry_opening 1) ∷ []) ((5, slot 2) ∷ []) (record { demanded = 1; acknowledged = 1; lost = 0; sent = 1; missed = 0 })
   -- six rounds late it is old, as if it had been lost
-  pub old : Show (then 3 quiet (telling ∷ then 6 quiet (late_allocation 6))) ((1, opening 1) ∷ (8, adding 1) ∷ []) ((12, slot 9) ∷ []) (record { demanded = 1; acknowledged = 1; lost = 1; sent = 1; missed = 0 })
+  pub old : Show (then 3 quiet (telling ∷ then 6 quiet (late_allocation 6))) ((1, entry_opening 1) ∷ (8, entry_adding 1) ∷ []) ((12, slot 9) ∷ []) (record { demanded = 1; acknowledged = 1; lost = 1; sent = 1; missed = 0 })
   -- what is lost while no new number may be sent
-  pub closed : Show closed_span ((1, opening 1) ∷ (73, adding 1) ∷ []) ((77, slot 74) ∷ []) (record { demanded = 1; acknowledged = 1; lost = 1; sent = 1; missed = 0 })
+  pub closed : Show closed_span ((1, entry_opening 1) ∷ (73, entry_adding 1) ∷ []) ((77, slot 74) ∷ []) (record { demanded = 1; acknowledged = 1; lost = 1; sent = 1; missed = 0 })
   -- the need that is left of the first boot is cleared
-  pub strays : Show boot_with_strays ((1, opening 5) ∷ (4, clearing) ∷ (5, adding 1) ∷ []) ((9, slot 6) ∷ []) (record { demanded = 1; acknowledged = 1; lost = 0; sent = 1; missed = 0 })
-  pub second : Show second_version ((1, opening 1) ∷ (20, adding 1) ∷ []) ((24, slot 21) ∷ []) (record { demanded = 1; acknowledged = 1; lost = 1; sent = 1; missed = 0 })
+  pub strays : Show boot_with_strays ((1, entry_opening 5) ∷ (4, clearing) ∷ (5, entry_adding 1) ∷ []) ((9, slot 6) ∷ []) (record { demanded = 1; acknowledged = 1; lost = 0; sent = 1; missed = 0 })
+  pub second : Show second_version ((1, entry_opening 1) ∷ (20, entry_adding 1) ∷ []) ((24, slot 21) ∷ []) (record { demanded = 1; acknowledged = 1; lost = 1; sent = 1; missed = 0 })

@@ -7,7 +7,7 @@ use Rattle.ack_window.specs.Versions.{reorder_of, span_of}
 use Rattle.fcp_framing.specs.declared.packet.Demand.{Demand}
 use Rattle.endpoint_history.specs.Packets.{Telling, DownPacket, Requests}
 use Rattle.endpoint_history.specs.Agent.{AgentHistory, TakenDown, taken, ever_taken, until}
-use Rattle.endpoint_history.specs.Sending.{Slot, slots_of, ever_sent}
+use Rattle.endpoint_history.specs.Sending.{Slot, slots_of_telling, ever_sent}
 use Rattle.endpoint_history.specs.Lane.{LaneHistory, epoch_of, version_of, numbers}
 use Rattle.endpoint_history.specs.Steps.{Step, agent_of, lane_of, WasMadeUp, WasMadeDown, ArrivesFromOther, RoundsRise}
 use Rattle.endpoint_history.specs.Tellings.{Among, IsLost, ToldWithin}
@@ -57,8 +57,8 @@ AcknowledgedSlotsAreTakenOnce =
     WasTakenOnce (agent_of earlier) (agent_of (later ++ earlier)) (epoch_of (lane_of earlier)) number telling
 
 -- slots that are lost at some moment stand in no packet that is ever taken, before or after, in no boot
-abbrev pub LostIsNeverTaken : Type 0
-LostIsNeverTaken =
+abbrev pub LostNumbersAreNeverTaken : Type 0
+LostNumbersAreNeverTaken =
     (endpoints g : ℕ) (later earlier : List Step) → ArrivesFromOther endpoints g (later ++ earlier) → RoundsRise (lane_of (later ++ earlier)) →
     (lost : Telling) → IsLost g (lane_of earlier) lost → lost.told ≢ [] →
     (t : TakenDown) → Among t (ever_taken (agent_of (later ++ earlier))) → t.packet.content.told ≢ [] →
@@ -69,5 +69,5 @@ abbrev pub LostIsNeverSent : Type 0
 LostIsNeverSent =
     (endpoints b g : ℕ) (later earlier : List Step) → ArrivesFromOther endpoints g (later ++ earlier) → RoundsRise (lane_of (later ++ earlier)) →
     ToldWithin b (lane_of (later ++ earlier)) →
-    (lost : Telling) → IsLost g (lane_of earlier) lost → (one other : Slot) → Among one (slots_of b lost) → Among other (ever_sent b g (agent_of (later ++ earlier))) →
+    (lost : Telling) → IsLost g (lane_of earlier) lost → (one other : Slot) → Among one (slots_of_telling b lost) → Among other (ever_sent b g (agent_of (later ++ earlier))) →
     one.slot ≢ other.slot

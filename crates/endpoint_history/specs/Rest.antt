@@ -38,18 +38,18 @@ adds_from zero (entry ∷ entries) = add_of entry + adds_from zero entries
 adds_from (suc batch) (entry ∷ entries) = adds_from batch entries
 
 -- none of the entries clears
-abbrev pub NoneClears : List (Option Entry) → Type 0
-NoneClears [] = Unit {0}
-NoneClears (entry ∷ entries) = (clears entry ≡ false) × NoneClears entries
+abbrev pub NoEntryClears : List (Option Entry) → Type 0
+NoEntryClears [] = Unit {0}
+NoEntryClears (entry ∷ entries) = (clears entry ≡ false) × NoEntryClears entries
 
 -- the last batch that clears is this one
-abbrev pub ClearsAt : ℕ → List (Option Entry) → Type 0
-ClearsAt batch [] = ⊥
-ClearsAt zero (entry ∷ entries) = (clears entry ≡ true) × NoneClears entries
-ClearsAt (suc batch) (entry ∷ entries) = ClearsAt batch entries
+abbrev pub EntryClearsAt : ℕ → List (Option Entry) → Type 0
+EntryClearsAt batch [] = ⊥
+EntryClearsAt zero (entry ∷ entries) = (clears entry ≡ true) × NoEntryClears entries
+EntryClearsAt (suc batch) (entry ∷ entries) = EntryClearsAt batch entries
 
 -- none clears, and the first that has the flow is not before this one
-abbrev pub OpensFrom : ℕ → List (Option Entry) → Type 0
-OpensFrom batch [] = ⊥
-OpensFrom zero (entry ∷ entries) = (clears entry ≡ false) × NoneClears entries
-OpensFrom (suc batch) (entry ∷ entries) = (entry ≡ None) × OpensFrom batch entries
+abbrev pub EntryOpensFrom : ℕ → List (Option Entry) → Type 0
+EntryOpensFrom batch [] = ⊥
+EntryOpensFrom zero (entry ∷ entries) = (clears entry ≡ false) × NoEntryClears entries
+EntryOpensFrom (suc batch) (entry ∷ entries) = (entry ≡ None) × EntryOpensFrom batch entries

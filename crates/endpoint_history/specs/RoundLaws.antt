@@ -21,7 +21,7 @@ RoundsGoOn =
     (endpoints g : ℕ) (later earlier : List Round) → GoesOn (played endpoints g earlier).steps (played endpoints g (later ++ earlier)).steps
 
 -- in any case the agent hears what the lane made, and each round's calls are made once
-pub record AreInOrder (g : ℕ) (count : ℕ) (steps : List Step) : Type 0 where
+pub record StepsAreInOrder (g : ℕ) (count : ℕ) (steps : List Step) : Type 0 where
   pub from_lane : ArrivesFromLane g steps
   pub rise : RoundsRise (lane_of steps)
   pub takes : TakesInRound (lane_of steps)
@@ -32,4 +32,4 @@ pub record AreInOrder (g : ℕ) (count : ℕ) (steps : List Step) : Type 0 where
   pub made : ups_made (agent_of steps) ≡ count
 
 abbrev pub RoundsAreInOrder : Type 0
-RoundsAreInOrder = (endpoints g : ℕ) (rounds : List Round) → AreInOrder g (length rounds) (played endpoints g rounds).steps
+RoundsAreInOrder = (endpoints g : ℕ) (rounds : List Round) → StepsAreInOrder g (length rounds) (played endpoints g rounds).steps

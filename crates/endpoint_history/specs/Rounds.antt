@@ -9,7 +9,7 @@ use Rattle.endpoint_history.specs.Packets.{DownPacket, UpPacket}
 use Rattle.endpoint_history.specs.Agent.{Boots, Asks, TakesDown, MakesUp, SendsDue, packet_up}
 use Rattle.endpoint_history.specs.Sending.{Slot, sent_in}
 use Rattle.endpoint_history.specs.Lane.{MakesDown, TakesUp, Records, packet_down}
-use Rattle.endpoint_history.specs.Entries.{entry_of}
+use Rattle.endpoint_history.specs.Entries.{next_entry}
 use Rattle.endpoint_history.specs.Steps.{Step, OfAgent, OfLane, agent_of, lane_of}
 
 -- what comes to an endpoint from outside in one round: its boots, each with its version, then its asks, as destinations with slots;
@@ -33,7 +33,7 @@ abbrev pub arriving : {T : Type 0} → List (Posted T) → ℕ → List T
 arriving posted round = map (λ p. p.packet) (filter (λ p. arrives_in p.fate p.round round) posted)
 
 -- the calls of both ends, the latest first, and all packets posted each way, in the order of sending
-pub record Played : Type 0 where
+pub record PlayedEnds : Type 0 where
   pub steps : List Step
   pub down : List (Posted DownPacket)
   pub up : List (Posted UpPacket)
@@ -44,7 +44,7 @@ then_each step [] steps = steps
 then_each step (x ∷ xs) steps = then_each step xs (step x ∷ steps)
 
 -- the round with this number, after what was played before
-module _ (endpoints g number : ℕ) (round : Round) (before : Played) where
+module _ (endpoints g number : ℕ) (round : Round) (before : PlayedEnds) where
   -- boots, then asks
   abbrev pub begun : List Step
   begun = then_each (λ a. OfAgent (Asks a.0 a.1)) round.asks (then_each (λ version. OfAgent (Boots version)) round.boots before.steps)
@@ -70,11 +70,11 @@ module _ (endpoints g number : ℕ) (round : Round) (before : Played) where
   recorded = OfLane (Records number) ∷ read
 
   -- the slots that are due are sent in
-  abbrev pub after_round : Played
+  abbrev pub after_round : PlayedEnds
   after_round = record { steps = OfAgent (SendsDue number) ∷ recorded; down = posted_down; up = posted_up }
 
 -- all rounds up to now, the latest first; they are numbered from 0
-abbrev pub played : ℕ → ℕ → List Round → Played
+abbrev pub played : ℕ → ℕ → List Round → PlayedEnds
 played endpoints g [] = record { steps = []; down = []; up = [] }
 played endpoints g (round ∷ earlier) = after_round endpoints g (length earlier) round (played endpoints g earlier)
 
@@ -82,7 +82,7 @@ played endpoints g (round ∷ earlier) = after_round endpoints g (length earlier
 abbrev pub entries_by : ℕ → ℕ → ℕ → List Round → List Entry
 entries_by endpoint endpoints g [] = []
 entries_by endpoint endpoints g (round ∷ earlier) =
-    filter_map (λ dst. entry_of endpoint g (lane_of (read endpoints g (length earlier) round (played endpoints g earlier))) dst) (range_with_len 0 endpoints)
+    filter_map (λ dst. next_entry endpoint g (lane_of (read endpoints g (length earlier) round (played endpoints g earlier))) dst) (range_with_len 0 endpoints)
 
 abbrev pub sent_by : ℕ → ℕ → ℕ → List Round → List Slot
 sent_by endpoints b g [] = []

@@ -11,14 +11,14 @@ pub record Slot : Type 0 where
   pub slot : ℕ
   pub dst : ℕ
 
-abbrev pub slots_of : ℕ → Telling → List Slot
-slots_of b telling = map (λ (t : Told). record { slot = telling.batch * b + 1 + t.offset; dst = t.dst }) telling.told
+abbrev pub slots_of_telling : ℕ → Telling → List Slot
+slots_of_telling b telling = map (λ (t : Told). record { slot = telling.batch * b + 1 + t.offset; dst = t.dst }) telling.told
 
 -- the slots in time that are used at the end of this round, rising
 abbrev pub due : ℕ → ℕ → AgentHistory → ℕ → List Slot
 due b g history round =
     sort_by (λ s. s.slot)
-    (flat_map (λ t. slots_of b t.packet.content)
+    (flat_map (λ t. slots_of_telling b t.packet.content)
     (filter (λ t. is_in_time g t && round == t.packet.content.batch + 2 * g + 2) (taken history)))
 
 -- each is sent in where something is left of what may be sent to its destination

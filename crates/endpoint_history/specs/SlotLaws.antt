@@ -1,6 +1,6 @@
 -- What holds of the slots of a flow at both ends: those asked for, told, taken in, lost and sent in. From this project's own profile.
 use Rattle.std.specs.Prelude.{◌≡◌, ℕ, ◌+◌, ◌≤◌, List}
-use Rattle.ack_window.specs.Arrivals.{is_taken}
+use Rattle.ack_window.specs.Arrivals.{is_number_taken}
 use Rattle.ack_window.specs.Versions.{reorder_of}
 use Rattle.endpoint_history.specs.Agent.{AgentHistory, until, in_time, asked, slots_taken, total}
 use Rattle.endpoint_history.specs.Agent as agent
@@ -11,11 +11,11 @@ use Rattle.endpoint_history.specs.Counts.{slots_in, recorded, lost, told, owed}
 use Rattle.endpoint_history.specs.Steps.{Step, agent_of, lane_of, ArrivesFromOther}
 
 -- what the agent took in stands in the numbers that it took, each number's slots once
-abbrev pub EachIsTakenOnce : ℕ → AgentHistory → LaneHistory → Type 0
-EachIsTakenOnce g history lane_history =
+abbrev pub EachSlotIsTakenOnce : ℕ → AgentHistory → LaneHistory → Type 0
+EachSlotIsTakenOnce g history lane_history =
     (dst : ℕ) →
     slots_taken (until (lane.epoch_of lane_history) history) dst
-    ≡ slots_in (is_taken (reorder_of (lane.version_of lane_history)) (agent.arrived (until (lane.epoch_of lane_history) history))) (lane.numbers g lane_history) dst
+    ≡ slots_in (is_number_taken (reorder_of (lane.version_of lane_history)) (agent.arrived (until (lane.epoch_of lane_history) history))) (lane.numbers g lane_history) dst
 
 -- what is taken in and what is lost were told
 abbrev pub TakenAndLostAreTold : ℕ → AgentHistory → LaneHistory → Type 0
@@ -25,7 +25,7 @@ TakenAndLostAreTold g history lane_history =
 abbrev pub SlotsAgree : Type 0
 SlotsAgree =
     (endpoints g : ℕ) (steps : List Step) → ArrivesFromOther endpoints g steps →
-    EachIsTakenOnce g (agent_of steps) (lane_of steps) × TakenAndLostAreTold g (agent_of steps) (lane_of steps)
+    EachSlotIsTakenOnce g (agent_of steps) (lane_of steps) × TakenAndLostAreTold g (agent_of steps) (lane_of steps)
 
 -- what is recorded was asked for or missed, in the boot that has the lane's epoch
 abbrev pub RecordedIsTotal : ℕ → AgentHistory → LaneHistory → Type 0

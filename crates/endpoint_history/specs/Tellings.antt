@@ -4,7 +4,7 @@ use Rattle.ack_window.specs.declared.acknowledgement.Decision.TheVariants.{Lost}
 use Rattle.ack_window.specs.Ends.{content_of}
 use Rattle.ack_window.specs.Sends.{newest_of, decision_of}
 use Rattle.ack_window.specs.Versions.{reorder_of, span_of}
-use Rattle.fcp_framing.specs.declared.packet.Told.{Told}
+pub use Rattle.fcp_framing.specs.declared.packet.Told.{Told}
 use Rattle.endpoint_history.specs.Packets.{Telling}
 use Rattle.endpoint_history.specs.Lane.{LaneHistory, MakesDown, epoch_of, version_of, numbers, untold, may_send, telling_in}
 
@@ -39,13 +39,13 @@ IsLost g history telling =
 -- ---- places in the batch, and destinations
 
 -- the slots lie in a batch of b
-abbrev pub AreWithin : ℕ → List Told → Type 0
-AreWithin b [] = Unit {0}
-AreWithin b (t ∷ told) = (t.offset < b) × AreWithin b told
+abbrev pub SlotsAreWithin : ℕ → List Told → Type 0
+SlotsAreWithin b [] = Unit {0}
+SlotsAreWithin b (t ∷ told) = (t.offset < b) × SlotsAreWithin b told
 
 abbrev pub ToldWithin : ℕ → LaneHistory → Type 0
 ToldWithin b [] = Unit {0}
-ToldWithin b (MakesDown round told ∷ earlier) = AreWithin b told × ToldWithin b earlier
+ToldWithin b (MakesDown round told ∷ earlier) = SlotsAreWithin b told × ToldWithin b earlier
 ToldWithin b (_ ∷ earlier) = ToldWithin b earlier
 
 -- the slots are to endpoints below this number

@@ -10,7 +10,7 @@ use Rattle.endpoint_history.specs.Agent.{asked}
 use Rattle.endpoint_history.specs.Lane.{epoch_of, version_of, numbers}
 use Rattle.endpoint_history.specs.NumberLaws.{WasTakenOnce}
 use Rattle.endpoint_history.specs.Rounds.{Round, recorded, played, sent_by, NamedByNoRaw}
-use Rattle.endpoint_history.specs.Sending.{Slot, slots_of, sends, due, ever_sent, in_time_from}
+use Rattle.endpoint_history.specs.Sending.{Slot, slots_of_telling, sends, due, ever_sent, in_time_from}
 use Rattle.endpoint_history.specs.SlotLaws.{ToldIsOwed}
 use Rattle.endpoint_history.specs.Steps.{Step, agent_of, lane_of}
 use Rattle.endpoint_history.specs.Tellings.{Among, IsLost, ToldWithin}
@@ -22,7 +22,7 @@ AtEachMoment steps holds = (later earlier : List Step) → steps ≡ later ++ ea
 -- a slot in a number that is found lost by that moment, or untold, is sent in in none of the steps, before or after, in no boot
 abbrev pub LostSlotsAreNotSent : ℕ → ℕ → List Step → List Step → Type 0
 LostSlotsAreNotSent b g steps earlier =
-    (lost : Telling) → IsLost g (lane_of earlier) lost → (one other : Slot) → Among one (slots_of b lost) → Among other (ever_sent b g (agent_of steps)) → one.slot ≢ other.slot
+    (lost : Telling) → IsLost g (lane_of earlier) lost → (one other : Slot) → Among one (slots_of_telling b lost) → Among other (ever_sent b g (agent_of steps)) → one.slot ≢ other.slot
 
 -- slots in a number that is acknowledged by that moment were taken in once, in the boot with that epoch, and by no other number
 abbrev pub AcknowledgedSlotsWereTaken : ℕ → List Step → List Step → Type 0

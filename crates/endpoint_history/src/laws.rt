@@ -5,7 +5,7 @@ ghost use Rattle.endpoint_history.specs.CountLaws.{MakingTells, ReadingDecides, 
 ghost use Rattle.endpoint_history.specs.Examples.{WorkedRounds};
 ghost use Rattle.endpoint_history.specs.ForgedLaws.{EachTellingWasIssued, ComesAfterTwoWindows, OneNumberForABatch, SentOnce};
 ghost use Rattle.endpoint_history.specs.LedgerLaws.{LedgerIsWithin, AddsSumToOwed, EntriesSumToOwed, CountsBeginAtTheLastClear, OneRest};
-ghost use Rattle.endpoint_history.specs.NumberLaws.{EndsAgree, OneContentANumber, AcknowledgedIsTakenOnce, AcknowledgedSlotsAreTakenOnce, LostIsNeverTaken, LostIsNeverSent};
+ghost use Rattle.endpoint_history.specs.NumberLaws.{EndsAgree, OneContentANumber, AcknowledgedIsTakenOnce, AcknowledgedSlotsAreTakenOnce, LostNumbersAreNeverTaken, LostIsNeverSent};
 ghost use Rattle.endpoint_history.specs.Packets.{AreFramedAlike};
 ghost use Rattle.endpoint_history.specs.Reading.{SpelledAlike, RoundsAreReadInOrder};
 ghost use Rattle.endpoint_history.specs.RoundLaws.{RoundsArriveFromOther, RoundsAreInOrder, RoundsGoOn};
@@ -27,7 +27,7 @@ pub fn both_ends_agree()
     ensures contents { OneContentANumber }
     ensures acknowledged { AcknowledgedIsTakenOnce }
     ensures taken_once { AcknowledgedSlotsAreTakenOnce }
-    ensures never_taken { LostIsNeverTaken }
+    ensures never_taken { LostNumbersAreNeverTaken }
     ensures never_sent { LostIsNeverSent }
 {
     windows_hold();

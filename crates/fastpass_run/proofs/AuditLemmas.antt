@@ -6,7 +6,7 @@ use Rattle.std.proofs.lemmas.Bool.{false≢true}
 use Rattle.clos_topology.specs.Network.{Network}
 use Rattle.report_text.specs.declared.line.Line.{Line}
 use Rattle.text_output.specs.Transfer.{AppendsFront}
-use Rattle.schedule_audit.specs.Reading.{AreLines}
+use Rattle.schedule_audit.specs.Reading.{ReadsLines}
 use Rattle.schedule_audit.specs.ReadLaws.{EachTextHasOneReading}
 use Rattle.schedule_audit.specs.BadLines.{first_bad_line}
 use Rattle.schedule_audit.specs.Audited.{IsVerdict, ShowsACleanSchedule}
@@ -14,9 +14,9 @@ use Rattle.fastpass_run.specs.Audits.{Audits, count_text, HasBadLine, GivesText,
 use Rattle.fastpass_run.specs.Outside.{Outside, Growth}
 use Rattle.fastpass_run.specs.Rows.{Rows, AsksToRead, IsReadAs}
 use Rattle.fastpass_run.specs.Run.{Ending, EndsBy, Performs, AsksToMake, status_of}
-use Rattle.fastpass_run.specs.Statuses.{IsAmong}
+use Rattle.fastpass_run.specs.Statuses.{IsStatusAmong}
 use Rattle.fastpass_run.specs.Transfer.{input_limit}
-use Rattle.fastpass_run.specs.Words.{Asked, AskedOfTrace, asked_of}
+use Rattle.fastpass_run.specs.Words.{Asked, AskedOfTrace, asked_by_words}
 use Rattle.fastpass_run.specs.Words.Asked.{writes, plans_by_need, audits, takes_over}
 use Rattle.fastpass_run.specs.declared.outcome.Failure.TheVariants as failure
 use Rattle.fastpass_run.proofs.RunLemmas.{same_asked, refused_or_asked, reads_none, whole, too_many}
@@ -29,20 +29,20 @@ is_audit (plans_by_need sizes) = false
 is_audit (audits net b) = true
 is_audit takes_over = false
 
-audits_alone : (words : List (List ℕ)) (asked : Asked) (net : Network) (b : ℕ) → is_audit asked ≡ false → asked_of words ≡ Some asked → asked_of words ≡ Some (audits net b) → ⊥
+audits_alone : (words : List (List ℕ)) (asked : Asked) (net : Network) (b : ℕ) → is_audit asked ≡ false → asked_by_words words ≡ Some asked → asked_by_words words ≡ Some (audits net b) → ⊥
 audits_alone words asked net b other is so = false≢true (sym other ∙ ap is_audit (same_asked words asked (audits net b) is so))
 
-writes_or_audits : (words : List (List ℕ)) (asked : AskedOfTrace) (net : Network) (b : ℕ) → asked_of words ≡ Some (writes asked) → asked_of words ≡ Some (audits net b) → ⊥
+writes_or_audits : (words : List (List ℕ)) (asked : AskedOfTrace) (net : Network) (b : ℕ) → asked_by_words words ≡ Some (writes asked) → asked_by_words words ≡ Some (audits net b) → ⊥
 writes_or_audits words asked net b is so = audits_alone words (writes asked) net b refl is so
 
-reads_or_audits : (words : List (List ℕ)) (rows : Rows) (net : Network) (b : ℕ) → AsksToRead words rows → asked_of words ≡ Some (audits net b) → ⊥
+reads_or_audits : (words : List (List ℕ)) (rows : Rows) (net : Network) (b : ℕ) → AsksToRead words rows → asked_by_words words ≡ Some (audits net b) → ⊥
 reads_or_audits words rows net b reads so = reads_none words (audits net b) rows so refl reads
 
 abbrev audit_in : Network → ℕ → Asked → Network × ℕ
 audit_in net b (audits other c) = (other, c)
 audit_in net b (_) = (net, b)
 
-same_audit : (words : List (List ℕ)) (net other : Network) (b c : ℕ) → asked_of words ≡ Some (audits net b) → asked_of words ≡ Some (audits other c) → (net ≡ other) × (b ≡ c)
+same_audit : (words : List (List ℕ)) (net other : Network) (b c : ℕ) → asked_by_words words ≡ Some (audits net b) → asked_by_words words ≡ Some (audits other c) → (net ≡ other) × (b ≡ c)
 same_audit words net other b c is so =
     let same = ap (audit_in net b) (same_asked words (audits net b) (audits other c) is so) in
     (ap (λ (p : Network × ℕ). p.0) same, ap (λ (p : Network × ℕ). p.1) same)
@@ -51,14 +51,14 @@ same_audit words net other b c is so =
 record WasAudited (net : Network) (b : ℕ) (bytes : List ℕ) (bad : Option ℕ) : Type 0 where
   few : length bytes ≤ input_limit
   lines : List (Option Line)
-  read : AreLines bytes lines
+  read : ReadsLines bytes lines
   found : first_bad_line net b lines ≡ bad
 
-was_audited : (old new : Outside) (net : Network) (b : ℕ) (bytes : List ℕ) (lines : List (Option Line)) (bad : Option ℕ) → old.left ≡ Some bytes → IsReadAs (λ taken. AreLines taken lines) old new → first_bad_line net b lines ≡ bad
+was_audited : (old new : Outside) (net : Network) (b : ℕ) (bytes : List ℕ) (lines : List (Option Line)) (bad : Option ℕ) → old.left ≡ Some bytes → IsReadAs (λ taken. ReadsLines taken lines) old new → first_bad_line net b lines ≡ bad
     → WasAudited net b bytes bad
 was_audited old new net b bytes lines bad told (taken, took, ended, few, are) found =
     let all : bytes ≡ taken = whole new.left bytes taken (subst (λ (l : Option (List ℕ)). Consumes l new.left taken) told took) ended in
-    record { few = omega (arith, ap (λ (bs : List ℕ). length bs) all, few); lines = lines; read = subst (λ (bs : List ℕ). AreLines bs lines) (sym all) are; found = found }
+    record { few = omega (arith, ap (λ (bs : List ℕ). length bs) all, few); lines = lines; read = subst (λ (bs : List ℕ). ReadsLines bs lines) (sym all) are; found = found }
 
 -- the same for any words that ask for it
 good_lines : (grew : Growth) (words : List (List ℕ)) (old new : Outside) (net : Network) (b : ℕ) (bytes : List ℕ) → Performs grew words old new → GivesText words old net b bytes → WasAudited net b bytes None
@@ -82,16 +82,16 @@ bad_lines words old new line net b bytes has gives =
 -- ---- what was audited and written
 
 -- good lines, whose number was given
-pub audited : (grew : Growth) → EachTextHasOneReading → (words : List (List ℕ)) (old new : Outside) (net : Network) (b : ℕ) (bytes text given : List ℕ) (count : ℕ) → asked_of words ≡ Some (audits net b)
+pub audited : (grew : Growth) → EachTextHasOneReading → (words : List (List ℕ)) (old new : Outside) (net : Network) (b : ℕ) (bytes text given : List ℕ) (count : ℕ) → asked_by_words words ≡ Some (audits net b)
     → Consumes old.left new.left bytes → IsAtEnd new.left → length bytes ≤ input_limit → text ≡ bytes
-    → (lines : List (Option Line)) × AreLines text lines × IsVerdict net b lines (Ok count) → (lines : List (Option Line)) × AreLines text lines × ShowsACleanSchedule net b lines
+    → (lines : List (Option Line)) × ReadsLines text lines × IsVerdict net b lines (Ok count) → (lines : List (Option Line)) × ReadsLines text lines × ShowsACleanSchedule net b lines
     → given ≡ count_text count → grew old.sink.held new.sink.held given → Audits grew words old new
 audited grew once words old new net b bytes text given count accepted took ended few is (lines, are, verdict_is) (others, also, shown) counted grows = record {
   net = net;
   b = b;
   accepted = accepted;
   lines = lines;
-  read = (bytes, took, ended, few, subst (λ (bs : List ℕ). AreLines bs lines) is are);
+  read = (bytes, took, ended, few, subst (λ (bs : List ℕ). ReadsLines bs lines) is are);
   good = verdict_is.0;
   written = subst (λ (piece : List ℕ). grew old.sink.held new.sink.held piece) (counted ∙ ap count_text verdict_is.1) grows;
   shown = subst (λ (ls : List (Option Line)). ShowsACleanSchedule net b ls) (once text others lines also are) shown;
@@ -100,7 +100,7 @@ audited grew once words old new net b bytes text given count accepted took ended
 -- ---- one verdict
 
 -- bytes have one list of lines, so one first bad line, or none
-verdict : EachTextHasOneReading → (net : Network) (b : ℕ) (bytes : List ℕ) (lines : List (Option Line)) (one other : Option ℕ) → AreLines bytes lines → first_bad_line net b lines ≡ one
+verdict : EachTextHasOneReading → (net : Network) (b : ℕ) (bytes : List ℕ) (lines : List (Option Line)) (one other : Option ℕ) → ReadsLines bytes lines → first_bad_line net b lines ≡ one
     → WasAudited net b bytes other → one ≡ other
 verdict once net b bytes lines one other are found was = sym found ∙ (ap (first_bad_line net b) (once bytes lines was.lines are was.read) ∙ was.found)
 
@@ -113,8 +113,8 @@ some_or_none line same = none_or_some line (sym same)
 -- ---- which ends there may be
 
 completes : EachTextHasOneReading → (words : List (List ℕ)) (old new : Outside) (ending : Ending) → EndsBy words old new ending
-    → (net : Network) (b : ℕ) (bytes : List ℕ) (lines : List (Option Line)) → GivesText words old net b bytes → length bytes ≤ input_limit → AreLines bytes lines → first_bad_line net b lines ≡ None
-    → IsAmong (status_of ending) (0 ∷ 3 ∷ 4 ∷ 5 ∷ [])
+    → (net : Network) (b : ℕ) (bytes : List ℕ) (lines : List (Option Line)) → GivesText words old net b bytes → length bytes ≤ input_limit → ReadsLines bytes lines → first_bad_line net b lines ≡ None
+    → IsStatusAmong (status_of ending) (0 ∷ 3 ∷ 4 ∷ 5 ∷ [])
 completes once words old new (Ok done) ends net b bytes lines gives few are good = inl refl
 completes once words old new (Err failure.Words) ends net b bytes lines gives few are good = absurd (refused_or_asked words (audits net b) ends.0 gives.accepted)
 completes once words old new (Err (failure.Row row fault)) ends net b bytes lines gives few are good = absurd (reads_or_audits words ends.0.rows net b ends.0.accepted gives.accepted)
@@ -126,8 +126,8 @@ completes once words old new (Err (failure.Bad line)) ends net b bytes lines giv
     absurd (none_or_some line (verdict once net b bytes lines None (Some line) are good (bad_lines words old new line net b bytes ends.0 gives)))
 
 tells_bad : EachTextHasOneReading → (words : List (List ℕ)) (old new : Outside) (ending : Ending) → EndsBy words old new ending
-    → (net : Network) (b line : ℕ) (bytes : List ℕ) (lines : List (Option Line)) → GivesText words old net b bytes → length bytes ≤ input_limit → AreLines bytes lines → first_bad_line net b lines ≡ Some line
-    → IsAmong (status_of ending) (7 ∷ 3 ∷ 5 ∷ [])
+    → (net : Network) (b line : ℕ) (bytes : List ℕ) (lines : List (Option Line)) → GivesText words old net b bytes → length bytes ≤ input_limit → ReadsLines bytes lines → first_bad_line net b lines ≡ Some line
+    → IsStatusAmong (status_of ending) (7 ∷ 3 ∷ 5 ∷ [])
 tells_bad once words old new (Ok done) ends net b line bytes lines gives few are bad =
     absurd (some_or_none line (verdict once net b bytes lines (Some line) None are bad (good_lines Appends words old new net b bytes ends gives)))
 tells_bad once words old new (Err failure.Words) ends net b line bytes lines gives few are bad = absurd (refused_or_asked words (audits net b) ends.0 gives.accepted)
@@ -140,7 +140,7 @@ tells_bad once words old new (Err failure.Big) ends net b line bytes lines gives
 tells_bad once words old new (Err (failure.Bad other)) ends net b line bytes lines gives few are bad = inl refl
 
 tells_excess : (words : List (List ℕ)) (old new : Outside) (ending : Ending) → EndsBy words old new ending
-    → (net : Network) (b : ℕ) (bytes : List ℕ) → GivesText words old net b bytes → input_limit < length bytes → IsAmong (status_of ending) (6 ∷ 3 ∷ 5 ∷ [])
+    → (net : Network) (b : ℕ) (bytes : List ℕ) → GivesText words old net b bytes → input_limit < length bytes → IsStatusAmong (status_of ending) (6 ∷ 3 ∷ 5 ∷ [])
 tells_excess words old new (Ok done) ends net b bytes gives many = let few = (good_lines Appends words old new net b bytes ends gives).few in absurd (omega (arith, many, few))
 tells_excess words old new (Err failure.Words) ends net b bytes gives many = absurd (refused_or_asked words (audits net b) ends.0 gives.accepted)
 tells_excess words old new (Err (failure.Row row fault)) ends net b bytes gives many = absurd (reads_or_audits words ends.0.rows net b ends.0.accepted gives.accepted)
@@ -158,5 +158,5 @@ audit_ends once words old new ending ends = record {
 }
 
 -- words that ask for an audit make no trace
-pub makes_or_audits : (words : List (List ℕ)) (number : ℕ) (net : Network) (b : ℕ) → AsksToMake words number → asked_of words ≡ Some (audits net b) → ⊥
+pub makes_or_audits : (words : List (List ℕ)) (number : ℕ) (net : Network) (b : ℕ) → AsksToMake words number → asked_by_words words ≡ Some (audits net b) → ⊥
 makes_or_audits words number net b (asked, is, makes) so = writes_or_audits words asked net b is so

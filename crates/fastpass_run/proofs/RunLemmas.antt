@@ -24,7 +24,7 @@ use Rattle.fastpass_run.specs.Outside.{Outside, Growth, IsUnwritten}
 use Rattle.fastpass_run.specs.Rows.{Rows, of_trace, of_script, fault_in, first_faulty, rows_of_input, rows_of, AsksToRead, IsReadAs}
 use Rattle.fastpass_run.specs.Run.{Ending, EndsBy, Performs, HasWords, HasFaultyRow, GivesBytes, Completes, TellsFaults, TellsExcess, status_of}
 use Rattle.fastpass_run.specs.Transfer.{Takes, input_limit}
-use Rattle.fastpass_run.specs.Words.{Asked, asked_of}
+use Rattle.fastpass_run.specs.Words.{Asked, asked_by_words}
 use Rattle.fastpass_run.specs.Words.Asked.{writes, plans_by_need, audits, takes_over}
 use Rattle.fastpass_run.specs.declared.outcome.Failure.{Failure}
 use Rattle.fastpass_run.specs.declared.outcome.Failure.TheVariants as failure
@@ -77,21 +77,21 @@ noted (Err e) told failed quiet = absurd (quiet failed)
 
 -- ---- what the words ask for
 
-pub same_asked : (words : List (List ℕ)) (one other : Asked) → asked_of words ≡ Some one → asked_of words ≡ Some other → one ≡ other
+pub same_asked : (words : List (List ℕ)) (one other : Asked) → asked_by_words words ≡ Some one → asked_by_words words ≡ Some other → one ≡ other
 same_asked words one other is so = ap (λ (o : Option Asked). unwrap_or o one) (sym is ∙ so)
 
-pub refused_or_asked : (words : List (List ℕ)) (asked : Asked) → asked_of words ≡ None → asked_of words ≡ Some asked → ⊥
+pub refused_or_asked : (words : List (List ℕ)) (asked : Asked) → asked_by_words words ≡ None → asked_by_words words ≡ Some asked → ⊥
 refused_or_asked words asked refused accepted = false≢true (ap (λ (o : Option Asked). is_some o) (sym refused ∙ accepted))
 
 -- what asks for rows asks for these alone
-same_rows : (words : List (List ℕ)) (asked : Asked) (rows : Rows) → asked_of words ≡ Some asked → AsksToRead words rows → rows_of asked ≡ Some rows
+same_rows : (words : List (List ℕ)) (asked : Asked) (rows : Rows) → asked_by_words words ≡ Some asked → AsksToRead words rows → rows_of asked ≡ Some rows
 same_rows words asked rows accepted (other, is, reads) = ap rows_of (same_asked words asked other accepted is) ∙ reads
 
 -- and what asks for none reads none
-pub reads_none : (words : List (List ℕ)) (asked : Asked) (rows : Rows) → asked_of words ≡ Some asked → rows_of asked ≡ None → AsksToRead words rows → ⊥
+pub reads_none : (words : List (List ℕ)) (asked : Asked) (rows : Rows) → asked_by_words words ≡ Some asked → rows_of asked ≡ None → AsksToRead words rows → ⊥
 reads_none words asked rows accepted none reads = false≢true (ap (λ (o : Option Rows). is_some o) (sym none ∙ same_rows words asked rows accepted reads))
 
-the_rows : (words : List (List ℕ)) (asked : Asked) (one other : Rows) → asked_of words ≡ Some asked → rows_of asked ≡ Some one → AsksToRead words other → one ≡ other
+the_rows : (words : List (List ℕ)) (asked : Asked) (one other : Rows) → asked_by_words words ≡ Some asked → rows_of asked ≡ Some one → AsksToRead words other → one ≡ other
 the_rows words asked one other accepted is reads = ap (λ (o : Option Rows). unwrap_or o one) (sym is ∙ same_rows words asked other accepted reads)
 
 -- ---- what was read

@@ -3,14 +3,14 @@ use Rattle.std.specs.Prelude.{◌≡◌, ◌≤◌, ◌<◌, ℕ, List, [], ◌�
 use Rattle.std.specs.Io.KnownBytes.{Consumes, IsAtEnd}
 use Rattle.clos_topology.specs.Network.{Network}
 use Rattle.report_text.specs.declared.line.Line.{Line}
-use Rattle.schedule_audit.specs.Reading.{AreLines}
+use Rattle.schedule_audit.specs.Reading.{ReadsLines}
 use Rattle.schedule_audit.specs.BadLines.{first_bad_line}
 use Rattle.schedule_audit.specs.Audited.{ShowsACleanSchedule}
 use Rattle.fastpass_run.specs.Outside.{Outside, Growth}
 use Rattle.fastpass_run.specs.Rows.{IsReadAs}
-use Rattle.fastpass_run.specs.Statuses.{IsAmong}
+use Rattle.fastpass_run.specs.Statuses.{IsStatusAmong}
 use Rattle.fastpass_run.specs.Transfer.{input_limit}
-use Rattle.fastpass_run.specs.Words.{asked_of}
+use Rattle.fastpass_run.specs.Words.{asked_by_words}
 use Rattle.fastpass_run.specs.Words.Asked.{audits}
 
 -- how many lines a good text has
@@ -21,9 +21,9 @@ count_text lines = (codes "ok," ++ decimal lines) ++ 10 ∷ []
 pub record Audits (grew : Growth) (words : List (List ℕ)) (old new : Outside) : Type 0 where
   pub net : Network
   pub b : ℕ
-  pub accepted : asked_of words ≡ Some (audits net b)
+  pub accepted : asked_by_words words ≡ Some (audits net b)
   pub lines : List (Option Line)
-  pub read : IsReadAs (λ bytes. AreLines bytes lines) old new
+  pub read : IsReadAs (λ bytes. ReadsLines bytes lines) old new
   pub good : first_bad_line net b lines ≡ None
   pub written : grew old.sink.held new.sink.held (count_text (length lines))
   -- the `slot` lines are the schedule of the `batch` lines: each slot is a matching that no waiting demand could join, on paths that
@@ -34,23 +34,23 @@ pub record Audits (grew : Growth) (words : List (List ℕ)) (old new : Outside) 
 pub record HasBadLine (words : List (List ℕ)) (old new : Outside) (line : ℕ) : Type 0 where
   pub net : Network
   pub b : ℕ
-  pub accepted : asked_of words ≡ Some (audits net b)
+  pub accepted : asked_by_words words ≡ Some (audits net b)
   pub lines : List (Option Line)
-  pub read : IsReadAs (λ bytes. AreLines bytes lines) old new
+  pub read : IsReadAs (λ bytes. ReadsLines bytes lines) old new
   pub bad : first_bad_line net b lines ≡ Some line
 
 -- the words ask for an audit of these bytes, and nothing else is in the source
 pub record GivesText (words : List (List ℕ)) (old : Outside) (net : Network) (b : ℕ) (bytes : List ℕ) : Type 0 where
-  pub accepted : asked_of words ≡ Some (audits net b)
+  pub accepted : asked_by_words words ≡ Some (audits net b)
   pub told : old.left ≡ Some bytes
 
 -- When the audit of bytes that the source tells may end so.
 pub record AuditEnds (words : List (List ℕ)) (old : Outside) (status : ℕ) : Type 0 where
   -- a text within the limit without a bad line: it is done, or a read or a write failed, or memory is wanting
-  pub completes : (net : Network) (b : ℕ) (bytes : List ℕ) (lines : List (Option Line)) → GivesText words old net b bytes → length bytes ≤ input_limit → AreLines bytes lines
-      → first_bad_line net b lines ≡ None → IsAmong status (0 ∷ 3 ∷ 4 ∷ 5 ∷ [])
+  pub completes : (net : Network) (b : ℕ) (bytes : List ℕ) (lines : List (Option Line)) → GivesText words old net b bytes → length bytes ≤ input_limit → ReadsLines bytes lines
+      → first_bad_line net b lines ≡ None → IsStatusAmong status (0 ∷ 3 ∷ 4 ∷ 5 ∷ [])
   -- one with a bad line: so says the status, or a read failed, or memory is wanting
-  pub tells_bad : (net : Network) (b line : ℕ) (bytes : List ℕ) (lines : List (Option Line)) → GivesText words old net b bytes → length bytes ≤ input_limit → AreLines bytes lines
-      → first_bad_line net b lines ≡ Some line → IsAmong status (7 ∷ 3 ∷ 5 ∷ [])
+  pub tells_bad : (net : Network) (b line : ℕ) (bytes : List ℕ) (lines : List (Option Line)) → GivesText words old net b bytes → length bytes ≤ input_limit → ReadsLines bytes lines
+      → first_bad_line net b lines ≡ Some line → IsStatusAmong status (7 ∷ 3 ∷ 5 ∷ [])
   -- more bytes than the limit: the same
-  pub tells_excess : (net : Network) (b : ℕ) (bytes : List ℕ) → GivesText words old net b bytes → input_limit < length bytes → IsAmong status (6 ∷ 3 ∷ 5 ∷ [])
+  pub tells_excess : (net : Network) (b : ℕ) (bytes : List ℕ) → GivesText words old net b bytes → input_limit < length bytes → IsStatusAmong status (6 ∷ 3 ∷ 5 ∷ [])

@@ -7,7 +7,7 @@ use Rattle.trace_text.specs.Trace.{FaultyRow, trace_of}
 use Rattle.script_text.specs.Script.{script_of}
 use Rattle.fastpass_run.specs.Outside.{Outside}
 use Rattle.fastpass_run.specs.Transfer.{input_limit}
-use Rattle.fastpass_run.specs.Words.{Asked, asked_of}
+use Rattle.fastpass_run.specs.Words.{Asked, asked_by_words}
 use Rattle.fastpass_run.specs.Words.Asked.{writes, plans_by_need, audits, takes_over}
 use Rattle.fastpass_run.specs.declared.words.Input.{Input}
 use Rattle.fastpass_run.specs.declared.words.Input.TheVariants.{Read, Made}
@@ -39,7 +39,7 @@ rows_of takes_over = Some of_script
 
 -- the words ask for these rows to be read
 abbrev pub AsksToRead : List (List ℕ) → Rows → Type 0
-AsksToRead words rows = (asked : Asked) × (asked_of words ≡ Some asked) × (rows_of asked ≡ Some rows)
+AsksToRead words rows = (asked : Asked) × (asked_by_words words ≡ Some asked) × (rows_of asked ≡ Some rows)
 
 -- the source was read to its end, and its bytes, at most the limit, are so
 abbrev pub IsReadAs : (List ℕ → Type 0) → Outside → Outside → Type 0

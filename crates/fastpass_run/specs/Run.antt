@@ -27,9 +27,9 @@ use Rattle.fastpass_run.specs.Receives.{Receives}
 use Rattle.fastpass_run.specs.Takeovers.{TakesOver}
 use Rattle.fastpass_run.specs.Rows.{Rows, IsReadAs, AsksToRead, first_faulty}
 use Rattle.fastpass_run.specs.Outside.{Outside, Growth, IsUnread, IsUnwritten}
-use Rattle.fastpass_run.specs.Statuses.{IsAmong}
+use Rattle.fastpass_run.specs.Statuses.{IsStatusAmong}
 use Rattle.fastpass_run.specs.Transfer.{Takes, input_limit}
-use Rattle.fastpass_run.specs.Words.{Asked, AskedOfTrace, asked_of}
+use Rattle.fastpass_run.specs.Words.{Asked, AskedOfTrace, asked_by_words}
 use Rattle.fastpass_run.specs.Words.Asked.{writes}
 use Rattle.fastpass_run.specs.declared.words.Input.TheVariants.{Read, Made}
 use Rattle.fastpass_run.specs.declared.outcome.Failure.{Failure}
@@ -40,7 +40,7 @@ use Rattle.fastpass_run.specs.declared.outcome.Failure.TheVariants as failure
 -- The output grew by the plan of a trace, with cores that make each slot of the schedule clean.
 pub record Plans (grew : Growth) (words : List (List ℕ)) (old new : Outside) : Type 0 where
   pub asked : AskedOfTrace
-  pub accepted : asked_of words ≡ Some (writes asked)
+  pub accepted : asked_by_words words ≡ Some (writes asked)
   pub command : asked.input ≡ Read Plan
   pub trace : TraceContent
   pub read : IsReadAs (λ bytes. trace_of Plan bytes ≡ Ok trace) old new
@@ -55,7 +55,7 @@ pub record Plans (grew : Growth) (words : List (List ℕ)) (old new : Outside) :
 -- The output grew by the replay of a trace, with cores that make each slot of the schedule clean.
 pub record RunsReplay (grew : Growth) (words : List (List ℕ)) (old new : Outside) : Type 0 where
   pub asked : AskedOfTrace
-  pub accepted : asked_of words ≡ Some (writes asked)
+  pub accepted : asked_by_words words ≡ Some (writes asked)
   pub command : asked.input ≡ Read Replay
   pub trace : TraceContent
   pub read : IsReadAs (λ bytes. trace_of Replay bytes ≡ Ok trace) old new
@@ -75,7 +75,7 @@ pub record RunsReplay (grew : Growth) (words : List (List ℕ)) (old new : Outsi
 pub record Makes (grew : Growth) (words : List (List ℕ)) (old new : Outside) : Type 0 where
   pub asked : AskedOfTrace
   pub number : ℕ
-  pub accepted : asked_of words ≡ Some (writes asked)
+  pub accepted : asked_by_words words ≡ Some (writes asked)
   pub command : asked.input ≡ Made number
   pub unread : IsUnread old new
   pub written : (cores : SlotCores) → grew old.sink.held new.sink.held (made_text number asked.b asked.g cores)
@@ -96,11 +96,11 @@ PerformsAtMost words old new = IsUnwritten old new ⊎ Performs AppendsFront wor
 
 -- something
 abbrev pub HasWords : List (List ℕ) → Type 0
-HasWords words = (asked : Asked) × (asked_of words ≡ Some asked)
+HasWords words = (asked : Asked) × (asked_by_words words ≡ Some asked)
 
 -- the replay of the trace that this number makes
 abbrev pub AsksToMake : List (List ℕ) → ℕ → Type 0
-AsksToMake words number = (asked : AskedOfTrace) × (asked_of words ≡ Some (writes asked)) × (asked.input ≡ Made number)
+AsksToMake words number = (asked : AskedOfTrace) × (asked_by_words words ≡ Some (writes asked)) × (asked.input ≡ Made number)
 
 -- a row of the text is faulty for what the words ask for, and the first such row is this one
 pub record HasFaultyRow (words : List (List ℕ)) (old new : Outside) (row : ℕ) (fault : Fault) : Type 0 where
@@ -137,7 +137,7 @@ note_of (Err (failure.Bad line)) = (codes "bad," ++ decimal line) ++ 10 ∷ []
 -- What each end tells. Up to 2 and with 3, 5, 6 and 7 no more is taken than the limit, or with 6 one byte more.
 abbrev pub EndsBy : List (List ℕ) → Outside → Outside → Ending → Type 0
 EndsBy words old new (Ok done) = Performs Appends words old new
-EndsBy words old new (Err failure.Words) = (asked_of words ≡ None) × IsUnread old new × IsUnwritten old new
+EndsBy words old new (Err failure.Words) = (asked_by_words words ≡ None) × IsUnread old new × IsUnwritten old new
 EndsBy words old new (Err (failure.Row row fault)) = HasFaultyRow words old new row fault × IsUnwritten old new
 EndsBy words old new (Err failure.Read) = HasWords words × Rose old.faults new.faults × Takes old.left new.left (λ n. n ≤ input_limit) × IsUnwritten old new
 EndsBy words old new (Err failure.Write) = Rose old.sink.faults new.sink.faults × Performs AppendsFront words old new
@@ -156,21 +156,21 @@ pub record GivesBytes (words : List (List ℕ)) (old : Outside) (rows : Rows) (b
 abbrev pub Completes : List (List ℕ) → Outside → ℕ → Type 0
 Completes words old status =
     (rows : Rows) (bytes : List ℕ) → GivesBytes words old rows bytes → length bytes ≤ input_limit → first_faulty rows bytes ≡ None
-    → IsAmong status (0 ∷ 3 ∷ 4 ∷ 5 ∷ [])
+    → IsStatusAmong status (0 ∷ 3 ∷ 4 ∷ 5 ∷ [])
 
 -- a text within the limit that has a faulty row: so says the status, or a read failed, or memory is wanting
 abbrev pub TellsFaults : List (List ℕ) → Outside → ℕ → Type 0
 TellsFaults words old status =
     (rows : Rows) (bytes : List ℕ) (faulty : FaultyRow) → GivesBytes words old rows bytes → length bytes ≤ input_limit → first_faulty rows bytes ≡ Some faulty
-    → IsAmong status (2 ∷ 3 ∷ 5 ∷ [])
+    → IsStatusAmong status (2 ∷ 3 ∷ 5 ∷ [])
 
 -- more bytes than the limit: the same
 abbrev pub TellsExcess : List (List ℕ) → Outside → ℕ → Type 0
-TellsExcess words old status = (rows : Rows) (bytes : List ℕ) → GivesBytes words old rows bytes → input_limit < length bytes → IsAmong status (6 ∷ 3 ∷ 5 ∷ [])
+TellsExcess words old status = (rows : Rows) (bytes : List ℕ) → GivesBytes words old rows bytes → input_limit < length bytes → IsStatusAmong status (6 ∷ 3 ∷ 5 ∷ [])
 
 -- a number makes the trace: nothing is read, and it is done, or a write failed, or memory is wanting
 abbrev pub ReadsNothing : List (List ℕ) → Outside → Outside → ℕ → Type 0
-ReadsNothing words old new status = (number : ℕ) → AsksToMake words number → IsUnread old new × IsAmong status (0 ∷ 4 ∷ 5 ∷ [])
+ReadsNothing words old new status = (number : ℕ) → AsksToMake words number → IsUnread old new × IsStatusAmong status (0 ∷ 4 ∷ 5 ∷ [])
 
 -- ---- a run
 

@@ -2,6 +2,6 @@
 use Rattle.std.specs.Prelude.{◌≡◌, ◌⊎◌, ℕ, List, [], ◌∷◌}
 
 -- the status is one of these
-abbrev pub IsAmong : ℕ → List ℕ → Type 0
-IsAmong status [] = ⊥
-IsAmong status (one ∷ others) = (status ≡ one) ⊎ IsAmong status others
+abbrev pub IsStatusAmong : ℕ → List ℕ → Type 0
+IsStatusAmong status [] = ⊥
+IsStatusAmong status (one ∷ others) = (status ≡ one) ⊎ IsStatusAmong status others

@@ -7,12 +7,12 @@ use Rattle.takeover_text.specs.Progress.{IsPromisedThroughout}
 use Rattle.takeover_text.specs.Kept.{KeepPromises}
 use Rattle.fastpass_run.specs.Outside.{Outside, Growth}
 use Rattle.fastpass_run.specs.Rows.{IsReadAs}
-use Rattle.fastpass_run.specs.Words.{asked_of}
+use Rattle.fastpass_run.specs.Words.{asked_by_words}
 use Rattle.fastpass_run.specs.Words.Asked.{takes_over}
 
 -- The output grew by the takeover of a script.
 pub record TakesOver (grew : Growth) (words : List (List ℕ)) (old new : Outside) : Type 0 where
-  pub accepted : asked_of words ≡ Some takes_over
+  pub accepted : asked_by_words words ≡ Some takes_over
   pub script : ScriptContent
   pub read : IsReadAs (λ bytes. script_of bytes ≡ Ok script) old new
   pub written : grew old.sink.held new.sink.held (takeover_text script)

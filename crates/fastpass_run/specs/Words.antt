@@ -83,8 +83,8 @@ pub record AskedOfTrace : Type 0 where
   pub workers : ℕ
   pub paths : ℕ
 
-abbrev pub asked_by : Input → Sizes → AskedOfTrace
-asked_by input sizes = record { input = input; b = sizes.b; g = sizes.g; workers = sizes.workers; paths = sizes.paths }
+abbrev pub asked_by_input : Input → Sizes → AskedOfTrace
+asked_by_input input sizes = record { input = input; b = sizes.b; g = sizes.g; workers = sizes.workers; paths = sizes.paths }
 
 -- what the words ask for: the text of a trace; its plan by need; the audit of a text of a network, with so many slots in a batch; or
 -- the text of a script's takeover
@@ -97,12 +97,12 @@ pub data Asked : Type 0 where
 abbrev pub asked_with : Option Input → Option Options → Option Asked
 asked_with None options = None
 asked_with (Some input) None = None
-asked_with (Some input) (Some options) = if names_a_net options || is_some options.policy then None else Some (writes (asked_by input (sizes_of options)))
+asked_with (Some input) (Some options) = if names_a_net options || is_some options.policy then None else Some (writes (asked_by_input input (sizes_of options)))
 
 -- by the flow that was served least recently, where no policy is named
 abbrev pub planned_by : Option Policy → Sizes → Asked
-planned_by None sizes = writes (asked_by (Read Plan) sizes)
-planned_by (Some Last) sizes = writes (asked_by (Read Plan) sizes)
+planned_by None sizes = writes (asked_by_input (Read Plan) sizes)
+planned_by (Some Last) sizes = writes (asked_by_input (Read Plan) sizes)
 planned_by (Some Fewest) sizes = plans_by_need sizes
 
 abbrev pub asked_to_plan : Option Options → Option Asked
@@ -115,24 +115,24 @@ asked_to_make [] = None
 asked_to_make (number ∷ pairs) = asked_with (option_map Made (any_number number)) (options_of pairs no_options)
 
 -- the network of three numbers that are all named
-abbrev pub net_in : Result Network NetRefused → Option Network
-net_in (Ok net) = Some net
-net_in (Err refused) = None
+abbrev pub accepted_net : Result Network NetRefused → Option Network
+accepted_net (Ok net) = Some net
+accepted_net (Err refused) = None
 
 abbrev pub net_named : Option ℕ → Option ℕ → Option ℕ → Option Network
-net_named (Some racks) (Some hosts) (Some cores) = net_in (network_of racks hosts cores)
+net_named (Some racks) (Some hosts) (Some cores) = accepted_net (network_of racks hosts cores)
 net_named _ _ _ = None
 
-abbrev pub net_of : Options → Option Network
-net_of options = net_named options.racks options.hosts options.cores
+abbrev pub net_of_options : Options → Option Network
+net_of_options options = net_named options.racks options.hosts options.cores
 
 abbrev pub asked_to_audit : Option Options → Option Asked
 asked_to_audit None = None
-asked_to_audit (Some options) = if names_a_run options || is_some options.policy then None else option_map (λ net. audits net (unwrap_or options.batch 8)) (net_of options)
+asked_to_audit (Some options) = if names_a_run options || is_some options.policy then None else option_map (λ net. audits net (unwrap_or options.batch 8)) (net_of_options options)
 
 -- packets that a desk receives, as the rows of a trace; no size shows in what it answers
 abbrev pub asked_to_receive : Asked
-asked_to_receive = writes (asked_by (Read Receive) (sizes_of no_options))
+asked_to_receive = writes (asked_by_input (Read Receive) (sizes_of no_options))
 
 -- a word with none after it
 abbrev pub asked_alone : Asked → List (List ℕ) → Option Asked
@@ -141,9 +141,9 @@ asked_alone asked (word ∷ words) = None
 
 -- what words ask for, where they are accepted: `plan`, `replay`, or `make` and a number, and then pairs; `audit` and then pairs; or
 -- `receive` or `takeover` alone
-abbrev pub asked_of : List (List ℕ) → Option Asked
-asked_of [] = None
-asked_of (word ∷ words) =
+abbrev pub asked_by_words : List (List ℕ) → Option Asked
+asked_by_words [] = None
+asked_by_words (word ∷ words) =
     if is_word (codes "plan") word then asked_to_plan (options_of words no_options)
     else (if is_word (codes "replay") word then asked_with (Some (Read Replay)) (options_of words no_options)
     else (if is_word (codes "make") word then asked_to_make words
@@ -153,11 +153,11 @@ asked_of (word ∷ words) =
     else None)))))
 
 -- the same of a task
-abbrev pub asked_in : Task → Asked
-asked_in (task.Write input sizes) = writes (asked_by input sizes)
-asked_in (task.PlanByNeed sizes) = plans_by_need sizes
-asked_in (task.Audit net b) = audits net b
-asked_in task.TakeOver = takes_over
+abbrev pub asked_by_task : Task → Asked
+asked_by_task (task.Write input sizes) = writes (asked_by_input input sizes)
+asked_by_task (task.PlanByNeed sizes) = plans_by_need sizes
+asked_by_task (task.Audit net b) = audits net b
+asked_by_task task.TakeOver = takes_over
 
 -- a run has sizes, and an audit a size of a batch
 abbrev pub HasSizes : Task → Type 0
@@ -167,7 +167,7 @@ HasSizes (task.Audit net b) = b ≤ 64
 HasSizes task.TakeOver = Unit {0}
 
 -- the options that are named are within their limits
-pub record AreWithin (options : Options) : Type 0 where
+pub record OptionsAreWithin (options : Options) : Type 0 where
   pub some_slots : IfSome options.batch (λ n. (0 < n) × (n ≤ 64))
   pub some_rounds : IfSome options.window (λ n. (0 < n) × (n ≤ 16))
   pub some_workers : IfSome options.workers (λ n. (0 < n) × (n ≤ 16))

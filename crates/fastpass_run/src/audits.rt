@@ -3,7 +3,7 @@ ghost use Rattle.std.specs.Prelude.{◌≡◌, ◌≤◌, ℕ, List, Some, IfOk}
 ghost use Rattle.fastpass_run.specs.Audits.{count_text};
 ghost use Rattle.fastpass_run.specs.Outside.{outside};
 ghost use Rattle.fastpass_run.specs.Run.{EndsBy};
-ghost use Rattle.fastpass_run.specs.Words.{asked_of};
+ghost use Rattle.fastpass_run.specs.Words.{asked_by_words};
 ghost use Rattle.fastpass_run.specs.Words.Asked.{audits};
 
 use crate::outcome::Failure;
@@ -35,7 +35,7 @@ pub(crate) fn audit_text<S: Source, O: Sink>(
     out: &mut O,
 ) -> Result<(), Failure>
     requires { b ≤ 64 }
-    ensures { (words : List (List ℕ)) → asked_of words ≡ Some (audits net b) → EndsBy words
+    ensures { (words : List (List ℕ)) → asked_by_words words ≡ Some (audits net b) → EndsBy words
         (outside S.Source O.Sink src.old out.old) (outside S.Source O.Sink src.new out.new) result }
 {
     each_text_has_one_reading();

@@ -3,7 +3,7 @@ ghost use Rattle.std.specs.Prelude.{◌≡◌, ℕ, List, Some};
 ghost use Rattle.run_text.specs.Sizes.{AreSizes};
 ghost use Rattle.fastpass_run.specs.Outside.{outside};
 ghost use Rattle.fastpass_run.specs.Run.{EndsBy};
-ghost use Rattle.fastpass_run.specs.Words.{asked_of};
+ghost use Rattle.fastpass_run.specs.Words.{asked_by_words};
 ghost use Rattle.fastpass_run.specs.Words.Asked.{plans_by_need};
 
 use crate::outcome::Failure;
@@ -26,7 +26,7 @@ pub(crate) fn plan_by_need<R: Threads + Wait + Sync, S: Source, O: Sink, G: Gate
     out: &mut O,
 ) -> Result<(), Failure>
     requires { AreSizes sizes }
-    ensures { (words : List (List ℕ)) → asked_of words ≡ Some (plans_by_need sizes) → EndsBy words
+    ensures { (words : List (List ℕ)) → asked_by_words words ≡ Some (plans_by_need sizes) → EndsBy words
         (outside S.Source O.Sink src.old out.old) (outside S.Source O.Sink src.new out.new) result }
 {
     let text = transfer::read_all(alloc, src)?;

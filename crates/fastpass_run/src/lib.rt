@@ -21,8 +21,8 @@ ghost use Rattle.std.specs.Prelude.{◌≡◌, ℕ, List, [], ◌∷◌, Some};
 ghost use Rattle.text_output.specs.Content.{sink_content};
 ghost use Rattle.run_text.specs.Sizes.{AreSizes};
 ghost use Rattle.fastpass_run.specs.Outside.{outside, IsUnread};
-ghost use Rattle.fastpass_run.specs.Statuses.{IsAmong};
-ghost use Rattle.fastpass_run.specs.Words.{texts, asked_of, asked_by};
+ghost use Rattle.fastpass_run.specs.Statuses.{IsStatusAmong};
+ghost use Rattle.fastpass_run.specs.Words.{texts, asked_by_words, asked_by_input};
 ghost use Rattle.fastpass_run.specs.Words.Asked.{writes};
 ghost use Rattle.fastpass_run.specs.Run.{RunsWords, EndsBy, ReadsNothing, status_of};
 ghost use Rattle.fastpass_run.specs.declared.words.Input.TheVariants.{Made};
@@ -105,10 +105,10 @@ fn write_text<R: Threads + Wait + Sync, S: Source, O: Sink, G: Gate + Sync>(
     out: &mut O,
 ) -> Result<(), Failure>
     requires { AreSizes sizes }
-    ensures ends { (words : List (List ℕ)) → asked_of words ≡ Some (writes (asked_by input sizes)) → EndsBy words
+    ensures ends { (words : List (List ℕ)) → asked_by_words words ≡ Some (writes (asked_by_input input sizes)) → EndsBy words
         (outside S.Source O.Sink src.old out.old) (outside S.Source O.Sink src.new out.new) result }
     ensures reads_nothing { (number : ℕ) → input ≡ Made number →
-        IsUnread (outside S.Source O.Sink src.old out.old) (outside S.Source O.Sink src.new out.new) × IsAmong (status_of result) (0 ∷ 4 ∷ 5 ∷ []) }
+        IsUnread (outside S.Source O.Sink src.old out.old) (outside S.Source O.Sink src.new out.new) × IsStatusAmong (status_of result) (0 ∷ 4 ∷ 5 ∷ []) }
 {
     let command = match input {
         Input::Made(number) => return Ok(write_made(rt, gate, alloc, number, sizes, out)?),

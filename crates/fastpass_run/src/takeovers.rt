@@ -2,7 +2,7 @@
 ghost use Rattle.std.specs.Prelude.{◌≡◌, ℕ, List, Some};
 ghost use Rattle.fastpass_run.specs.Outside.{outside};
 ghost use Rattle.fastpass_run.specs.Run.{EndsBy};
-ghost use Rattle.fastpass_run.specs.Words.{asked_of};
+ghost use Rattle.fastpass_run.specs.Words.{asked_by_words};
 ghost use Rattle.fastpass_run.specs.Words.Asked.{takes_over};
 
 use crate::outcome::Failure;
@@ -18,7 +18,7 @@ pub(crate) fn take_over<S: Source, O: Sink>(
     src: &mut S,
     out: &mut O,
 ) -> Result<(), Failure>
-    ensures { (words : List (List ℕ)) → asked_of words ≡ Some takes_over → EndsBy words
+    ensures { (words : List (List ℕ)) → asked_by_words words ≡ Some takes_over → EndsBy words
         (outside S.Source O.Sink src.old out.old) (outside S.Source O.Sink src.new out.new) result }
 {
     let text = transfer::read_all(alloc, src)?;

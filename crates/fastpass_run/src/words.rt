@@ -1,6 +1,6 @@
 ghost use Rattle.std.specs.Prelude.{◌≡◌, ◌<◌, ◌≤◌, ◌^◌, Some, IfSome, option_map};
 ghost use Rattle.run_text.specs.Sizes.{AreSizes};
-ghost use Rattle.fastpass_run.specs.Words.{texts, asked_of, asked_in, asked_with, asked_to_plan, asked_to_make, asked_to_audit, asked_to_receive, asked_alone, options_of, no_options, with_option, names_a_net, names_a_run, net_of, sizes_of, policy_of, plain_up_to, any_number, AreWithin, HasSizes};
+ghost use Rattle.fastpass_run.specs.Words.{texts, asked_by_words, asked_by_task, asked_with, asked_to_plan, asked_to_make, asked_to_audit, asked_to_receive, asked_alone, options_of, no_options, with_option, names_a_net, names_a_run, net_of_options, sizes_of, policy_of, plain_up_to, any_number, OptionsAreWithin, HasSizes};
 
 use clos_topology::Net;
 use run_text::Sizes;
@@ -96,7 +96,7 @@ impl Options {
 
     /// The sizes of a run: those that are named, and else those that stand where nothing is said.
     fn sizes(self) -> Sizes
-        requires { AreWithin self }
+        requires { OptionsAreWithin self }
         ensures sizes { result ≡ sizes_of self }
         ensures within { AreSizes result }
     {
@@ -117,7 +117,7 @@ impl Options {
 
     /// The network whose three numbers are named, if they are and there is one.
     fn net(self) -> Option<Net>
-        ensures { result ≡ net_of self }
+        ensures { result ≡ net_of_options self }
     {
         Net::new(self.racks?, self.hosts?, self.cores?).ok()
     }
@@ -127,7 +127,7 @@ impl Options {
 /// for `plan` also `--policy last` or `--policy fewest`; or `audit`, and then `--racks n`, `--hosts n`, `--cores n` and, if need be,
 /// `--batch n`: in any order and each at most once; or `receive` or `takeover` alone. None where they are refused.
 pub(crate) fn read_task(words: &[&str]) -> Option<Task>
-    ensures asked { option_map asked_in result ≡ asked_of (texts words.now) }
+    ensures asked { option_map asked_by_task result ≡ asked_by_words (texts words.now) }
     ensures within { IfSome result HasSizes }
 {
     let [word, rest @ ..] = words else {
@@ -146,7 +146,7 @@ pub(crate) fn read_task(words: &[&str]) -> Option<Task>
 
 /// The plan that is asked for by the pairs that follow its word.
 fn plan(pairs: &[&str]) -> Option<Task>
-    ensures asked { option_map asked_in result ≡ asked_to_plan (options_of (texts pairs.now) no_options) }
+    ensures asked { option_map asked_by_task result ≡ asked_to_plan (options_of (texts pairs.now) no_options) }
     ensures within { IfSome result HasSizes }
 {
     let options = read_options(pairs)?;
@@ -165,7 +165,7 @@ fn plan(pairs: &[&str]) -> Option<Task>
 
 /// What is asked of the trace that a number makes, by the number and the pairs that follow it.
 fn make(words: &[&str]) -> Option<Task>
-    ensures asked { option_map asked_in result ≡ asked_to_make (texts words.now) }
+    ensures asked { option_map asked_by_task result ≡ asked_to_make (texts words.now) }
     ensures within { IfSome result HasSizes }
 {
     let [number, pairs @ ..] = words else {
@@ -176,7 +176,7 @@ fn make(words: &[&str]) -> Option<Task>
 
 /// What is asked of an input by the pairs that follow it.
 fn with_options(input: Input, pairs: &[&str]) -> Option<Task>
-    ensures asked { option_map asked_in result ≡ asked_with (Some input) (options_of (texts pairs.now) no_options) }
+    ensures asked { option_map asked_by_task result ≡ asked_with (Some input) (options_of (texts pairs.now) no_options) }
     ensures within { IfSome result HasSizes }
 {
     let options = read_options(pairs)?;
@@ -191,7 +191,7 @@ fn with_options(input: Input, pairs: &[&str]) -> Option<Task>
 
 /// The audit that is asked for by the pairs that follow its word.
 fn audit(pairs: &[&str]) -> Option<Task>
-    ensures asked { option_map asked_in result ≡ asked_to_audit (options_of (texts pairs.now) no_options) }
+    ensures asked { option_map asked_by_task result ≡ asked_to_audit (options_of (texts pairs.now) no_options) }
     ensures within { IfSome result HasSizes }
 {
     let options = read_options(pairs)?;
@@ -206,7 +206,7 @@ fn audit(pairs: &[&str]) -> Option<Task>
 
 /// A trace of packets that a desk receives.
 fn receive() -> Task
-    ensures asked { asked_in result ≡ asked_to_receive }
+    ensures asked { asked_by_task result ≡ asked_to_receive }
     ensures within { HasSizes result }
 {
     Task::Write {
@@ -218,7 +218,7 @@ fn receive() -> Task
 /// What a word asks for that no other follows.
 fn alone(task: Task, rest: &[&str]) -> Option<Task>
     requires { HasSizes task }
-    ensures asked { option_map asked_in result ≡ asked_alone (asked_in task) (texts rest.now) }
+    ensures asked { option_map asked_by_task result ≡ asked_alone (asked_by_task task) (texts rest.now) }
     ensures within { IfSome result HasSizes }
 {
     match rest {
@@ -229,7 +229,7 @@ fn alone(task: Task, rest: &[&str]) -> Option<Task>
 
 fn read_options(pairs: &[&str]) -> Option<Options>
     ensures options { result ≡ options_of (texts pairs.now) no_options }
-    ensures within { IfSome result AreWithin }
+    ensures within { IfSome result OptionsAreWithin }
 {
     let mut options = Options::none();
     let mut rest = pairs;
@@ -245,9 +245,9 @@ fn read_options(pairs: &[&str]) -> Option<Options>
 
 /// One pair more. None where the name is another, or was there before, or its value is refused.
 fn with_option(name: &str, value: &str, options: Options) -> Option<Options>
-    requires { AreWithin options }
+    requires { OptionsAreWithin options }
     ensures option { result ≡ with_option name.now value.now options }
-    ensures within { IfSome result AreWithin }
+    ensures within { IfSome result OptionsAreWithin }
 {
     if name == "--batch" && options.batch.is_none() {
         let batch = plain_number(value, MOST_BATCH)? as u8;

@@ -1,21 +1,22 @@
 -- The tests on an allocation's bytes, and the rules of the allocation.
-use Rattle.std.proofs.Common.{◌≡◌, ℕ, zero, suc, ◌+◌, ◌*◌, ◌<◌, ◌≤◌, Bool, true, false, not, ◌||◌, ltb, leb, eqb, List, [], ◌∷◌, ◌++◌, length, map, drop, refl, ap, ◌∙◌, inl, inr, arith}
+use Rattle.std.proofs.Common.{◌≡◌, ℕ, zero, suc, ◌+◌, ◌*◌, ◌<◌, ◌≤◌, true, false, not, ◌||◌, ltb, leb, eqb, List, [], ◌∷◌, ◌++◌, length, map, drop, refl, ap, ◌∙◌, inl, inr, arith}
 use Rattle.std.specs.Int.{w32}
 use Rattle.std.specs.List.{list_any, All, AllByRecursion}
 use Rattle.std.specs.Simd.{first_chunks}
-use Rattle.std.proofs.lemmas.Bool.{leb-false, lt-leb, le-leb, ltb-false, le-ltb, eqb-false, ne_eqb, cases_lt}
+use Rattle.std.proofs.lemmas.Bool.{leb-false, lt-leb, le-leb, ltb-false, le-ltb, eqb-false, ne_eqb, cases_lt, or_parts, or_from}
 use Rattle.std.proofs.lemmas.List.{length-append}
 use Rattle.std.proofs.lemmas.List.Folds.{list_any_none}
 use Rattle.std.proofs.lemmas.List.Elements.{recursion_from_All, All-from_recursion}
+use Rattle.list_facts.proofs.Bools.{not_true}
 use Rattle.fcp_framing.specs.declared.packet.Told.{Told}
 use Rattle.fcp_framing.specs.declared.packet.Down.{Down}
 use Rattle.fcp_framing.specs.Versions.{IsVersion}
 use Rattle.fcp_framing.specs.Spelling.{IsCore, IsAllocation, FitsDown, down_bytes, SpellsDown}
-use Rattle.fcp_framing.specs.Fields.{version_in, kind_in, endpoint_in, mask_in, told_in, told_slots_in, mask_end, allocation_count, allocation_header, allocation_length, down_of}
+use Rattle.fcp_framing.specs.Fields.{version_in, kind_in, endpoint_in, mask_in, told_in_bytes, told_slots_in, mask_end, allocation_count, allocation_header, allocation_length, down_of}
 use Rattle.fcp_framing.specs.Refusals.{is_rising, is_no_core, names_below_one, refuses_allocation}
 use Rattle.fcp_framing.proofs.Rising.{increasing_from_rising, rising_from_increasing}
 use Rattle.fcp_framing.proofs.BelowOne.{mask_rule, mask_test}
-use Rattle.fcp_framing.proofs.Finding.{HoldsNone, HoldsBefore, behind, none_of_any, neither, not_true, above_zero}
+use Rattle.fcp_framing.proofs.Finding.{HoldsNone, HoldsBefore, behind, none_of_any, above_zero}
 use Rattle.fcp_framing.proofs.Numbers.{AreBytes, AreBytes-take, AreBytes-drop, field32, number_at-below}
 use Rattle.fcp_framing.proofs.Widths.{mask_field, bits_from_width, within_128}
 use Rattle.fcp_framing.proofs.Entries.{FitsTold}
@@ -44,9 +45,6 @@ core_test : (core : ℕ) → IsCore core → is_no_core core ≡ false
 core_test core (inl switch) = rw (lt-leb 64 core switch) refl
 core_test core (inr none) = rw none refl
 
-both_false : (a b : Bool) → a ≡ false → b ≡ false → (a || b) ≡ false
-both_false a b p q = rw (p, q) refl
-
 -- each core stands in a byte
 told_slots_in-core : (bytes : List ℕ) → AreBytes bytes → All (λ (told : Told). told.core < 256) (told_slots_in bytes)
 told_slots_in-core bytes fits = map_all (first_chunks 4 (allocation_count bytes) (drop (allocation_header bytes) bytes)) (chunks_fit (allocation_count bytes) (drop (allocation_header bytes) bytes) (AreBytes-drop (allocation_header bytes) bytes fits))
@@ -55,10 +53,10 @@ told_slots_in-core bytes fits = map_all (first_chunks 4 (allocation_count bytes)
     chunks_fit zero rest below = tt
     chunks_fit (suc k) rest below = (AreBytes-take 4 rest below, chunks_fit k (drop 4 rest) (AreBytes-drop 4 rest below))
 
-    map_all : (entries : List (List ℕ)) → AllByRecursion AreBytes entries → All (λ (told : Told). told.core < 256) (map told_in entries)
-    map_all entries below = All-from_recursion (λ (told : Told). told.core < 256) (map told_in entries) (cores entries below)
+    map_all : (entries : List (List ℕ)) → AllByRecursion AreBytes entries → All (λ (told : Told). told.core < 256) (map told_in_bytes entries)
+    map_all entries below = All-from_recursion (λ (told : Told). told.core < 256) (map told_in_bytes entries) (cores entries below)
       where
-        cores : (entries : List (List ℕ)) → AllByRecursion AreBytes entries → AllByRecursion (λ (told : Told). told.core < 256) (map told_in entries)
+        cores : (entries : List (List ℕ)) → AllByRecursion AreBytes entries → AllByRecursion (λ (told : Told). told.core < 256) (map told_in_bytes entries)
         cores [] below = tt
         cores (entry ∷ entries) below = (below.0.below 1, cores entries below.1)
 
@@ -68,7 +66,7 @@ unfolding down_of
 allocation_rules endpoints slots bytes network fits version none =
     let slots_told = told_slots_in bytes in
     let width = bits_from_width (version_in bytes) (mask_in bytes) (number_at-below _ (mask_field (version_in bytes)) 16 bytes fits) in
-    let endpoint = neither (leb endpoints (endpoint_in bytes)) (list_any (λ (told : Told). leb endpoints told.dst) slots_told) none.endpoint in
+    let endpoint = or_parts (leb endpoints (endpoint_in bytes)) (list_any (λ (told : Told). leb endpoints told.dst) slots_told) none.endpoint in
     let count : allocation_count bytes ≤ 64 = ltb-false _ _ none.count in
     let limits = none_of_any (λ (told : Told). leb slots told.offset || is_no_core told.core) slots_told none.much in
     record {
@@ -83,14 +81,14 @@ allocation_rules endpoints slots bytes network fits version none =
       destinations = λ k d within. leb-false _ _ (none_of_any (λ (told : Told). leb endpoints told.dst) slots_told endpoint.1 k d within);
       rising = increasing_from_rising (map (λ (told : Told). told.offset) slots_told) (not_true _ none.order);
       others = λ k d within. eqb-false _ _ (none_of_any (λ (told : Told). eqb told.dst (endpoint_in bytes)) slots_told none.own k d within);
-      offsets = λ k d within. leb-false _ _ (neither _ _ (limits k d within)).0;
-      cores = λ k d within. core_rule _ (told_slots_in-core bytes fits k d within) (neither _ _ (limits k d within)).1;
+      offsets = λ k d within. leb-false _ _ (or_parts _ _ (limits k d within)).0;
+      cores = λ k d within. core_rule _ (told_slots_in-core bytes fits k d within) (or_parts _ _ (limits k d within)).1;
     }
 
 pub allocation_spelled : (endpoints slots : ℕ) (bytes : List ℕ) → endpoints ≤ 256 → AreBytes bytes → IsVersion (version_in bytes) → kind_in bytes ≡ 3 → HoldsNone (refuses_allocation endpoints slots bytes)
     → SpellsDown endpoints slots bytes (down_of bytes)
 allocation_spelled endpoints slots bytes network fits version kind none =
-    let short = neither (ltb (length bytes) (allocation_header bytes)) (ltb (length bytes) (allocation_length bytes)) none.short in
+    let short = or_parts (ltb (length bytes) (allocation_header bytes)) (ltb (length bytes) (allocation_length bytes)) none.short in
     let long : allocation_length bytes ≤ length bytes = ltb-false _ _ short.1 in
     let ended : length bytes ≤ allocation_length bytes = ltb-false _ _ none.trailing in
     record {
@@ -134,7 +132,7 @@ allocation_passes endpoints slots down more rules fits =
     list_any_none (λ (told : Told). eqb told.dst down.dst) down.told.items (λ k d within. ne_eqb _ _ (rules.others k d within)) in
     let limits : list_any (λ (told : Told). leb slots told.offset || is_no_core told.core) down.told.items ≡ false =
     list_any_none (λ (told : Told). leb slots told.offset || is_no_core told.core) down.told.items (λ k d within.
-    both_false _ _ (lt-leb _ _ (rules.offsets k d within)) (core_test _ (rules.cores k d within))) in
+    or_from _ _ (lt-leb _ _ (rules.offsets k d within)) (core_test _ (rules.cores k d within))) in
     let header_there : ltb (length bytes) (allocation_header bytes) ≡ false = le-ltb _ _ (omega arith) in
     let all_there : ltb (length bytes) (allocation_length bytes) ≡ false = le-ltb _ _ (omega arith) in
     record {

@@ -8,7 +8,7 @@ use Rattle.std.proofs.lemmas.Nat.{from_be_bytes-to_be_bytes_2, from_be_bytes-to_
 use Rattle.fcp_framing.specs.declared.packet.Down.{Down}
 use Rattle.fcp_framing.specs.Versions.{mask_bits, mask_width}
 use Rattle.fcp_framing.specs.Spelling.{told_bytes, down_bytes, FitsDown}
-use Rattle.fcp_framing.specs.Fields.{number_at, version_in, kind_in, endpoint_in, epoch_in, seq_in, high_in, width_in, mask_in, mask_end, batch_in, told_in, told_slots_in, allocation_count, allocation_header, allocation_length, down_of}
+use Rattle.fcp_framing.specs.Fields.{number_at, version_in, kind_in, endpoint_in, epoch_in, seq_in, high_in, width_in, mask_in, mask_end, batch_in, told_in_bytes, told_slots_in, allocation_count, allocation_header, allocation_length, down_of}
 use Rattle.fcp_framing.proofs.Numbers.{AreBytes, AreBytes-drop, field16, field32, number_at-splits, number_again, behind_number}
 use Rattle.fcp_framing.proofs.Widths.{mask_field, width_from_bits}
 use Rattle.fcp_framing.proofs.Entries.{told_line, FitsTold, lines_written, lines_again, length-lines}
@@ -16,7 +16,7 @@ use Rattle.fcp_framing.proofs.Requests.{head_splits, length-first_chunks}
 
 pub length-told_slots_in : (bytes : List ℕ) → length (told_slots_in bytes) ≡ allocation_count bytes
 length-told_slots_in bytes =
-    length-map (first_chunks 4 (allocation_count bytes) (drop (allocation_header bytes) bytes)) told_in ∙ length-first_chunks 4 (allocation_count bytes) (drop (allocation_header bytes) bytes)
+    length-map (first_chunks 4 (allocation_count bytes) (drop (allocation_header bytes) bytes)) told_in_bytes ∙ length-first_chunks 4 (allocation_count bytes) (drop (allocation_header bytes) bytes)
 
 pub allocation_written : (bytes : List ℕ) → AreBytes bytes → length bytes ≡ allocation_length bytes → kind_in bytes ≡ 3 → bytes ≡ down_bytes (down_of bytes)
 unfolding down_bytes down_of
@@ -31,7 +31,7 @@ allocation_written bytes fits len kind =
     let count = number_at-splits w16 field16 (mask_end bytes + 4) bytes fits (omega arith) in
     let header : mask_end bytes + 4 + 2 ≡ allocation_header bytes = omega arith in
     let list : flat_map told_bytes (told_slots_in bytes) ≡ list_bytes =
-    lines_written 4 told_bytes told_in FitsTold told_line (allocation_count bytes) list_bytes (AreBytes-drop (allocation_header bytes) bytes fits) (omega (arith, length-drop (allocation_header bytes) bytes)) in
+    lines_written 4 told_bytes told_in_bytes FitsTold told_line (allocation_count bytes) list_bytes (AreBytes-drop (allocation_header bytes) bytes fits) (omega (arith, length-drop (allocation_header bytes) bytes)) in
     let number16 = to_be_bytes w16 in
     let number32 = to_be_bytes w32 in
     let number_mask = to_be_bytes (width_in bytes) in
@@ -96,7 +96,7 @@ allocation_mask_again down more fits = number_again (mask_width down.version) (m
 
 told_slots_again : (down : Down) (more : List ℕ) → FitsAllocation down → told_slots_in (down_bytes down ++ more) ≡ down.told.items
 told_slots_again down more fits =
-    rw (allocation_count_again down more fits.count, version_again down more, lines-again down more) (lines_again 4 told_bytes told_in FitsTold told_line down.told.items more fits.told)
+    rw (allocation_count_again down more fits.count, version_again down more, lines-again down more) (lines_again 4 told_bytes told_in_bytes FitsTold told_line down.told.items more fits.told)
 
 pub allocation_again : (down : Down) (more : List ℕ) → FitsAllocation down → down_of (down_bytes down ++ more) ≡ down
 unfolding number_at down_bytes down_of
@@ -114,4 +114,4 @@ pub length-down_bytes : (down : Down) → length (down_bytes down) ≡ 22 + byte
 unfolding down_bytes
 length-down_bytes down =
     let w = mask_width down.version in
-    omega (arith, length-append (to_be_bytes w down.mask) (behind_mask down), (mask_field down.version).len down.mask, length-lines 4 told_bytes told_in FitsTold told_line down.told.items)
+    omega (arith, length-append (to_be_bytes w down.mask) (behind_mask down), (mask_field down.version).len down.mask, length-lines 4 told_bytes told_in_bytes FitsTold told_line down.told.items)

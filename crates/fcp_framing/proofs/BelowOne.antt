@@ -4,11 +4,12 @@ use Rattle.std.specs.Int.{bit_at, IsBitSet}
 use Rattle.std.specs.Int.RustNames.{bit_and}
 use Rattle.std.specs.List.{range_with_len}
 use Rattle.std.proofs.Math.Bool.{and-false}
-use Rattle.std.proofs.Math.Nat.{div-eq_of_lt, div-eq_of_lt-le, pow-le-pow_right, pow-suc, one-le-pow, zero-div, zero-mul}
+use Rattle.std.proofs.Math.Nat.{div-eq_of_lt, div-eq_of_lt-le, pow-le-pow_right, pow-suc, one-le-pow, zero-div}
 use Rattle.std.proofs.lemmas.Bool.{le-leb, lt-leb, leb-false, cases_lt, cases_eq, ne_eqb}
 use Rattle.std.proofs.lemmas.List.Folds.{list_any_none, list_any_at}
 use Rattle.std.proofs.lemmas.List.FromFn.{length-range_with_len, get_or-range_with_len}
 use Rattle.std.proofs.lemmas.Nat.Bits.{and_pow}
+use Rattle.list_facts.proofs.Numbers.{bit_at-set}
 use Rattle.fcp_framing.specs.Spelling.{IsMask}
 use Rattle.fcp_framing.specs.Refusals.{names_below_one}
 use Rattle.fcp_framing.proofs.Finding.{none_of_any}
@@ -64,13 +65,6 @@ zero_tells high =
 
 -- ---- the test and the rule
 
-bit_set : (mask i : ℕ) → IsBitSet mask i → bit_at mask i ≡ 1
-bit_set mask i set =
-    elim (cases_eq (bit_at mask i) 0) [
-      | inl clear ↦ absurd (set (and_pow mask i ∙ ap (λ (b : ℕ). b * 2 ^ i) clear ∙ zero-mul (2 ^ i)))
-      | inr not_clear ↦ omega arith
-    ]
-
 set_bit : (mask i : ℕ) → bit_at mask i ≡ 1 → IsBitSet mask i
 set_bit mask i one clear =
     let power : 1 ≤ 2 ^ i = one-le-pow i 2 (omega arith) in
@@ -85,12 +79,12 @@ mask_rule high mask fits none i set =
           let here : is_low high mask (get_or (range_with_len 0 128) i 0) ≡ false = none_of_any (is_low high mask) (range_with_len 0 128) none i 0 (omega (arith, length-range_with_len 0 128)) in
           let is : get_or (range_with_len 0 128) i 0 ≡ i = get_or-range_with_len 0 128 i 0 within ∙ omega arith in
           let low : is_low high mask i ≡ false = rw is at here in
-          let one = bit_set mask i set in
+          let one = bit_at-set mask i set in
           let test : leb high (i + 1) ≡ false = rw one at low in
           leb-false _ _ test
       | inr past ↦
           let clear = bit_at-above mask 127 i (omega arith) (omega arith) in
-          let one = bit_set mask i set in
+          let one = bit_at-set mask i set in
           absurd (omega arith)
     ]
 

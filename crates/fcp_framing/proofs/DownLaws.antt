@@ -2,8 +2,9 @@
 use Rattle.std.proofs.Common.{◌≡◌, ℕ, ◌≤◌, cond, true, ltb, List, [], ◌++◌, length, Some, None, Result, Ok, Err, refl, sym, ap, subst, ◌∙◌, arith}
 use Rattle.std.specs.Prelude.{OnOk, IsOk}
 use Rattle.std.specs.Result.{result_err}
-use Rattle.std.proofs.lemmas.Bool.{eqb-true, le-ltb, ltb-false}
+use Rattle.std.proofs.lemmas.Bool.{eqb-true, le-ltb, ltb-false, or_parts}
 use Rattle.std.proofs.lemmas.List.{append-nil}
+use Rattle.list_facts.proofs.Bools.{not_true}
 use Rattle.fcp_framing.specs.declared.packet.Down.{Down}
 use Rattle.fcp_framing.specs.declared.refusal.FrameRefused.{FrameRefused}
 use Rattle.fcp_framing.specs.declared.refusal.FrameRefused.TheVariants.{Short, Version, Kind, Trailing}
@@ -11,7 +12,7 @@ use Rattle.fcp_framing.specs.Versions.{is_version}
 use Rattle.fcp_framing.specs.Spelling.{down_bytes, SpellsDown}
 use Rattle.fcp_framing.specs.Fields.{version_in, kind_in, down_of}
 use Rattle.fcp_framing.specs.Refusals.{first_refusal, refuses_allocation, refuses_down}
-use Rattle.fcp_framing.proofs.Finding.{holds_none, first_before, first_same, neither, not_true}
+use Rattle.fcp_framing.proofs.Finding.{holds_none, first_before, first_same}
 use Rattle.fcp_framing.proofs.Numbers.{AreBytes}
 use Rattle.fcp_framing.proofs.Widths.{version_rule, version_test}
 use Rattle.fcp_framing.proofs.Allocations.{allocation_again}
@@ -29,7 +30,7 @@ pub down_spelled : (endpoints slots : ℕ) (bytes : List ℕ) → endpoints ≤ 
 unfolding refuses_down
 down_spelled endpoints slots bytes network fits first =
     let none = holds_none (refuses_down endpoints slots bytes) first in
-    let long : 2 ≤ length bytes = ltb-false _ _ (neither (ltb (length bytes) 2) _ none.short).0 in
+    let long : 2 ≤ length bytes = ltb-false _ _ (or_parts (ltb (length bytes) 2) _ none.short).0 in
     let version : is_version (version_in bytes) ≡ true = not_true _ none.version in
     let rule = version_rule (version_in bytes) version in
     let kind : kind_in bytes ≡ 3 = eqb-true _ _ (not_true _ none.kind) in

@@ -9,7 +9,7 @@ use Rattle.std.proofs.lemmas.Nat.{from_be_bytes-to_be_bytes_2, from_be_bytes-to_
 use Rattle.fcp_framing.specs.declared.packet.Demand.{Demand}
 use Rattle.fcp_framing.specs.declared.packet.Told.{Told}
 use Rattle.fcp_framing.specs.Spelling.{demand_bytes, told_bytes}
-use Rattle.fcp_framing.specs.Fields.{number_at, demand_in, told_in}
+use Rattle.fcp_framing.specs.Fields.{number_at, demand_in, told_in_bytes}
 use Rattle.fcp_framing.proofs.Numbers.{AreBytes, AreBytes-drop, AreBytes-take, field16, field32, number_at-splits}
 
 -- ---- lines of any kind
@@ -71,7 +71,7 @@ demand_line = record { len = λ x. refl; written = demand_written; taken = λ x 
 abbrev pub FitsTold : Told → Type 0
 FitsTold told = told.dst < 2 ^ 16
 
-told_written : (entry : List ℕ) → AreBytes entry → length entry ≡ 4 → told_bytes (told_in entry) ≡ entry
+told_written : (entry : List ℕ) → AreBytes entry → length entry ≡ 4 → told_bytes (told_in_bytes entry) ≡ entry
 told_written [] fits len = absurd (omega arith)
 told_written (a ∷ []) fits len = absurd (omega arith)
 told_written (offset ∷ core ∷ rest) fits len =
@@ -79,9 +79,9 @@ told_written (offset ∷ core ∷ rest) fits len =
     let nothing : drop 2 rest ≡ [] = nil_from_length (drop 2 rest) (omega (arith, length-drop 2 rest)) in
     sym (ap (λ (t : List ℕ). offset ∷ core ∷ t) (dst ∙ ap (λ (t : List ℕ). to_be_bytes w16 (number_at w16 2 (offset ∷ core ∷ rest)) ++ t) nothing))
 
-told_again : (told : Told) → FitsTold told → told_in (told_bytes told) ≡ told
+told_again : (told : Told) → FitsTold told → told_in_bytes (told_bytes told) ≡ told
 unfolding number_at
 told_again told fits = λ i. record { offset = told.offset; core = told.core; dst = from_be_bytes-to_be_bytes_2 told.dst fits i }
 
-pub told_line : IsLine Told 4 told_bytes told_in FitsTold
+pub told_line : IsLine Told 4 told_bytes told_in_bytes FitsTold
 told_line = record { len = λ x. refl; written = told_written; taken = λ x more. refl; left = λ x more. refl; again = told_again }

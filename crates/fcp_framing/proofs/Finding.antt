@@ -1,5 +1,5 @@
 -- The first refusal that holds, part by part of the table.
-use Rattle.std.proofs.Common.{◌≡◌, Bool, true, false, cond, List, [], ◌∷◌, ◌++◌, Option, Some, None, ℕ, ◌+◌, ◌<◌, not, ltb, eqb, get_or, ◌||◌, refl, inl, inr, arith}
+use Rattle.std.proofs.Common.{◌≡◌, Bool, true, false, cond, List, [], ◌∷◌, ◌++◌, Option, Some, None, ℕ, ◌+◌, ◌<◌, ltb, eqb, get_or, refl, inl, inr, arith}
 use Rattle.std.specs.List.{find, list_any, All}
 use Rattle.std.proofs.lemmas.Bool.{cases_Bool, cases_lt, lt-ltb, le-ltb, eqb-false}
 use Rattle.std.proofs.lemmas.List.Folds.{list_any_at}
@@ -57,14 +57,6 @@ none_of_any p xs none k d within =
       | inl passes ↦ let some = list_any_at p xs k d within passes in absurd cc
       | inr fails ↦ fails
     ]
-
-pub neither : (a b : Bool) → (a || b) ≡ false → (a ≡ false) × (b ≡ false)
-neither true b e = absurd cc
-neither false b e = (refl, e)
-
-pub not_true : (b : Bool) → not b ≡ false → b ≡ true
-not_true true e = refl
-not_true false e = absurd cc
 
 pub above_zero : (n : ℕ) → eqb n 0 ≡ false → 0 < n
 above_zero n e = let other = eqb-false n 0 e in omega arith

@@ -2,10 +2,11 @@
 use Rattle.std.proofs.Common.{◌≡◌, ℕ, ◌+◌, ◌*◌, ◌<◌, ◌≤◌, true, false, not, ◌||◌, ltb, leb, eqb, List, ◌++◌, length, map, refl, ap, ◌∙◌, arith}
 use Rattle.std.specs.Int.{w32}
 use Rattle.std.specs.List.{list_any}
-use Rattle.std.proofs.lemmas.Bool.{leb-false, lt-leb, ltb-false, le-ltb, eqb-false, ne_eqb}
+use Rattle.std.proofs.lemmas.Bool.{leb-false, lt-leb, ltb-false, le-ltb, eqb-false, ne_eqb, or_parts}
 use Rattle.std.proofs.lemmas.List.{length-append}
 use Rattle.std.proofs.lemmas.List.Folds.{list_any_none}
 use Rattle.std.proofs.lemmas.List.Elements.{recursion_from_All}
+use Rattle.list_facts.proofs.Bools.{not_true}
 use Rattle.fcp_framing.specs.declared.packet.Demand.{Demand}
 use Rattle.fcp_framing.specs.declared.packet.Up.{Up}
 use Rattle.fcp_framing.specs.Versions.{IsVersion}
@@ -14,7 +15,7 @@ use Rattle.fcp_framing.specs.Fields.{version_in, kind_in, mask_in, demands_in, r
 use Rattle.fcp_framing.specs.Refusals.{is_rising, names_below_one, refuses_request}
 use Rattle.fcp_framing.proofs.Rising.{increasing_from_rising, rising_from_increasing}
 use Rattle.fcp_framing.proofs.BelowOne.{mask_rule, mask_test}
-use Rattle.fcp_framing.proofs.Finding.{HoldsNone, HoldsBefore, behind, none_of_any, neither, not_true, above_zero}
+use Rattle.fcp_framing.proofs.Finding.{HoldsNone, HoldsBefore, behind, none_of_any, above_zero}
 use Rattle.fcp_framing.proofs.Numbers.{AreBytes, field32, number_at-below}
 use Rattle.fcp_framing.proofs.Widths.{mask_field, bits_from_width, within_128}
 use Rattle.fcp_framing.proofs.Entries.{FitsDemand}
@@ -32,7 +33,7 @@ pub request_rules : (endpoints : ℕ) (bytes : List ℕ) → endpoints ≤ 256 �
 request_rules endpoints bytes network fits version none =
     let width = bits_from_width (version_in bytes) (mask_in bytes) (number_at-below _ (mask_field (version_in bytes)) 16 bytes fits) in
     let demands = demands_in bytes in
-    let endpoint = neither (leb endpoints (request_of bytes).src) (list_any (λ (demand : Demand). leb endpoints demand.dst) demands) none.endpoint in
+    let endpoint = or_parts (leb endpoints (request_of bytes).src) (list_any (λ (demand : Demand). leb endpoints demand.dst) demands) none.endpoint in
     let count : request_count bytes < endpoints = leb-false _ _ none.count in
     record {
       network = network;
@@ -53,7 +54,7 @@ request_rules endpoints bytes network fits version none =
 pub request_spelled : (endpoints : ℕ) (bytes : List ℕ) → endpoints ≤ 256 → AreBytes bytes → IsVersion (version_in bytes) → kind_in bytes ≡ 1 → HoldsNone (refuses_request endpoints bytes)
     → SpellsRequest endpoints bytes (request_of bytes)
 request_spelled endpoints bytes network fits version kind none =
-    let short = neither (ltb (length bytes) (request_header bytes)) (ltb (length bytes) (request_length bytes)) none.short in
+    let short = or_parts (ltb (length bytes) (request_header bytes)) (ltb (length bytes) (request_length bytes)) none.short in
     let long : request_length bytes ≤ length bytes = ltb-false _ _ short.1 in
     let ended : length bytes ≤ request_length bytes = ltb-false _ _ none.trailing in
     record {

@@ -1,12 +1,9 @@
 -- The test that numbers rise strictly, and the fact.
-use Rattle.std.proofs.Common.{◌≡◌, ℕ, zero, suc, ◌+◌, Bool, true, false, ltb, leb, ◌&&◌, List, [], ◌∷◌, refl, ap, arith}
+use Rattle.std.proofs.Common.{◌≡◌, ℕ, zero, suc, ◌+◌, Bool, true, ltb, leb, ◌&&◌, List, [], ◌∷◌, refl, ap, arith}
 use Rattle.std.specs.List.Sorted.{IsStrictlyIncreasing}
 use Rattle.std.proofs.lemmas.Bool.{ltb-true, lt-ltb, le-leb}
+use Rattle.list_facts.proofs.Bools.{both_true}
 use Rattle.fcp_framing.specs.Refusals.{is_rising}
-
-both_true : (a b : Bool) → (a && b) ≡ true → (a ≡ true) × (b ≡ true)
-both_true true b e = (refl, e)
-both_true false b e = absurd cc
 
 pub increasing_from_rising : (xs : List ℕ) → is_rising xs ≡ true → IsStrictlyIncreasing xs
 unfolding is_rising

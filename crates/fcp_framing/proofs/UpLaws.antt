@@ -2,9 +2,10 @@
 use Rattle.std.proofs.Common.{◌≡◌, ℕ, ◌≤◌, ◌<◌, true, cond, ltb, eqb, List, [], ◌++◌, length, Some, None, Result, Ok, Err, refl, sym, ap, subst, ◌∙◌, inl, inr, arith}
 use Rattle.std.specs.Prelude.{OnOk, IsOk}
 use Rattle.std.specs.Result.{result_err}
-use Rattle.std.proofs.lemmas.Bool.{eqb-true, le-ltb, ltb-false}
+use Rattle.std.proofs.lemmas.Bool.{eqb-true, le-ltb, ltb-false, or_parts}
 use Rattle.std.proofs.Math.Bool.{or-false}
 use Rattle.std.proofs.lemmas.List.{append-nil}
+use Rattle.list_facts.proofs.Bools.{not_true}
 use Rattle.fcp_framing.specs.declared.packet.Up.{Up}
 use Rattle.fcp_framing.specs.declared.refusal.FrameRefused.{FrameRefused}
 use Rattle.fcp_framing.specs.declared.refusal.FrameRefused.TheVariants.{Short, Version, Kind, Trailing}
@@ -12,7 +13,7 @@ use Rattle.fcp_framing.specs.Versions.{is_version}
 use Rattle.fcp_framing.specs.Spelling.{reset_bytes, request_bytes, SpellsReset, SpellsRequest, SpellsUp}
 use Rattle.fcp_framing.specs.Fields.{version_in, kind_in, up_of}
 use Rattle.fcp_framing.specs.Refusals.{first_refusal, refuses_reset, refuses_request, refuses_up}
-use Rattle.fcp_framing.proofs.Finding.{holds_none, first_before, first_same, neither, not_true}
+use Rattle.fcp_framing.proofs.Finding.{holds_none, first_before, first_same}
 use Rattle.fcp_framing.proofs.Numbers.{AreBytes}
 use Rattle.fcp_framing.proofs.Widths.{either, version_rule, version_test}
 use Rattle.fcp_framing.proofs.Requests.{request_again}
@@ -41,7 +42,7 @@ pub up_spelled : (endpoints : ℕ) (bytes : List ℕ) → endpoints ≤ 256 → 
 unfolding refuses_up up_of
 up_spelled endpoints bytes network fits first =
     let none = holds_none (refuses_up endpoints bytes) first in
-    let long : 2 ≤ length bytes = ltb-false _ _ (neither (ltb (length bytes) 2) _ none.short).0 in
+    let long : 2 ≤ length bytes = ltb-false _ _ (or_parts (ltb (length bytes) 2) _ none.short).0 in
     let version : is_version (version_in bytes) ≡ true = not_true _ none.version in
     let rule = version_rule (version_in bytes) version in
     elim (either (eqb (kind_in bytes) 1) (eqb (kind_in bytes) 2) (not_true _ none.kind)) [

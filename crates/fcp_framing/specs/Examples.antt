@@ -9,8 +9,8 @@ use Rattle.fcp_framing.specs.Spelling.{reset_of, up_bytes, down_bytes}
 use Rattle.fcp_framing.specs.Refusals.{first_refusal, refuses_up}
 
 -- a request of endpoint 0 in epoch 1, which has taken `high` and, of the numbers below it, those of the mask
-abbrev pub request_of : (version seq high mask : ℕ) → List Demand → Up
-request_of version seq high mask demands = record { version = version; reset = false; src = 0; epoch = 1; seq = seq; high = high; mask = mask; demands = record { items = demands } }
+abbrev pub example_request : (version seq high mask : ℕ) → List Demand → Up
+example_request version seq high mask demands = record { version = version; reset = false; src = 0; epoch = 1; seq = seq; high = high; mask = mask; demands = record { items = demands } }
 
 -- one slot to endpoint 1
 abbrev pub one_demand : List Demand
@@ -23,9 +23,9 @@ one_slot version = record { version = version; dst = 0; epoch = 1; seq = 3; high
 -- Of the allocations below 8 the eighth request has seen all but 3.
 pub record PacketsOfVersionOne : Type 0 where
   pub reset : up_bytes (reset_of 1 0 1) ≡ 1 ∷ 2 ∷ 0 ∷ 0 ∷ 0 ∷ 0 ∷ 0 ∷ 1 ∷ []
-  pub first : up_bytes (request_of 1 1 1 0 one_demand)
+  pub first : up_bytes (example_request 1 1 1 0 one_demand)
       ≡ 1 ∷ 1 ∷ 0 ∷ 0 ∷ 0 ∷ 0 ∷ 0 ∷ 1 ∷ 0 ∷ 0 ∷ 0 ∷ 1 ∷ 0 ∷ 0 ∷ 0 ∷ 1 ∷ 0 ∷ 0 ∷ 0 ∷ 0 ∷ 0 ∷ 0 ∷ 0 ∷ 0 ∷ 0 ∷ 1 ∷ 0 ∷ 1 ∷ 0 ∷ 0 ∷ 0 ∷ 1 ∷ []
-  pub gap : up_bytes (request_of 1 8 8 111 [])
+  pub gap : up_bytes (example_request 1 8 8 111 [])
       ≡ 1 ∷ 1 ∷ 0 ∷ 0 ∷ 0 ∷ 0 ∷ 0 ∷ 1 ∷ 0 ∷ 0 ∷ 0 ∷ 8 ∷ 0 ∷ 0 ∷ 0 ∷ 8 ∷ 0 ∷ 0 ∷ 0 ∷ 0 ∷ 0 ∷ 0 ∷ 0 ∷ 111 ∷ 0 ∷ 0 ∷ []
   pub allocation : down_bytes (one_slot 1)
       ≡ 1 ∷ 3 ∷ 0 ∷ 0 ∷ 0 ∷ 0 ∷ 0 ∷ 1 ∷ 0 ∷ 0 ∷ 0 ∷ 3 ∷ 0 ∷ 0 ∷ 0 ∷ 2 ∷ 0 ∷ 0 ∷ 0 ∷ 0 ∷ 0 ∷ 0 ∷ 0 ∷ 1 ∷ 0 ∷ 0 ∷ 0 ∷ 1 ∷ 0 ∷ 1 ∷ 0 ∷ 0 ∷ 0 ∷ 1 ∷ []
@@ -33,11 +33,11 @@ pub record PacketsOfVersionOne : Type 0 where
 -- The same, and a mask whose highest bit stands for number 2 below 130.
 pub record PacketsOfVersionTwo : Type 0 where
   pub reset : up_bytes (reset_of 2 0 2) ≡ 2 ∷ 2 ∷ 0 ∷ 0 ∷ 0 ∷ 0 ∷ 0 ∷ 2 ∷ []
-  pub first : up_bytes (request_of 2 1 1 0 one_demand)
+  pub first : up_bytes (example_request 2 1 1 0 one_demand)
       ≡ 2 ∷ 1 ∷ 0 ∷ 0 ∷ 0 ∷ 0 ∷ 0 ∷ 1 ∷ 0 ∷ 0 ∷ 0 ∷ 1 ∷ 0 ∷ 0 ∷ 0 ∷ 1 ∷ 0 ∷ 0 ∷ 0 ∷ 0 ∷ 0 ∷ 0 ∷ 0 ∷ 0 ∷ 0 ∷ 0 ∷ 0 ∷ 0 ∷ 0 ∷ 0 ∷ 0 ∷ 0 ∷ 0 ∷ 1 ∷ 0 ∷ 1 ∷ 0 ∷ 0 ∷ 0 ∷ 1 ∷ []
-  pub gap : up_bytes (request_of 2 8 8 111 [])
+  pub gap : up_bytes (example_request 2 8 8 111 [])
       ≡ 2 ∷ 1 ∷ 0 ∷ 0 ∷ 0 ∷ 0 ∷ 0 ∷ 1 ∷ 0 ∷ 0 ∷ 0 ∷ 8 ∷ 0 ∷ 0 ∷ 0 ∷ 8 ∷ 0 ∷ 0 ∷ 0 ∷ 0 ∷ 0 ∷ 0 ∷ 0 ∷ 0 ∷ 0 ∷ 0 ∷ 0 ∷ 0 ∷ 0 ∷ 0 ∷ 0 ∷ 111 ∷ 0 ∷ 0 ∷ []
-  pub top : up_bytes (request_of 2 8 130 (2 ^ 127) [])
+  pub top : up_bytes (example_request 2 8 130 (2 ^ 127) [])
       ≡ 2 ∷ 1 ∷ 0 ∷ 0 ∷ 0 ∷ 0 ∷ 0 ∷ 1 ∷ 0 ∷ 0 ∷ 0 ∷ 8 ∷ 0 ∷ 0 ∷ 0 ∷ 130 ∷ 128 ∷ 0 ∷ 0 ∷ 0 ∷ 0 ∷ 0 ∷ 0 ∷ 0 ∷ 0 ∷ 0 ∷ 0 ∷ 0 ∷ 0 ∷ 0 ∷ 0 ∷ 0 ∷ 0 ∷ 0 ∷ []
   pub allocation : down_bytes (one_slot 2)
       ≡ 2 ∷ 3 ∷ 0 ∷ 0 ∷ 0 ∷ 0 ∷ 0 ∷ 1 ∷ 0 ∷ 0 ∷ 0 ∷ 3 ∷ 0 ∷ 0 ∷ 0 ∷ 2 ∷ 0 ∷ 0 ∷ 0 ∷ 0 ∷ 0 ∷ 0 ∷ 0 ∷ 0 ∷ 0 ∷ 0 ∷ 0 ∷ 0 ∷ 0 ∷ 0 ∷ 0 ∷ 1 ∷ 0 ∷ 0 ∷ 0 ∷ 1 ∷ 0 ∷ 1 ∷ 0 ∷ 0 ∷ 0 ∷ 1 ∷ []

@@ -89,11 +89,11 @@ allocation_count bytes = number_at w16 (mask_end bytes + 4) bytes
 abbrev pub allocation_length : List ℕ → ℕ
 allocation_length bytes = allocation_header bytes + 4 * allocation_count bytes
 
-abbrev pub told_in : List ℕ → Told
-told_in entry = record { offset = slice_index entry 0; core = slice_index entry 1; dst = number_at w16 2 entry }
+abbrev pub told_in_bytes : List ℕ → Told
+told_in_bytes entry = record { offset = slice_index entry 0; core = slice_index entry 1; dst = number_at w16 2 entry }
 
 abbrev pub told_slots_in : List ℕ → List Told
-told_slots_in bytes = map told_in (first_chunks 4 (allocation_count bytes) (drop (allocation_header bytes) bytes))
+told_slots_in bytes = map told_in_bytes (first_chunks 4 (allocation_count bytes) (drop (allocation_header bytes) bytes))
 
 -- the downward packet that stands in the bytes
 unfoldable pub down_of : List ℕ → Down

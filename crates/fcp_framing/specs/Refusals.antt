@@ -9,19 +9,19 @@ use Rattle.fcp_framing.specs.declared.refusal.FrameRefused.TheVariants.{Short, V
 use Rattle.fcp_framing.specs.Versions.{is_version}
 use Rattle.fcp_framing.specs.Fields.{version_in, kind_in, endpoint_in, epoch_in, seq_in, high_in, mask_in, request_header, request_count, request_length, demands_in, allocation_header, allocation_count, allocation_length, told_slots_in}
 
-abbrev pub number_of : FrameRefused → ℕ
-number_of Short = 1
-number_of Version = 2
-number_of Kind = 3
-number_of Endpoint = 4
-number_of Count = 5
-number_of Order = 6
-number_of SelfFlow = 7
-number_of TooMuch = 8
-number_of Mask = 9
-number_of Trailing = 10
-number_of Epoch = 11
-number_of Seq = 12
+abbrev pub frame_refusal_number : FrameRefused → ℕ
+frame_refusal_number Short = 1
+frame_refusal_number Version = 2
+frame_refusal_number Kind = 3
+frame_refusal_number Endpoint = 4
+frame_refusal_number Count = 5
+frame_refusal_number Order = 6
+frame_refusal_number SelfFlow = 7
+frame_refusal_number TooMuch = 8
+frame_refusal_number Mask = 9
+frame_refusal_number Trailing = 10
+frame_refusal_number Epoch = 11
+frame_refusal_number Seq = 12
 
 -- the first refusal that holds
 unfoldable pub first_refusal : (FrameRefused → Bool) → Option FrameRefused

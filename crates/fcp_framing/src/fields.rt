@@ -3,7 +3,7 @@
 ghost use Rattle.std.specs.Prelude.{◌≡◌, ◌+◌, ◌≤◌, length};
 ghost use Rattle.std.specs.Int.{w16, w32, w64, w128, byte_len};
 ghost use Rattle.fcp_framing.specs.Versions.{is_version as has_layouts, mask_width};
-ghost use Rattle.fcp_framing.specs.Fields.{number_at, mask_in as mask_value, mask_end as end_of_mask, demand_in, told_in};
+ghost use Rattle.fcp_framing.specs.Fields.{number_at, mask_in as mask_value, mask_end as end_of_mask, demand_in, told_in_bytes};
 
 use crate::packet::{Demand, Told};
 
@@ -107,7 +107,7 @@ pub(crate) fn demand_at(entry: &[u8; 6]) -> Demand
 
 #[tactic(auto, unfolding(crate::specs::Fields::number_at))]
 pub(crate) fn told_at(entry: &[u8; 4]) -> Told
-    ensures { result ≡ told_in entry.now }
+    ensures { result ≡ told_in_bytes entry.now }
 {
     let [offset, core, a, b] = *entry;
     Told {

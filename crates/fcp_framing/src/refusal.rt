@@ -1,7 +1,7 @@
 //! Why bytes are no packet.
 
 ghost use Rattle.std.specs.Prelude.{◌≡◌};
-ghost use Rattle.fcp_framing.specs.Refusals.{number_of};
+ghost use Rattle.fcp_framing.specs.Refusals.{frame_refusal_number};
 
 /// Why bytes are no packet: the first of these, in this order, whose condition holds of the bytes.
 #[derive(Clone, Copy, Debug, PartialEq, Eq)]
@@ -35,7 +35,7 @@ pub enum FrameRefused {
 impl FrameRefused {
     /// The refusal's number, from 1 to 12 in the order of the checks.
     pub fn number(self) -> u8
-        ensures { result ≡ number_of self }
+        ensures { result ≡ frame_refusal_number self }
     {
         self as u8
     }

@@ -5,7 +5,7 @@ ghost use Rattle.std.specs.Int.{byte_len};
 ghost use Rattle.std.specs.List.{list_any};
 ghost use Rattle.fcp_framing.specs.declared.packet.Told.{Told as ToldItem};
 ghost use Rattle.fcp_framing.specs.Versions.{mask_width};
-ghost use Rattle.fcp_framing.specs.Fields.{allocation_count, allocation_header, allocation_length, told_in, told_slots_in};
+ghost use Rattle.fcp_framing.specs.Fields.{allocation_count, allocation_header, allocation_length, told_in_bytes, told_slots_in};
 ghost use Rattle.fcp_framing.specs.Refusals.{is_no_core as no_core, is_rising, lines_are_sound, line_is_at_fault};
 
 use crate::fields::{mask_end, told_at, u16_at};
@@ -30,7 +30,7 @@ pub(crate) fn count(bytes: &[u8]) -> u16
 /// The four bytes of each line of an allocation that is all there.
 pub(crate) fn entries_of(bytes: &[u8]) -> &[[u8; 4]]
     requires { allocation_length bytes.now ≤ length bytes.now }
-    ensures lines { map told_in result.now ≡ told_slots_in bytes.now }
+    ensures lines { map told_in_bytes result.now ≡ told_slots_in bytes.now }
     ensures len { length result.now ≡ allocation_count bytes.now }
 {
     let header = header(bytes[0]);
@@ -40,7 +40,7 @@ pub(crate) fn entries_of(bytes: &[u8]) -> &[[u8; 4]]
 
 /// Whether a line names an endpoint that is not there.
 pub(crate) fn has_stranger(entries: &[[u8; 4]], endpoints: u16) -> bool
-    ensures { result ≡ list_any (λ (told : ToldItem). nat_le endpoints told.dst) (map told_in entries.now) }
+    ensures { result ≡ list_any (λ (told : ToldItem). nat_le endpoints told.dst) (map told_in_bytes entries.now) }
 {
     entries
         .iter()
@@ -49,7 +49,7 @@ pub(crate) fn has_stranger(entries: &[[u8; 4]], endpoints: u16) -> bool
 }
 
 pub(crate) fn has_destination(entries: &[[u8; 4]], endpoint: u16) -> bool
-    ensures { result ≡ list_any (λ (told : ToldItem). told.dst == endpoint) (map told_in entries.now) }
+    ensures { result ≡ list_any (λ (told : ToldItem). told.dst == endpoint) (map told_in_bytes entries.now) }
 {
     entries.iter().map(told_at).any(|told| told.dst == endpoint)
 }
@@ -63,7 +63,7 @@ fn is_no_core(core: u8) -> bool
 
 /// Whether a line names a slot past the batch, or no core.
 pub(crate) fn passes_limits(entries: &[[u8; 4]], slots: u8) -> bool
-    ensures { result ≡ list_any (λ (told : ToldItem). nat_le slots told.offset || no_core told.core) (map told_in entries.now) }
+    ensures { result ≡ list_any (λ (told : ToldItem). nat_le slots told.offset || no_core told.core) (map told_in_bytes entries.now) }
 {
     entries
         .iter()
@@ -73,7 +73,7 @@ pub(crate) fn passes_limits(entries: &[[u8; 4]], slots: u8) -> bool
 
 /// Whether the offsets rise strictly.
 pub(crate) fn rises(entries: &[[u8; 4]]) -> bool
-    ensures { result ≡ is_rising (map (λ (told : ToldItem). told.offset) (map told_in entries.now)) }
+    ensures { result ≡ is_rising (map (λ (told : ToldItem). told.offset) (map told_in_bytes entries.now)) }
 {
     let mut least = 0;
     for entry in entries {
@@ -95,7 +95,7 @@ fn is_at_fault(told: Told, endpoints: u16, endpoint: u16, slots: u8) -> bool
 
 /// Whether the offsets rise strictly and no line is at fault. One walk for all that the other tests look for.
 pub(crate) fn are_sound(entries: &[[u8; 4]], endpoints: u16, endpoint: u16, slots: u8) -> bool
-    ensures { result ≡ lines_are_sound endpoints endpoint slots (map told_in entries.now) }
+    ensures { result ≡ lines_are_sound endpoints endpoint slots (map told_in_bytes entries.now) }
 {
     let mut least = 0;
     for entry in entries {
@@ -111,7 +111,7 @@ pub(crate) fn are_sound(entries: &[[u8; 4]], endpoints: u16, endpoint: u16, slot
 /// Puts the lines in place of what `told` holds: over what stands, and the rest behind.
 pub(crate) fn read(entries: &[[u8; 4]], told: &mut ArrayVec<Told, 64>)
     requires { length entries.now ≤ 64 }
-    ensures { told.new.items ≡ map told_in entries.now }
+    ensures { told.new.items ≡ map told_in_bytes entries.now }
 {
     told.truncate(entries.len());
     let (front, rest) = entries.split_at(told.len());
@@ -122,7 +122,7 @@ pub(crate) fn read(entries: &[[u8; 4]], told: &mut ArrayVec<Told, 64>)
 /// Writes the lines over as many others.
 fn write_over(places: &mut [Told], entries: &[[u8; 4]])
     requires { length places.old ≡ length entries.now }
-    ensures { places.new ≡ map told_in entries.now }
+    ensures { places.new ≡ map told_in_bytes entries.now }
 {
     for (at, entry) in entries.iter().enumerate() {
         places[at] = told_at(entry);
@@ -131,7 +131,7 @@ fn write_over(places: &mut [Told], entries: &[[u8; 4]])
 
 fn append(entries: &[[u8; 4]], told: &mut ArrayVec<Told, 64>)
     requires { length told.old.items + length entries.now ≤ 64 }
-    ensures { told.new.items ≡ told.old.items ++ map told_in entries.now }
+    ensures { told.new.items ≡ told.old.items ++ map told_in_bytes entries.now }
 {
     for entry in entries {
         told.push(told_at(entry));

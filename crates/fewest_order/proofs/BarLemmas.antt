@@ -1,5 +1,5 @@
 -- What stands before a flow that a slot leaves out.
-use Rattle.std.proofs.Common.{◌≡◌, ◌≢◌, ◌<◌, ◌≤◌, ◌+◌, ℕ, zero, suc, List, [], ◌∷◌, ◌++◌, map, get_or, Some, Bool, true, false, ◌||◌, All, refl, sym, ap, ◌∙◌, subst, arith, inl, inr}
+use Rattle.std.proofs.Common.{◌≡◌, ◌≢◌, ◌<◌, ◌≤◌, ◌+◌, ℕ, List, [], ◌∷◌, ◌++◌, map, get_or, Some, Bool, true, false, ◌||◌, All, refl, sym, ap, ◌∙◌, subst, arith, inl, inr}
 use Rattle.std.specs.List.{list_any}
 use Rattle.std.proofs.lemmas.Bool.{cases_Bool, cond-true, cond-false, or_parts}
 use Rattle.std.proofs.lemmas.List.Elements.{All-nil, All-cons, All-head, All-tail, All-weaker}
@@ -12,23 +12,13 @@ use Rattle.greedy_rules.specs.Demands.{Key, HasEachFlowOnce, is_listed, item_of,
 use Rattle.greedy_rules.specs.Slot.{Bar, has_flow, greedy_slot}
 use Rattle.greedy_rules.specs.Limits.{is_barred}
 use Rattle.greedy_rules.specs.LeftOut.{EverySlotIsFilledInOrder, EveryBatchKeepsItsOrder}
-use Rattle.greedy_rules.specs.Allocation.{after_slot, batch_slots, batch_lists}
+use Rattle.greedy_rules.specs.Allocation.{batch_slots, batch_lists}
 use Rattle.greedy_rules.specs.Examples.{remaining}
 use Rattle.greedy_rules.proofs.Facts.{same_flow-true, same_flow-refl}
+use Rattle.greedy_rules.proofs.ScheduleLemmas.{slot_in_batch}
+use Rattle.greedy_rules.proofs.LeftOut.{flows}
+use Rattle.greedy_rules.proofs.OnceLemmas.{Other}
 use Rattle.fewest_order.specs.KeptOut.{FlowsBeforeItBar, NoneThatNeedsMoreBars}
-
-abbrev flows : List Item → List Flow
-flows list = map (λ (item : Item). item.flow) list
-
-abbrev Other : Item → Item → Type 0
-Other i j = i.flow ≢ j.flow
-
--- a slot is that of the list before it
-slot_of_list : (bar : Bar) (number count at : ℕ) (list : List Item) → at < count
-    → get_or (batch_slots bar number count list) at [] ≡ greedy_slot bar (get_or (batch_lists bar number count list) at [])
-slot_of_list bar number zero at list below = absurd (omega arith)
-slot_of_list bar number (suc count) zero list below = refl
-slot_of_list bar number (suc count) (suc at) list below = slot_of_list bar (number + 1) count at (after_slot bar number list) (omega arith)
 
 listed_by_flows : (list : List Item) (flow : Flow) → is_listed list flow ≡ list_any (λ f. same_flow f flow) (flows list)
 listed_by_flows [] flow = refl
@@ -107,7 +97,7 @@ flows_before_it_bar in_order keeps key limits number count at entries list front
     let place : Place before front item =
     place_of before front item later (keeps limits number count at start left.within ∙ ap flows left.place) none (same_flow-refl item.flow) in
     let slot : get_or (batch_slots bar number count start) at [] ≡ greedy_slot bar (place.first ++ place.here ∷ place.rest) =
-    slot_of_list bar number count at start left.within ∙ ap (greedy_slot bar) place.split in
+    slot_in_batch bar number count at start left.within ∙ ap (greedy_slot bar) place.split in
     let filled = in_order limits place.first place.here place.rest in
     let needs : 0 < place.here.need = subst (λ (n : ℕ). 0 < n) (ap need_in place.found) left.waits in
     let out : has_flow (greedy_slot bar (place.first ++ place.here ∷ place.rest)) place.here.flow ≡ false =

@@ -28,7 +28,7 @@ use Rattle.slot_batches.proofs.FilledLemmas.{lengths_after}
 use Rattle.slot_batches.proofs.NextList.{lasts-opened}
 use Rattle.slot_batches.proofs.SortedRuns.{item_after_low}
 use Rattle.slot_batches.proofs.TurnFacts.{item_after_need}
-use Rattle.fewest_order.specs.FewestFirst.{MayServe, is_held, is_raised, held, kept_of, raised_of, lowered_of}
+use Rattle.fewest_order.specs.FewestFirst.{MayServe, is_held, is_raised, held, kept_items, raised_of, lowered_of}
 use Rattle.fewest_order.proofs.ServeLemmas.{map-same, length-applied}
 use Rattle.fewest_order.proofs.PartLemmas.{Apart, sort_by-apart}
 use Rattle.fewest_order.specs.declared.places.Side.TheVariants.{Front, Behind}
@@ -86,7 +86,7 @@ rises-held entries (item ∷ list) rises =
 
 -- so the list may be sorted in these parts
 pub sorted_with_batch : (entries : List Entry) (list : List Item) → Rises need_of list
-    → sort_by need_of (raised_of entries list ++ (kept_of entries list ++ (lowered_of entries list ++ opened entries))) ≡ after_batch_by remaining entries list
+    → sort_by need_of (raised_of entries list ++ (kept_items entries list ++ (lowered_of entries list ++ opened entries))) ≡ after_batch_by remaining entries list
 sorted_with_batch entries list rises =
     let f : Item → Item = with_batch entries in
     sym (sort_by-apart need_of f (is_raised entries) (held entries list) (lowered_of entries list ++ opened entries) (raised_apart entries (held entries list) (rises-held entries list rises)))
@@ -94,10 +94,10 @@ sorted_with_batch entries list rises =
 
 -- so only what it raises, and what it lowers and opens, is to be sorted
 pub sorted_among : (entries : List Entry) (list : List Item) → Rises need_of list
-    → sort_by need_of (sort_by need_of (raised_of entries list) ++ sort_by need_of (kept_of entries list ++ sort_by need_of (lowered_of entries list ++ opened entries))) ≡ after_batch_by remaining entries list
+    → sort_by need_of (sort_by need_of (raised_of entries list) ++ sort_by need_of (kept_items entries list ++ sort_by need_of (lowered_of entries list ++ opened entries))) ≡ after_batch_by remaining entries list
 sorted_among entries list rises =
     let raised : List Item = raised_of entries list in
-    let kept : List Item = kept_of entries list in
+    let kept : List Item = kept_items entries list in
     let others : List Item = lowered_of entries list ++ opened entries in
     sorted_others Front (sort_by need_of (kept ++ sort_by need_of others)) raised
     ∙ (sorted_others Behind raised (kept ++ sort_by need_of others)
@@ -105,7 +105,7 @@ sorted_among entries list rises =
     ∙ (sorted_others Behind (raised ++ kept) others ∙ (ap (sort_by need_of) (append_assoc raised kept others) ∙ sorted_with_batch entries list rises))))
 
 -- what a batch keeps is in order
-floor-kept : (entries : List Entry) (n : ℕ) (list : List Item) → Floor need_of n list → Floor need_of n (kept_of entries list)
+floor-kept : (entries : List Entry) (n : ℕ) (list : List Item) → Floor need_of n list → Floor need_of n (kept_items entries list)
 floor-kept entries n [] floor = tt
 floor-kept entries n (item ∷ list) floor =
     let f : Item → Item = with_batch entries in
@@ -118,7 +118,7 @@ floor-kept entries n (item ∷ list) floor =
     (λ _. later))
     (λ _. later)
 
-pub rises-kept : (entries : List Entry) (list : List Item) → Rises need_of list → Rises need_of (kept_of entries list)
+pub rises-kept : (entries : List Entry) (list : List Item) → Rises need_of list → Rises need_of (kept_items entries list)
 rises-kept entries [] rises = tt
 rises-kept entries (item ∷ list) rises =
     let f : Item → Item = with_batch entries in
@@ -129,7 +129,7 @@ rises-kept entries (item ∷ list) rises =
     (λ _. cond_both (level item) (item ∷ filter level rest) (filter level rest) (λ xs. Rises need_of (map f xs))
     (λ is. (
       (let low : (f item).need ≤ item.need = ltb-false _ _ (not-true _ is) in
-          floor_lower need_of (f item).need item.need (kept_of entries list) low (floor-kept entries item.need list rises.0)),
+          floor_lower need_of (f item).need item.need (kept_items entries list) low (floor-kept entries item.need list rises.0)),
       later,
     ))
     (λ _. later))
@@ -158,13 +158,13 @@ split_length f test (item ∷ list) =
       )
     ]
 
-pub parts_length : (entries : List Entry) (list : List Item) → length (raised_of entries list) + (length (kept_of entries list) + length (lowered_of entries list)) ≡ length list
+pub parts_length : (entries : List Entry) (list : List Item) → length (raised_of entries list) + (length (kept_items entries list) + length (lowered_of entries list)) ≡ length list
 parts_length entries list =
     let f : Item → Item = with_batch entries in
     omega (arith, split_length f (is_raised entries) (held entries list), split_length f (is_held entries) list, length-map (held entries list) f)
 
 -- the parts of a list are those of its front and then those of the rest
-pub kept_of-append : (entries : List Entry) (xs ys : List Item) → kept_of entries (xs ++ ys) ≡ kept_of entries xs ++ kept_of entries ys
+pub kept_of-append : (entries : List Entry) (xs ys : List Item) → kept_items entries (xs ++ ys) ≡ kept_items entries xs ++ kept_items entries ys
 kept_of-append entries xs ys =
     let f : Item → Item = with_batch entries in
     let level : Item → Bool = λ x. not (is_raised entries x) in
@@ -185,7 +185,7 @@ lowered_of-append entries xs ys =
 
 -- the parts of a list that the batch leaves as it is
 pub record StayParts (entries : List Entry) (list : List Item) : Type 0 where
-  pub kept : kept_of entries list ≡ list
+  pub kept : kept_items entries list ≡ list
   pub raised : raised_of entries list ≡ []
   pub lowered : lowered_of entries list ≡ []
 
@@ -204,7 +204,7 @@ stay_parts entries (item ∷ list) all =
     record {
       kept = ap (λ (xs : List Item). map f (filter test xs)) front
           ∙ (ap (map f) (cond-true (test item) (item ∷ filter test rest) (filter test rest) (ap not stays))
-          ∙ (ap (λ (i : Item). i ∷ kept_of entries list) same ∙ ap (λ (xs : List Item). item ∷ xs) later.kept));
+          ∙ (ap (λ (i : Item). i ∷ kept_items entries list) same ∙ ap (λ (xs : List Item). item ∷ xs) later.kept));
       raised = ap (λ (xs : List Item). map f (filter (is_raised entries) xs)) front
           ∙ (ap (map f) (cond-false (is_raised entries item) (item ∷ filter (is_raised entries) rest) (filter (is_raised entries) rest) stays) ∙ later.raised);
       lowered = ap (map f) (cond-false (not (is_held entries item)) (item ∷ filter (λ x. not (is_held entries x)) list) (filter (λ x. not (is_held entries x)) list) (ap not holds)) ∙ later.lowered;

@@ -18,14 +18,11 @@ use Rattle.slot_batches.specs.Feeding.{IsServedWithin, unserved}
 use Rattle.slot_batches.specs.Progress.{StandsAfter}
 use Rattle.slot_batches.proofs.FilledLemmas.{lengths_after}
 use Rattle.slot_batches.proofs.ListOrder.{in_order-sort_by}
-use Rattle.slot_batches.proofs.NextList.{lasts-opened}
+use Rattle.slot_batches.proofs.NextList.{lasts-opened, last_of}
 use Rattle.slot_batches.proofs.ServedSlots.{all_within}
 use Rattle.slot_batches.proofs.SlotExchange.{slot_by_slot}
 use Rattle.slot_batches.proofs.SortedRuns.{two_runs}
 use Rattle.fewest_order.proofs.ServeLemmas.{length-applied}
-
-abbrev last_of : Item → ℕ
-last_of item = item.last
 
 -- the batch may be applied to a list of items that were last served before its first slot
 pub may_take : (endpoints first : ℕ) (entries : List Entry) (list : List Item) → IsBatch entries → HasEachFlowOnce list → OpensNewFlows entries list → AreBelow endpoints (list ++ opened entries)

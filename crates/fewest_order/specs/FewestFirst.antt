@@ -39,8 +39,8 @@ held entries list = filter (is_held entries) list
 abbrev pub raised_of : List Entry → List Item → List Item
 raised_of entries list = map (with_batch entries) (filter (is_raised entries) (held entries list))
 
-abbrev pub kept_of : List Entry → List Item → List Item
-kept_of entries list = map (with_batch entries) (filter (λ item. not (is_raised entries item)) (held entries list))
+abbrev pub kept_items : List Entry → List Item → List Item
+kept_items entries list = map (with_batch entries) (filter (λ item. not (is_raised entries item)) (held entries list))
 
 abbrev pub lowered_of : List Entry → List Item → List Item
 lowered_of entries list = map (with_batch entries) (filter (λ item. not (is_held entries item)) list)

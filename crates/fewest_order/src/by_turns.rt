@@ -38,6 +38,7 @@ pub fn batch_by_turns(
     batch: &Batch,
     first_slot: u32,
 ) -> Result<(), NoMemory>
+    // Eight conditions that a caller can break one by one, the two results, and four that the next call asks for.
     requires once { HasEachFlowOnce list.old.items }
     requires opens { OpensNewFlows batch.now.entries list.old.items }
     requires room { length (opened batch.now.entries) ≤ list.old.spare }

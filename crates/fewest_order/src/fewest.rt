@@ -8,7 +8,7 @@ ghost use Rattle.greedy_rules.specs.Allocation.{batch_slots, list_after_slots_by
 ghost use Rattle.greedy_rules.specs.Examples.{remaining};
 ghost use Rattle.slot_batches.specs.Filled.{MayBeTakenUp};
 ghost use Rattle.slot_batches.specs.Marks.{AreMarked};
-ghost use Rattle.fewest_order.specs.FewestFirst.{MayServe, kept_of, raised_of, lowered_of};
+ghost use Rattle.fewest_order.specs.FewestFirst.{MayServe, kept_items, raised_of, lowered_of};
 
 use crate::allocation::{push_all_opened, sort};
 use crate::orders::ByNeed;
@@ -149,7 +149,7 @@ fn part(
     requires kept { vec_len kept.old < vec_capacity kept.old }
     requires raised { vec_len raised.old < vec_capacity raised.old }
     requires lowered { vec_len lowered.old < vec_capacity lowered.old }
-    ensures kept { (entries : List Entry) → item ≡ with_batch entries before.now → kept.new.items ≡ kept.old.items ++ kept_of entries (before.now ∷ []) }
+    ensures kept { (entries : List Entry) → item ≡ with_batch entries before.now → kept.new.items ≡ kept.old.items ++ kept_items entries (before.now ∷ []) }
     ensures raised { (entries : List Entry) → item ≡ with_batch entries before.now → raised.new.items ≡ raised.old.items ++ raised_of entries (before.now ∷ []) }
     ensures lowered { (entries : List Entry) → item ≡ with_batch entries before.now → lowered.new.items ≡ lowered.old.items ++ lowered_of entries (before.now ∷ []) }
     ensures kept_room { vec_capacity kept.new ≡ vec_capacity kept.old }
@@ -180,7 +180,7 @@ fn part_front(
     requires lowered { vec_len lowered.old < vec_capacity lowered.old }
     ensures within { result ≤ length items.now }
     ensures some { 0 < result }
-    ensures kept { kept.new.items ≡ kept.old.items ++ kept_of batch.now.entries (take result items.now) }
+    ensures kept { kept.new.items ≡ kept.old.items ++ kept_items batch.now.entries (take result items.now) }
     ensures raised { raised.new.items ≡ raised.old.items ++ raised_of batch.now.entries (take result items.now) }
     ensures lowered { lowered.new.items ≡ lowered.old.items ++ lowered_of batch.now.entries (take result items.now) }
     ensures kept_room { vec_capacity kept.old ≤ vec_capacity kept.new }
@@ -211,7 +211,7 @@ fn part_all(
     requires kept { vec_len kept.old + length items.now ≤ vec_capacity kept.old }
     requires raised { vec_len raised.old + length items.now ≤ vec_capacity raised.old }
     requires lowered { vec_len lowered.old + length items.now ≤ vec_capacity lowered.old }
-    ensures kept { kept.new.items ≡ kept.old.items ++ kept_of batch.now.entries items.now }
+    ensures kept { kept.new.items ≡ kept.old.items ++ kept_items batch.now.entries items.now }
     ensures raised { raised.new.items ≡ raised.old.items ++ raised_of batch.now.entries items.now }
     ensures lowered { lowered.new.items ≡ lowered.old.items ++ lowered_of batch.now.entries items.now }
     ensures kept_room { vec_capacity kept.old ≤ vec_capacity kept.new }

@@ -4,15 +4,15 @@ use Rattle.std.proofs.lemmas.List.{get_or-take, get_or-drop, get_or_append_left,
 use Rattle.greedy_rules.specs.declared.flows.Flow.{Flow}
 use Rattle.greedy_rules.specs.declared.flows.Item.{Item}
 use Rattle.greedy_rules.specs.Batches.{DemandBatch}
-use Rattle.greedy_rules.specs.Slot.{Bar, has_flow}
+use Rattle.greedy_rules.specs.Slot.{has_flow}
 use Rattle.greedy_rules.specs.Demands.{HasEachFlowOnce, item_of, need_in, after_batch_by}
 use Rattle.greedy_rules.specs.Limits.{is_barred}
-use Rattle.greedy_rules.specs.Allocation.{after_slot, batch_lists}
 use Rattle.greedy_rules.specs.Schedule.{first_slot, slots_then_by, lists_then_by, list_then_by, lists_from_by, schedule_by, rest_by, rest_from_by, slot_in, slot_at, list_before_by}
 use Rattle.greedy_rules.specs.Fronts.{SlotsOfABatchBy}
 use Rattle.greedy_rules.specs.Recorded.{MayBeAppliedBy, LaterBatchesMayBeAppliedBy}
 use Rattle.greedy_rules.specs.Examples.{remaining}
 use Rattle.greedy_rules.proofs.Facts.{once-after_batch_by}
+use Rattle.greedy_rules.proofs.ScheduleLemmas.{length-batch_lists}
 use Rattle.clos_topology.specs.Network.{endpoints_of}
 use Rattle.clos_topology.specs.NetSlots.{limits_of}
 use Rattle.fewest_order.specs.KeptOut.{IsLeftOut, AreBarring, NoneThatNeedsMoreBars}
@@ -21,11 +21,7 @@ use Rattle.trace_text.specs.Valid.{IsTrace}
 use Rattle.window_allocation.specs.Nets.{AreOfNet}
 use Rattle.plan_rounds.specs.Batches.{plan_batches, EveryPlanIsRecorded}
 use Rattle.run_lines.specs.Text.{no_batch}
-use Rattle.fewest_plan.specs.Barred.{batch_of, start_of, NoneThatNeedsMoreBarsInPlans}
-
-length-batch_lists : (bar : Bar) (number count : ℕ) (list : List Item) → length (batch_lists bar number count list) ≡ count
-length-batch_lists bar number zero list = omega arith
-length-batch_lists bar number (suc count) list = ap suc (length-batch_lists bar (number + 1) count (after_slot bar number list))
+use Rattle.fewest_plan.specs.Barred.{batch_of_round, start_of, NoneThatNeedsMoreBarsInPlans}
 
 length-lists_then : (b k : ℕ) (batch : DemandBatch) (list : List Item) → length (lists_then_by remaining b k batch list) ≡ b
 length-lists_then b k batch list = length-batch_lists (is_barred batch.limits) (first_slot b k) b (after_batch_by remaining batch.entries list)
@@ -35,7 +31,7 @@ place_more k b at = grind arith
 
 -- the list before a slot of a batch
 lists_at : (b j : ℕ) (list : List Item) (batches : List DemandBatch) (k at : ℕ) → k < length batches → at < b
-    → get_or (lists_from_by remaining b j list batches) (k * b + at) [] ≡ get_or (lists_then_by remaining b (j + k) (batch_of batches k) (rest_from_by remaining b j list (take k batches))) at []
+    → get_or (lists_from_by remaining b j list batches) (k * b + at) [] ≡ get_or (lists_then_by remaining b (j + k) (batch_of_round batches k) (rest_from_by remaining b j list (take k batches))) at []
 lists_at b j list [] k at below slot = absurd (omega arith)
 lists_at b j list (batch ∷ batches) zero at below slot =
     let own : List (List Item) = lists_then_by remaining b j batch list in
@@ -53,18 +49,18 @@ lists_at b j list (batch ∷ batches) (suc k) at below slot =
     get_or-append_right own later b (suc k * b + at) [] (length-lists_then b j batch list) (omega (arith, place_more k b at))
     ∙ (ap (λ (n : ℕ). get_or later n []) place
     ∙ (lists_at b (j + 1) then batches k at (omega (arith, below)) slot
-    ∙ ap (λ (n : ℕ). get_or (lists_then_by remaining b n (batch_of batches k) (rest_from_by remaining b (j + 1) then (take k batches))) at []) on))
+    ∙ ap (λ (n : ℕ). get_or (lists_then_by remaining b n (batch_of_round batches k) (rest_from_by remaining b (j + 1) then (take k batches))) at []) on))
 
 list_before_is : (b : ℕ) (batches : List DemandBatch) (k at : ℕ) → k < length batches → at < b
-    → list_before_by remaining b batches (first_slot b k + at) ≡ get_or (lists_then_by remaining b k (batch_of batches k) (rest_by remaining b (take k batches))) at []
+    → list_before_by remaining b batches (first_slot b k + at) ≡ get_or (lists_then_by remaining b k (batch_of_round batches k) (rest_by remaining b (take k batches))) at []
 list_before_is b batches k at below slot =
     let place : first_slot b k + at - 1 ≡ k * b + at = omega arith in
     let start : 0 + k ≡ k = omega arith in
     ap (λ (n : ℕ). get_or (lists_from_by remaining b 0 [] batches) n []) place
-    ∙ (lists_at b 0 [] batches k at below slot ∙ ap (λ (n : ℕ). get_or (lists_then_by remaining b n (batch_of batches k) (rest_by remaining b (take k batches))) at []) start)
+    ∙ (lists_at b 0 [] batches k at below slot ∙ ap (λ (n : ℕ). get_or (lists_then_by remaining b n (batch_of_round batches k) (rest_by remaining b (take k batches))) at []) start)
 
 slot_is : (b : ℕ) (batches : List DemandBatch) (k at : ℕ) → SlotsOfABatchBy remaining → k < length batches → at < b
-    → slot_at (schedule_by remaining b batches) (first_slot b k + at) ≡ slot_in (slots_then_by remaining b k (batch_of batches k) (rest_by remaining b (take k batches))) at
+    → slot_at (schedule_by remaining b batches) (first_slot b k + at) ≡ slot_in (slots_then_by remaining b k (batch_of_round batches k) (rest_by remaining b (take k batches))) at
 slot_is b batches k at slots below slot =
     let all : List (List Flow) = schedule_by remaining b batches in
     let place : first_slot b k + at - 1 ≡ k * b + at = omega arith in
@@ -81,12 +77,12 @@ start_once b k trace sound below recorded later =
     let may : MayBeAppliedBy remaining n b (length front) list (drop k plan) =
     later n b (limits_of trace.net) front (drop k plan) (subst (AreOfNet trace.net) (sym (take-append-drop k plan)) (recorded trace sound).0) in
     let this = (subst (MayBeAppliedBy remaining n b (length front) list) (drop_more plan k no_batch below) may).0 in
-    once-after_batch_by remaining (batch_of plan k).entries list this.rises this.opens this.once
+    once-after_batch_by remaining (batch_of_round plan k).entries list this.rises this.opens this.once
 
 pub none_bars : EveryPlanIsRecorded → LaterBatchesMayBeAppliedBy remaining → SlotsOfABatchBy remaining → NoneThatNeedsMoreBars → NoneThatNeedsMoreBarsInPlans
 none_bars recorded later slots bars b trace sound k at front item behind out =
     let plan : List DemandBatch = plan_batches trace in
-    let batch : DemandBatch = batch_of plan k in
+    let batch : DemandBatch = batch_of_round plan k in
     let list : List Item = rest_by remaining b (take k plan) in
     let slot : List Flow = slot_in (slots_then_by remaining b k batch list) at in
     let same : slot_at (schedule_by remaining b plan) (first_slot b k + at) ≡ slot = slot_is b plan k at slots out.batch out.slot in

@@ -9,8 +9,8 @@ use Rattle.greedy_rules.specs.Recorded.{EveryRecordedSlotBy}
 use Rattle.clos_topology.specs.Network.{Network, endpoints_of}
 use Rattle.clos_topology.specs.Links.{CoreOf, IsClean}
 use Rattle.clos_topology.specs.NetSlots.{limits_of}
-use Rattle.edge_colouring.specs.Degrees.{LimitsAreDegrees}
-use Rattle.edge_colouring.specs.Colouring.{EveryMatchingHasCleanCores}
+use Rattle.path_workers.specs.Degrees.{LimitsAreDegrees}
+use Rattle.path_workers.specs.Colouring.{EveryMatchingHasCleanCores}
 use Rattle.window_allocation.specs.Nets.{AreOfNet}
 use Rattle.fewest_plan.specs.Scheduled.{EveryRecordHasCoresBy}
 

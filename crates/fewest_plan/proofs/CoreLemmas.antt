@@ -11,7 +11,7 @@ use Rattle.trace_text.specs.Trace.{TraceContent}
 use Rattle.plan_rounds.specs.Batches.{plan_batches}
 use Rattle.window_allocation.specs.Scheduled.{AreClean}
 use Rattle.run_text.proofs.CoreLemmas.{within_window, in_window, batches_lines-same, spliced, spliced-here, spliced-there}
-use Rattle.fewest_plan.specs.Progress.{window_lines, rounds_lines}
+use Rattle.fewest_plan.specs.Progress.{fewest_window_lines, fewest_rounds_lines}
 use Rattle.fewest_plan.specs.Scheduled.{EverySlotIsScheduledBy, window_slots_by}
 
 abbrev all_slots : ℕ → TraceContent → List (List Flow)
@@ -56,14 +56,14 @@ scheduled_spliced b first count trace here there scheduled clean number positive
     record { matching = old.matching; maximal = old.maximal; within_cores = old.within_cores; clean = new }
 
 -- the lines of a window name its own cores, and those of the rounds before it the others
-pub window_spliced : (b first count : ℕ) (trace : TraceContent) (here there : SlotCores) → window_lines (spliced (first * b) (count * b) here there) b first count trace ≡ window_lines here b first count trace
+pub window_spliced : (b first count : ℕ) (trace : TraceContent) (here there : SlotCores) → fewest_window_lines (spliced (first * b) (count * b) here there) b first count trace ≡ fewest_window_lines here b first count trace
 window_spliced b first count trace here there =
     let low : ℕ = first * b in
     let size : ℕ = count * b in
     batches_lines-same (spliced low size here there) here b first (take count (drop first (plan_batches trace))) (window_slots_by remaining b (plan_batches trace) first count)
     (λ number above below. spliced-here low size here there number (omega arith) (omega (arith, length-take size (drop low (all_slots b trace)))))
 
-pub rounds_spliced : (b k count : ℕ) (trace : TraceContent) (here there : SlotCores) → rounds_lines (spliced (k * b) (count * b) here there) b k trace ≡ rounds_lines there b k trace
+pub rounds_spliced : (b k count : ℕ) (trace : TraceContent) (here there : SlotCores) → fewest_rounds_lines (spliced (k * b) (count * b) here there) b k trace ≡ fewest_rounds_lines there b k trace
 rounds_spliced b k count trace here there =
     let low : ℕ = k * b in
     let start : 0 * b ≡ 0 = omega arith in

@@ -7,14 +7,14 @@ use Rattle.greedy_rules.specs.Demands.{item_of, need_in}
 use Rattle.greedy_rules.specs.Schedule.{rest_by}
 use Rattle.greedy_rules.specs.Recorded.{IsLeftBy, RecordedBatchesMayBeAppliedBy}
 use Rattle.greedy_rules.specs.Examples.{remaining}
+use Rattle.greedy_rules.specs.Cells.{flow_of}
 use Rattle.clos_topology.specs.Network.{endpoints_of}
 use Rattle.clos_topology.specs.NetSlots.{limits_of}
 use Rattle.trace_text.specs.Trace.{TraceContent}
 use Rattle.trace_text.specs.Valid.{total_asked, IsTrace}
 use Rattle.plan_rounds.specs.Asked.{EveryPlanAddsWhatIsAsked}
-use Rattle.plan_rounds.specs.Batches.{Round, plan_batches, EveryPlanIsRecorded}
+use Rattle.plan_rounds.specs.Batches.{AskedRound, plan_batches, EveryPlanIsRecorded}
 use Rattle.window_allocation.specs.Needs.{place_of}
-use Rattle.run_lines.proofs.FlowLemmas.{flow_of}
 use Rattle.fewest_plan.specs.declared.planner.Planner.{Planner}
 use Rattle.fewest_plan.specs.Counts.{EveryPlanBalancesBy}
 use Rattle.fewest_plan.specs.Standing.{HasPlanned}
@@ -43,6 +43,6 @@ told trace planner src dst asked left sound stands recorded adds balances done b
     let total : asked ≡ total_asked trace.asked src dst =
     asked_is
     ∙ (ap (λ (m : ℕ). get_or half.asked (place_of m src dst) 0) stands.collected.endpoints
-    ∙ (stands.collected.asked.at src dst below above ∙ ap (λ (rs : List Round). total_asked rs src dst) rounds)) in
+    ∙ (stands.collected.asked.at src dst below above ∙ ap (λ (rs : List AskedRound). total_asked rs src dst) rounds)) in
     tells trace planner.b flow asked left adds balances sound (total ∙ sym (adds trace flow sound).added) ((adds trace flow sound).recorded ∙ ap (λ (m : ℕ). not (m == 0)) (sym total))
     (left_is ∙ ap (λ (items : List Item). need_in (item_of items flow)) (all_left trace planner sound stands recorded done))

@@ -5,8 +5,7 @@ use Rattle.std.proofs.lemmas.List.Elements.{All-nil, All-cons, All-head, All-tai
 use Rattle.std.proofs.lemmas.List.Sums.{sum_by-cons}
 use Rattle.greedy_rules.specs.declared.flows.Flow.{Flow}
 use Rattle.greedy_rules.specs.Batches.{DemandBatch, entry_of}
-use Rattle.greedy_rules.specs.declared.flows.Entry.{Entry}
-use Rattle.greedy_rules.specs.Demands.{Key, item_of, need_in, need_with}
+use Rattle.greedy_rules.specs.Demands.{Key, item_of, need_in}
 use Rattle.greedy_rules.specs.Allocation.{slots_of}
 use Rattle.greedy_rules.specs.Schedule.{schedule_by, rest_by}
 use Rattle.greedy_rules.specs.Balance.{AreInOrder, clears, added_by, added_of, is_recorded, NoneClears, EveryScheduleBalancesBy}
@@ -20,18 +19,14 @@ use Rattle.trace_text.specs.Trace.{TraceContent}
 use Rattle.trace_text.specs.Valid.{IsTrace}
 use Rattle.plan_rounds.specs.Asked.{EveryPlanAddsWhatIsAsked}
 use Rattle.plan_rounds.specs.Batches.{plan_batches, EveryPlanIsRecorded}
-use Rattle.window_engine.specs.declared.counts.Counts.{Counts}
-use Rattle.run_lines.specs.Text.{flow_lines_of}
+use Rattle.run_lines.specs.Text.{Counts, flow_lines_of}
+use Rattle.greedy_rules.proofs.RecordedLemmas.{first_need}
 use Rattle.run_text.specs.Ledger.{IsBalanced}
 use Rattle.run_text.specs.PlanText.{batches_lines}
 use Rattle.run_text.proofs.LedgerLemmas.{NamesNoCounts, balanced_without, batches_without}
 use Rattle.run_text.proofs.LineSums.{sources_all}
 use Rattle.fewest_plan.specs.Counts.{counts_by, counts_of_by, counts_told, AllIsAllocatedOrPendingBy, EveryPlanBalancesBy}
 use Rattle.fewest_plan.specs.Text.{flows_lines_by, fewest_lines}
-
-first_need : (entry : Option Entry) → clears entry ≡ false → need_with entry 0 ≡ added_by entry
-first_need None kept = refl
-first_need (Some entry) kept = ap (λ (n : ℕ). n + entry.add) (cond-false {A = ℕ} entry.clear 0 0 kept) ∙ omega arith
 
 balanced : (key : Key) (b : ℕ) (batches : List DemandBatch) (flow : Flow) → EveryScheduleBalancesBy key → AreInOrder [] batches → NoneClears flow batches
     → added_of flow batches ≡ slots_of flow (schedule_by key b batches) + need_in (item_of (rest_by key b batches) flow)

@@ -1,36 +1,29 @@
 -- What the batches of a plan leave, by need, is a list on which the next may be served.
-use Rattle.std.proofs.Common.{◌≡◌, ◌<◌, ◌≤◌, ◌+◌, ◌-◌, ℕ, zero, suc, List, [], ◌∷◌, ◌++◌, length, take, drop, map, All, sym, subst, arith}
+use Rattle.std.proofs.Common.{◌≡◌, ◌<◌, ◌+◌, ◌-◌, ℕ, suc, List, [], ◌∷◌, ◌++◌, length, take, drop, map, All, sym, subst, arith}
 use Rattle.std.specs.List.Sorted.{IsNonDecreasingBy}
-use Rattle.std.proofs.lemmas.Bool.{cond_both}
 use Rattle.std.proofs.lemmas.Nat.{mul-le}
 use Rattle.std.proofs.lemmas.List.{drop_more, length-take, take-append-drop}
 use Rattle.std.proofs.lemmas.List.Elements.{All-nil, All-append, All-map, All-weaker}
 use Rattle.list_facts.proofs.StableSort.{All-sort_by}
-use Rattle.greedy_rules.specs.declared.flows.Flow.{Flow}
 use Rattle.greedy_rules.specs.declared.flows.Item.{Item}
 use Rattle.greedy_rules.specs.declared.flows.Entry.{Entry}
 use Rattle.greedy_rules.specs.Batches.{DemandBatch}
-use Rattle.greedy_rules.specs.Slot.{Bar, has_flow, greedy_slot}
 use Rattle.greedy_rules.specs.Demands.{with_batch, opened, after_batch_by}
-use Rattle.greedy_rules.specs.Allocation.{served, after_slot, list_through}
+use Rattle.greedy_rules.specs.Allocation.{served, list_through}
 use Rattle.greedy_rules.specs.Limits.{is_barred}
 use Rattle.greedy_rules.specs.Schedule.{first_slot, list_then_by, rest_by, rest_from_by}
 use Rattle.greedy_rules.specs.Recorded.{MayBeAppliedBy, LaterBatchesMayBeAppliedBy}
 use Rattle.greedy_rules.specs.Examples.{remaining}
-use Rattle.slot_batches.proofs.ListOrder.{in_order-sort_by}
-use Rattle.slot_batches.proofs.NextList.{lasts-opened}
+use Rattle.fewest_order.proofs.ListOrder.{in_order-sort_by}
+use Rattle.fewest_order.proofs.NextList.{lasts-opened, LastBelow, lasts-through}
 use Rattle.clos_topology.specs.Network.{endpoints_of}
 use Rattle.clos_topology.specs.NetSlots.{limits_of}
 use Rattle.window_allocation.specs.Nets.{AreOfNet}
 use Rattle.plan_rounds.specs.Batches.{plan_batches, EveryPlanIsRecorded}
 use Rattle.run_lines.specs.Text.{no_batch}
+use Rattle.fewest_order.proofs.PlaceLemmas.{need_of}
+use Rattle.run_text.proofs.CoreLemmas.{next_first}
 use Rattle.fewest_plan.specs.Standing.{EveryPlanMayBeServed}
-
-abbrev LastBelow : ℕ → Item → Type 0
-LastBelow n item = item.last < n
-
-abbrev need_of : Item → ℕ
-need_of item = item.need
 
 -- ---- the slots in which flows were last served
 
@@ -38,21 +31,6 @@ lasts-after_batch : (n : ℕ) (batch : List Entry) (list : List Item) → 0 < n 
 lasts-after_batch n batch list positive below =
     All-sort_by (LastBelow n) need_of (map (with_batch batch) list ++ opened batch)
     (All-append (LastBelow n) (map (with_batch batch) list) (opened batch) (All-map (LastBelow n) (with_batch batch) list below) (lasts-opened n batch positive))
-
-lasts-after_slot : (bar : Bar) (number n : ℕ) (list : List Item) → number < n → All (LastBelow n) list → All (LastBelow n) (after_slot bar number list)
-lasts-after_slot bar number n list more below =
-    let slot : List Flow = greedy_slot bar list in
-    All-map (LastBelow n) (served number slot) list
-    (All-weaker (LastBelow n) (λ x. LastBelow n (served number slot x))
-    (λ x less. cond_both (has_flow slot x.flow) (record x { need = x.need - 1; last = number }) x (LastBelow n) (λ _. more) (λ _. less)) list below)
-
-lasts-through : (bar : Bar) (number count n : ℕ) (list : List Item) → number + count ≤ n → All (LastBelow n) list → All (LastBelow n) (list_through bar number count list)
-lasts-through bar number zero n list within below = below
-lasts-through bar number (suc count) n list within below =
-    lasts-through bar (number + 1) count n (after_slot bar number list) (omega arith) (lasts-after_slot bar number n list (omega arith) below)
-
-next_first : (b k : ℕ) → first_slot b (k + 1) ≡ first_slot b k + b
-next_first b k = grind arith
 
 lasts-then : (b k : ℕ) (batch : DemandBatch) (list : List Item) → All (LastBelow (first_slot b k)) list → All (LastBelow (first_slot b (k + 1))) (list_then_by remaining b k batch list)
 lasts-then b k batch list below =

@@ -1,6 +1,7 @@
 -- A window of a plan by need: its batches may be served, its slots coloured, and what is planned then.
 use Rattle.std.proofs.Common.{◌≡◌, ◌<◌, ◌≤◌, ◌+◌, ◌*◌, ℕ, List, [], ◌∷◌, ◌++◌, length, take, drop, All, sym, ap, ◌∙◌, subst, arith}
 use Rattle.std.proofs.lemmas.List.{append-nil, get_or-take, get_or-drop, get_or_default, length-take, length-drop, take-append-drop, take-take, take_more, drop_at, drop-drop, take_at}
+use Rattle.list_facts.proofs.Lists.{joined}
 use Rattle.greedy_rules.specs.declared.flows.Flow.{Flow}
 use Rattle.greedy_rules.specs.declared.flows.Item.{Item}
 use Rattle.greedy_rules.specs.Batches.{DemandBatch}
@@ -8,6 +9,7 @@ use Rattle.greedy_rules.specs.Schedule.{first_slot, slots_then_by, list_then_by,
 use Rattle.greedy_rules.specs.Fronts.{SchedulesGoOnBy, FrontsAreFrontsBy, EveryBatchHasItsSlotsBy}
 use Rattle.greedy_rules.specs.Recorded.{EveryRecordedSlotBy}
 use Rattle.greedy_rules.specs.Examples.{remaining}
+use Rattle.greedy_rules.proofs.TableLemmas.{next_row}
 use Rattle.clos_topology.specs.Network.{endpoints_of}
 use Rattle.clos_topology.specs.NetSlots.{limits_of}
 use Rattle.fewest_order.specs.FewestFirst.{MayServe}
@@ -17,31 +19,27 @@ use Rattle.window_allocation.specs.Ready.{IsFit}
 use Rattle.plan_rounds.specs.Batches.{plan_batches, EveryPlanIsRecorded}
 use Rattle.run_lines.specs.Text.{no_batch}
 use Rattle.run_text.proofs.CoreLemmas.{within_window, in_window}
-use Rattle.window_engine.proofs.PlanLemmas.{joined}
-use Rattle.fewest_plan.specs.Barred.{batch_of}
+use Rattle.fewest_plan.specs.Barred.{batch_of_round}
 use Rattle.fewest_plan.specs.Scheduled.{window_slots_by}
 use Rattle.fewest_plan.specs.Standing.{MayAllBeServed, EveryPlanMayBeServed}
-use Rattle.fewest_plan.specs.Ready.{EveryWindowIsReady}
+use Rattle.fewest_plan.specs.Ready.{EveryFewestWindowIsReady}
 
 -- ---- one batch more
 
-next_place : (at b : ℕ) → (at + 1) * b ≡ at * b + b
-next_place at b = grind arith
-
 pub rest_more : (b k at : ℕ) (list : List Item) (batches : List DemandBatch) → at < length batches → SchedulesGoOnBy remaining
-    → list_then_by remaining b (k + at) (batch_of batches at) (rest_from_by remaining b k list (take at batches)) ≡ rest_from_by remaining b k list (take (at + 1) batches)
+    → list_then_by remaining b (k + at) (batch_of_round batches at) (rest_from_by remaining b k list (take at batches)) ≡ rest_from_by remaining b k list (take (at + 1) batches)
 rest_more b k at list batches below goes_on =
     let front : List DemandBatch = take at batches in
-    let batch : DemandBatch = batch_of batches at in
+    let batch : DemandBatch = batch_of_round batches at in
     let count : k + length front ≡ k + at = omega (arith, length-take at batches) in
     sym (ap (rest_from_by remaining b k list) (take_more batches at no_batch below)
     ∙ ((goes_on b k list front (batch ∷ [])).1 ∙ ap (λ (n : ℕ). list_then_by remaining b n batch (rest_from_by remaining b k list front)) count))
 
 slots_of_more : (b k at : ℕ) (list : List Item) (batches : List DemandBatch) → at < length batches → SchedulesGoOnBy remaining
-    → schedule_from_by remaining b k list (take at batches) ++ slots_then_by remaining b (k + at) (batch_of batches at) (rest_from_by remaining b k list (take at batches)) ≡ schedule_from_by remaining b k list (take (at + 1) batches)
+    → schedule_from_by remaining b k list (take at batches) ++ slots_then_by remaining b (k + at) (batch_of_round batches at) (rest_from_by remaining b k list (take at batches)) ≡ schedule_from_by remaining b k list (take (at + 1) batches)
 slots_of_more b k at list batches below goes_on =
     let front : List DemandBatch = take at batches in
-    let batch : DemandBatch = batch_of batches at in
+    let batch : DemandBatch = batch_of_round batches at in
     let left : List Item = rest_from_by remaining b k list front in
     let first : List (List Flow) = schedule_from_by remaining b k list front in
     let count : k + length front ≡ k + at = omega (arith, length-take at batches) in
@@ -52,7 +50,7 @@ slots_of_more b k at list batches below goes_on =
 -- the slots of some batches, of one more, and what stands behind them in a table
 pub slots_more : (b k at : ℕ) (list : List Item) (batches : List DemandBatch) (table so_far slots new : List (List Flow)) → at < length batches → SchedulesGoOnBy remaining → EveryBatchHasItsSlotsBy remaining
     → so_far ≡ schedule_from_by remaining b k list (take at batches) ++ drop (at * b) table
-    → slots ≡ slots_then_by remaining b (k + at) (batch_of batches at) (rest_from_by remaining b k list (take at batches)) → length slots ≡ b
+    → slots ≡ slots_then_by remaining b (k + at) (batch_of_round batches at) (rest_from_by remaining b k list (take at batches)) → length slots ≡ b
     → new ≡ (take (at * b) so_far ++ slots) ++ drop (at * b + length slots) so_far
     → new ≡ schedule_from_by remaining b k list (take (at + 1) batches) ++ drop ((at + 1) * b) table
 slots_more b k at list batches table so_far slots new below goes_on so_many is these count made =
@@ -62,7 +60,7 @@ slots_more b k at list batches table so_far slots new below goes_on so_many is t
     let long : length first ≡ n = so_many b k list (take at batches) ∙ ap (λ (m : ℕ). m * b) fronts in
     let front : take n so_far ≡ first = ap (take n) is ∙ take_at first (drop n table) n long in
     let place : n + length slots ≡ n + b = omega (arith, count) in
-    let next : n + b ≡ (at + 1) * b = sym (next_place at b) in
+    let next : n + b ≡ (at + 1) * b = sym (next_row at b) in
     let behind : drop (n + length slots) so_far ≡ drop ((at + 1) * b) table =
     ap (λ (m : ℕ). drop m so_far) place
     ∙ (sym (drop-drop b n so_far)
@@ -125,15 +123,15 @@ may_all b k n trace sound recorded served fronts positive most within at below =
     let batches : List DemandBatch = take n (drop k plan) in
     let e : ℕ = endpoints_of trace.net in
     let inside : at < n = omega (arith, length-take n (drop k plan)) in
-    let this : MayServe e b (first_slot b (k + at)) (batch_of plan (k + at)).entries (rest_by remaining b (take (k + at) plan)) = served b (k + at) trace sound positive most (omega arith) in
-    let batch : batch_of plan (k + at) ≡ batch_of batches at = sym (get_or-take n (drop k plan) at no_batch inside ∙ get_or-drop k plan at no_batch) in
+    let this : MayServe e b (first_slot b (k + at)) (batch_of_round plan (k + at)).entries (rest_by remaining b (take (k + at) plan)) = served b (k + at) trace sound positive most (omega arith) in
+    let batch : batch_of_round plan (k + at) ≡ batch_of_round batches at = sym (get_or-take n (drop k plan) at no_batch inside ∙ get_or-drop k plan at no_batch) in
     let before : take at (drop k plan) ≡ take at batches = sym (take-take at n (drop k plan) (omega arith)) in
     let left : rest_by remaining b (take (k + at) plan) ≡ rest_from_by remaining b k (rest_by remaining b (take k plan)) (take at batches) =
     sym (rest_of_window b k at plan (omega (arith, (recorded trace sound).1)) fronts) ∙ ap (rest_from_by remaining b k (rest_by remaining b (take k plan))) before in
-    subst (λ (list : List Item). MayServe e b (first_slot b (k + at)) (batch_of batches at).entries list) left
+    subst (λ (list : List Item). MayServe e b (first_slot b (k + at)) (batch_of_round batches at).entries list) left
     (subst (λ (x : DemandBatch). MayServe e b (first_slot b (k + at)) x.entries (rest_by remaining b (take (k + at) plan))) batch this)
 
-pub every_window : EveryPlanIsRecorded → EveryPlanMayBeServed → EveryRecordedSlotBy remaining → SchedulesGoOnBy remaining → FrontsAreFrontsBy remaining → EveryBatchHasItsSlotsBy remaining → EveryWindowIsReady
+pub every_window : EveryPlanIsRecorded → EveryPlanMayBeServed → EveryRecordedSlotBy remaining → SchedulesGoOnBy remaining → FrontsAreFrontsBy remaining → EveryBatchHasItsSlotsBy remaining → EveryFewestWindowIsReady
 every_window recorded served recorded_slots goes_on fronts so_many trace planner first count batches sound stands first_is count_is are =
     let b : ℕ = planner.b in
     let k : ℕ = planner.collection.rounds in

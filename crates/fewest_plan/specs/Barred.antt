@@ -14,12 +14,12 @@ use Rattle.trace_text.specs.Valid.{IsTrace}
 use Rattle.plan_rounds.specs.Batches.{plan_batches}
 use Rattle.run_lines.specs.Text.{no_batch}
 
-abbrev pub batch_of : List DemandBatch → ℕ → DemandBatch
-batch_of batches k = slice_index_or batches k no_batch
+abbrev pub batch_of_round : List DemandBatch → ℕ → DemandBatch
+batch_of_round batches k = slice_index_or batches k no_batch
 
 -- batch k's start list: what the batches before it left, with its entries applied, by need
 abbrev pub start_of : ℕ → List DemandBatch → ℕ → List Item
-start_of b batches k = after_batch_by remaining (batch_of batches k).entries (rest_by remaining b (take k batches))
+start_of b batches k = after_batch_by remaining (batch_of_round batches k).entries (rest_by remaining b (take k batches))
 
 -- at a slot of batch k, both counted from 0, this item's flow waits and is not in the slot; the start list has these items before
 -- it and those behind
@@ -34,7 +34,7 @@ pub record IsLeftOutOf (b : ℕ) (batches : List DemandBatch) (k at : ℕ) (fron
 abbrev pub NoneThatNeedsMoreBarsIn : ℕ → List DemandBatch → Type 0
 NoneThatNeedsMoreBarsIn b batches =
     (k at : ℕ) (front : List Item) (item : Item) (later : List Item) → IsLeftOutOf b batches k at front item later
-    → (flows : List Flow) × AreBarring (batch_of batches k).limits front (slot_at (schedule_by remaining b batches) (first_slot b k + at)) item.flow flows
+    → (flows : List Flow) × AreBarring (batch_of_round batches k).limits front (slot_at (schedule_by remaining b batches) (first_slot b k + at)) item.flow flows
     × All (λ flow. need_in (item_of (start_of b batches k) flow) ≤ item.need) flows
 
 -- so it is in every plan by need

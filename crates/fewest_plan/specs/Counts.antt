@@ -10,7 +10,7 @@ use Rattle.greedy_rules.specs.Balance.{is_recorded, added_of}
 use Rattle.trace_text.specs.Trace.{TraceContent}
 use Rattle.trace_text.specs.Valid.{IsTrace}
 use Rattle.plan_rounds.specs.Batches.{plan_batches}
-use Rattle.window_engine.specs.declared.counts.Counts.{Counts}
+use Rattle.run_lines.specs.Text.{Counts}
 
 -- the counts of a flow in a plan: nothing is acknowledged, lost, sent or missed
 abbrev pub counts_by : Key → ℕ → List DemandBatch → Flow → Counts

@@ -13,12 +13,12 @@ use Rattle.fewest_plan.specs.declared.planner.Window.{Window}
 use Rattle.fewest_plan.specs.Scheduled.{window_slots_by}
 
 -- so many rounds from this one on
-abbrev pub window_lines : SlotCores → ℕ → ℕ → ℕ → TraceContent → List Line
-window_lines cores b first count trace = batches_lines cores b first (take count (drop first (plan_batches trace))) (window_slots_by remaining b (plan_batches trace) first count)
+abbrev pub fewest_window_lines : SlotCores → ℕ → ℕ → ℕ → TraceContent → List Line
+fewest_window_lines cores b first count trace = batches_lines cores b first (take count (drop first (plan_batches trace))) (window_slots_by remaining b (plan_batches trace) first count)
 
 -- the first rounds
-abbrev pub rounds_lines : SlotCores → ℕ → ℕ → TraceContent → List Line
-rounds_lines cores b k trace = batches_lines cores b 0 (take k (plan_batches trace)) (take (k * b) (schedule_by remaining b (plan_batches trace)))
+abbrev pub fewest_rounds_lines : SlotCores → ℕ → ℕ → TraceContent → List Line
+fewest_rounds_lines cores b k trace = batches_lines cores b 0 (take k (plan_batches trace)) (take (k * b) (schedule_by remaining b (plan_batches trace)))
 
 -- the cores that a window names
 abbrev pub cores_of_window : ℕ → Window → SlotCores

@@ -10,7 +10,7 @@ use Rattle.window_allocation.specs.Ready.{IsFit}
 use Rattle.plan_rounds.specs.Batches.{plan_batches}
 use Rattle.fewest_plan.specs.declared.planner.Planner.{Planner}
 use Rattle.fewest_plan.specs.Scheduled.{window_slots_by}
-use Rattle.fewest_plan.specs.Standing.{HasPlanned, MayAllBeServed, window_of}
+use Rattle.fewest_plan.specs.Standing.{HasPlanned, MayAllBeServed, planner_window}
 
 -- these batches, so many, the first of which has this number
 pub record PlanIsReady (trace : TraceContent) (planner : Planner) (first count : ℕ) (batches : List DemandBatch) : Type 0 where
@@ -23,7 +23,7 @@ pub record PlanIsReady (trace : TraceContent) (planner : Planner) (first count :
   pub left : rest_from_by remaining planner.b first planner.order.items batches ≡ rest_by remaining planner.b (take (planner.collection.rounds + count) (plan_batches trace))
   pub fit : All (IsFit planner.paths.net) (schedule_from_by remaining planner.b first planner.order.items batches)
 
-abbrev pub EveryWindowIsReady : Type 0
-EveryWindowIsReady =
-    (trace : TraceContent) (planner : Planner) (first count : ℕ) (batches : List DemandBatch) → IsTrace trace → HasPlanned trace planner → first ≡ planner.collection.rounds → count ≡ window_of trace planner
+abbrev pub EveryFewestWindowIsReady : Type 0
+EveryFewestWindowIsReady =
+    (trace : TraceContent) (planner : Planner) (first count : ℕ) (batches : List DemandBatch) → IsTrace trace → HasPlanned trace planner → first ≡ planner.collection.rounds → count ≡ planner_window trace planner
     → batches ≡ take count (drop planner.collection.rounds (plan_batches trace)) → PlanIsReady trace planner first count batches

@@ -13,7 +13,7 @@ use Rattle.plan_rounds.specs.Batches.{plan_batches}
 use Rattle.plan_rounds.specs.Standing.{HasCollected}
 use Rattle.fewest_plan.specs.declared.planner.Planner.{Planner}
 use Rattle.fewest_plan.specs.declared.planner.Window.{Window}
-use Rattle.fewest_plan.specs.Barred.{batch_of}
+use Rattle.fewest_plan.specs.Barred.{batch_of_round}
 use Rattle.fewest_plan.specs.Progress.{cores_of_window}
 use Rattle.fewest_plan.specs.Scheduled.{window_slots_by}
 
@@ -29,19 +29,19 @@ pub record HasPlanned (trace : TraceContent) (planner : Planner) : Type 0 where
   pub colours : planner.paths.slots ≡ planner.g * planner.b
 
 -- the rounds of the next window
-abbrev pub window_of : TraceContent → Planner → ℕ
-window_of trace planner = min planner.g (trace.rounds - planner.collection.rounds)
+abbrev pub planner_window : TraceContent → Planner → ℕ
+planner_window trace planner = min planner.g (trace.rounds - planner.collection.rounds)
 
 -- each of these batches, the first one batch k, may be served on the list that those before it leave
 abbrev pub MayAllBeServed : ℕ → ℕ → ℕ → List Item → List DemandBatch → Type 0
 MayAllBeServed endpoints b k list batches =
-    (at : ℕ) → at < length batches → MayServe endpoints b (first_slot b (k + at)) (batch_of batches at).entries (rest_from_by remaining b k list (take at batches))
+    (at : ℕ) → at < length batches → MayServe endpoints b (first_slot b (k + at)) (batch_of_round batches at).entries (rest_from_by remaining b k list (take at batches))
 
 -- so may each batch of a plan
 abbrev pub EveryPlanMayBeServed : Type 0
 EveryPlanMayBeServed =
     (b k : ℕ) (trace : TraceContent) → IsTrace trace → 0 < b → b ≤ 64 → k < trace.rounds
-    → MayServe (endpoints_of trace.net) b (first_slot b k) (batch_of (plan_batches trace) k).entries (rest_by remaining b (take k (plan_batches trace)))
+    → MayServe (endpoints_of trace.net) b (first_slot b k) (batch_of_round (plan_batches trace) k).entries (rest_by remaining b (take k (plan_batches trace)))
 
 -- a window of so many rounds of a plan from this one on: slot i of its batch s, both counted from 0, stands at place s * b + i
 pub record IsPlanned (trace : TraceContent) (b first count : ℕ) (window : Window) : Type 0 where

@@ -4,7 +4,7 @@ ghost use Rattle.greedy_rules.specs.Demands.{HasEachFlowOnce, AreBelow};
 ghost use Rattle.greedy_rules.specs.Examples.{remaining};
 ghost use Rattle.clos_topology.specs.Network.{endpoints_of};
 ghost use Rattle.window_allocation.specs.Needs.{Needs};
-ghost use Rattle.text_output.specs.Output.{Passes};
+ghost use Rattle.run_lines.specs.Output.{Passes};
 ghost use Rattle.trace_text.specs.Valid.{IsTrace};
 ghost use Rattle.run_lines.specs.Text.{text_of, flow_lines_of, each_destination};
 ghost use Rattle.fewest_plan.specs.Counts.{counts_told};

@@ -2,13 +2,13 @@ ghost use Rattle.greedy_rules.specs.Demands.{Key, last_served};
 ghost use Rattle.fewest_plan.specs.Barred.{NoneThatNeedsMoreBarsInPlans};
 ghost use Rattle.fewest_plan.specs.Counts.{EveryPlanBalancesBy};
 ghost use Rattle.fewest_plan.specs.Scheduled.{EveryRecordHasCoresBy, EveryPlanHasItsSlotsBy};
-ghost use Rattle.fewest_plan.specs.Ready.{EveryWindowIsReady};
+ghost use Rattle.fewest_plan.specs.Ready.{EveryFewestWindowIsReady};
 ghost use Rattle.fewest_plan.specs.Standing.{EveryPlanMayBeServed};
 ghost use Rattle.fewest_plan.specs.Text.{IsThePlainText};
 
-use edge_colouring::{every_matching_has_clean_cores, limits_are_degrees};
 use fewest_order::none_that_needs_more_bars as none_of_a_batch_that_needs_more_bars;
 use greedy_rules::{recorded_batches_by_key, schedules_by_key_balance, schedules_by_key_go_on};
+use path_workers::{every_matching_has_clean_cores, limits_are_degrees};
 use plan_rounds::{every_plan_adds_what_is_asked, every_plan_is_recorded};
 
 /// By the slot in which a flow was last served, the text by a key is that of a plan as it always was.
@@ -55,7 +55,7 @@ fn every_plan_may_be_served()
 
 /// A law over every planner: the batches of its next window may be served, and their slots coloured.
 pub(crate) fn every_window_is_ready()
-    ensures { EveryWindowIsReady }
+    ensures { EveryFewestWindowIsReady }
 {
     every_plan_is_recorded();
     every_plan_may_be_served();

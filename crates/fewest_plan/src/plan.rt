@@ -4,15 +4,15 @@ ghost use Rattle.clos_topology.specs.NetSlots.{SlotCores};
 ghost use Rattle.trace_text.specs.Valid.{IsTrace};
 ghost use Rattle.plan_rounds.specs.Batches.{plan_batches};
 ghost use Rattle.run_lines.specs.Content.{sink_content};
-ghost use Rattle.run_lines.specs.Output.{Passes, Ends, Writes};
+ghost use Rattle.run_lines.specs.Output.{Passes, EndsText, Writes};
 ghost use Rattle.run_lines.specs.Text.{text_of};
 ghost use Rattle.run_text.specs.Ledger.{IsBalanced};
 ghost use Rattle.run_text.specs.Sizes.{AreSizes};
 ghost use Rattle.fewest_plan.specs.Barred.{NoneThatNeedsMoreBarsIn};
 ghost use Rattle.fewest_plan.specs.Counts.{AllIsAllocatedOrPendingBy};
-ghost use Rattle.fewest_plan.specs.Progress.{IsPlanWindow, lines_of_window, batch_of_window, window_lines, rounds_lines};
+ghost use Rattle.fewest_plan.specs.Progress.{IsPlanWindow, lines_of_window, batch_of_window, fewest_window_lines, fewest_rounds_lines};
 ghost use Rattle.fewest_plan.specs.Scheduled.{HasCoresBy, WithCoresBy, WithCoresOfWindowBy};
-ghost use Rattle.fewest_plan.specs.Standing.{HasPlanned, window_of};
+ghost use Rattle.fewest_plan.specs.Standing.{HasPlanned, planner_window};
 ghost use Rattle.fewest_plan.specs.Text.{fewest_lines, fewest_text};
 
 use crate::flows::put_flows;
@@ -24,12 +24,11 @@ use crate::planner::{Planner, Window};
 use fp_edge::{Gate, Sink};
 use plan_rounds::every_plan_is_recorded;
 use report_text::{Line, LineBuffer};
-use run_lines::{Output, Stop, put_slots, texts_follow};
+use run_lines::{Output, Stop, put_entries, put_slots, texts_follow};
 use run_text::Sizes;
 use std::alloc::Global;
 use std::sync::Wait;
 use std::thread::Threads;
-use text_output::put_entries;
 use trace_text::Trace;
 
 /// One batch of a window, counted from 0, with its slots.
@@ -80,10 +79,10 @@ fn put_step<R: Threads + Wait + Sync, G: Gate + Sync, K: Sink>(
     requires b { planner.old.b ≡ b }
     requires cores { HasCoresBy remaining b trace.now.net (plan_batches trace.now) }
     ensures stands { OnOk result (HasPlanned trace.now planner.new) }
-    ensures round { OnOk result (planner.new.collection.rounds ≡ planner.old.collection.rounds + window_of trace.now planner.old) }
+    ensures round { OnOk result (planner.new.collection.rounds ≡ planner.old.collection.rounds + planner_window trace.now planner.old) }
     ensures b { OnOk result (planner.new.b ≡ b) }
-    ensures passes { WithCoresOfWindowBy remaining b planner.old.collection.rounds (window_of trace.now planner.old) trace.now (λ cores.
-        Passes output.old output.new (text_of (window_lines cores b planner.old.collection.rounds (window_of trace.now planner.old) trace.now)) result) }
+    ensures passes { WithCoresOfWindowBy remaining b planner.old.collection.rounds (planner_window trace.now planner.old) trace.now (λ cores.
+        Passes output.old output.new (text_of (fewest_window_lines cores b planner.old.collection.rounds (planner_window trace.now planner.old) trace.now)) result) }
 {
     texts_follow();
     every_plan_has_its_slots();
@@ -109,7 +108,7 @@ fn put_rounds<R: Threads + Wait + Sync, G: Gate + Sync, K: Sink>(
     ensures done { OnOk result (planner.new.collection.rounds ≡ trace.now.rounds) }
     ensures b { OnOk result (planner.new.b ≡ b) }
     ensures passes { WithCoresBy remaining b trace.now (λ cores.
-        Passes output.old output.new (text_of (rounds_lines cores b trace.now.rounds trace.now)) result) }
+        Passes output.old output.new (text_of (fewest_rounds_lines cores b trace.now.rounds trace.now)) result) }
 {
     texts_follow();
     every_plan_has_its_slots();
@@ -131,7 +130,7 @@ fn put_lines<R: Threads + Wait + Sync, G: Gate + Sync, K: Sink>(
     requires accepted { IsTrace trace.now }
     requires sizes { AreSizes sizes }
     requires cores { HasCoresBy remaining sizes.b trace.now.net (plan_batches trace.now) }
-    ensures { WithCoresBy remaining sizes.b trace.now (λ cores. Ends output.old output.new (fewest_text cores sizes.b trace.now) result) }
+    ensures { WithCoresBy remaining sizes.b trace.now (λ cores. EndsText output.old output.new (fewest_text cores sizes.b trace.now) result) }
 {
     texts_follow();
     every_plan_has_its_slots();

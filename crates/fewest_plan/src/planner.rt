@@ -2,15 +2,14 @@ ghost use Rattle.std.specs.Prelude.{◌≡◌, ◌≢◌, ◌<◌, ◌≤◌, �
 ghost use Rattle.greedy_rules.specs.Schedule.{first_slot, schedule_from_by, rest_from_by};
 ghost use Rattle.greedy_rules.specs.Examples.{remaining};
 ghost use Rattle.run_text.specs.Sizes.{AreSizes};
-ghost use Rattle.fewest_plan.specs.Standing.{HasPlanned, window_of, MayAllBeServed, IsPlanned};
+ghost use Rattle.fewest_plan.specs.Standing.{HasPlanned, planner_window, MayAllBeServed, IsPlanned};
 
 use crate::laws::every_window_is_ready;
 use fewest_order::FewestFirst;
 use fp_edge::Gate;
 use greedy_rules::{Batch, SlotTable, schedules_by_key_go_on};
-use no_memory::NoMemory;
 use path_workers::{CoreTable, Paths};
-use plan_rounds::Collection;
+use plan_rounds::{Collection, NoMemory};
 use run_text::Sizes;
 use std::alloc::Global;
 use std::sync::Wait;
@@ -69,9 +68,9 @@ impl Planner {
         requires stands { HasPlanned trace.now self.old }
         requires more { self.old.collection.rounds ≢ trace.now.rounds }
         ensures stands { OnOk result (HasPlanned trace.now self.new) }
-        ensures rounds { OnOk result (self.new.collection.rounds ≡ self.old.collection.rounds + window_of trace.now self.old) }
+        ensures rounds { OnOk result (self.new.collection.rounds ≡ self.old.collection.rounds + planner_window trace.now self.old) }
         ensures b { OnOk result (self.new.b ≡ self.old.b) }
-        ensures planned { IfOk result (IsPlanned trace.now self.old.b self.old.collection.rounds (window_of trace.now self.old)) }
+        ensures planned { IfOk result (IsPlanned trace.now self.old.b self.old.collection.rounds (planner_window trace.now self.old)) }
     {
         every_window_is_ready();
         let first = self.collection.rounds();

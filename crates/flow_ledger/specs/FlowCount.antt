@@ -11,5 +11,5 @@ abbrev pub pending : FlowCount → ℕ
 pending count = count.demanded + count.lost - count.allocated
 
 -- every slot demanded is acknowledged, in flight or pending
-abbrev pub Balances : FlowCount → Type 0
-Balances count = count.demanded ≡ count.acknowledged + in_flight count + pending count
+abbrev pub CountBalances : FlowCount → Type 0
+CountBalances count = count.demanded ≡ count.acknowledged + in_flight count + pending count

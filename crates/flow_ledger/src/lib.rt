@@ -23,7 +23,7 @@ impl Default for FlowCount {
 }
 
 impl FlowCount {
-    ghost use Rattle.flow_ledger.specs.FlowCount.{in_flight, pending, Balances};
+    ghost use Rattle.flow_ledger.specs.FlowCount.{in_flight, pending, CountBalances};
 
     /// A flow of which nothing was demanded yet.
     pub fn new() -> Self
@@ -31,7 +31,7 @@ impl FlowCount {
         ensures allocated { result.allocated ≡ 0 }
         ensures acknowledged { result.acknowledged ≡ 0 }
         ensures lost { result.lost ≡ 0 }
-        ensures balances { Balances result }
+        ensures balances { CountBalances result }
     {
         FlowCount {
             demanded: 0,
@@ -49,7 +49,7 @@ impl FlowCount {
         ensures allocated { self.new.allocated ≡ self.old.allocated }
         ensures acknowledged { self.new.acknowledged ≡ self.old.acknowledged }
         ensures lost { self.new.lost ≡ self.old.lost }
-        ensures balances { Balances self.new }
+        ensures balances { CountBalances self.new }
     {
         let rise = total.saturating_sub(self.demanded);
         self.demanded += rise;
@@ -64,7 +64,7 @@ impl FlowCount {
         ensures allocated { self.new.allocated ≡ self.old.allocated + n }
         ensures acknowledged { self.new.acknowledged ≡ self.old.acknowledged }
         ensures lost { self.new.lost ≡ self.old.lost }
-        ensures balances { Balances self.new }
+        ensures balances { CountBalances self.new }
     {
         self.allocated += n;
     }
@@ -76,7 +76,7 @@ impl FlowCount {
         ensures allocated { self.new.allocated ≡ self.old.allocated }
         ensures acknowledged { self.new.acknowledged ≡ self.old.acknowledged + n }
         ensures lost { self.new.lost ≡ self.old.lost }
-        ensures balances { Balances self.new }
+        ensures balances { CountBalances self.new }
     {
         self.acknowledged += n;
     }
@@ -89,7 +89,7 @@ impl FlowCount {
         ensures acknowledged { self.new.acknowledged ≡ self.old.acknowledged }
         ensures lost { self.new.lost ≡ self.old.lost + n }
         ensures pending_again { pending self.new ≡ pending self.old + n }
-        ensures balances { Balances self.new }
+        ensures balances { CountBalances self.new }
     {
         self.lost += n;
     }
@@ -100,7 +100,7 @@ impl FlowCount {
         ensures allocated { self.new.allocated ≡ 0 }
         ensures acknowledged { self.new.acknowledged ≡ 0 }
         ensures lost { self.new.lost ≡ 0 }
-        ensures balances { Balances self.new }
+        ensures balances { CountBalances self.new }
     {
         *self = FlowCount::new();
     }
@@ -108,7 +108,7 @@ impl FlowCount {
     /// The slots that were allocated, and of which it is not yet known whether they arrived.
     pub fn in_flight(&self) -> u32
         ensures slots { result ≡ in_flight self.now }
-        ensures balances { Balances self.now }
+        ensures balances { CountBalances self.now }
     {
         self.allocated - self.acknowledged - self.lost
     }
@@ -116,7 +116,7 @@ impl FlowCount {
     /// The slots that are yet to be allocated.
     pub fn pending(&self) -> u32
         ensures slots { result ≡ pending self.now }
-        ensures balances { Balances self.now }
+        ensures balances { CountBalances self.now }
     {
         self.demanded - (self.allocated - self.lost)
     }

@@ -11,7 +11,7 @@ use Rattle.arbiter_lane.specs.declared.refusal.UpRefused.{UpRefused}
 use Rattle.arbiter_lane.specs.declared.refusal.UpRefused.TheVariants.{NotMine, OldSeq, Repeat}
 use Rattle.arbiter_lane.specs.Refusals.{up_refusal, up_refusal_or, up_refusal_of_packet, IsOwnUp}
 use Rattle.arbiter_lane.specs.State.{LaneState}
-use Rattle.arbiter_lane.specs.Standing.{StandsFor}
+use Rattle.arbiter_lane.specs.Standing.{LaneStandsFor}
 use Rattle.lane_rounds.specs.Outside.{names}
 use Rattle.lane_rounds.specs.Refused.{with_arrival}
 use Rattle.lane_rounds.proofs.Raw.{names-own}
@@ -32,13 +32,13 @@ same lane new bytes history off unchanged =
 pub with_bytes-stands : (lane new : LaneState) (round : ℕ) (bytes : List ℕ) (given : Option UpRefused) (history : LaneHistory) (allocations : List Allocation) →
     given ≡ up_refusal lane.endpoint lane.endpoints history bytes →
     IfSome given (λ refusal. refusal ≢ OldSeq → refusal ≢ Repeat → new ≡ lane) →
-    (IsOwnUp lane.endpoint lane.endpoints bytes → StandsFor new (TakesUp round (up_packet (up_of bytes)) ∷ history) allocations) →
-    StandsFor lane history allocations → StandsFor new (with_arrival lane.endpoint lane.endpoints round bytes history) allocations
+    (IsOwnUp lane.endpoint lane.endpoints bytes → LaneStandsFor new (TakesUp round (up_packet (up_of bytes)) ∷ history) allocations) →
+    LaneStandsFor lane history allocations → LaneStandsFor new (with_arrival lane.endpoint lane.endpoints round bytes history) allocations
 with_bytes-stands lane new round bytes given history allocations answer unchanged stands stood =
-    let Stands : Bool → Type 0 = λ b. StandsFor new (cond b (TakesUp round (up_packet (up_of bytes)) ∷ history) history) allocations in
+    let Stands : Bool → Type 0 = λ b. LaneStandsFor new (cond b (TakesUp round (up_packet (up_of bytes)) ∷ history) history) allocations in
     elim (cases_Bool (names lane.endpoint lane.endpoints bytes)) [
       | inl on ↦ subst Stands (sym on) (stands (names-own lane.endpoint lane.endpoints bytes on))
       | inr off ↦
           let kept = same lane new bytes history off (subst (λ (g : Option UpRefused). IfSome g (λ refusal. refusal ≢ OldSeq → refusal ≢ Repeat → new ≡ lane)) answer unchanged) in
-          subst Stands (sym off) (subst (λ (l : LaneState). StandsFor l history allocations) (sym kept) stood)
+          subst Stands (sym off) (subst (λ (l : LaneState). LaneStandsFor l history allocations) (sym kept) stood)
     ]

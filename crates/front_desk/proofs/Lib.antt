@@ -3,6 +3,6 @@ pub mod Crossing
 mod Entering
 mod Lines
 pub mod Polls
-mod Reading
+pub mod Reading
 mod Twos
 mod Windows

@@ -4,11 +4,11 @@ use Rattle.std.proofs.lemmas.List.{map-set, length_push}
 use Rattle.std.proofs.lemmas.Option.{slice_get-map, slice_get_read, slice_get_within}
 use mathlib.Core.List.{IsPrefix}
 use Rattle.rtrb.specs.Ring.{received}
+use Rattle.endpoint_history.proofs.OneContent.{some-same}
 use Rattle.front_desk.specs.declared.line.Line.{Line}
 use Rattle.front_desk.specs.declared.progress.Progress.TheVariants.{Closed}
 use Rattle.front_desk.specs.State.{RingName, LineState, SeatState, opened_line, opened_seat, opened_seats}
-use Rattle.front_desk.specs.Standing.{IsLine, AreLines, state_of}
-use Rattle.front_desk.proofs.Polls.{some_same}
+use Rattle.front_desk.specs.Standing.{IsDeskLine, AreDeskLines, state_of}
 
 -- ---- one line
 
@@ -25,13 +25,13 @@ state_at lines states at line view is =
     ap (λ (xs : List LineState). slice_get xs at) (sym view) ∙ (slice_get-map state_of lines at ∙ ap (λ o. option_map state_of o) is)
 
 pub same_state : (lines : List Line) (states : List LineState) (at : ℕ) (line : Line) (state : LineState) → map state_of lines ≡ states → slice_get lines at ≡ Some line → slice_get states at ≡ Some state → state_of line ≡ state
-same_state lines states at line state view here is = some_same (state_of line) state (sym (state_at lines states at line view here) ∙ is)
+same_state lines states at line state view here is = some-same (state_of line) state (sym (state_at lines states at line view here) ∙ is)
 
 -- ---- after one has changed
 
 get_set : {X : Type 0} (xs : List X) (at : ℕ) (y : X) (other : ℕ) (x : X) → slice_get (set xs at y) other ≡ Some x → ((other ≡ at) × (x ≡ y)) ⊎ (slice_get xs other ≡ Some x)
 get_set [] at y other x is = inr is
-get_set (z ∷ xs) zero y zero x is = inl (refl, sym (some_same y x is))
+get_set (z ∷ xs) zero y zero x is = inl (refl, sym (some-same y x is))
 get_set (z ∷ xs) zero y (suc other) x is = inr is
 get_set (z ∷ xs) (suc at) y zero x is = inr is
 get_set (z ∷ xs) (suc at) y (suc other) x is = elim (get_set xs at y other x is) [
@@ -39,10 +39,10 @@ get_set (z ∷ xs) (suc at) y (suc other) x is = elim (get_set xs at y other x i
   | inr q ↦ inr q
 ]
 
-pub lines-set : (endpoints : ℕ) (lines : List Line) (at : ℕ) (old new : Line) → AreLines endpoints lines → slice_get lines at ≡ Some old → ((endpoint among : ℕ) → IsLine endpoint among old → IsLine endpoint among new)
-    → AreLines endpoints (set lines at new)
+pub lines-set : (endpoints : ℕ) (lines : List Line) (at : ℕ) (old new : Line) → AreDeskLines endpoints lines → slice_get lines at ≡ Some old → ((endpoint among : ℕ) → IsDeskLine endpoint among old → IsDeskLine endpoint among new)
+    → AreDeskLines endpoints (set lines at new)
 lines-set endpoints lines at old new are here changes endpoint line is = elim (get_set lines at new endpoint line is) [
-  | inl p ↦ subst (λ (l : Line). IsLine endpoint endpoints l) (sym p.1) (changes endpoint endpoints (are endpoint old (ap (λ n. slice_get lines n) p.0 ∙ here)))
+  | inl p ↦ subst (λ (l : Line). IsDeskLine endpoint endpoints l) (sym p.1) (changes endpoint endpoints (are endpoint old (ap (λ n. slice_get lines n) p.0 ∙ here)))
   | inr q ↦ are endpoint line q
 ]
 
@@ -78,10 +78,10 @@ written (x ∷ items) [] count is same = absurd (omega (arith, same))
 written (x ∷ items) (y ∷ new) zero is same = absurd (omega (arith, is))
 written (x ∷ items) (y ∷ new) (suc count) is same = ap (λ xs. y ∷ xs) (written items new count (omega (arith, is)) (omega (arith, same)))
 
-pub stand-written : (items new : List Line) (count : ℕ) → count ≡ length items → length new ≡ length items → AreLines (length items) new
-    → AreLines (length (take count (new ++ drop (length new) items))) (take count (new ++ drop (length new) items))
+pub stand-written : (items new : List Line) (count : ℕ) → count ≡ length items → length new ≡ length items → AreDeskLines (length items) new
+    → AreDeskLines (length (take count (new ++ drop (length new) items))) (take count (new ++ drop (length new) items))
 stand-written items new count is same stand =
-    subst (λ (lines : List Line). AreLines (length lines) lines) (sym (written items new count is same)) (subst (λ n. AreLines n new) (sym same) stand)
+    subst (λ (lines : List Line). AreDeskLines (length lines) lines) (sym (written items new count is same)) (subst (λ n. AreDeskLines n new) (sym same) stand)
 
 -- ---- all that are opened
 
@@ -106,10 +106,10 @@ pub record HaveOpened (endpoints b g room count : ℕ) (lines : List Line) (seat
   pub many : length lines ≡ count
   pub lines_are : map state_of lines ≡ map (opened_line room b g) rings
   pub seats_are : seats ≡ opened_seats room 0 rings
-  pub stand : AreLines endpoints lines
+  pub stand : AreDeskLines endpoints lines
 
 get_append : {X : Type 0} (xs : List X) (y : X) (at : ℕ) (x : X) → slice_get (xs ++ y ∷ []) at ≡ Some x → ((at ≡ length xs) × (x ≡ y)) ⊎ (slice_get xs at ≡ Some x)
-get_append [] y zero x is = inl (refl, sym (some_same y x is))
+get_append [] y zero x is = inl (refl, sym (some-same y x is))
 get_append [] y (suc at) x is = inr is
 get_append (z ∷ xs) y zero x is = inr is
 get_append (z ∷ xs) y (suc at) x is = elim (get_append xs y at x is) [
@@ -118,7 +118,7 @@ get_append (z ∷ xs) y (suc at) x is = elim (get_append xs y at x is) [
 ]
 
 pub opened-more : (endpoints b g room count : ℕ) (lines : List Line) (seats : List SeatState) (line : Line) (seat : SeatState) (ring : RingName) → HaveOpened endpoints b g room count lines seats →
-    IsLine count endpoints line → state_of line ≡ opened_line room b g ring → seat ≡ opened_seat room count ring → HaveOpened endpoints b g room (count + 1) (lines ++ line ∷ []) (seats ++ seat ∷ [])
+    IsDeskLine count endpoints line → state_of line ≡ opened_line room b g ring → seat ≡ opened_seat room count ring → HaveOpened endpoints b g room (count + 1) (lines ++ line ∷ []) (seats ++ seat ∷ [])
 opened-more endpoints b g room count lines seats line seat ring some is_line line_is seat_is = record {
   rings = some.rings ++ ring ∷ [];
   each = length_push some.rings ring ∙ ap (λ n. n + 1) some.each;
@@ -130,7 +130,7 @@ opened-more endpoints b g room count lines seats line seat ring some is_line lin
       ∙ (ap (λ (s : SeatState). opened_seats room 0 some.rings ++ s ∷ []) (seat_is ∙ ap (λ n. opened_seat room n ring) (omega (arith, some.each)))
       ∙ sym (opened_seats-append room 0 some.rings ring));
   stand = λ endpoint other is. elim (get_append lines line endpoint other is) [
-    | inl p ↦ subst (λ (l : Line). IsLine endpoint endpoints l) (sym p.1) (subst (λ n. IsLine n endpoints line) (sym (p.0 ∙ some.many)) is_line)
+    | inl p ↦ subst (λ (l : Line). IsDeskLine endpoint endpoints l) (sym p.1) (subst (λ n. IsDeskLine n endpoints line) (sym (p.0 ∙ some.many)) is_line)
     | inr q ↦ some.stand endpoint other q
   ];
 }

@@ -1,10 +1,8 @@
 -- What passes over the rings leave of the lines, pass after pass.
 use Rattle.std.proofs.Common.{◌≡◌, ℕ, zero, suc, List, [], ◌∷◌, ◌++◌, length, set, Some, slice_get, sym, ◌∙◌, ap, subst, refl}
 use Rattle.std.proofs.lemmas.List.{append-nil}
+use Rattle.endpoint_history.proofs.OneContent.{some-same}
 use Rattle.front_desk.specs.State.{LineState, MayTakeMore, HavePolled}
-
-pub some_same : {X : Type 0} (x y : X) → Some x ≡ Some y → x ≡ y
-some_same x y is = cc
 
 pub polled-same : (states : List LineState) → HavePolled states states
 polled-same [] = tt
@@ -26,7 +24,7 @@ polled-then [] [] at old new polled here more = tt
 polled-then [] (s ∷ states) at old new polled here more = absurd polled
 polled-then (f ∷ first) [] at old new polled here more = absurd polled
 polled-then (f ∷ first) (s ∷ states) zero old new polled here more =
-    (take_more-then f s new polled.0 (subst (λ (x : LineState). MayTakeMore x new) (sym (some_same s old here)) more), polled.1)
+    (take_more-then f s new polled.0 (subst (λ (x : LineState). MayTakeMore x new) (sym (some-same s old here)) more), polled.1)
 polled-then (f ∷ first) (s ∷ states) (suc at) old new polled here more = (polled.0, polled-then first states at old new polled.1 here more)
 
 pub polled-length : (old new : List LineState) → HavePolled old new → length new ≡ length old
@@ -49,5 +47,5 @@ polled-at [] new at line polled here = absurd (none_is at here)
     none_is : (at : ℕ) → slice_get [] at ≡ Some line → ⊥
     none_is at is = cc
 polled-at (a ∷ old) [] at line polled here = absurd polled
-polled-at (a ∷ old) (b ∷ new) zero line polled here = (b, refl, subst (λ (x : LineState). MayTakeMore x b) (some_same a line here) polled.0)
+polled-at (a ∷ old) (b ∷ new) zero line polled here = (b, refl, subst (λ (x : LineState). MayTakeMore x b) (some-same a line here) polled.0)
 polled-at (a ∷ old) (b ∷ new) (suc at) line polled here = polled-at old new at line polled.1 here

@@ -8,7 +8,7 @@ use Rattle.endpoint_history.specs.Packets.{Telling, Resets, Requests, slots_to, 
 use Rattle.endpoint_history.specs.Lane.{LaneHistory, MakesDown, TakesUp, Records, restarts, is_current, numbers, untold}
 use Rattle.endpoint_history.specs.Counts.{owed, recorded, slots_in, decides}
 use Rattle.ack_window.specs.Acknowledgement.{is_found_lost}
-use Rattle.endpoint_history.specs.Entries.{added, counted_from, entry_of, entry_with, had, is_reset}
+use Rattle.endpoint_history.specs.Entries.{added, counted_from, next_entry, entry_with, had, is_reset}
 use Rattle.lane_rounds.specs.Outside.{names}
 use Rattle.lane_rounds.specs.Refused.{with_arrival}
 use Rattle.front_desk.specs.Answers.{arrived_after, calls_of}
@@ -68,7 +68,7 @@ module _ (g h : ℕ) where
   added-same history dst are =
       ap (λ n. n - owed g (counted_from history) dst) (owed-same history dst are) ∙ ap (λ n. owed h history dst - n) (owed-same (counted_from history) dst (counted-are history are))
 
-  entry-same : (endpoint : ℕ) (history : LaneHistory) (dst : ℕ) → AreArrivals history → entry_of endpoint g history dst ≡ entry_of endpoint h history dst
+  entry-same : (endpoint : ℕ) (history : LaneHistory) (dst : ℕ) → AreArrivals history → next_entry endpoint g history dst ≡ next_entry endpoint h history dst
   entry-same endpoint history dst are =
       ap (λ b. entry_with endpoint dst b (is_reset history && b) (added g history dst)) (had-same history dst are)
       ∙ ap (λ n. entry_with endpoint dst (had h history dst) (is_reset history && had h history dst) n) (added-same history dst are)

@@ -4,16 +4,16 @@ use Rattle.std.specs.Prelude.{ℕ, ◌+◌, List, [], ◌∷◌, ◌++◌, Optio
 use Rattle.std.specs.List.{filter_map, range_with_len}
 use Rattle.greedy_rules.specs.declared.flows.Entry.{Entry}
 use Rattle.endpoint_history.specs.Lane.{LaneHistory, MakesDown}
-use Rattle.endpoint_history.specs.Entries.{entry_of}
+use Rattle.endpoint_history.specs.Entries.{next_entry}
 use Rattle.arbiter_lane.specs.declared.refusal.UpRefused.{UpRefused}
 use Rattle.arbiter_lane.specs.Refusals.{up_refusal}
-use Rattle.lane_rounds.specs.Refused.{number_of, with_arrival}
+use Rattle.lane_rounds.specs.Refused.{up_refusal_number, with_arrival}
 use Rattle.front_desk.specs.State.{LineState}
 
 -- 0 where a packet is accepted, else the number of its refusal
 abbrev pub answer_number : Option UpRefused → ℕ
 answer_number None = 0
-answer_number (Some refusal) = number_of refusal
+answer_number (Some refusal) = up_refusal_number refusal
 
 module _ (endpoint endpoints : ℕ) where
   -- a lane's calls with these packets after them, all in round 0
@@ -36,9 +36,9 @@ module _ (endpoint endpoints : ℕ) where
 
   -- the entries that the lane then records
   abbrev pub entries_of : ℕ → List (List ℕ) → List Entry
-  entries_of g packets = filter_map (entry_of endpoint g (calls_of packets)) (range_with_len 0 endpoints)
+  entries_of g packets = filter_map (next_entry endpoint g (calls_of packets)) (range_with_len 0 endpoints)
 
 -- those of all lines, by rising endpoint from this one on
-abbrev pub entries_from : ℕ → ℕ → List LineState → List Entry
-entries_from endpoints endpoint [] = []
-entries_from endpoints endpoint (line ∷ lines) = entries_of endpoint endpoints line.g line.taken ++ entries_from endpoints (endpoint + 1) lines
+abbrev pub desk_entries_from : ℕ → ℕ → List LineState → List Entry
+desk_entries_from endpoints endpoint [] = []
+desk_entries_from endpoints endpoint (line ∷ lines) = entries_of endpoint endpoints line.g line.taken ++ desk_entries_from endpoints (endpoint + 1) lines

@@ -24,14 +24,14 @@ pub record HasRead (endpoint endpoints : ℕ) (lane : LaneState) (packets : List
   pub endpoint_is : lane.endpoint ≡ endpoint
   pub endpoints_are : lane.endpoints ≡ endpoints
   pub round : lane.round ≡ 0
-  pub stands : lanes.StandsFor lane (calls_of endpoint endpoints packets) []
+  pub stands : lanes.LaneStandsFor lane (calls_of endpoint endpoints packets) []
   pub answers_are : answers ≡ answers_of endpoint endpoints packets
 
 -- the line of this endpoint: its answers are kept, with room for all; its lane has read the packets until its entries are recorded
-pub record IsLine (endpoint endpoints : ℕ) (line : Line) : Type 0 where
+pub record IsDeskLine (endpoint endpoints : ℕ) (line : Line) : Type 0 where
   pub room : consumer_capacity line.ring ≤ vec_capacity line.answers
   pub answers_are : line.answers.items ≡ answers_of endpoint endpoints (received line.ring)
   pub reads : line.progress ≢ Recorded → HasRead endpoint endpoints line.lane (received line.ring) line.answers.items
 
-abbrev pub AreLines : ℕ → List Line → Type 0
-AreLines endpoints lines = (endpoint : ℕ) (line : Line) → slice_get lines endpoint ≡ Some line → IsLine endpoint endpoints line
+abbrev pub AreDeskLines : ℕ → List Line → Type 0
+AreDeskLines endpoints lines = (endpoint : ℕ) (line : Line) → slice_get lines endpoint ≡ Some line → IsDeskLine endpoint endpoints line

@@ -3,8 +3,8 @@ ghost use Rattle.std.specs.Prelude.{◌≡◌, ◌<◌, ◌≤◌, ℕ, List, []
 ghost use mathlib.Core.List.{IsPrefix};
 ghost use Rattle.front_desk.specs.declared.progress.Progress.TheVariants as progress_of;
 ghost use Rattle.front_desk.specs.State.{LineState, IsSeatOf, AreOpened, HavePolled, recorded_line};
-ghost use Rattle.front_desk.specs.Answers.{answers_of, entries_from};
-ghost use Rattle.front_desk.specs.Standing.{AreLines, state_of};
+ghost use Rattle.front_desk.specs.Answers.{answers_of, desk_entries_from};
+ghost use Rattle.front_desk.specs.Standing.{AreDeskLines, state_of};
 
 use crate::NoMemory;
 use crate::line::Line;
@@ -23,13 +23,13 @@ pub struct Desk {
 impl Model for Desk {
     ghost use Rattle.std.specs.Prelude.{List, length, map};
     ghost use Rattle.front_desk.specs.State.{LineState};
-    ghost use Rattle.front_desk.specs.Standing.{AreLines, state_of};
+    ghost use Rattle.front_desk.specs.Standing.{AreDeskLines, state_of};
 
     ghost Value = { List LineState };
 
     ghost view = { λ desk. map state_of desk.lines.items };
 
-    ghost invariant = { λ desk. AreLines (length desk.lines.items) desk.lines.items };
+    ghost invariant = { λ desk. AreDeskLines (length desk.lines.items) desk.lines.items };
 }
 
 impl Desk {
@@ -107,7 +107,7 @@ impl Desk {
         // Every seat was closed, and nothing was recorded yet.
         requires closed { All (λ (line : LineState). line.progress ≡ progress_of.Closed) self.old }
         requires empty { batch.old.entries ≡ [] }
-        ensures entries { OnOk result (batch.new.entries ≡ entries_from (length self.old) 0 self.old) }
+        ensures entries { OnOk result (batch.new.entries ≡ desk_entries_from (length self.old) 0 self.old) }
         ensures limits { batch.new.limits ≡ batch.old.limits }
         ensures recorded { OnOk result (self.new ≡ map recorded_line self.old) }
     {
@@ -118,8 +118,8 @@ impl Desk {
 /// Takes what is seen in each ring.
 fn poll_all(lines: &mut [Line], round: u32)
     requires round { round ≡ 0 }
-    requires lines { AreLines (length lines.old) lines.old }
-    ensures lines { AreLines (length lines.old) lines.new }
+    requires lines { AreDeskLines (length lines.old) lines.old }
+    ensures lines { AreDeskLines (length lines.old) lines.new }
     ensures as_many { length lines.new ≡ length lines.old }
     ensures polled { HavePolled (map state_of lines.old) (map state_of lines.new) }
 {
@@ -131,12 +131,12 @@ fn poll_all(lines: &mut [Line], round: u32)
 /// Records what each line has read, by rising endpoint.
 fn record_all(lines: &mut [Line], round: u32, batch: &mut Batch) -> Result<(), NoMemory>
     requires round { round ≡ 0 }
-    requires lines { AreLines (length lines.old) lines.old }
+    requires lines { AreDeskLines (length lines.old) lines.old }
     requires closed { All (λ (line : LineState). line.progress ≡ progress_of.Closed) (map state_of lines.old) }
     requires empty { batch.old.entries ≡ [] }
-    ensures lines { AreLines (length lines.old) lines.new }
+    ensures lines { AreDeskLines (length lines.old) lines.new }
     ensures as_many { length lines.new ≡ length lines.old }
-    ensures entries { OnOk result (batch.new.entries ≡ entries_from (length lines.old) 0 (map state_of lines.old)) }
+    ensures entries { OnOk result (batch.new.entries ≡ desk_entries_from (length lines.old) 0 (map state_of lines.old)) }
     ensures limits { batch.new.limits ≡ batch.old.limits }
     ensures recorded { OnOk result (map state_of lines.new ≡ map recorded_line (map state_of lines.old)) }
 {

@@ -6,7 +6,7 @@ ghost use Rattle.rtrb.specs.Ring.{received, known_items, consumer_capacity, Same
 ghost use Rattle.front_desk.specs.declared.progress.Progress.TheVariants as progress_of;
 ghost use Rattle.front_desk.specs.State.{opened_line, opened_seat, IsSeatOf, MayTakeMore, RingName};
 ghost use Rattle.front_desk.specs.Answers.{answer_number, answers_of, entries_of};
-ghost use Rattle.front_desk.specs.Standing.{HasRead, IsLine, state_of};
+ghost use Rattle.front_desk.specs.Standing.{HasRead, IsDeskLine, state_of};
 
 use crate::NoMemory;
 use crate::packet::Packet;
@@ -43,7 +43,7 @@ impl Line {
         requires most_slots { b ≤ 64 }
         requires some_round { 1 ≤ g }
         requires most_rounds { g ≤ 16 }
-        ensures line { IfOk result (λ opened. IsLine endpoint endpoints opened.0) }
+        ensures line { IfOk result (λ opened. IsDeskLine endpoint endpoints opened.0) }
         ensures state { IfOk result (λ opened. (ring : RingName) × (state_of opened.0 ≡ opened_line room b g ring) × (opened.1 ≡ opened_seat room endpoint ring)) }
     {
         let (producer, consumer) = RingBuffer::new(alloc, room as usize)?;
@@ -59,8 +59,8 @@ impl Line {
     /// Takes what is seen in the ring of an open line.
     pub(crate) fn poll(&mut self, round: u32)
         requires round { round ≡ 0 }
-        requires line { (endpoint : ℕ) × (endpoints : ℕ) × IsLine endpoint endpoints self.old }
-        ensures line { (endpoint endpoints : ℕ) → IsLine endpoint endpoints self.old → IsLine endpoint endpoints self.new }
+        requires line { (endpoint : ℕ) × (endpoints : ℕ) × IsDeskLine endpoint endpoints self.old }
+        ensures line { (endpoint endpoints : ℕ) → IsDeskLine endpoint endpoints self.old → IsDeskLine endpoint endpoints self.new }
         ensures polled { MayTakeMore (state_of self.old) (state_of self.new) }
     {
         if self.progress == Progress::Open {
@@ -71,10 +71,10 @@ impl Line {
     /// Takes all that is left of its seat, into which nothing more is put.
     pub(crate) fn close(&mut self, round: u32, seat: Seat)
         requires round { round ≡ 0 }
-        requires line { (endpoint : ℕ) × (endpoints : ℕ) × IsLine endpoint endpoints self.old }
+        requires line { (endpoint : ℕ) × (endpoints : ℕ) × IsDeskLine endpoint endpoints self.old }
         requires seat { IsSeatOf seat (state_of self.old) }
         requires progress { self.old.progress ≡ progress_of.Open }
-        ensures line { (endpoint endpoints : ℕ) → IsLine endpoint endpoints self.old → IsLine endpoint endpoints self.new }
+        ensures line { (endpoint endpoints : ℕ) → IsDeskLine endpoint endpoints self.old → IsDeskLine endpoint endpoints self.new }
         ensures closed { state_of self.new ≡ record (state_of self.old) { taken = seat.put; progress = progress_of.Closed } }
         ensures front { (rest : List (List ℕ)) × (received self.old.ring ++ rest ≡ seat.put) }
     {
@@ -94,10 +94,10 @@ impl Line {
     pub(crate) fn record(&mut self, round: u32, batch: &mut Batch) -> Result<(), NoMemory>
         requires round { round ≡ 0 }
         requires progress { self.old.progress ≡ progress_of.Closed }
-        requires line { (endpoint : ℕ) × (endpoints : ℕ) × IsLine endpoint endpoints self.old × IsAboveLast batch.old.entries (record { src = endpoint; dst = 0 }) }
-        ensures line { (endpoint endpoints : ℕ) → IsLine endpoint endpoints self.old → IsLine endpoint endpoints self.new }
+        requires line { (endpoint : ℕ) × (endpoints : ℕ) × IsDeskLine endpoint endpoints self.old × IsAboveLast batch.old.entries (record { src = endpoint; dst = 0 }) }
+        ensures line { (endpoint endpoints : ℕ) → IsDeskLine endpoint endpoints self.old → IsDeskLine endpoint endpoints self.new }
         ensures recorded { OnOk result (state_of self.new ≡ record (state_of self.old) { progress = progress_of.Recorded }) }
-        ensures entries { OnOk result ((endpoint endpoints : ℕ) → IsLine endpoint endpoints self.old →
+        ensures entries { OnOk result ((endpoint endpoints : ℕ) → IsDeskLine endpoint endpoints self.old →
             batch.new.entries ≡ batch.old.entries ++ entries_of endpoint endpoints self.old.lane.g (received self.old.ring)) }
         ensures limits { batch.new.limits ≡ batch.old.limits }
     {
@@ -107,7 +107,7 @@ impl Line {
 
     /// How many packets were taken.
     pub(crate) fn taken(&self) -> usize
-        requires { (endpoint : ℕ) × (endpoints : ℕ) × IsLine endpoint endpoints self.now }
+        requires { (endpoint : ℕ) × (endpoints : ℕ) × IsDeskLine endpoint endpoints self.now }
         ensures { result ≡ length (received self.now.ring) }
     {
         self.answers.len()
@@ -115,9 +115,9 @@ impl Line {
 
     /// What the packet at this place was answered: 0 where it was accepted, else the number of its refusal.
     pub(crate) fn answer(&self, at: usize) -> u8
-        requires line { (endpoint : ℕ) × (endpoints : ℕ) × IsLine endpoint endpoints self.now }
+        requires line { (endpoint : ℕ) × (endpoints : ℕ) × IsDeskLine endpoint endpoints self.now }
         requires taken { at < length (received self.now.ring) }
-        ensures { (endpoint endpoints : ℕ) → IsLine endpoint endpoints self.now → slice_get (answers_of endpoint endpoints (received self.now.ring)) at ≡ Some result }
+        ensures { (endpoint endpoints : ℕ) → IsDeskLine endpoint endpoints self.now → slice_get (answers_of endpoint endpoints (received self.now.ring)) at ≡ Some result }
     {
         self.answers[at]
     }

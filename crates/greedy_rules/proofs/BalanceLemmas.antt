@@ -77,7 +77,7 @@ need_added : (entry : Option Entry) (need : ℕ) → clears entry ≡ false → 
 need_added None need keeps = omega arith
 need_added (Some entry) need keeps = ap (λ (n : ℕ). n + entry.add) (cond-false entry.clear 0 need keeps)
 
-slots_of-append : (flow : Flow) (one two : List (List Flow)) → slots_of flow (one ++ two) ≡ slots_of flow one + slots_of flow two
+pub slots_of-append : (flow : Flow) (one two : List (List Flow)) → slots_of flow (one ++ two) ≡ slots_of flow one + slots_of flow two
 slots_of-append flow one two = sum_by-append (λ (slot : List Flow). cond (has_flow slot flow) 1 0) one two
 
 one_batch_by : (key : Key) (b k : ℕ) (before : List DemandBatch) (batch : DemandBatch) (later : List DemandBatch) (list : List Item) (flow : Flow) → Leaves before list → AreInOrder before (batch ∷ later)

@@ -17,7 +17,7 @@ pub not_taken : (limits : Limits) (slot : List Flow) (flow : Flow) → is_barred
 not_taken limits slot flow free = (or_parts (is_taken slot flow) (is_outward limits.hosts flow && lacks_core limits slot flow) free).0
 
 -- no fewer are too many as well
-still_full : (m n cores : ℕ) → m ≤ n → not (nat_lt m cores) ≡ true → not (nat_lt n cores) ≡ true
+pub still_full : (m n cores : ℕ) → m ≤ n → not (nat_lt m cores) ≡ true → not (nat_lt n cores) ≡ true
 still_full m n cores more full = grind (arith, nat_tests)
 
 at_most_more : (p : Flow → Bool) (flow : Flow) (slot : List Flow) → count_by p slot ≤ count_by p (slot_with flow slot)

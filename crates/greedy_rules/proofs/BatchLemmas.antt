@@ -7,8 +7,9 @@ use Rattle.greedy_rules.specs.Flows.{flow_below}
 use Rattle.greedy_rules.specs.Batches.{IsBatch, IsAboveLast}
 use Rattle.greedy_rules.proofs.FlowOrder.{flow_below-trans}
 use Rattle.list_facts.proofs.Pairs.{AllPairs-nil, AllPairs-cons, AllPairs-head, AllPairs-tail}
+use Rattle.greedy_rules.specs.Batches.{DemandBatch}
 
-abbrev Below : Entry → Entry → Type 0
+abbrev pub Below : Entry → Entry → Type 0
 Below e f = IsTrue (flow_below e.flow f.flow)
 
 -- above the last is above all
@@ -27,3 +28,6 @@ pairs_push (x ∷ xs) entry rising above =
 
 pub IsBatch-push : (batch : List Entry) (entry : Entry) → IsBatch batch → IsAboveLast batch entry.flow → IsBatch (batch ++ entry ∷ [])
 IsBatch-push batch entry rising above = pairs_push batch entry rising (above_all batch entry.flow rising above)
+
+abbrev pub no_batch : DemandBatch
+no_batch = record { entries = []; limits = record { hosts = 0; cores = 0 } }

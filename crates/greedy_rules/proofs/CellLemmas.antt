@@ -13,6 +13,7 @@ use Rattle.greedy_rules.specs.Flows.{same_flow, flow_below}
 use Rattle.greedy_rules.specs.Batches.{IsBatch, entry_of}
 use Rattle.greedy_rules.specs.Cells.{Cells, flow_of, AreOfTheirCells, EveryTableMakesABatch}
 use Rattle.greedy_rules.proofs.FlowOrder.{same_flow-true, same_flow-refl}
+use Rattle.greedy_rules.proofs.BatchLemmas.{Below}
 use Rattle.list_facts.proofs.Pairs.{AllPairs-nil, AllPairs-cons, AllPairs-append}
 
 -- flows that are not equal are told apart, and equal ones not
@@ -31,15 +32,12 @@ entry_of-none (e ∷ es) flow other =
     let P : Entry → Type 0 = λ x. x.flow ≢ flow in
     cond-false (same_flow e.flow flow) (Some e) (entry_of es flow) (differs e.flow flow (All-head P e es other)) ∙ entry_of-none es flow (All-tail P e es other)
 
-abbrev Rises : Entry → Entry → Type 0
-Rises e f = IsTrue (flow_below e.flow f.flow)
-
-by_destination : (s d t : ℕ) (e f : Entry) → e.flow ≡ flow_of s d → f.flow ≡ flow_of s t → d < t → Rises e f
+by_destination : (s d t : ℕ) (e f : Entry) → e.flow ≡ flow_of s d → f.flow ≡ flow_of s t → d < t → Below e f
 by_destination s d t e f one other lt =
     let below : IsTrue (flow_below (flow_of s d) (flow_of s t)) = grind (arith, nat_tests) in
     subst (λ (x : Flow). IsTrue (flow_below x f.flow)) (sym one) (subst (λ (x : Flow). IsTrue (flow_below (flow_of s d) x)) (sym other) below)
 
-by_source : (e f : Entry) → e.flow.src < f.flow.src → Rises e f
+pub by_source : (e f : Entry) → e.flow.src < f.flow.src → Below e f
 by_source e f lt = grind (arith, nat_tests)
 
 all_more : (P : Entry → Type 0) (o : Option Entry) (es : List Entry) → IfSome o P → All P es → All P (cons_option o es)
@@ -72,25 +70,25 @@ module _ (cell : Cells) (of : AreOfTheirCells cell) where
       weaker None h = tt
       weaker (Some e) h = then e h
 
-  row_rises : (s a n : ℕ) → AllPairs Rises (row s a n)
-  row_rises s a zero = AllPairs-nil Rises
+  row_rises : (s a n : ℕ) → AllPairs Below (row s a n)
+  row_rises s a zero = AllPairs-nil Below
   row_rises s a (suc n) = more (cell s a) (of s a) (row_rises s (a + 1) n)
     where
-      more : (o : Option Entry) → IfSome o (λ e. e.flow ≡ flow_of s a) → AllPairs Rises (row s (a + 1) n) → AllPairs Rises (cons_option o (row s (a + 1) n))
+      more : (o : Option Entry) → IfSome o (λ e. e.flow ≡ flow_of s a) → AllPairs Below (row s (a + 1) n) → AllPairs Below (cons_option o (row s (a + 1) n))
       more None h rest = rest
       more (Some e) h rest =
-          AllPairs-cons Rises e (row s (a + 1) n)
-          (all_row (Rises e) s (a + 1) n (λ d low high. has (Rises e) s d (λ f is. by_destination s a d e f h is (omega arith))))
+          AllPairs-cons Below e (row s (a + 1) n)
+          (all_row (Below e) s (a + 1) n (λ d low high. has (Below e) s d (λ f is. by_destination s a d e f h is (omega arith))))
           rest
 
   pub rows_rise : (a n width : ℕ) → IsBatch (rows a n width)
-  rows_rise a zero width = AllPairs-nil Rises
+  rows_rise a zero width = AllPairs-nil Below
   rows_rise a (suc n) width =
-      AllPairs-append Rises (row a 0 width) (rows (a + 1) n width) (row_rises a 0 width) (rows_rise (a + 1) n width)
-      (all_row (λ e. All (Rises e) (rows (a + 1) n width)) a 0 width
-      (λ d low high. has (λ e. All (Rises e) (rows (a + 1) n width)) a d
-      (λ e is. all_rows (Rises e) (a + 1) n width
-      (λ s t low_s high_s within. has (Rises e) s t
+      AllPairs-append Below (row a 0 width) (rows (a + 1) n width) (row_rises a 0 width) (rows_rise (a + 1) n width)
+      (all_row (λ e. All (Below e) (rows (a + 1) n width)) a 0 width
+      (λ d low high. has (λ e. All (Below e) (rows (a + 1) n width)) a d
+      (λ e is. all_rows (Below e) (a + 1) n width
+      (λ s t low_s high_s within. has (Below e) s t
       (λ f are. let one = ap (λ (x : Flow). x.src) is in let other = ap (λ (x : Flow). x.src) are in by_source e f (omega arith))))))
 
   -- the entry of a flow is its cell

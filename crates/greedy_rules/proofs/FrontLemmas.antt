@@ -28,7 +28,7 @@ schedule-append_by key b k list (x ∷ xs) ys =
 pub schedules_go_on_by : (key : Key) → SchedulesGoOnBy key
 schedules_go_on_by key b k list front later = (schedule-append_by key b k list front later, rest-append_by key b k list front later)
 
-times_more : (n b : ℕ) → suc n * b ≡ b + n * b
+pub times_more : (n b : ℕ) → suc n * b ≡ b + n * b
 times_more n b = grind arith
 
 length-slots_then_by : (key : Key) (b k : ℕ) (batch : DemandBatch) (list : List Item) → length (slots_then_by key b k batch list) ≡ b

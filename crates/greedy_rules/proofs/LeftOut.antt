@@ -63,7 +63,7 @@ every_slot_is_filled_in_order limits front item later =
       ];
     }
 
-abbrev flows : List Item → List Flow
+abbrev pub flows : List Item → List Flow
 flows list = map (λ (item : Item). item.flow) list
 
 flows-served : (number : ℕ) (slot : List Flow) (list : List Item) → flows (map (served number slot) list) ≡ flows list

@@ -1,25 +1,26 @@
-mod FlowOrder
+pub mod FlowOrder
 mod Search
-mod BatchLemmas
-mod SlotLemmas
-mod BarLemmas
+pub mod BatchLemmas
+pub mod SlotLemmas
+pub mod BarLemmas
 mod KeptLemmas
-mod ScheduleLemmas
-mod RowLemmas
-mod TableLemmas
-mod WalkLemmas
+pub mod ScheduleLemmas
+pub mod RowLemmas
+pub mod TableLemmas
+pub mod WalkLemmas
 mod FillLemmas
 mod ApplyLemmas
-mod OnceLemmas
+pub mod OnceLemmas
 mod BatchSlots
-mod NeedLemmas
-mod FrontLemmas
-mod BalanceLemmas
+pub mod NeedLemmas
+pub mod FrontLemmas
+pub mod BalanceLemmas
 mod RoomLemmas
 mod RangeLemmas
-mod SlotSources
-mod RecordedLemmas
+pub mod SlotSources
+pub mod RecordedLemmas
 pub mod CellLemmas
 mod BatchLaws
-mod LeftOut
+pub mod LeftOut
 pub mod Facts
+pub mod Crossing

@@ -18,8 +18,10 @@ use Rattle.greedy_rules.specs.Allocation.{served, after_slot, batch_slots, list_
 use Rattle.greedy_rules.specs.Balance.{EveryBatchBalancesBy, EveryBatchBalances}
 use Rattle.greedy_rules.proofs.FlowOrder.{same_flow-true, same_flow-refl, flow_below-not_same}
 use Rattle.list_facts.proofs.Pairs.{AllPairs-tail, AllPairs-head}
-use Rattle.greedy_rules.proofs.SlotLemmas.{any-slot_with}
-use Rattle.greedy_rules.proofs.OnceLemmas.{once-after_batch_by, below-after_batch_by, once-after_slot, once-sort_by, flows-after_slots_by, served_flow}
+use Rattle.greedy_rules.proofs.SlotLemmas.{any-slot_with, or_swap}
+use Rattle.greedy_rules.proofs.OnceLemmas.{once-after_batch_by, below-after_batch_by, once-after_slot, once-sort_by, flows-after_slots_by, served_flow, Other}
+use Rattle.greedy_rules.proofs.BatchLemmas.{Below}
+use Rattle.greedy_rules.proofs.CellLemmas.{differs as not_same}
 
 -- the need of a flow over a whole list
 abbrev pub needed : Flow → List Item → ℕ
@@ -31,12 +33,6 @@ needed-hit flow item list same = ap (λ (n : ℕ). n + needed flow list) (cond-t
 
 needed-miss : (flow : Flow) (item : Item) (list : List Item) → same_flow item.flow flow ≡ false → needed flow (item ∷ list) ≡ needed flow list
 needed-miss flow item list other = ap (λ (n : ℕ). n + needed flow list) (cond-false (same_flow item.flow flow) item.need 0 other) ∙ omega arith
-
-abbrev Other : Item → Item → Type 0
-Other i j = i.flow ≢ j.flow
-
-not_same : (f g : Flow) → f ≢ g → same_flow f g ≡ false
-not_same f g differs = false_from_ne_true _ (λ same. differs (same_flow-true f g same))
 
 -- the items after one of a flow are of other flows
 others_unlisted : (item : Item) (list : List Item) (flow : Flow) → same_flow item.flow flow ≡ true → All (Other item) list → (needed flow list ≡ 0) × (is_listed list flow ≡ false)
@@ -75,16 +71,11 @@ needed-append : (flow : Flow) (xs ys : List Item) → needed flow (xs ++ ys) ≡
 needed-append flow [] ys = omega arith
 needed-append flow (x ∷ xs) ys = omega (arith, needed-append flow xs ys)
 
-or_turn : (a b c : Bool) → (a || (b || c)) ≡ (b || (a || c))
-or_turn true true c = refl
-or_turn true false c = refl
-or_turn false b c = refl
-
 listed-insert_by : (number : Item → ℕ) (flow : Flow) (x : Item) (xs : List Item) → is_listed (insert_by number x xs) flow ≡ is_listed (x ∷ xs) flow
 listed-insert_by number flow x [] = refl
 listed-insert_by number flow x (y ∷ ys) =
     cond_both (nat_lt (number y) (number x)) (y ∷ insert_by number x ys) (x ∷ (y ∷ ys)) (λ zs. is_listed zs flow ≡ is_listed (x ∷ (y ∷ ys)) flow)
-    (λ _. ap (λ b. same_flow y.flow flow || b) (listed-insert_by number flow x ys) ∙ or_turn (same_flow y.flow flow) (same_flow x.flow flow) (is_listed ys flow)) (λ _. refl)
+    (λ _. ap (λ b. same_flow y.flow flow || b) (listed-insert_by number flow x ys) ∙ or_swap (same_flow y.flow flow) (same_flow x.flow flow) (is_listed ys flow)) (λ _. refl)
 
 listed-sort_by : (number : Item → ℕ) (flow : Flow) (xs : List Item) → is_listed (sort_by number xs) flow ≡ is_listed xs flow
 listed-sort_by number flow [] = refl
@@ -117,7 +108,7 @@ abbrev opening : Option Entry → Bool
 opening None = false
 opening (Some entry) = entry.opens
 
-abbrev opening_item : Entry → Item
+abbrev pub opening_item : Entry → Item
 opening_item entry = record { flow = entry.flow; need = entry.add; last = 0 }
 
 opened-yes : (entry : Entry) (batch : List Entry) → entry.opens ≡ true → opened (entry ∷ batch) ≡ opening_item entry ∷ opened batch
@@ -126,16 +117,13 @@ opened-yes entry batch opens = ap (map opening_item) (cond-true entry.opens (ent
 opened-no : (entry : Entry) (batch : List Entry) → entry.opens ≡ false → opened (entry ∷ batch) ≡ opened batch
 opened-no entry batch stays = ap (map opening_item) (cond-false entry.opens (entry ∷ filter (λ e. e.opens) batch) (filter (λ e. e.opens) batch) stays)
 
-abbrev EntryBelow : Entry → Entry → Type 0
-EntryBelow e f = IsTrue (flow_below e.flow f.flow)
-
 opened_of : (batch : List Entry) (flow : Flow) → IsBatch batch → (needed flow (opened batch) ≡ opening_need (entry_of batch flow)) × (is_listed (opened batch) flow ≡ opening (entry_of batch flow))
 opened_of [] flow rising = (refl, refl)
 opened_of (entry ∷ batch) flow rising =
-    let rest = opened_of batch flow (AllPairs-tail EntryBelow entry batch rising) in
+    let rest = opened_of batch flow (AllPairs-tail Below entry batch rising) in
     elim (cases_Bool (same_flow entry.flow flow)) [
       | inl same ↦
-          let none : entry_of batch flow ≡ None = no_entry entry batch flow same (AllPairs-head EntryBelow entry batch rising) in
+          let none : entry_of batch flow ≡ None = no_entry entry batch flow same (AllPairs-head Below entry batch rising) in
           let here : entry_of (entry ∷ batch) flow ≡ Some entry = cond-true (same_flow entry.flow flow) (Some entry) (entry_of batch flow) same in
           elim (cases_Bool entry.opens) [
             | inl opens ↦ (

@@ -15,7 +15,7 @@ use Rattle.greedy_rules.proofs.FlowOrder.{same_flow-refl, flow_below-not_same}
 use Rattle.list_facts.proofs.Pairs.{AllPairs-nil, AllPairs-cons, AllPairs-head, AllPairs-tail, AllPairs-append}
 use Rattle.list_facts.proofs.StableSort.{All-insert_by, All-sort_by}
 
-abbrev Other : Item → Item → Type 0
+abbrev pub Other : Item → Item → Type 0
 Other i j = i.flow ≢ j.flow
 
 once-insert_by : (number : Item → ℕ) (x : Item) (xs : List Item) → All (Other x) xs → HasEachFlowOnce xs → HasEachFlowOnce (insert_by number x xs)
@@ -69,7 +69,7 @@ once-opened (entry ∷ batch) rising =
     (λ _. AllPairs-cons Other (record { flow = entry.flow; need = entry.add; last = 0 }) (opened batch) others rest) (λ _. rest)
 
 -- a flow that a list has not is no item's
-not_listed : (list : List Item) (flow : Flow) → is_listed list flow ≡ false → All (λ item. item.flow ≢ flow) list
+pub not_listed : (list : List Item) (flow : Flow) → is_listed list flow ≡ false → All (λ item. item.flow ≢ flow) list
 not_listed [] flow none = All-nil (λ item. item.flow ≢ flow)
 not_listed (item ∷ list) flow none =
     let parts = or_parts (same_flow item.flow flow) (is_listed list flow) none in

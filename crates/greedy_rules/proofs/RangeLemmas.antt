@@ -35,7 +35,7 @@ rising-slot_with flow (next ∷ slot) free rising =
     AllPairs-cons Earlier flow (next ∷ slot)
     (All-cons (Earlier flow) next slot first (All-weaker (Earlier next) (Earlier flow) (λ g lt. omega arith) slot later)) rising)
 
-abbrev IsBetween : ℕ → Flow → Type 0
+abbrev pub IsBetween : ℕ → Flow → Type 0
 IsBetween endpoints flow = (flow.src < endpoints) × (flow.dst < endpoints)
 
 keeps_slots : (limits : Limits) (endpoints : ℕ) → Keeps (is_barred limits) (IsBetween endpoints) (IsSlotOf endpoints)

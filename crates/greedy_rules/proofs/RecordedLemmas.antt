@@ -4,6 +4,7 @@ use Rattle.std.proofs.lemmas.Bool.{cond-true, cond-false, cases_Bool}
 use Rattle.std.proofs.lemmas.List.{append-nil, append_assoc, length-append, length-replicate}
 use Rattle.std.proofs.lemmas.List.Folds.{list_any-append}
 use Rattle.std.proofs.lemmas.List.Elements.{All-nil, All-cons, All-head, All-tail, All-append, All-map, All-filter, All-weaker, All-replicate}
+use Rattle.list_facts.proofs.Bools.{or-none}
 use Rattle.greedy_rules.specs.declared.flows.Flow.{Flow}
 use Rattle.greedy_rules.specs.declared.flows.Item.{Item}
 use Rattle.greedy_rules.specs.declared.flows.Entry.{Entry}
@@ -13,7 +14,7 @@ use Rattle.greedy_rules.specs.Batches.{DemandBatch, entry_of}
 use Rattle.greedy_rules.specs.Demands.{Key, last_served, HasEachFlowOnce, is_listed, item_of, need_in, need_with, opened, after_batch_by}
 use Rattle.greedy_rules.specs.Limits.{is_barred, KeepsLimits}
 use Rattle.greedy_rules.specs.Schedule.{first_slot, list_then_by, rest_from_by, slot_limits, schedule_by, rest_by, slot_at, need_before_by, limits_at}
-use Rattle.greedy_rules.specs.Balance.{is_recorded, AreInOrder}
+use Rattle.greedy_rules.specs.Balance.{is_recorded, clears, added_by, AreInOrder}
 use Rattle.greedy_rules.specs.Matching.{AreAmong, IsMaximalMatching}
 use Rattle.greedy_rules.specs.Recorded.{demand_through, demand_of, IsRecordedAfter, AreRecordedAfter, AreRecorded, Applies, MayBeAppliedBy, IsLeftBy, RecordedBatchesMayBeAppliedBy, EveryFrontIsRecorded, LaterBatchesMayBeAppliedBy, EveryRecordedSlotBy, RecordedBatchesMayBeApplied, LaterBatchesMayBeApplied, EveryRecordedSlot}
 use Rattle.greedy_rules.proofs.FlowOrder.{same_flow-refl, same_flow-true}
@@ -21,10 +22,10 @@ use Rattle.greedy_rules.proofs.OnceLemmas.{flows-after_batch_by, flows-after_slo
 use Rattle.greedy_rules.proofs.NeedLemmas.{every_batch_by}
 use Rattle.greedy_rules.proofs.ScheduleLemmas.{every_slot_by, every_slot_keeps_its_limits_by}
 use Rattle.greedy_rules.proofs.RangeLemmas.{every_slot_in_range_by}
-use Rattle.greedy_rules.proofs.FrontLemmas.{every_batch_has_its_slots_by}
+use Rattle.greedy_rules.proofs.FrontLemmas.{every_batch_has_its_slots_by, times_more}
 
 -- in a list that has each flow once, an item's need is that of its flow
-need_of_item : (items : List Item) (at : ℕ) (d : Item) → HasEachFlowOnce items → at < length items → need_in (item_of items (get_or items at d).flow) ≡ (get_or items at d).need
+pub need_of_item : (items : List Item) (at : ℕ) (d : Item) → HasEachFlowOnce items → at < length items → need_in (item_of items (get_or items at d).flow) ≡ (get_or items at d).need
 need_of_item [] at d once below = absurd (omega arith)
 need_of_item (item ∷ items) zero d once below = ap need_in (cond-true (same_flow item.flow item.flow) (Some item) (item_of items item.flow) (same_flow-refl item.flow))
 need_of_item (item ∷ items) (suc at) d once below =
@@ -37,7 +38,7 @@ need_of_item (item ∷ items) (suc at) d once below =
     ]
 
 -- more need stays more
-need_with-le : (entry : Option Entry) (low high : ℕ) → low ≤ high → need_with entry low ≤ need_with entry high
+pub need_with-le : (entry : Option Entry) (low high : ℕ) → low ≤ high → need_with entry low ≤ need_with entry high
 need_with-le None low high le = le
 need_with-le (Some entry) low high le =
     elim (cases_Bool entry.clear) [
@@ -45,15 +46,11 @@ need_with-le (Some entry) low high le =
       | inr keeps ↦ omega (arith, cond-false {A = ℕ} entry.clear 0 low keeps, cond-false {A = ℕ} entry.clear 0 high keeps)
     ]
 
-demand_more : (earlier : List DemandBatch) (batch : DemandBatch) (flow : Flow) (need : ℕ) → demand_through (earlier ++ batch ∷ []) flow need ≡ need_with (entry_of batch.entries flow) (demand_through earlier flow need)
+pub demand_more : (earlier : List DemandBatch) (batch : DemandBatch) (flow : Flow) (need : ℕ) → demand_through (earlier ++ batch ∷ []) flow need ≡ need_with (entry_of batch.entries flow) (demand_through earlier flow need)
 demand_more [] batch flow need = refl
 demand_more (x ∷ earlier) batch flow need = demand_more earlier batch flow (need_with (entry_of x.entries flow) need)
 
-or-none : (p : Bool) → (p || false) ≡ p
-or-none true = refl
-or-none false = refl
-
-is_recorded-more : (earlier : List DemandBatch) (batch : DemandBatch) (flow : Flow) → is_recorded (earlier ++ batch ∷ []) flow ≡ (is_recorded earlier flow || is_some (entry_of batch.entries flow))
+pub is_recorded-more : (earlier : List DemandBatch) (batch : DemandBatch) (flow : Flow) → is_recorded (earlier ++ batch ∷ []) flow ≡ (is_recorded earlier flow || is_some (entry_of batch.entries flow))
 is_recorded-more earlier batch flow =
     list_any-append (λ (x : DemandBatch). is_some (entry_of x.entries flow)) earlier (batch ∷ []) ∙ ap (λ b. is_recorded earlier flow || b) (or-none (is_some (entry_of batch.entries flow)))
 
@@ -157,17 +154,14 @@ recorded_all P endpoints limits each earlier [] are = All-nil P
 recorded_all P endpoints limits each earlier (batch ∷ batches) are =
     All-cons P batch batches (each earlier batch are.0) (recorded_all P endpoints limits each (earlier ++ batch ∷ []) batches are.1)
 
-uniform : (b : ℕ) (limits : Limits) (batches : List DemandBatch) → All (λ batch. batch.limits ≡ limits) batches → All (λ l. l ≡ limits) (slot_limits b batches)
+pub uniform : (b : ℕ) (limits : Limits) (batches : List DemandBatch) → All (λ batch. batch.limits ≡ limits) batches → All (λ l. l ≡ limits) (slot_limits b batches)
 uniform b limits [] all = All-nil (λ (l : Limits). l ≡ limits)
 uniform b limits (batch ∷ batches) all =
     All-append (λ (l : Limits). l ≡ limits) (replicate b batch.limits) (slot_limits b batches)
     (All-replicate (λ (l : Limits). l ≡ limits) b batch.limits (All-head (λ (x : DemandBatch). x.limits ≡ limits) batch batches all))
     (uniform b limits batches (All-tail (λ (x : DemandBatch). x.limits ≡ limits) batch batches all))
 
-times_more : (n b : ℕ) → suc n * b ≡ b + n * b
-times_more n b = grind arith
-
-length-slot_limits : (b : ℕ) (batches : List DemandBatch) → length (slot_limits b batches) ≡ length batches * b
+pub length-slot_limits : (b : ℕ) (batches : List DemandBatch) → length (slot_limits b batches) ≡ length batches * b
 length-slot_limits b [] = let none : 0 ≡ 0 * b = omega arith in none
 length-slot_limits b (batch ∷ batches) =
     omega (arith, length-append (replicate b batch.limits) (slot_limits b batches), length-replicate b batch.limits, length-slot_limits b batches, times_more (length batches) b)
@@ -201,3 +195,16 @@ later_may_be_applied = later_may_be_applied_by last_served
 
 pub every_recorded_slot : EveryRecordedSlot
 every_recorded_slot = every_recorded_slot_by last_served
+
+pub AreRecordedAfter-more : (endpoints : ℕ) (limits : Limits) (before batches : List DemandBatch) (batch : DemandBatch) → AreRecordedAfter endpoints limits before batches →
+    IsRecordedAfter endpoints limits (before ++ batches) batch → AreRecordedAfter endpoints limits before (batches ++ batch ∷ [])
+AreRecordedAfter-more endpoints limits before [] batch are is = (subst (λ (xs : List DemandBatch). IsRecordedAfter endpoints limits xs batch) (append-nil before) is, tt)
+AreRecordedAfter-more endpoints limits before (x ∷ batches) batch are is = (
+  are.0,
+  AreRecordedAfter-more endpoints limits (before ++ x ∷ []) batches batch are.1
+      (subst (λ (xs : List DemandBatch). IsRecordedAfter endpoints limits xs batch) (sym (append_assoc before (x ∷ []) batches)) is),
+)
+
+pub first_need : (entry : Option Entry) → clears entry ≡ false → need_with entry 0 ≡ added_by entry
+first_need None kept = refl
+first_need (Some entry) kept = ap (λ (n : ℕ). n + entry.add) (cond-false {A = ℕ} entry.clear 0 0 kept) ∙ omega arith

@@ -13,6 +13,7 @@ use Rattle.greedy_rules.specs.Room.{FlowsFitPairs}
 use Rattle.list_facts.proofs.Pairs.{AllPairs-head, AllPairs-tail}
 use Rattle.list_facts.proofs.StableSort.{length-sort_by}
 use Rattle.greedy_rules.proofs.OnceLemmas.{once-after_batch, flows-after_batch}
+use Rattle.greedy_rules.proofs.RangeLemmas.{IsBetween}
 
 same_ends : (f g : Flow) → f.src ≡ g.src → f.dst ≡ g.dst → f ≡ g
 same_ends f g from to = ap (λ (n : ℕ). record { src = n; dst = f.dst }) from ∙ ap (λ (n : ℕ). record { src = g.src; dst = n }) to
@@ -57,24 +58,21 @@ module _ (P : Flow → Type 0) (number : Flow → ℕ) (most : ℕ) (below : (fl
 
 -- ---- flows between so many endpoints
 
-abbrev InRange : ℕ → Flow → Type 0
-InRange endpoints flow = (flow.src < endpoints) × (flow.dst < endpoints)
-
 abbrev pair_number : ℕ → Flow → ℕ
 pair_number endpoints flow = flow.src * endpoints + flow.dst
 
-same_pair : (endpoints : ℕ) (f g : Flow) → InRange endpoints f → InRange endpoints g → pair_number endpoints f ≡ pair_number endpoints g → f ≡ g
+same_pair : (endpoints : ℕ) (f g : Flow) → IsBetween endpoints f → IsBetween endpoints g → pair_number endpoints f ≡ pair_number endpoints g → f ≡ g
 same_pair endpoints f g f_in g_in same = let parts = same_from_place f.src f.dst g.src g.dst endpoints f_in.1 g_in.1 same in same_ends f g parts.0 parts.1
 
-pub few : (endpoints : ℕ) (list : List Item) → HasEachFlowOnce list → All (λ item. InRange endpoints item.flow) list → length list ≤ endpoints * endpoints
+pub few : (endpoints : ℕ) (list : List Item) → HasEachFlowOnce list → All (λ item. IsBetween endpoints item.flow) list → length list ≤ endpoints * endpoints
 few endpoints list once within =
-    few_numbered (InRange endpoints) (pair_number endpoints) (endpoints * endpoints)
+    few_numbered (IsBetween endpoints) (pair_number endpoints) (endpoints * endpoints)
     (λ flow is. mul-add-lt flow.src endpoints flow.dst endpoints is.0 is.1) (same_pair endpoints) list once within
 
 -- ---- and none from an endpoint to itself
 
 abbrev pub IsPair : ℕ → Flow → Type 0
-IsPair endpoints flow = InRange endpoints flow × (flow.src ≢ flow.dst)
+IsPair endpoints flow = IsBetween endpoints flow × (flow.src ≢ flow.dst)
 
 -- the place of the destination among those that the source can send to
 abbrev column : Flow → ℕ

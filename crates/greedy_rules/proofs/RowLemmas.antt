@@ -94,7 +94,7 @@ slot_of_row endpoints cells full row = record {
 abbrev pub or_sends : Bool → Option ℕ → Bool
 or_sends sends to = sends || is_some to
 
-stays_true : (row : List (Option ℕ)) → fold or_sends true row ≡ true
+pub stays_true : (row : List (Option ℕ)) → fold or_sends true row ≡ true
 stays_true [] = refl
 stays_true (to ∷ row) = stays_true row
 
@@ -107,3 +107,12 @@ pub no_senders : (src : ℕ) (row : List (Option ℕ)) → flows_from src row �
 no_senders src [] none = refl
 no_senders src (None ∷ row) none = no_senders (src + 1) row none
 no_senders src (Some dst ∷ row) none = absurd (cc)
+
+pub flows_from-append : (src : ℕ) (xs ys : List (Option ℕ)) → flows_from src (xs ++ ys) ≡ flows_from src xs ++ flows_from (src + length xs) ys
+flows_from-append src [] ys = let here : src ≡ src + 0 = omega arith in ap (λ (n : ℕ). flows_from n ys) here
+flows_from-append src (None ∷ xs) ys =
+    let on : src + 1 + length xs ≡ src + suc (length xs) = omega arith in
+    flows_from-append (src + 1) xs ys ∙ ap (λ (n : ℕ). flows_from (src + 1) xs ++ flows_from n ys) on
+flows_from-append src (Some dst ∷ xs) ys =
+    let on : src + 1 + length xs ≡ src + suc (length xs) = omega arith in
+    ap (λ (fs : List Flow). record { src = src; dst = dst } ∷ fs) (flows_from-append (src + 1) xs ys ∙ ap (λ (n : ℕ). flows_from (src + 1) xs ++ flows_from n ys) on)

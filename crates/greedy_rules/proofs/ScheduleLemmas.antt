@@ -19,12 +19,14 @@ use Rattle.greedy_rules.proofs.OnceLemmas.{FlowsAre}
 use Rattle.greedy_rules.proofs.SlotLemmas.{Apart, Keeps, apart_from_all, IsMatching-slot_with, holds-chosen_after, barred-chosen_after}
 use Rattle.greedy_rules.proofs.BarLemmas.{taken_is_barred, barred_for_good, not_taken, keeps_limits}
 use Rattle.greedy_rules.proofs.KeptLemmas.{All-scheduleBy}
+use Rattle.greedy_rules.specs.Allocation.{served, list_through}
+use Rattle.std.proofs.lemmas.List.{length-map}
 
 pub length-batch_slots : (bar : Bar) (number count : ℕ) (list : List Item) → length (batch_slots bar number count list) ≡ count
 length-batch_slots bar number zero list = refl
 length-batch_slots bar number (suc count) list = ap suc (length-batch_slots bar (number + 1) count (after_slot bar number list))
 
-length-batch_lists : (bar : Bar) (number count : ℕ) (list : List Item) → length (batch_lists bar number count list) ≡ count
+pub length-batch_lists : (bar : Bar) (number count : ℕ) (list : List Item) → length (batch_lists bar number count list) ≡ count
 length-batch_lists bar number zero list = refl
 length-batch_lists bar number (suc count) list = ap suc (length-batch_lists bar (number + 1) count (after_slot bar number list))
 
@@ -113,3 +115,8 @@ every_slot_keeps_its_limits = every_slot_keeps_its_limits_by last_served
 
 pub every_slot_keeps_the_limits : EverySlotKeepsTheLimits
 every_slot_keeps_the_limits = every_slot_keeps_the_limits_by last_served
+
+pub length-through : (bar : Bar) (number count : ℕ) (list : List Item) → length (list_through bar number count list) ≡ length list
+length-through bar number zero list = refl
+length-through bar number (suc count) list =
+    length-through bar (number + 1) count (after_slot bar number list) ∙ length-map list (served number (greedy_slot bar list))

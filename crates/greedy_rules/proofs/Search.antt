@@ -8,10 +8,8 @@ use Rattle.greedy_rules.specs.declared.flows.Entry.{Entry}
 use Rattle.greedy_rules.specs.Flows.{same_flow, flow_below}
 use Rattle.greedy_rules.specs.Batches.{IsBatch, entry_of}
 use Rattle.greedy_rules.proofs.FlowOrder.{flow_cmp, same_flow-true, same_flow-cmp, same_flow-not_cmp, flow_below-not_same, rank_rises}
+use Rattle.greedy_rules.proofs.BatchLemmas.{Below}
 use Rattle.list_facts.proofs.Pairs.{AllPairs-tail, AllPairs-head}
-
-abbrev Below : Entry → Entry → Type 0
-Below e f = IsTrue (flow_below e.flow f.flow)
 
 abbrev pub is_of : Flow → Entry → Bool
 is_of flow entry = same_flow entry.flow flow

@@ -14,7 +14,7 @@ use Rattle.greedy_rules.proofs.FlowOrder.{same_flow-true}
 use Rattle.greedy_rules.proofs.OnceLemmas.{FlowsAre}
 use Rattle.list_facts.proofs.Pairs.{AllPairs-nil, AllPairs-cons, AllPairs-head, AllPairs-tail}
 
-or_swap : (a b c : Bool) → (a || (b || c)) ≡ (b || (a || c))
+pub or_swap : (a b c : Bool) → (a || (b || c)) ≡ (b || (a || c))
 or_swap true true c = refl
 or_swap true false c = refl
 or_swap false b c = refl

@@ -7,6 +7,10 @@ use Rattle.std.proofs.lemmas.List.Elements.{All-head, All-tail, All-weaker}
 use Rattle.greedy_rules.specs.declared.flows.Flow.{Flow}
 use Rattle.greedy_rules.specs.SlotTable.{destination_of}
 use Rattle.list_facts.proofs.Pairs.{AllPairs-head, AllPairs-tail}
+use Rattle.std.proofs.Common.{Bool, ◌&&◌, ◌||◌, nat_eq}
+use Rattle.greedy_rules.specs.Slot.{has_flow}
+use Rattle.list_facts.proofs.Bools.{or-none}
+use Rattle.std.specs.Option.{option_eq}
 
 -- the flows of a slot whose sources are below this one
 abbrev pub before : ℕ → List Flow → List Flow
@@ -29,7 +33,7 @@ before-all source (flow ∷ slot) below =
     cond-true (nat_lt flow.src source) (flow ∷ before source slot) (before source slot) (lt-ltb flow.src source (All-head (λ f. f.src < source) flow slot below))
     ∙ ap (λ (fs : List Flow). flow ∷ fs) (before-all source slot (All-tail (λ f. f.src < source) flow slot below))
 
-abbrev Rises : List Flow → Type 0
+abbrev pub Rises : List Flow → Type 0
 Rises slot = AllPairs (λ f g. f.src < g.src) slot
 
 pub other_source : (source : ℕ) (flow : Flow) (slot : List Flow) → (flow.src == source) ≡ false → destination_of (flow ∷ slot) source ≡ destination_of slot source
@@ -87,3 +91,30 @@ sent_flow P (flow ∷ slot) source dst all some = elim (cases_eq flow.src source
       subst (λ (n : ℕ). P (record { src = source; dst = n })) to (subst (λ (n : ℕ). P (record { src = n; dst = flow.dst })) same (All-head P flow slot all))
   | inr other ↦ sent_flow P slot source dst (All-tail P flow slot all) (sym (other_source source flow slot (ne_eqb _ _ other)) ∙ some)
 ]
+
+pub none_above : (slot : List Flow) (flow : Flow) → All (λ f. flow.src < f.src) slot → has_flow slot flow ≡ false
+none_above [] flow above = refl
+none_above (f ∷ slot) flow above =
+    let first : flow.src < f.src = All-head (λ g. flow.src < g.src) f slot above in
+    let other : (f.src == flow.src) ≡ false = ne_eqb f.src flow.src (λ same. omega arith) in
+    ap (λ (c : Bool). (c && (f.dst == flow.dst)) || has_flow slot flow) other
+    ∙ none_above slot flow (All-tail (λ g. flow.src < g.src) f slot above)
+
+pub flow_goes : (slot : List Flow) (flow : Flow) → Rises slot → has_flow slot flow ≡ option_eq nat_eq (destination_of slot flow.src) (Some flow.dst)
+flow_goes [] flow rises = refl
+flow_goes (f ∷ slot) flow rises =
+    let later : All (λ g. f.src < g.src) slot = AllPairs-head (λ f g. f.src < g.src) f slot rises in
+    let rest = flow_goes slot flow (AllPairs-tail (λ f g. f.src < g.src) f slot rises) in
+    elim (cases_eq f.src flow.src) [
+      | inl here ↦
+          let same : (f.src == flow.src) ≡ true = eq-eqb f.src flow.src here in
+          let none : has_flow slot flow ≡ false = none_above slot flow (subst (λ (n : ℕ). All (λ g. n < g.src) slot) here later) in
+          ap (λ (c : Bool). (c && (f.dst == flow.dst)) || has_flow slot flow) same
+          ∙ (ap (λ (c : Bool). (f.dst == flow.dst) || c) none
+          ∙ (or-none (f.dst == flow.dst)
+          ∙ sym (ap (λ (o : Option ℕ). option_eq nat_eq o (Some flow.dst)) (this_source flow.src f slot same))))
+      | inr there ↦
+          let other : (f.src == flow.src) ≡ false = ne_eqb f.src flow.src there in
+          ap (λ (c : Bool). (c && (f.dst == flow.dst)) || has_flow slot flow) other
+          ∙ (rest ∙ sym (ap (λ (o : Option ℕ). option_eq nat_eq o (Some flow.dst)) (other_source flow.src f slot other)))
+    ]

@@ -88,7 +88,7 @@ counted_more (Some old ∷ places) zero row below none = absurd (cc)
 counted_more (None ∷ places) (suc slot) row below none = counted_more places slot row (omega arith) none
 counted_more (Some old ∷ places) (suc slot) row below none = omega (arith, counted_more places slot row (omega arith) none)
 
-next_row : (count endpoints : ℕ) → (count + 1) * endpoints ≡ count * endpoints + endpoints
+pub next_row : (count endpoints : ℕ) → (count + 1) * endpoints ≡ count * endpoints + endpoints
 next_row count endpoints = grind arith
 
 -- a slot without a row is given one in which nobody sends

@@ -16,7 +16,7 @@ use Rattle.greedy_rules.specs.Walk.{HavePlaces, AreOf, bars, counted}
 use Rattle.greedy_rules.proofs.SlotLemmas.{any-slot_with, count-slot_with}
 use Rattle.greedy_rules.proofs.RowLemmas.{flows_from-set}
 
-or_both : (a b c d : Bool) → ((a || b) || (c || d)) ≡ ((a || c) || (b || d))
+pub or_both : (a b c d : Bool) → ((a || b) || (c || d)) ≡ ((a || c) || (b || d))
 or_both true true c d = refl
 or_both true false true d = refl
 or_both true false false d = refl
@@ -121,7 +121,7 @@ fits_not need barred sends marked is busy = grind (arith, nat_tests)
 pub needs_none : (need : ℕ) (barred : Bool) → need ≤ 0 → false ≡ (nat_lt 0 need && not barred)
 needs_none need barred none = grind (arith, nat_tests)
 
-none_is : (o : Option ℕ) → is_some o ≡ false → o ≡ None
+pub none_is : (o : Option ℕ) → is_some o ≡ false → o ≡ None
 none_is None is = refl
 none_is (Some n) is = absurd (cc)
 

@@ -1,37 +1,33 @@
 -- What an agent asks of the allocations that it hears follows from how a lane makes them, whatever packets are forged upward.
-use Rattle.std.proofs.Common.{◌≡◌, ◌≢◌, ◌⊎◌, ℕ, ◌+◌, ◌*◌, ◌<◌, ◌≤◌, Bool, true, false, cond, ◌&&◌, ◌==◌, List, [], ◌∷◌, ◌++◌, filter, sym, ◌∙◌, ap, subst, refl, inl, inr, arith, mul-le-mul_right, mul-le-mul_left}
+use Rattle.std.proofs.Common.{◌≡◌, ◌≢◌, ◌⊎◌, ℕ, ◌+◌, ◌*◌, ◌<◌, ◌≤◌, Bool, true, false, cond, ◌&&◌, ◌==◌, List, [], ◌∷◌, ◌++◌, filter, sym, ◌∙◌, ap, subst, inl, inr, arith, mul-le-mul_right, mul-le-mul_left}
 use Rattle.std.specs.List.{flat_map}
 use Rattle.std.proofs.lemmas.Bool.{cases_Bool, and_parts, eqb-true, lt-leb}
 use Rattle.list_facts.specs.Order.{sort_by}
-use Rattle.ack_window.specs.Arrivals.{receive_verdict, is_fresh, is_taken}
+use Rattle.ack_window.specs.Arrivals.{receive_verdict, is_fresh, is_number_taken}
 use Rattle.ack_window.specs.Laws.{EachIsTakenOnce, TakingIsForGood}
 use Rattle.ack_window.specs.Versions.{reorder_of}
-use Rattle.ack_window.specs.declared.take_window.Taken.{Taken}
-use Rattle.ack_window.specs.declared.take_window.Taken.TheVariants.{Fresh, Repeat, Old}
+use Rattle.ack_window.specs.declared.take_window.Taken.TheVariants.{Fresh}
 use Rattle.fcp_framing.specs.declared.packet.Told.{Told}
 use Rattle.endpoint_history.specs.Packets.{DownPacket, UpPacket, slots_to}
 use Rattle.endpoint_history.specs.Agent.{AgentHistory, Boots, Asks, TakesDown, MakesUp, SendsDue, TakenDown, taken, takes, is_current, arrived, version_of, is_in_time, missed}
 use Rattle.endpoint_history.specs.AgentLaws.{TakingBringsSlots}
 use Rattle.endpoint_history.specs.Bounds.{TakenIsFew}
 use Rattle.endpoint_history.specs.ForgedLaws.{ComesAfterTwoWindows, OneNumberForABatch}
-use Rattle.endpoint_history.specs.Lane.{LaneEvent, LaneHistory, MakesDown, TakesUp, Records}
+use Rattle.endpoint_history.specs.Lane.{MakesDown, TakesUp, Records}
 use Rattle.endpoint_history.specs.Rounds.{then_each}
-use Rattle.endpoint_history.specs.Sending.{Slot, slots_of, due}
+use Rattle.endpoint_history.specs.Sending.{Slot, due}
 use Rattle.endpoint_history.specs.Steps.{Step, OfAgent, OfLane, agent_of, lane_of, WasMadeDown, rounds_begun, RoundsRise, ArrivesFromLane}
 use Rattle.endpoint_history.specs.Tellings.{Among, ToldWithin, ToldRises}
-use Rattle.endpoint_agent.specs.Timely.{AreApart}
+use Rattle.endpoint_history.proofs.NeverTaken.{WasMadeDown-later}
+use Rattle.endpoint_history.proofs.Slots.{fresh_is}
+use Rattle.endpoint_agent.specs.Timely.{BatchesAreApart}
 use Rattle.lane_rounds.specs.Parts.{MayHear}
 
 -- ---- what was taken was made, and its number was taken
 
-made-later : (g : ℕ) (event : LaneEvent) (history : LaneHistory) (packet : DownPacket) → WasMadeDown g history packet → WasMadeDown g (event ∷ history) packet
-made-later g (MakesDown round told) history packet made = inr made
-made-later g (TakesUp round up) history packet made = made
-made-later g (Records round) history packet made = made
-
 taken-made : (g : ℕ) (steps : List Step) → ArrivesFromLane g steps → (t : TakenDown) → Among t (taken (agent_of steps)) → WasMadeDown g (lane_of steps) t.packet
 taken-made g [] arrives t among = absurd among
-taken-made g (OfLane event ∷ steps) arrives t among = made-later g event (lane_of steps) t.packet (taken-made g steps arrives t among)
+taken-made g (OfLane event ∷ steps) arrives t among = WasMadeDown-later g event (lane_of steps) t.packet (taken-made g steps arrives t among)
 taken-made g (OfAgent (Boots version) ∷ steps) arrives t among = absurd among
 taken-made g (OfAgent (Asks to slots) ∷ steps) arrives t among = taken-made g steps arrives t among
 taken-made g (OfAgent MakesUp ∷ steps) arrives t among = taken-made g steps arrives t among
@@ -47,11 +43,6 @@ taken-made g (OfAgent (TakesDown round packet) ∷ steps) arrives t among =
       | inr off ↦ taken-made g steps arrives.2 t (subst (λ (b : Bool). Among t (cond b (one ∷ taken (agent_of steps)) (taken (agent_of steps)))) off among)
     ]
 
-fresh_is : (t : Taken) → is_fresh t ≡ true → t ≡ Fresh
-fresh_is Fresh is = refl
-fresh_is Repeat is = absurd (cc)
-fresh_is Old is = absurd (cc)
-
 takes-parts : (history : AgentHistory) (packet : DownPacket) → takes history packet ≡ true →
     (is_current history packet ≡ true) × (receive_verdict (reorder_of (version_of history)) (arrived history) packet.seq ≡ Fresh)
 unfolding takes
@@ -61,7 +52,7 @@ takes-parts history packet it =
     (both.0, fresh_is verdict both.1)
 
 taken-is : (once : EachIsTakenOnce) (good : TakingIsForGood) (history : AgentHistory) (t : TakenDown) → Among t (taken history) →
-    is_taken (reorder_of (version_of history)) (arrived history) t.packet.seq ≡ true
+    is_number_taken (reorder_of (version_of history)) (arrived history) t.packet.seq ≡ true
 taken-is once good [] t among = absurd among
 taken-is once good (Boots version ∷ history) t among = absurd among
 taken-is once good (Asks to slots ∷ history) t among = taken-is once good history t among
@@ -70,18 +61,18 @@ taken-is once good (SendsDue round ∷ history) t among = taken-is once good his
 taken-is once good (TakesDown round packet ∷ history) t among =
     let one : TakenDown = record { round = round; packet = packet } in
     let reorder = reorder_of (version_of history) in
-    let before : Among t (taken history) → is_taken reorder (packet.seq ∷ arrived history) t.packet.seq ≡ true = λ a. good.taken reorder (packet.seq ∷ []) (arrived history) t.packet.seq (taken-is once good history t a) in
+    let before : Among t (taken history) → is_number_taken reorder (packet.seq ∷ arrived history) t.packet.seq ≡ true = λ a. good.taken reorder (packet.seq ∷ []) (arrived history) t.packet.seq (taken-is once good history t a) in
     elim (cases_Bool (takes history packet)) [
       | inl on ↦
           let parts = takes-parts history packet on in
-          subst (λ (b : Bool). is_taken reorder (cond b (packet.seq ∷ arrived history) (arrived history)) t.packet.seq ≡ true) (sym parts.0)
+          subst (λ (b : Bool). is_number_taken reorder (cond b (packet.seq ∷ arrived history) (arrived history)) t.packet.seq ≡ true) (sym parts.0)
           (elim (subst (λ (b : Bool). Among t (cond b (one ∷ taken history) (taken history))) on among) [
-            | inl same ↦ subst (λ (x : TakenDown). is_taken reorder (packet.seq ∷ arrived history) x.packet.seq ≡ true) same (once.fresh reorder (arrived history) packet.seq parts.1)
+            | inl same ↦ subst (λ (x : TakenDown). is_number_taken reorder (packet.seq ∷ arrived history) x.packet.seq ≡ true) same (once.fresh reorder (arrived history) packet.seq parts.1)
             | inr earlier ↦ before earlier
           ])
       | inr off ↦
           let earlier = subst (λ (b : Bool). Among t (cond b (one ∷ taken history) (taken history))) off among in
-          elim (is_current history packet) as (λ b. is_taken reorder (cond b (packet.seq ∷ arrived history) (arrived history)) t.packet.seq ≡ true) [
+          elim (is_current history packet) as (λ b. is_number_taken reorder (cond b (packet.seq ∷ arrived history) (arrived history)) t.packet.seq ≡ true) [
             | true ↦ before earlier
             | false ↦ taken-is once good history t earlier
           ]
@@ -105,10 +96,10 @@ apart-before laws g steps packet arrives rise made it some t among told same =
     let first = laws.once.first (reorder_of (version_of history)) (arrived history) packet.seq verdict.1 in
     let number = laws.one g (lane_of steps) t.packet packet rise (taken-made g steps arrives t among) made told some same in
     let came = taken-is laws.once laws.good history t among in
-    let both : true ≡ false = sym came ∙ ap (λ (n : ℕ). is_taken (reorder_of (version_of history)) (arrived history) n) number.1 ∙ first in
+    let both : true ≡ false = sym came ∙ ap (λ (n : ℕ). is_number_taken (reorder_of (version_of history)) (arrived history) n) number.1 ∙ first in
     absurd (cc)
 
-all-apart : (laws : Laws) (g : ℕ) (steps : List Step) → ArrivesFromLane g steps → RoundsRise (lane_of steps) → AreApart (taken (agent_of steps))
+all-apart : (laws : Laws) (g : ℕ) (steps : List Step) → ArrivesFromLane g steps → RoundsRise (lane_of steps) → BatchesAreApart (taken (agent_of steps))
 all-apart laws g [] arrives rise = tt
 all-apart laws g (OfLane (MakesDown round told) ∷ steps) arrives rise = all-apart laws g steps arrives rise.1
 all-apart laws g (OfLane (TakesUp round up) ∷ steps) arrives rise = all-apart laws g steps arrives rise
@@ -122,9 +113,9 @@ all-apart laws g (OfAgent (TakesDown round packet) ∷ steps) arrives rise =
     let earlier = all-apart laws g steps arrives.2 rise in
     elim (cases_Bool (takes (agent_of steps) packet)) [
       | inl on ↦
-          subst (λ (b : Bool). AreApart (cond b (one ∷ taken (agent_of steps)) (taken (agent_of steps)))) (sym on)
+          subst (λ (b : Bool). BatchesAreApart (cond b (one ∷ taken (agent_of steps)) (taken (agent_of steps)))) (sym on)
           (λ some. apart-before laws g steps packet arrives.2 rise arrives.0 on some, earlier)
-      | inr off ↦ subst (λ (b : Bool). AreApart (cond b (one ∷ taken (agent_of steps)) (taken (agent_of steps)))) (sym off) earlier
+      | inr off ↦ subst (λ (b : Bool). BatchesAreApart (cond b (one ∷ taken (agent_of steps)) (taken (agent_of steps)))) (sym off) earlier
     ]
 
 -- ---- packet by packet

@@ -5,7 +5,7 @@ use Rattle.std.proofs.lemmas.Bool.{lt-ltb}
 use Rattle.greedy_rules.specs.declared.flows.Entry.{Entry}
 use Rattle.greedy_rules.specs.Batches.{IsAboveLast}
 use Rattle.endpoint_history.specs.Lane.{LaneHistory}
-use Rattle.endpoint_history.specs.Entries.{had, is_reset, added, entry_of}
+use Rattle.endpoint_history.specs.Entries.{had, is_reset, added, next_entry}
 
 -- entries of sources below a bound
 abbrev pub Below : ℕ → List Entry → Type 0
@@ -33,7 +33,7 @@ if_below : (some : Bool) (entry : Entry) (bound : ℕ) → entry.flow.src < boun
 if_below true entry bound below = below
 if_below false entry bound below = tt
 
-pub entry-below : (endpoint g : ℕ) (history : LaneHistory) (dst : ℕ) → IfSome (entry_of endpoint g history dst) (λ entry. entry.flow.src < endpoint + 1)
+pub entry-below : (endpoint g : ℕ) (history : LaneHistory) (dst : ℕ) → IfSome (next_entry endpoint g history dst) (λ entry. entry.flow.src < endpoint + 1)
 entry-below endpoint g history dst =
     if_below (nat_lt 0 (added g history dst) || (is_reset history && had g history dst))
     (record { flow = record { src = endpoint; dst = dst }; opens = nat_lt 0 (added g history dst) && not (had g history dst); clear = is_reset history && had g history dst; add = added g history dst })

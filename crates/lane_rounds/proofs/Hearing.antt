@@ -10,9 +10,9 @@ use Rattle.fcp_framing.specs.Fields.{up_of, down_of}
 use Rattle.endpoint_history.specs.Reading.{AsksBelow}
 use Rattle.endpoint_history.specs.Packets.{DownPacket, UpPacket, down_packet, up_packet, slots_to}
 use Rattle.endpoint_history.specs.Agent.{AgentHistory, TakesDown}
-use Rattle.endpoint_history.specs.Sending.{slots_of}
 use Rattle.endpoint_history.specs.Lane.{LaneHistory, TakesUp}
 use Rattle.endpoint_history.specs.Counts.{Allocation}
+use Rattle.endpoint_history.proofs.Reading.{below_next}
 use Rattle.endpoint_agent.specs.declared.lines.FlowLine.{FlowLine}
 use Rattle.endpoint_agent.specs.State.{AgentState}
 use Rattle.endpoint_agent.specs.Standing as agents
@@ -29,11 +29,6 @@ asked_below : (round : ℕ) (history : List WorldCall) → AsksBelow (round + 1)
 asked_below round [] below = omega arith
 asked_below round (Departs packet ∷ history) below = asked_below round history below
 asked_below round (AsksFor asked ∷ history) below = let low = below.0 in let rest = asked_below round history below.1 in omega arith
-
-below_next : (round : ℕ) (history : List WorldCall) → AsksBelow round history → AsksBelow (round + 1) history
-below_next round [] below = tt
-below_next round (Departs packet ∷ history) below = below_next round history below
-below_next round (AsksFor asked ∷ history) below = let low = below.0 in (omega arith, below_next round history below.1)
 
 pub carried-begins : (world : Held) (round : ℕ) (sent : List Departure) → HasCarried world round sent → HasCarried world (round + 1) sent
 carried-begins world round sent it = record { calls = it.calls; stands = it.stands; handed = it.handed; asked = below_next round it.calls it.asked }
@@ -67,19 +62,19 @@ own-down was agent bytes p same is it =
     (subst (λ bs. agent_refusals.IsOwn was.me was.endpoints was.b bs) (sym is) it.own)))
 
 pub heard-one : (was agent new : AgentState) (round : ℕ) (bytes : List ℕ) (p : DownPacket) (calls : AgentHistory) → IsSameAgent was agent →
-    (agent_refusals.IsOwn agent.me agent.endpoints agent.b bytes → (calls : AgentHistory) → agents.StandsFor agent calls → agents.StandsFor new (TakesDown round (down_packet (down_of bytes)) ∷ calls)) →
-    bytes ≡ spell_down was.me p → IsReadDown was.me was.endpoints was.b p → agents.StandsFor agent calls → agents.StandsFor new (TakesDown round p ∷ calls)
+    (agent_refusals.IsOwn agent.me agent.endpoints agent.b bytes → (calls : AgentHistory) → agents.AgentStandsFor agent calls → agents.AgentStandsFor new (TakesDown round (down_packet (down_of bytes)) ∷ calls)) →
+    bytes ≡ spell_down was.me p → IsReadDown was.me was.endpoints was.b p → agents.AgentStandsFor agent calls → agents.AgentStandsFor new (TakesDown round p ∷ calls)
 heard-one was agent new round bytes p calls same taken is it stands =
-    subst (λ q. agents.StandsFor new (TakesDown round q ∷ calls)) (ap (λ bs. down_packet (down_of bs)) is ∙ it.back) (taken (own-down was agent bytes p same is it) calls stands)
+    subst (λ q. agents.AgentStandsFor new (TakesDown round q ∷ calls)) (ap (λ bs. down_packet (down_of bs)) is ∙ it.back) (taken (own-down was agent bytes p same is it) calls stands)
 
 -- ---- the lane
 
 pub read-one : (was lane new : LaneState) (round : ℕ) (bytes : List ℕ) (p : UpPacket) (history : LaneHistory) (allocations : List Allocation) → IsSameLane was lane →
-    (lane_refusals.IsOwnUp lane.endpoint lane.endpoints bytes → (history : LaneHistory) (allocations : List Allocation) → lanes.StandsFor lane history allocations → lanes.StandsFor new (TakesUp round (up_packet (up_of bytes)) ∷ history) allocations) →
-    bytes ≡ spell_up was.endpoint p → IsReadUp was.endpoint was.endpoints p → lanes.StandsFor lane history allocations → lanes.StandsFor new (TakesUp round p ∷ history) allocations
+    (lane_refusals.IsOwnUp lane.endpoint lane.endpoints bytes → (history : LaneHistory) (allocations : List Allocation) → lanes.LaneStandsFor lane history allocations → lanes.LaneStandsFor new (TakesUp round (up_packet (up_of bytes)) ∷ history) allocations) →
+    bytes ≡ spell_up was.endpoint p → IsReadUp was.endpoint was.endpoints p → lanes.LaneStandsFor lane history allocations → lanes.LaneStandsFor new (TakesUp round p ∷ history) allocations
 read-one was lane new round bytes p history allocations same taken is it stands =
     let own =
     subst (λ n. lane_refusals.IsOwnUp n lane.endpoints bytes) (sym same.endpoint)
     (subst (λ n. lane_refusals.IsOwnUp was.endpoint n bytes) (sym same.endpoints)
     (subst (λ bs. lane_refusals.IsOwnUp was.endpoint was.endpoints bs) (sym is) it.own)) in
-    subst (λ q. lanes.StandsFor new (TakesUp round q ∷ history) allocations) (ap (λ bs. up_packet (up_of bs)) is ∙ it.back) (taken own history allocations stands)
+    subst (λ q. lanes.LaneStandsFor new (TakesUp round q ∷ history) allocations) (ap (λ bs. up_packet (up_of bs)) is ∙ it.back) (taken own history allocations stands)

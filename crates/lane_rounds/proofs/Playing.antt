@@ -1,29 +1,30 @@
 -- The calls of a round, end by end.
 use Rattle.std.proofs.Common.{◌≡◌, ℕ, ◌+◌, ◌<◌, ◌≤◌, true, false, cond, suc, get_or, List, [], ◌∷◌, ◌++◌, length, map, filter, Option, Some, None, option_map, option_to_list, IfSome, sym, ◌∙◌, ap, subst, refl, inl, inr, arith}
-use Rattle.std.proofs.lemmas.Bool.{ne_eqb}
 use Rattle.std.proofs.lemmas.List.{map-append}
 use Rattle.std.proofs.lemmas.List.Elements.{All-head, All-tail}
 use Rattle.std.specs.Prelude.{All}
 use Rattle.std.specs.List.Sorted.{IsStrictlyIncreasing}
 use Rattle.loss_world.specs.declared.fate.Fate.{Fate}
 use Rattle.loss_world.specs.Arrivals.{Departure, arrives_in, arrivals}
-use Rattle.loss_world.specs.History.{WorldCall, Departs, AsksFor, asked_of, is_asked, EachAskTakesOne}
+use Rattle.loss_world.specs.History.{EachAskTakesOne}
 use Rattle.loss_world.specs.InTransit.{Held, due_in}
 use Rattle.fcp_framing.specs.declared.packet.Told.{Told}
 use Rattle.fcp_framing.specs.Laws.{AreReadBack}
 use Rattle.endpoint_history.specs.Packets.{DownPacket, UpPacket, Resets, Requests, down_packet, up_packet, framed_down, framed_up, AreFramedAlike}
 use Rattle.endpoint_history.specs.Agent.{AgentEvent, AgentHistory, Boots, Asks, TakesDown, MakesUp, packet_up}
 use Rattle.endpoint_history.specs.Lane.{LaneEvent, LaneHistory, MakesDown, TakesUp, packet_down}
-use Rattle.endpoint_history.specs.Reading.{spelled, AsksBelow}
+use Rattle.endpoint_history.specs.Reading.{spelled}
 use Rattle.endpoint_history.specs.RoundLaws.{RoundsAreInOrder}
-use Rattle.endpoint_history.specs.Rounds.{Round, Posted, Played, arriving, then_each, begun, posted_down, heard, posted_up, read, recorded, played}
+use Rattle.endpoint_history.specs.Rounds.{Round, Posted, PlayedEnds, arriving, then_each, begun, posted_down, heard, posted_up, read, recorded, played}
 use Rattle.endpoint_history.specs.Steps.{Step, OfAgent, OfLane, agent_of, lane_of, RoundsRise}
-use Rattle.endpoint_history.specs.Tellings.{AreWithin, ToldWithin, RisesFrom, ToldRises, AreTo, ToldTo}
+use Rattle.endpoint_history.specs.Tellings.{SlotsAreWithin, ToldWithin, RisesFrom, ToldRises, AreTo, ToldTo}
 use Rattle.endpoint_history.specs.Counts.{Allocation}
+use Rattle.endpoint_history.proofs.Reading.{not_asked, asked_below}
+use Rattle.endpoint_history.proofs.Rounds.{agent-lane, lane-agent}
 use Rattle.arbiter_lane.specs.State.{LaneState}
 use Rattle.arbiter_lane.specs.Standing as lanes
 use Rattle.lane_rounds.specs.State.{RoundsState, with_each}
-use Rattle.lane_rounds.specs.Standing.{StandsFor, HasCarried, EachPosted, IsDownOf, IsUpOf}
+use Rattle.lane_rounds.specs.Standing.{RoundsStandFor, HasCarried, EachPosted, IsDownOf, IsUpOf}
 use Rattle.lane_rounds.specs.Parts.{hearing, reading, handed, Each, IsReadDown, IsReadUp, MayHear}
 use Rattle.lane_rounds.proofs.Coming.{Laws, from-lane-read, may-hear}
 
@@ -32,14 +33,6 @@ use Rattle.lane_rounds.proofs.Coming.{Laws, from-lane-read, may-hear}
 agent-agent : {X : Type 0} (event : X → AgentEvent) (xs : List X) (steps : List Step) → agent_of (then_each (λ x. OfAgent (event x)) xs steps) ≡ with_each event xs (agent_of steps)
 agent-agent event [] steps = refl
 agent-agent event (x ∷ xs) steps = agent-agent event xs (OfAgent (event x) ∷ steps)
-
-agent-lane : {X : Type 0} (event : X → LaneEvent) (xs : List X) (steps : List Step) → agent_of (then_each (λ x. OfLane (event x)) xs steps) ≡ agent_of steps
-agent-lane event [] steps = refl
-agent-lane event (x ∷ xs) steps = agent-lane event xs (OfLane (event x) ∷ steps)
-
-lane-agent : {X : Type 0} (event : X → AgentEvent) (xs : List X) (steps : List Step) → lane_of (then_each (λ x. OfAgent (event x)) xs steps) ≡ lane_of steps
-lane-agent event [] steps = refl
-lane-agent event (x ∷ xs) steps = lane-agent event xs (OfAgent (event x) ∷ steps)
 
 lane-lane : {X : Type 0} (event : X → LaneEvent) (xs : List X) (steps : List Step) → lane_of (then_each (λ x. OfLane (event x)) xs steps) ≡ with_each event xs (lane_of steps)
 lane-lane event [] steps = refl
@@ -51,7 +44,7 @@ lane-lane event (x ∷ xs) steps = lane-lane event xs (OfLane (event x) ∷ step
 abbrev pub posted : {T : Type 0} → ℕ → Option Fate → Option T → List (Posted T)
 posted round fate packet = option_to_list (option_map (λ p. record { round = round; fate = fate; packet = p }) packet)
 
-module _ (endpoints g number : ℕ) (round : Round) (before : Played) where
+module _ (endpoints g number : ℕ) (round : Round) (before : PlayedEnds) where
   abbrev pub asked_calls : AgentHistory
   asked_calls = with_each (λ (a : ℕ × ℕ). Asks a.0 a.1) round.asks (with_each Boots round.boots (agent_of before.steps))
 
@@ -114,16 +107,6 @@ pub posted-spelled : {T : Type 0} (spell : T → List ℕ) (number : ℕ) (fate 
 posted-spelled spell number fate None before = sym (map-append (spelled spell) before [])
 posted-spelled spell number fate (Some p) before = sym (map-append (spelled spell) before (record { round = number; fate = fate; packet = p } ∷ []))
 
-not_asked : (round : ℕ) (history : List WorldCall) → AsksBelow round history → is_asked history round ≡ false
-not_asked round [] below = refl
-not_asked round (Departs packet ∷ history) below = not_asked round history below
-not_asked round (AsksFor asked ∷ history) below = let low = below.0 in rw (ne_eqb asked round (omega arith)) (not_asked round history below.1)
-
-asked_below : (round : ℕ) (history : List WorldCall) → AsksBelow round history → asked_of history ≤ round
-asked_below round [] below = omega arith
-asked_below round (Departs packet ∷ history) below = asked_below round history below
-asked_below round (AsksFor asked ∷ history) below = let low = below.0 in let rest = asked_below round history below.1 in omega arith
-
 -- what is due in a round that was not asked for are the packets that arrive in it
 pub due-arrives : {T : Type 0} (one : EachAskTakesOne) (spell : T → List ℕ) (world : Held) (number : ℕ) (sent : List (Posted T)) →
     arrivals (map (spelled spell) sent) number ≡ map spell (arriving sent number) →
@@ -181,7 +164,7 @@ read-up back alike endpoint endpoints p (inr spelled) =
 
 -- ---- what is told rises within its batch, and is to endpoints of the net
 
-pub are-within : (b : ℕ) (told : List Told) → All (λ (t : Told). t.offset < b) told → AreWithin b told
+pub are-within : (b : ℕ) (told : List Told) → All (λ (t : Told). t.offset < b) told → SlotsAreWithin b told
 are-within b [] all = tt
 are-within b (t ∷ told) all = (All-head (λ (t : Told). t.offset < b) t told all, are-within b told (All-tail (λ (t : Told). t.offset < b) t told all))
 
@@ -240,14 +223,14 @@ round-heard laws order endpoints g round rounds =
 -- ---- slots that are published
 
 pub stands-allocated : (state : RoundsState) (new : LaneState) (a : Allocation) (rounds : List Round) (allocations : List Allocation) → new ≡ record (state.lane) { lines = new.lines } →
-    ((history : LaneHistory) (allocations : List Allocation) → lanes.StandsFor state.lane history allocations → lanes.StandsFor new history (a ∷ allocations)) →
-    StandsFor state rounds allocations → StandsFor (record state { lane = new }) rounds (a ∷ allocations)
+    ((history : LaneHistory) (allocations : List Allocation) → lanes.LaneStandsFor state.lane history allocations → lanes.LaneStandsFor new history (a ∷ allocations)) →
+    RoundsStandFor state rounds allocations → RoundsStandFor (record state { lane = new }) rounds (a ∷ allocations)
 stands-allocated state new a rounds allocations frame then it =
     let next : LaneState = record (state.lane) { lines = new.lines } in
-    subst (λ (l : LaneState). StandsFor (record state { lane = l }) rounds (a ∷ allocations)) (sym frame)
+    subst (λ (l : LaneState). RoundsStandFor (record state { lane = l }) rounds (a ∷ allocations)) (sym frame)
     (record {
       agent = it.agent;
-      lane = subst (λ (l : LaneState). lanes.StandsFor l (lane_of (played state.lane.endpoints state.lane.g rounds).steps) (a ∷ allocations)) frame (then (lane_of (played state.lane.endpoints state.lane.g rounds).steps) allocations it.lane);
+      lane = subst (λ (l : LaneState). lanes.LaneStandsFor l (lane_of (played state.lane.endpoints state.lane.g rounds).steps) (a ∷ allocations)) frame (then (lane_of (played state.lane.endpoints state.lane.g rounds).steps) allocations it.lane);
       down = it.down;
       up = it.up;
       downward = it.downward;

@@ -8,11 +8,9 @@ use Rattle.loss_world.specs.InTransit.{Held}
 use Rattle.fcp_framing.specs.Spelling.{SpellsDown}
 use Rattle.endpoint_history.specs.Packets.{DownPacket, framed_down}
 use Rattle.endpoint_history.specs.Reading.{RoundsAreReadInOrder}
+use Rattle.endpoint_history.proofs.OneContent.{some-same}
 use Rattle.lane_rounds.specs.Standing.{HasCarried, spell_down, IsDownOf}
 use Rattle.lane_rounds.specs.Parts.{handed}
-
-some-is : {X : Type 0} (x y : X) → Some x ≡ Some y → x ≡ y
-some-is x y e = cc
 
 -- the bytes that are made are those of the packet
 pub made-spells : (endpoint endpoints b : ℕ) (packet : Option DownPacket) (made : Option ℕ) (buf : List ℕ) →
@@ -22,7 +20,7 @@ pub made-spells : (endpoint endpoints b : ℕ) (packet : Option DownPacket) (mad
 made-spells endpoint endpoints b None made buf same spelled = tt
 made-spells endpoint endpoints b (Some p) None buf same spelled = absurd (cc)
 made-spells endpoint endpoints b (Some p) (Some length) buf same spelled =
-    subst (λ bytes. SpellsDown endpoints b bytes (framed_down endpoint p)) (some-is (take length buf) (spell_down endpoint p) same) spelled
+    subst (λ bytes. SpellsDown endpoints b bytes (framed_down endpoint p)) (some-same (take length buf) (spell_down endpoint p) same) spelled
 
 pub carried-none : {T : Type 0} (spell : T → List ℕ) (world : Held) (round : ℕ) (fate : Option Fate) (packet : Option T) (departures : List Departure) →
     None ≡ option_map spell packet → HasCarried world round departures → HasCarried world round (departures ++ handed spell round fate packet)
@@ -38,6 +36,6 @@ carried-one ordered spell world next round fate (Some p) bytes departures one se
   calls = Departs (record { round = round; fate = fate; bytes = bytes }) ∷ it.calls;
   stands = sends it.calls it.stands (ordered round 0 it.calls it.asked).asked;
   handed = ap (λ (ds : List Departure). ds ++ record { round = round; fate = fate; bytes = bytes } ∷ []) it.handed
-      ∙ ap (λ bs. departures ++ record { round = round; fate = fate; bytes = bs } ∷ []) (some-is bytes (spell p) one);
+      ∙ ap (λ bs. departures ++ record { round = round; fate = fate; bytes = bs } ∷ []) (some-same bytes (spell p) one);
   asked = it.asked;
 }

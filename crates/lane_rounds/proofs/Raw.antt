@@ -15,26 +15,26 @@ use Rattle.arbiter_lane.specs.Refusals.{up_refusal, up_refusal_or, up_refusal_of
 use Rattle.arbiter_lane.specs.Standing as lanes
 use Rattle.lane_rounds.specs.Raw.{Raw}
 use Rattle.lane_rounds.specs.Outside.{names, packets_in}
-use Rattle.lane_rounds.specs.Refused.{with_arrival, with_raw, refused_in, numbered}
+use Rattle.lane_rounds.specs.Refused.{with_arrival, with_raw, refused_in, numbered_refusal}
 use Rattle.lane_rounds.specs.Parts.{reading}
 
 -- some have been read, and the others make of it what all do
 pub record HasRead (endpoint endpoints round : ℕ) (raw left : List Raw) (history : LaneHistory) (allocations : List Allocation) (lane : LaneState) (was refused : List (ℕ × ℕ)) : Type 0 where
   pub now : LaneHistory
-  pub stands : lanes.StandsFor lane now allocations
+  pub stands : lanes.LaneStandsFor lane now allocations
   pub rest : with_raw endpoint endpoints round raw history ≡ with_raw endpoint endpoints round left now
   pub told : was ++ refused_in endpoint endpoints round raw history ≡ refused ++ refused_in endpoint endpoints round left now
 
 pub read-more : (endpoint endpoints round : ℕ) (raw : List Raw) (r : Raw) (left : List Raw) (history : LaneHistory) (allocations : List Allocation) (lane next : LaneState) (was refused more : List (ℕ × ℕ)) →
     HasRead endpoint endpoints round raw (r ∷ left) history allocations lane was refused →
-    ((now : LaneHistory) → lanes.StandsFor lane now allocations → lanes.StandsFor next (with_arrival endpoint endpoints round r.bytes now) allocations) →
-    ((now : LaneHistory) → lanes.StandsFor lane now allocations → more ≡ refused ++ numbered r.place (up_refusal endpoint endpoints now r.bytes)) →
+    ((now : LaneHistory) → lanes.LaneStandsFor lane now allocations → lanes.LaneStandsFor next (with_arrival endpoint endpoints round r.bytes now) allocations) →
+    ((now : LaneHistory) → lanes.LaneStandsFor lane now allocations → more ≡ refused ++ numbered_refusal r.place (up_refusal endpoint endpoints now r.bytes)) →
     HasRead endpoint endpoints round raw left history allocations next was more
 read-more endpoint endpoints round raw r left history allocations lane next was refused more some stands told = record {
   now = with_arrival endpoint endpoints round r.bytes some.now;
   stands = stands some.now some.stands;
   rest = some.rest;
-  told = some.told ∙ sym (append_assoc refused (numbered r.place (up_refusal endpoint endpoints some.now r.bytes)) (refused_in endpoint endpoints round left (with_arrival endpoint endpoints round r.bytes some.now)))
+  told = some.told ∙ sym (append_assoc refused (numbered_refusal r.place (up_refusal endpoint endpoints some.now r.bytes)) (refused_in endpoint endpoints round left (with_arrival endpoint endpoints round r.bytes some.now)))
       ∙ ap (λ xs. xs ++ refused_in endpoint endpoints round left (with_arrival endpoint endpoints round r.bytes some.now)) (sym (told some.now some.stands));
 }
 
@@ -77,33 +77,33 @@ names-own endpoint endpoints bytes on =
     record { spelled = none_is (first_refusal (refuses_up endpoints bytes)) both.0; source = eqb-true (up_of bytes).src endpoint both.1 }
 
 pub with_bytes-stands : (lane new : LaneState) (round : ℕ) (bytes : List ℕ) (given : Option UpRefused) →
-    ((history : LaneHistory) (allocations : List Allocation) → lanes.StandsFor lane history allocations → given ≡ up_refusal lane.endpoint lane.endpoints history bytes) →
+    ((history : LaneHistory) (allocations : List Allocation) → lanes.LaneStandsFor lane history allocations → given ≡ up_refusal lane.endpoint lane.endpoints history bytes) →
     IfSome given (λ refusal. refusal ≢ OldSeq → refusal ≢ Repeat → new ≡ lane) →
-    (IsOwnUp lane.endpoint lane.endpoints bytes → (history : LaneHistory) (allocations : List Allocation) → lanes.StandsFor lane history allocations → lanes.StandsFor new (TakesUp round (up_packet (up_of bytes)) ∷ history) allocations) →
-    (history : LaneHistory) (allocations : List Allocation) → lanes.StandsFor lane history allocations → lanes.StandsFor new (with_arrival lane.endpoint lane.endpoints round bytes history) allocations
+    (IsOwnUp lane.endpoint lane.endpoints bytes → (history : LaneHistory) (allocations : List Allocation) → lanes.LaneStandsFor lane history allocations → lanes.LaneStandsFor new (TakesUp round (up_packet (up_of bytes)) ∷ history) allocations) →
+    (history : LaneHistory) (allocations : List Allocation) → lanes.LaneStandsFor lane history allocations → lanes.LaneStandsFor new (with_arrival lane.endpoint lane.endpoints round bytes history) allocations
 with_bytes-stands lane new round bytes given answer unchanged stands history allocations stood =
     elim (cases_Bool (names lane.endpoint lane.endpoints bytes)) [
       | inl on ↦
-          subst (λ (b : Bool). lanes.StandsFor new (cond b (TakesUp round (up_packet (up_of bytes)) ∷ history) history) allocations) (sym on)
+          subst (λ (b : Bool). lanes.LaneStandsFor new (cond b (TakesUp round (up_packet (up_of bytes)) ∷ history) history) allocations) (sym on)
           (stands (names-own lane.endpoint lane.endpoints bytes on) history allocations stood)
       | inr off ↦
           let it = names-not lane.endpoint lane.endpoints history bytes off in
           let same : new ≡ lane = subst (λ (g : Option UpRefused). IfSome g (λ refusal. refusal ≢ OldSeq → refusal ≢ Repeat → new ≡ lane)) (answer history allocations stood ∙ it.is) unchanged it.not_old it.not_repeat in
-          subst (λ (b : Bool). lanes.StandsFor new (cond b (TakesUp round (up_packet (up_of bytes)) ∷ history) history) allocations) (sym off)
-          (subst (λ (l : LaneState). lanes.StandsFor l history allocations) (sym same) stood)
+          subst (λ (b : Bool). lanes.LaneStandsFor new (cond b (TakesUp round (up_packet (up_of bytes)) ∷ history) history) allocations) (sym off)
+          (subst (λ (l : LaneState). lanes.LaneStandsFor l history allocations) (sym same) stood)
     ]
 
 -- ---- the first and the last
 
 pub read-begins : (endpoint endpoints round : ℕ) (raw : List Raw) (history : LaneHistory) (allocations : List Allocation) (lane : LaneState) (was : List (ℕ × ℕ)) →
-    lanes.StandsFor lane history allocations → HasRead endpoint endpoints round raw raw history allocations lane was was
+    lanes.LaneStandsFor lane history allocations → HasRead endpoint endpoints round raw raw history allocations lane was was
 read-begins endpoint endpoints round raw history allocations lane was stands = record { now = history; stands = stands; rest = refl; told = refl }
 
 pub read-ends : (endpoint endpoints round : ℕ) (raw left : List Raw) (history : LaneHistory) (allocations : List Allocation) (lane : LaneState) (was refused : List (ℕ × ℕ)) →
     left ≡ [] → HasRead endpoint endpoints round raw left history allocations lane was refused →
-    lanes.StandsFor lane (with_raw endpoint endpoints round raw history) allocations × (refused ≡ was ++ refused_in endpoint endpoints round raw history)
+    lanes.LaneStandsFor lane (with_raw endpoint endpoints round raw history) allocations × (refused ≡ was ++ refused_in endpoint endpoints round raw history)
 read-ends endpoint endpoints round raw left history allocations lane was refused none it = (
-  subst (λ (h : LaneHistory). lanes.StandsFor lane h allocations) (sym (it.rest ∙ ap (λ (rs : List Raw). with_raw endpoint endpoints round rs it.now) none)) it.stands,
+  subst (λ (h : LaneHistory). lanes.LaneStandsFor lane h allocations) (sym (it.rest ∙ ap (λ (rs : List Raw). with_raw endpoint endpoints round rs it.now) none)) it.stands,
   sym (it.told ∙ ap (λ (rs : List Raw). refused ++ refused_in endpoint endpoints round rs it.now) none ∙ append-nil refused),
 )
 

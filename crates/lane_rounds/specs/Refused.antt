@@ -14,14 +14,14 @@ use Rattle.lane_rounds.specs.Outside.{names, round_with}
 use Rattle.lane_rounds.specs.Raw.{Raw}
 use Rattle.lane_rounds.specs.declared.events.Events.{Events}
 
-abbrev pub number_of : UpRefused → ℕ
-number_of (Frame refusal) = framing.number_of refusal
-number_of Unsynced = 21
-number_of OldEpoch = 22
-number_of OldSeq = 23
-number_of Repeat = 24
-number_of NotMine = 25
-number_of OtherVersion = 26
+abbrev pub up_refusal_number : UpRefused → ℕ
+up_refusal_number (Frame refusal) = framing.frame_refusal_number refusal
+up_refusal_number Unsynced = 21
+up_refusal_number OldEpoch = 22
+up_refusal_number OldSeq = 23
+up_refusal_number Repeat = 24
+up_refusal_number NotMine = 25
+up_refusal_number OtherVersion = 26
 
 -- a lane's calls with bytes that arrive after them: a packet of its endpoint is one more, whatever it is answered
 abbrev pub with_arrival : ℕ → ℕ → ℕ → List ℕ → LaneHistory → LaneHistory
@@ -29,9 +29,9 @@ with_arrival endpoint endpoints round bytes history =
     if names endpoint endpoints bytes then TakesUp round (up_packet (up_of bytes)) ∷ history else history
 
 -- the place of a packet with the number of its refusal, nothing where it is accepted
-abbrev pub numbered : ℕ → Option UpRefused → List (ℕ × ℕ)
-numbered place None = []
-numbered place (Some refusal) = (place, number_of refusal) ∷ []
+abbrev pub numbered_refusal : ℕ → Option UpRefused → List (ℕ × ℕ)
+numbered_refusal place None = []
+numbered_refusal place (Some refusal) = (place, up_refusal_number refusal) ∷ []
 
 -- raw packets that arrive one after the other
 module _ (endpoint endpoints round : ℕ) where
@@ -42,7 +42,7 @@ module _ (endpoint endpoints round : ℕ) where
   abbrev pub refused_in : List Raw → LaneHistory → List (ℕ × ℕ)
   refused_in [] history = []
   refused_in (r ∷ raw) history =
-      numbered r.place (up_refusal endpoint endpoints history r.bytes) ++ refused_in raw (with_arrival endpoint endpoints round r.bytes history)
+      numbered_refusal r.place (up_refusal endpoint endpoints history r.bytes) ++ refused_in raw (with_arrival endpoint endpoints round r.bytes history)
 
 -- the raw packets that are refused in a round, after all that arrives of the world's
 abbrev pub refused_by : ℕ → ℕ → ℕ → Events → List Told → List Round → List (ℕ × ℕ)

@@ -14,7 +14,7 @@ use Rattle.arbiter_lane.specs.State.{AreSlots, AreAllocated}
 use Rattle.lane_rounds.specs.declared.events.Events.{Events}
 use Rattle.lane_rounds.specs.Outside.{round_with}
 use Rattle.lane_rounds.specs.Refused.{refused_by}
-use Rattle.lane_rounds.specs.Standing.{StandsFor}
+use Rattle.lane_rounds.specs.Standing.{RoundsStandFor}
 use Rattle.lane_rounds.specs.State.{RoundsState, MayAsk, with_each}
 
 -- a round may be played with what comes from outside and what is told in it, where its batch has these entries
@@ -27,7 +27,7 @@ pub record MayPlayRound (state : RoundsState) (number : ℕ) (events : Events) (
   -- the agent boots and asks as its own calls allow: after the boots the asks of a flow stay within the limit
   pub version : 0 < events.boots → IsVersion events.version
   pub epochs : state.agent.epoch + events.boots < 2 ^ 32
-  pub asks : (calls : AgentHistory) × agents.StandsFor state.agent calls
+  pub asks : (calls : AgentHistory) × agents.AgentStandsFor state.agent calls
       × MayAsk state.lane.endpoint state.lane.endpoints (with_each Boots (replicate events.boots events.version) calls) events.asks
   -- what is told are the endpoint's slots of one batch, which were counted by `allocated` before
   pub slots : AreSlots state.lane.endpoints state.lane.b state.lane.endpoint told
@@ -47,20 +47,20 @@ pub record HasRoundMore (old : RoundsState) (number : ℕ) (next : Round) (new :
   -- the round after it is next
   pub round : new.lane.round ≡ number + 1
   -- what they stood for, with this round
-  pub stands : (rounds : List Round) (allocations : List Allocation) → StandsFor old rounds allocations →
-      StandsFor new (next ∷ rounds) allocations
+  pub stands : (rounds : List Round) (allocations : List Allocation) → RoundsStandFor old rounds allocations →
+      RoundsStandFor new (next ∷ rounds) allocations
   -- no loss or boot harms where no raw packet names the endpoint
-  pub unharmed : (rounds : List Round) (allocations : List Allocation) → StandsFor old rounds allocations → NamedByNoRaw (next ∷ rounds) →
+  pub unharmed : (rounds : List Round) (allocations : List Allocation) → RoundsStandFor old rounds allocations → NamedByNoRaw (next ∷ rounds) →
       IsUnharmed new.lane.endpoints new.lane.b new.lane.g (next ∷ rounds)
 
 -- what a round gives: entries to its batch, what is sent in it, and its refusals, after those that were told before
 pub record GivesRound (state : RoundsState) (events : Events) (told : List Told) (old_entries new_entries : List Entry) (sent : List Slot) (old_refused new_refused : List (ℕ × ℕ)) : Type 0 where
   -- the batch has the endpoint's entries of this round more
-  pub entries : (rounds : List Round) (allocations : List Allocation) → StandsFor state rounds allocations →
+  pub entries : (rounds : List Round) (allocations : List Allocation) → RoundsStandFor state rounds allocations →
       new_entries ≡ old_entries ++ entries_by state.lane.endpoint state.lane.endpoints state.lane.g (round_with state.lane.endpoint state.lane.endpoints events told ∷ rounds)
   -- these are its slots that were due
-  pub sends : (rounds : List Round) (allocations : List Allocation) → StandsFor state rounds allocations →
+  pub sends : (rounds : List Round) (allocations : List Allocation) → RoundsStandFor state rounds allocations →
       sent ≡ sent_by state.lane.endpoints state.lane.b state.lane.g (round_with state.lane.endpoint state.lane.endpoints events told ∷ rounds)
   -- raw packets that are refused are told with their numbers
-  pub refused : (rounds : List Round) (allocations : List Allocation) → StandsFor state rounds allocations →
+  pub refused : (rounds : List Round) (allocations : List Allocation) → RoundsStandFor state rounds allocations →
       new_refused ≡ old_refused ++ refused_by state.lane.endpoint state.lane.endpoints state.lane.g events told rounds

@@ -7,7 +7,7 @@ use Rattle.fcp_framing.specs.Spelling.{up_bytes, down_bytes, SpellsUp, SpellsDow
 use Rattle.endpoint_history.specs.Counts.{Allocation}
 use Rattle.endpoint_history.specs.Packets.{DownPacket, UpPacket, framed_down, framed_up}
 use Rattle.endpoint_history.specs.Reading.{spelled, AsksBelow}
-use Rattle.endpoint_history.specs.Rounds.{Round, Posted, Played, played}
+use Rattle.endpoint_history.specs.Rounds.{Round, Posted, PlayedEnds, played}
 use Rattle.endpoint_history.specs.Steps.{agent_of, lane_of}
 use Rattle.endpoint_history.specs.Tellings.{ToldWithin, ToldRises, ToldTo}
 use Rattle.endpoint_agent.specs.Standing as agents
@@ -44,9 +44,9 @@ pub record HasCarried (world : Held) (round : ℕ) (sent : List Departure) : Typ
 
 -- both ends of an endpoint and both directions stand for all that was played before a round: each end for its calls, each direction
 -- for what was posted, which keeps the rules of packets. What was to be told rose within its batch, and was to endpoints of the net
-pub record StandsAt (endpoint endpoints b : ℕ) (one : AgentState) (other : LaneState) (below above : Held) (number : ℕ) (all : Played) (allocations : List Allocation) : Type 0 where
-  pub agent : agents.StandsFor one (agent_of all.steps)
-  pub lane : lanes.StandsFor other (lane_of all.steps) allocations
+pub record StandsAt (endpoint endpoints b : ℕ) (one : AgentState) (other : LaneState) (below above : Held) (number : ℕ) (all : PlayedEnds) (allocations : List Allocation) : Type 0 where
+  pub agent : agents.AgentStandsFor one (agent_of all.steps)
+  pub lane : lanes.LaneStandsFor other (lane_of all.steps) allocations
   pub down : HasCarried below number (map (spelled (spell_down endpoint)) all.down)
   pub up : HasCarried above number (map (spelled (spell_up endpoint)) all.up)
   pub downward : EachPosted (IsDownOf endpoint endpoints b) all.down
@@ -56,15 +56,15 @@ pub record StandsAt (endpoint endpoints b : ℕ) (one : AgentState) (other : Lan
   pub to : ToldTo endpoints (lane_of all.steps)
 
 -- all that was played, by the sizes of a state
-abbrev pub played_by : RoundsState → List Round → Played
+abbrev pub played_by : RoundsState → List Round → PlayedEnds
 played_by state rounds = played state.lane.endpoints state.lane.g rounds
 
-abbrev pub StandsFor : RoundsState → List Round → List Allocation → Type 0
-StandsFor state rounds allocations =
+abbrev pub RoundsStandFor : RoundsState → List Round → List Allocation → Type 0
+RoundsStandFor state rounds allocations =
     StandsAt state.lane.endpoint state.lane.endpoints state.lane.b state.agent state.lane state.down state.up (length rounds) (played_by state rounds) allocations
 
 -- there are rounds for which it stands
 pub record HasRounds (state : RoundsState) : Type 0 where
   pub rounds : List Round
   pub allocations : List Allocation
-  pub stands : StandsFor state rounds allocations
+  pub stands : RoundsStandFor state rounds allocations

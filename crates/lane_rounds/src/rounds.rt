@@ -22,9 +22,9 @@ ghost use Rattle.arbiter_lane.specs.State.{IsSameLane, MayMakeDown, MayOpenLane}
 ghost use Rattle.arbiter_lane.specs.Standing as lanes;
 ghost use Rattle.arbiter_lane.specs.Refusals.{up_refusal};
 ghost use Rattle.lane_rounds.specs.Outside.{round_with, packets_in};
-ghost use Rattle.lane_rounds.specs.Refused.{refused_by, refused_in, with_raw, with_arrival, numbered};
+ghost use Rattle.lane_rounds.specs.Refused.{refused_by, refused_in, with_raw, with_arrival, numbered_refusal};
 ghost use Rattle.lane_rounds.specs.State.{MayAsk, with_each};
-ghost use Rattle.lane_rounds.specs.Standing.{StandsFor, HasCarried, IsDownOf, IsUpOf, spell_down, spell_up, played_by};
+ghost use Rattle.lane_rounds.specs.Standing.{RoundsStandFor, HasCarried, IsDownOf, IsUpOf, spell_down, spell_up, played_by};
 ghost use Rattle.lane_rounds.specs.Rounds.{MayPlayRound, HasRoundMore, GivesRound};
 ghost use Rattle.lane_rounds.specs.Parts.{IsSameAgent, IsReadDown, IsReadUp, Each, MayHear, hearing, reading, handed, with_at_hand};
 
@@ -86,7 +86,7 @@ impl LaneRounds {
         ensures b { IfOk result (λ rounds. rounds.lane.b ≡ b) }
         ensures g { IfOk result (λ rounds. rounds.lane.g ≡ g) }
         ensures whole { IfOk result (λ rounds. rounds.is_whole ≡ true) }
-        ensures stands { IfOk result (λ rounds. StandsFor rounds [] []) }
+        ensures stands { IfOk result (λ rounds. RoundsStandFor rounds [] []) }
     {
         Ok(LaneRounds {
             agent: Agent::open(alloc, endpoint, endpoints, b, g)?,
@@ -157,8 +157,8 @@ impl LaneRounds {
         requires pending { self.old.lane.last_reset ≤ batch → (line : LineOf) → slice_get self.old.lane.lines dst ≡ Some line → n ≤ pending line.count }
         ensures frame { self.new ≡ record self.old { lane = record self.old.lane { lines = self.new.lane.lines } } }
         ensures stands { (rounds : List Round) (allocations : List Allocation) →
-            StandsFor self.old rounds allocations →
-            StandsFor self.new rounds (record { dst = dst; batch = batch; slots = n } ∷ allocations) }
+            RoundsStandFor self.old rounds allocations →
+            RoundsStandFor self.new rounds (record { dst = dst; batch = batch; slots = n } ∷ allocations) }
     {
         self.lane.allocated(dst, batch, n);
     }
@@ -167,16 +167,16 @@ impl LaneRounds {
     pub fn count(&self, dst: u16) -> Option<FlowCount>
         requires { dst < self.now.lane.endpoints }
         ensures opened { (rounds : List Round) (allocations : List Allocation) →
-            StandsFor self.now rounds allocations →
+            RoundsStandFor self.now rounds allocations →
             (IsSome result ↔ (had self.now.lane.g (lane_of (played_by self.now rounds).steps) dst ≡ true)) }
         ensures counts { IfSome result (λ count. (rounds : List Round) (allocations : List Allocation) →
-            StandsFor self.now rounds allocations →
+            RoundsStandFor self.now rounds allocations →
             (count.demanded ≡ recorded (lane_of (played_by self.now rounds).steps) dst)
             × (count.allocated ≡ allocated (lane_of (played_by self.now rounds).steps) allocations dst)
             × (count.acknowledged ≡ acknowledged self.now.lane.g (lane_of (played_by self.now rounds).steps) dst)
             × (count.lost ≡ lost self.now.lane.g (lane_of (played_by self.now rounds).steps) dst)) }
         ensures told { (rounds : List Round) (allocations : List Allocation) →
-            StandsFor self.now rounds allocations →
+            RoundsStandFor self.now rounds allocations →
             lanes.FlowIsWithinLedger self.now.lane.g (lane_of (played_by self.now rounds).steps) allocations dst }
     {
         self.lane.count(dst)
@@ -187,10 +187,10 @@ impl LaneRounds {
         requires whole { self.now.is_whole ≡ true }
         requires destination { dst < self.now.lane.endpoints }
         ensures sent { (rounds : List Round) (allocations : List Allocation) →
-            StandsFor self.now rounds allocations →
+            RoundsStandFor self.now rounds allocations →
             result.0 ≡ sends self.now.lane.b self.now.lane.g (agent_of (played_by self.now rounds).steps) dst }
         ensures missed { (rounds : List Round) (allocations : List Allocation) →
-            StandsFor self.now rounds allocations →
+            RoundsStandFor self.now rounds allocations →
             result.1 ≡ missed self.now.lane.g (agent_of (played_by self.now rounds).steps) dst }
     {
         self.agent.totals(dst)
@@ -203,8 +203,8 @@ fn boot_all(agent: &mut Agent, boots: u32, version: u8)
     requires epochs { agent.old.epoch + boots < 2 ^ 32 }
     ensures same { IsSameAgent agent.old agent.new }
     ensures stands { (calls : AgentHistory) →
-        agents.StandsFor agent.old calls →
-        agents.StandsFor agent.new (with_each Boots (replicate boots version) calls) }
+        agents.AgentStandsFor agent.old calls →
+        agents.AgentStandsFor agent.new (with_each Boots (replicate boots version) calls) }
 {
     for _ in 0..boots {
         agent.boot(version);
@@ -213,11 +213,11 @@ fn boot_all(agent: &mut Agent, boots: u32, version: u8)
 
 /// Asks for slots, one ask after the other.
 fn ask_all(agent: &mut Agent, asks: &[(u16, u32)])
-    requires may_ask { (calls : AgentHistory) × agents.StandsFor agent.old calls × MayAsk agent.old.me agent.old.endpoints calls asks.now }
+    requires may_ask { (calls : AgentHistory) × agents.AgentStandsFor agent.old calls × MayAsk agent.old.me agent.old.endpoints calls asks.now }
     ensures same { IsSameAgent agent.old agent.new }
     ensures stands { (calls : AgentHistory) →
-        agents.StandsFor agent.old calls →
-        agents.StandsFor agent.new (with_each (λ (a : ℕ × ℕ). Asks a.0 a.1) asks.now calls) }
+        agents.AgentStandsFor agent.old calls →
+        agents.AgentStandsFor agent.new (with_each (λ (a : ℕ × ℕ). Asks a.0 a.1) asks.now calls) }
 {
     for (dst, n) in asks {
         agent.ask(*dst, *n);
@@ -236,15 +236,15 @@ fn post_down(
     requires { MayMakeDown lane.old round told.now.items }
     ensures frame { lane.new ≡ record lane.old { sent = lane.new.sent; lines = lane.new.lines; is_made = true } }
     ensures stands { OnOk result ((history : LaneHistory) (allocations : List Allocation) →
-        lanes.StandsFor lane.old history allocations →
-        lanes.StandsFor lane.new (MakesDown round told.now.items ∷ history) allocations) }
+        lanes.LaneStandsFor lane.old history allocations →
+        lanes.LaneStandsFor lane.new (MakesDown round told.now.items ∷ history) allocations) }
     ensures spelled { (history : LaneHistory) (allocations : List Allocation) →
-        lanes.StandsFor lane.old history allocations →
+        lanes.LaneStandsFor lane.old history allocations →
         IfSome (packet_down lane.old.g history round told.now.items) (IsDownOf lane.old.endpoint lane.old.endpoints lane.old.b) }
     ensures within { IfOk result (λ at_hand. IfSome at_hand (λ length. length ≤ 2048)) }
     ensures alone { IfOk result (λ at_hand. IsSome at_hand → world.new.flights ≡ []) }
     ensures carried { IfOk result (λ at_hand. (history : LaneHistory) (allocations : List Allocation) (departures : List Departure) →
-        lanes.StandsFor lane.old history allocations →
+        lanes.LaneStandsFor lane.old history allocations →
         HasCarried world.old round departures →
         HasCarried (with_at_hand round at_hand buf.new world.new) round (departures ++ handed (spell_down lane.old.endpoint) round fate (packet_down lane.old.g history round told.now.items))) }
 {
@@ -292,16 +292,16 @@ fn hear(
     requires rounds { round < 100000 }
     requires within { IfSome at_hand (λ length. length ≤ 2048) }
     requires alone { IsSome at_hand → world.old.flights ≡ [] }
-    requires may_hear { (calls : AgentHistory) × (packets : List DownPacket) × agents.StandsFor agent.old calls
+    requires may_hear { (calls : AgentHistory) × (packets : List DownPacket) × agents.AgentStandsFor agent.old calls
         × (due_in (with_at_hand round at_hand buf.old world.old).flights round ≡ map (spell_down agent.old.me) packets)
         × Each (IsReadDown agent.old.me agent.old.endpoints agent.old.b) packets
         × MayHear agent.old.g round calls packets }
     ensures same { IsSameAgent agent.old agent.new }
     ensures stands { (calls : AgentHistory) (packets : List DownPacket) →
-        agents.StandsFor agent.old calls →
+        agents.AgentStandsFor agent.old calls →
         due_in (with_at_hand round at_hand buf.old world.old).flights round ≡ map (spell_down agent.old.me) packets →
         Each (IsReadDown agent.old.me agent.old.endpoints agent.old.b) packets →
-        agents.StandsFor agent.new (hearing round packets calls) }
+        agents.AgentStandsFor agent.new (hearing round packets calls) }
     ensures carried { (departures : List Departure) →
         HasCarried (with_at_hand round at_hand buf.old world.old) round departures →
         HasCarried world.new (round + 1) departures }
@@ -320,16 +320,16 @@ fn hear(
 fn hear_all(agent: &mut Agent, world: &mut World, round: u32, buf: &mut [u8; 2048])
     requires round { round ≡ agent.old.round }
     requires rounds { round < 100000 }
-    requires may_hear { (calls : AgentHistory) × (packets : List DownPacket) × agents.StandsFor agent.old calls
+    requires may_hear { (calls : AgentHistory) × (packets : List DownPacket) × agents.AgentStandsFor agent.old calls
         × (due_in world.old.flights round ≡ map (spell_down agent.old.me) packets)
         × Each (IsReadDown agent.old.me agent.old.endpoints agent.old.b) packets
         × MayHear agent.old.g round calls packets }
     ensures same { IsSameAgent agent.old agent.new }
     ensures stands { (calls : AgentHistory) (packets : List DownPacket) →
-        agents.StandsFor agent.old calls →
+        agents.AgentStandsFor agent.old calls →
         due_in world.old.flights round ≡ map (spell_down agent.old.me) packets →
         Each (IsReadDown agent.old.me agent.old.endpoints agent.old.b) packets →
-        agents.StandsFor agent.new (hearing round packets calls) }
+        agents.AgentStandsFor agent.new (hearing round packets calls) }
     ensures carried { (departures : List Departure) →
         HasCarried world.old round departures →
         HasCarried world.new (round + 1) departures }
@@ -350,15 +350,15 @@ fn post_up(
     requires once { agent.old.is_made ≡ false }
     ensures frame { agent.new ≡ record agent.old { sent = agent.new.sent; named = agent.new.named; is_made = true } }
     ensures stands { (calls : AgentHistory) →
-        agents.StandsFor agent.old calls →
-        agents.StandsFor agent.new (MakesUp ∷ calls) }
+        agents.AgentStandsFor agent.old calls →
+        agents.AgentStandsFor agent.new (MakesUp ∷ calls) }
     ensures spelled { (calls : AgentHistory) →
-        agents.StandsFor agent.old calls →
+        agents.AgentStandsFor agent.old calls →
         IsUpOf agent.old.me agent.old.endpoints (packet_up agent.old.endpoints agent.old.g calls) }
     ensures within { IfOk result (λ at_hand. IfSome at_hand (λ length. length ≤ 2048)) }
     ensures alone { IfOk result (λ at_hand. IsSome at_hand → world.new.flights ≡ []) }
     ensures carried { IfOk result (λ at_hand. (calls : AgentHistory) (departures : List Departure) →
-        agents.StandsFor agent.old calls →
+        agents.AgentStandsFor agent.old calls →
         HasCarried world.old round departures →
         HasCarried (with_at_hand round at_hand buf.new world.new) round (departures ++ handed (spell_up agent.old.me) round fate (Some (packet_up agent.old.endpoints agent.old.g calls)))) }
 {
@@ -380,10 +380,10 @@ fn read(
     requires alone { IsSome at_hand → world.old.flights ≡ [] }
     ensures same { IsSameLane lane.old lane.new }
     ensures stands { (history : LaneHistory) (allocations : List Allocation) (packets : List UpPacket) →
-        lanes.StandsFor lane.old history allocations →
+        lanes.LaneStandsFor lane.old history allocations →
         due_in (with_at_hand round at_hand buf.old world.old).flights round ≡ map (spell_up lane.old.endpoint) packets →
         Each (IsReadUp lane.old.endpoint lane.old.endpoints) packets →
-        lanes.StandsFor lane.new (reading round packets history) allocations }
+        lanes.LaneStandsFor lane.new (reading round packets history) allocations }
     ensures carried { (departures : List Departure) →
         HasCarried (with_at_hand round at_hand buf.old world.old) round departures →
         HasCarried world.new (round + 1) departures }
@@ -403,10 +403,10 @@ fn read_all(lane: &mut Lane, world: &mut World, round: u32, buf: &mut [u8; 2048]
     requires round { round ≡ lane.old.round }
     ensures same { IsSameLane lane.old lane.new }
     ensures stands { (history : LaneHistory) (allocations : List Allocation) (packets : List UpPacket) →
-        lanes.StandsFor lane.old history allocations →
+        lanes.LaneStandsFor lane.old history allocations →
         due_in world.old.flights round ≡ map (spell_up lane.old.endpoint) packets →
         Each (IsReadUp lane.old.endpoint lane.old.endpoints) packets →
-        lanes.StandsFor lane.new (reading round packets history) allocations }
+        lanes.LaneStandsFor lane.new (reading round packets history) allocations }
     ensures carried { (departures : List Departure) →
         HasCarried world.old round departures →
         HasCarried world.new (round + 1) departures }
@@ -426,10 +426,10 @@ fn read_raw(
     requires round { round ≡ lane.old.round }
     ensures same { IsSameLane lane.old lane.new }
     ensures stands { OnOk result ((history : LaneHistory) (allocations : List Allocation) →
-        lanes.StandsFor lane.old history allocations →
-        lanes.StandsFor lane.new (with_raw lane.old.endpoint lane.old.endpoints round raw.now history) allocations) }
+        lanes.LaneStandsFor lane.old history allocations →
+        lanes.LaneStandsFor lane.new (with_raw lane.old.endpoint lane.old.endpoints round raw.now history) allocations) }
     ensures refused { OnOk result ((history : LaneHistory) (allocations : List Allocation) →
-        lanes.StandsFor lane.old history allocations →
+        lanes.LaneStandsFor lane.old history allocations →
         refused.new ≡ refused.old ++ refused_in lane.old.endpoint lane.old.endpoints round raw.now history) }
 {
     for packet in raw {
@@ -448,11 +448,11 @@ fn read_one(
     requires round { round ≡ lane.old.round }
     ensures same { IsSameLane lane.old lane.new }
     ensures stands { (history : LaneHistory) (allocations : List Allocation) →
-        lanes.StandsFor lane.old history allocations →
-        lanes.StandsFor lane.new (with_arrival lane.old.endpoint lane.old.endpoints round packet.now.bytes history) allocations }
+        lanes.LaneStandsFor lane.old history allocations →
+        lanes.LaneStandsFor lane.new (with_arrival lane.old.endpoint lane.old.endpoints round packet.now.bytes history) allocations }
     ensures refused { OnOk result ((history : LaneHistory) (allocations : List Allocation) →
-        lanes.StandsFor lane.old history allocations →
-        refused.new ≡ refused.old ++ numbered packet.now.place (up_refusal lane.old.endpoint lane.old.endpoints history packet.now.bytes)) }
+        lanes.LaneStandsFor lane.old history allocations →
+        refused.new ≡ refused.old ++ numbered_refusal packet.now.place (up_refusal lane.old.endpoint lane.old.endpoints history packet.now.bytes)) }
 {
     match lane.take_up(round, packet.bytes()) {
         Ok(()) => Ok(()),

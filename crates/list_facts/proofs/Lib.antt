@@ -1,2 +1,6 @@
 pub mod Pairs
 pub mod StableSort
+pub mod Bools
+pub mod Numbers
+pub mod Lists
+pub mod Counting

@@ -27,8 +27,8 @@ use Rattle.report_text.specs.Lines.{IsLine, bit}
 use Rattle.schedule_audit.specs.declared.recorded.Recorded.{Recorded}
 use Rattle.schedule_audit.specs.declared.packets.Place.{Place}
 use Rattle.schedule_audit.specs.declared.packets.Path.{Path}
-use Rattle.schedule_audit.specs.Lines.{records, paths, places, sends}
-use Rattle.schedule_audit.specs.Wrong.{same_place, places_from, has_wrong_core}
+use Rattle.schedule_audit.specs.Lines.{records, paths, places, sends_in_lines}
+use Rattle.schedule_audit.specs.Wrong.{same_place, slot_places_from, has_wrong_core}
 use Rattle.schedule_audit.specs.Laws.{read}
 use Rattle.schedule_audit.specs.ReadLaws.{AreAllLines}
 use Rattle.schedule_audit.specs.Texts.{record_of, records_of, IsTextOf}
@@ -43,7 +43,7 @@ IsPathLine p = IsLine (line.Slot p.place.slot p.place.flow.src p.place.flow.dst 
 abbrev IsSendLine : Place → Type 0
 IsSendLine s = IsLine (line.Sent s.slot s.flow.src s.flow.dst)
 
-lines_formed : (ls : List Line) → AreFigures ls → All IsRecordLine (records (read ls)) → All IsPathLine (paths (read ls)) → All IsSendLine (sends (read ls)) → AreAllLines ls
+lines_formed : (ls : List Line) → AreFigures ls → All IsRecordLine (records (read ls)) → All IsPathLine (paths (read ls)) → All IsSendLine (sends_in_lines (read ls)) → AreAllLines ls
 lines_formed [] fs rs ps ss = tt
 lines_formed (line.Batch batch src dst clear add ∷ ls) fs rs ps ss =
     let r : Recorded = record { batch = batch; flow = record { src = src; dst = dst }; clear = clear; add = add } in
@@ -53,12 +53,12 @@ lines_formed (line.Slot slot src dst core ∷ ls) fs rs ps ss =
     (All-head IsPathLine p (paths (read ls)) ps, lines_formed ls fs.1 rs (All-tail IsPathLine p (paths (read ls)) ps) ss)
 lines_formed (line.Sent slot src dst ∷ ls) fs rs ps ss =
     let s : Place = record { slot = slot; flow = record { src = src; dst = dst } } in
-    (All-head IsSendLine s (sends (read ls)) ss, lines_formed ls fs.1 rs ps (All-tail IsSendLine s (sends (read ls)) ss))
+    (All-head IsSendLine s (sends_in_lines (read ls)) ss, lines_formed ls fs.1 rs ps (All-tail IsSendLine s (sends_in_lines (read ls)) ss))
 lines_formed (l ∷ ls) fs rs ps ss = (fs.0, lines_formed ls fs.1 rs ps ss)
 
 -- ---- numbers
 
-below_most : (n most : ℕ) → n < most → most ≤ 256 → n ≤ 65535
+pub below_most : (n most : ℕ) → n < most → most ≤ 256 → n ≤ 65535
 below_most n most low few = omega arith
 
 bit_low : (c : Bool) → bit c ≤ 1
@@ -103,12 +103,12 @@ records_formed endpoints k limits front (batch ∷ batches) are few low =
 abbrev IsPlaceBelow : ℕ → ℕ → Place → Type 0
 IsPlaceBelow endpoints most p = (p.slot < most) × (p.flow.src < endpoints) × (p.flow.dst < endpoints)
 
-places_below : (endpoints most number : ℕ) (slots : List (List Flow)) → All (IsSlotOf endpoints) slots → number + length slots ≤ most → All (IsPlaceBelow endpoints most) (places_from number slots)
+places_below : (endpoints most number : ℕ) (slots : List (List Flow)) → All (IsSlotOf endpoints) slots → number + length slots ≤ most → All (IsPlaceBelow endpoints most) (slot_places_from number slots)
 places_below endpoints most number [] all low = All-nil (IsPlaceBelow endpoints most)
 places_below endpoints most number (slot ∷ slots) all low =
     let here : IsSlotOf endpoints slot = All-head (IsSlotOf endpoints) slot slots all in
     let at : Flow → Place = λ flow. record { slot = number; flow = flow } in
-    All-append (IsPlaceBelow endpoints most) (map at slot) (places_from (number + 1) slots)
+    All-append (IsPlaceBelow endpoints most) (map at slot) (slot_places_from (number + 1) slots)
     (All-map (IsPlaceBelow endpoints most) at slot (λ i d within. (omega arith, (here.in_range i d within).0, (here.in_range i d within).1)))
     (places_below endpoints most (number + 1) slots (All-tail (IsSlotOf endpoints) slot slots all) (omega arith))
 
@@ -167,10 +167,10 @@ text_formed slots_of_all in_range net b batches body is narrow text figures =
     let most : ℕ = 1 + length slots in
     let long : length slots ≡ length batches * b = slots_of_all b 0 [] batches in
     let low : most ≤ 6400001 = let few = slots_few (length batches) b text.most_rounds narrow in omega arith in
-    let below : All (IsPlaceBelow n most) (places_from 1 slots) = places_below n most 1 slots (in_range n b batches (among n limits [] batches text.recorded)) (omega arith) in
+    let below : All (IsPlaceBelow n most) (slot_places_from 1 slots) = places_below n most 1 slots (in_range n b batches (among n limits [] batches text.recorded)) (omega arith) in
     lines_formed body figures
     (subst (All IsRecordLine) (sym text.records) (records_formed n 0 limits [] batches text.recorded is.most_endpoints (let few = text.most_rounds in omega arith)))
     (paths_formed net most (paths (read body)) is low (subst (All (IsPlaceBelow n most)) (sym text.places) below) text.cores)
     (λ i d within.
-    let s : Place = get_or (sends (read body)) i d in
-    send_formed n most s is.most_endpoints low (one_of (IsPlaceBelow n most) s (places_from 1 slots) below (text.scheduled i d within)))
+    let s : Place = get_or (sends_in_lines (read body)) i d in
+    send_formed n most s is.most_endpoints low (one_of (IsPlaceBelow n most) s (slot_places_from 1 slots) below (text.scheduled i d within)))

@@ -8,9 +8,9 @@ use Rattle.report_text.specs.declared.line.Line.TheVariants as line
 use Rattle.report_text.specs.Lines.{IsLine}
 use Rattle.schedule_audit.specs.declared.auditor.AuditRefused.{AuditRefused}
 use Rattle.schedule_audit.specs.declared.auditor.AuditRefused.TheVariants.{Bad, Memory}
-use Rattle.schedule_audit.specs.Laws.{read, ended}
+use Rattle.schedule_audit.specs.Laws.{read, ended_lines}
 use Rattle.schedule_audit.specs.BadLines.{first_bad_line}
-use Rattle.schedule_audit.specs.Reading.{AreLines}
+use Rattle.schedule_audit.specs.Reading.{ReadsLines}
 use Rattle.schedule_audit.specs.ReadLaws.{AreAllLines, EachTextIsRead, EachTextHasOneReading}
 use Rattle.schedule_audit.specs.Texts.{IsTextOf, ATextOfBatchesHasNoBadLine}
 use Rattle.schedule_audit.specs.Audited.{IsVerdict}
@@ -37,10 +37,10 @@ pub passes : EachTextIsRead → EachTextHasOneReading → ATextOfBatchesHasNoBad
 passes is_read one_reading no_bad_line net b rounds batches body text formed long =
     let whole : List Line = body ++ line.End rounds ∷ [] in
     let all : AreAllLines whole = all_lines-append body (line.End rounds ∷ []) formed ((let most = text.most_rounds in omega arith, tt), tt) in
-    let reads : AreLines (text_of whole) (read whole) = is_read whole all in
-    let is : read whole ≡ ended body rounds = map-append (λ (l : Line). Some l) body (line.End rounds ∷ []) in
+    let reads : ReadsLines (text_of whole) (read whole) = is_read whole all in
+    let is : read whole ≡ ended_lines body rounds = map-append (λ (l : Line). Some l) body (line.End rounds ∷ []) in
     let none : first_bad_line net b (read whole) ≡ None =
-    ap (first_bad_line net b) (is ∙ ap (ended body) (sym long)) ∙ no_bad_line net b batches body text in
+    ap (first_bad_line net b) (is ∙ ap (ended_lines body) (sym long)) ∙ no_bad_line net b batches body text in
     record {
       reads = reads;
       only = λ lines other. one_reading (text_of whole) lines (read whole) other reads;

@@ -15,15 +15,16 @@ use Rattle.clos_topology.specs.Links.{Link, up, rise, fall, down, links_of, Shar
 use Rattle.clos_topology.specs.NetSlots.{SlotCores}
 use Rattle.schedule_audit.specs.declared.packets.Place.{Place}
 use Rattle.schedule_audit.specs.declared.packets.Path.{Path}
-use Rattle.schedule_audit.specs.Wrong.{places_from, same_link, share_a_link, has_wrong_core, links_of_path}
-use Rattle.window_allocation.specs.Scheduled.{EverySlotIsScheduled, AreClean}
+use Rattle.schedule_audit.specs.Wrong.{slot_places_from, same_link, share_a_link, has_wrong_core, links_of_path}
+use Rattle.schedule_audit.proofs.Places.{NoShare}
+use Rattle.window_engine.specs.Scheduled.{EverySlotIsScheduled, AreClean}
 use Rattle.own_texts.proofs.Shows.{path_at, paths_by}
 
 places-slot : (cores : SlotCores) (number : ℕ) (slot : List Flow) → map (λ (p : Path). p.place) (map (path_at number (cores number)) slot) ≡ map (λ flow. record { slot = number; flow = flow }) slot
 places-slot cores number [] = refl
 places-slot cores number (f ∷ slot) = ap (λ (xs : List Place). record { slot = number; flow = f } ∷ xs) (places-slot cores number slot)
 
-pub places-by : (cores : SlotCores) (number : ℕ) (slots : List (List Flow)) → map (λ (p : Path). p.place) (paths_by cores number slots) ≡ places_from number slots
+pub places-by : (cores : SlotCores) (number : ℕ) (slots : List (List Flow)) → map (λ (p : Path). p.place) (paths_by cores number slots) ≡ slot_places_from number slots
 places-by cores number [] = refl
 places-by cores number (slot ∷ slots) =
     map-append (λ (p : Path). p.place) (map (path_at number (cores number)) slot) (paths_by cores (number + 1) slots)
@@ -105,9 +106,6 @@ no_common xs ys apart = false_from_ne_true (list_any (λ l. list_any (same_link 
     let other = any-contains (same_link one.0) ys one.2 in
     let same : one.0 ≡ other.0 = link-true one.0 other.0 other.2 in
     apart other.0 other.1 (subst (λ (l : Link). Contains xs l) same one.1))
-
-abbrev NoShare : Network → Path → Path → Type 0
-NoShare net p q = share_a_link net q p ≡ false
 
 apart-one : (net : Network) (cores : SlotCores) (number : ℕ) (f : Flow) (slot : List Flow) → All (λ g. SharesNoLink (links_of net.hosts (cores number) f) (links_of net.hosts (cores number) g)) slot
     → All (NoShare net (path_at number (cores number) f)) (map (path_at number (cores number)) slot)

@@ -17,8 +17,8 @@ use Rattle.schedule_audit.specs.Misplaced.{most_added}
 use Rattle.schedule_audit.specs.Texts.{Says, FewAfter}
 use Rattle.trace_text.specs.Trace.{TraceContent}
 use Rattle.trace_text.specs.Valid.{IsAskList, IsTrace}
-use Rattle.window_engine.specs.Batches.{Round, entry_for, entries_from, batch_after, batches_after, plan_batches}
-use Rattle.plan_rounds.specs.Asked.{EveryPlanAddsWhatIsAsked}
+use Rattle.window_engine.specs.Batches.{AskedRound, asked_entry, asked_entries_from, batch_after, batches_after, plan_batches}
+use Rattle.window_engine.specs.Asked.{EveryPlanAddsWhatIsAsked}
 
 -- ---- adds
 
@@ -64,24 +64,24 @@ adds_few asked trace sound =
 
 -- ---- each entry adds
 
-asks_say : (before : List Round) (src : ℕ) (asks : List (ℕ × ℕ)) → All (λ (p : ℕ × ℕ). 0 < p.1) asks → All Says (map (entry_for before src) asks)
+asks_say : (before : List AskedRound) (src : ℕ) (asks : List (ℕ × ℕ)) → All (λ (p : ℕ × ℕ). 0 < p.1) asks → All Says (map (asked_entry before src) asks)
 asks_say before src [] some = All-nil Says
 asks_say before src (ask ∷ asks) some =
     let P : ℕ × ℕ → Type 0 = λ p. 0 < p.1 in
     let here : 0 < ask.1 = All-head P ask asks some in
-    All-cons Says (entry_for before src ask) (map (entry_for before src) asks) (and_left (ask.1 == 0) (not false) (ne_eqb ask.1 0 (λ none. absurd (omega arith)))) (asks_say before src asks (All-tail P ask asks some))
+    All-cons Says (asked_entry before src ask) (map (asked_entry before src) asks) (and_left (ask.1 == 0) (not false) (ne_eqb ask.1 0 (λ none. absurd (omega arith)))) (asks_say before src asks (All-tail P ask asks some))
 
-round_says : (endpoints : ℕ) (before : List Round) (src : ℕ) (round : Round) → All (IsAskList endpoints) round → All Says (entries_from before src round)
+round_says : (endpoints : ℕ) (before : List AskedRound) (src : ℕ) (round : AskedRound) → All (IsAskList endpoints) round → All Says (asked_entries_from before src round)
 round_says endpoints before src [] all = All-nil Says
 round_says endpoints before src (asks ∷ round) all =
     let here : IsAskList endpoints asks = All-head (IsAskList endpoints) asks round all in
-    All-append Says (map (entry_for before src) asks) (entries_from before (src + 1) round) (asks_say before src asks here.some)
+    All-append Says (map (asked_entry before src) asks) (asked_entries_from before (src + 1) round) (asks_say before src asks here.some)
     (round_says endpoints before (src + 1) round (All-tail (IsAskList endpoints) asks round all))
 
-rounds_say : (endpoints : ℕ) (limits : Limits) (before rounds : List Round) → All (All (IsAskList endpoints)) rounds → All (λ batch. All Says batch.entries) (batches_after limits before rounds)
+rounds_say : (endpoints : ℕ) (limits : Limits) (before rounds : List AskedRound) → All (All (IsAskList endpoints)) rounds → All (λ batch. All Says batch.entries) (batches_after limits before rounds)
 rounds_say endpoints limits before [] all = All-nil (λ (x : DemandBatch). All Says x.entries)
 rounds_say endpoints limits before (round ∷ rounds) all =
-    let P : Round → Type 0 = All (IsAskList endpoints) in
+    let P : AskedRound → Type 0 = All (IsAskList endpoints) in
     All-cons (λ (x : DemandBatch). All Says x.entries) (batch_after limits before round) (batches_after limits (before ++ round ∷ []) rounds)
     (round_says endpoints before 0 round (All-head P round rounds all)) (rounds_say endpoints limits (before ++ round ∷ []) rounds (All-tail P round rounds all))
 

@@ -15,19 +15,19 @@ use Rattle.report_text.specs.declared.line.Line.{Line}
 use Rattle.schedule_audit.specs.declared.recorded.Recorded.{Recorded}
 use Rattle.schedule_audit.specs.declared.packets.Place.{Place}
 use Rattle.schedule_audit.specs.declared.packets.Path.{Path}
-use Rattle.schedule_audit.specs.Lines.{paths, sends}
-use Rattle.schedule_audit.specs.Wrong.{Expected, expected_of_batches, places_from, has_wrong_core, share_a_link, same_place}
+use Rattle.schedule_audit.specs.Lines.{paths}
+use Rattle.schedule_audit.specs.Wrong.{Expected, expected_of_batches, slot_places_from, has_wrong_core, share_a_link, same_place}
 use Rattle.schedule_audit.specs.Laws.{read}
 use Rattle.schedule_audit.specs.ReadLaws.{EachTextIsRead, EachTextHasOneReading}
 use Rattle.schedule_audit.specs.Texts.{record_of, records_of, IsTextOf, ATextOfBatchesHasNoBadLine}
 use Rattle.trace_text.specs.Trace.{TraceContent}
-use Rattle.window_allocation.specs.Scheduled.{AreClean}
+use Rattle.window_engine.specs.Scheduled.{AreClean}
 use Rattle.window_engine.specs.Batches.{plan_batches, EveryPlanIsRecorded}
 use Rattle.window_engine.specs.Counts.{EveryPlanBalances}
 use Rattle.run_lines.specs.Text.{entry_line, slots_lines, batch_lines, flows_lines}
 use Rattle.run_text.specs.PlanText.{batches_lines}
 use Rattle.own_texts.specs.Plans.{IsPlan, NoPlanHasABadLine}
-use Rattle.plan_rounds.specs.Asked.{EveryPlanAddsWhatIsAsked}
+use Rattle.window_engine.specs.Asked.{EveryPlanAddsWhatIsAsked}
 use Rattle.own_texts.proofs.Shows.{Shows, shows-nil, shows-append, shows-as, shows-entries, shows-slots, paths_by, paths_by-append}
 use Rattle.own_texts.proofs.PathLemmas.{places-by, clean_slots, cores-by, apart-by}
 use Rattle.own_texts.proofs.PlanAsks.{adds_few, entries_say}
@@ -98,7 +98,7 @@ module _ (slots_of_all : EveryBatchHasItsSlots) (recorded : EveryPlanIsRecorded)
         places = ap (λ (ps : List Path). map (λ (p : Path). p.place) ps) shows.routed ∙ places-by cores 1 slots;
         cores = subst (λ (ps : List Path). All (λ (p : Path). has_wrong_core trace.net p.place.flow p.core ≡ false) ps) (sym shows.routed) (cores-by trace.net cores 1 slots clean);
         apart = subst (λ (ps : List Path). AllPairs (λ (p q : Path). share_a_link trace.net q p ≡ false) ps) (sym shows.routed) (apart-by trace.net cores 1 slots clean);
-        scheduled = subst (λ (ss : List Place). All (λ (s : Place). list_any (same_place s) (places_from 1 slots) ≡ true) ss) (sym shows.sent) (All-nil (λ (s : Place). list_any (same_place s) (places_from 1 slots) ≡ true));
+        scheduled = subst (λ (ss : List Place). All (λ (s : Place). list_any (same_place s) (slot_places_from 1 slots) ≡ true) ss) (sym shows.sent) (All-nil (λ (s : Place). list_any (same_place s) (slot_places_from 1 slots) ≡ true));
         once = subst (λ (ss : List Place). AllPairs (λ (s t : Place). s.slot ≡ t.slot → s.flow.src ≢ t.flow.src) ss) (sym shows.sent) (AllPairs-nil (λ (s t : Place). s.slot ≡ t.slot → s.flow.src ≢ t.flow.src));
         lines = shows.good;
       }

@@ -1,9 +1,9 @@
 -- The entries of a replay's batches: each adds or clears, and no flow's add more since its last clear than a trace can ask for.
-use Rattle.std.proofs.Common.{◌≡◌, ◌<◌, ◌≤◌, ◌+◌, ◌*◌, ◌==◌, nat_lt, ◌&&◌, ◌||◌, not, ℕ, zero, suc, List, [], ◌∷◌, ◌++◌, map, drop, length, get_or, cond, Bool, true, false, Option, Some, None, All, refl, sym, ap, ◌∙◌, subst, inl, inr, arith, mul-le-mul_right}
+use Rattle.std.proofs.Common.{◌≡◌, ◌<◌, ◌≤◌, ◌+◌, ◌*◌, ◌==◌, nat_lt, ◌&&◌, ◌||◌, not, ℕ, zero, suc, List, [], ◌∷◌, ◌++◌, map, drop, length, get_or, cond, Bool, true, false, Option, Some, All, refl, sym, ap, ◌∙◌, subst, inl, inr, arith, mul-le-mul_right}
 use Rattle.std.specs.Prelude.{IfSome}
 use Rattle.std.proofs.lemmas.Bool.{cases_Bool, cases_lt, ltb-true, ne_eqb, and_left, and_right, or_cases}
 use Rattle.std.proofs.lemmas.List.{append-nil, append_assoc}
-use Rattle.std.proofs.lemmas.List.Elements.{All-nil, All-cons, All-head, All-tail, All-push}
+use Rattle.std.proofs.lemmas.List.Elements.{All-nil, All-cons, All-push}
 use Rattle.greedy_rules.specs.declared.flows.Flow.{Flow}
 use Rattle.greedy_rules.specs.declared.flows.Entry.{Entry}
 use Rattle.greedy_rules.specs.declared.limits.Limits.{Limits}
@@ -11,12 +11,12 @@ use Rattle.greedy_rules.specs.Batches.{DemandBatch, IsBatch, entry_of}
 use Rattle.greedy_rules.specs.Demands.{need_with}
 use Rattle.greedy_rules.specs.Matching.{AreAmong}
 use Rattle.greedy_rules.specs.Allocation.{slots_of}
-use Rattle.greedy_rules.specs.Recorded.{demand_through, demand_of, AreRecorded, AreRecordedAfter}
+use Rattle.greedy_rules.specs.Recorded.{demand_of, AreRecorded, AreRecordedAfter}
 use Rattle.greedy_rules.proofs.CellLemmas.{entry_of-none}
+use Rattle.greedy_rules.proofs.RecordedLemmas.{demand_more}
 use Rattle.endpoint_history.specs.Counts.{owed}
 use Rattle.endpoint_history.specs.Lane.{LaneHistory, TakesUp, MakesDown, Records, last_reset}
-use Rattle.endpoint_history.specs.Entries.{entry_with, entries_of, had, added, is_reset}
-use Rattle.endpoint_history.specs.Rest.{need_through}
+use Rattle.endpoint_history.specs.Entries.{entry_with, entries_of_batches, had, added, is_reset}
 use Rattle.schedule_audit.specs.Misplaced.{most_added}
 use Rattle.schedule_audit.specs.Texts.{Says, FewAfter}
 use Rattle.trace_run.specs.Run.{Setting, replayed}
@@ -25,18 +25,11 @@ use Rattle.trace_run.specs.Windows.{batch_at}
 use Rattle.trace_run.specs.Applicable.{IsApplicable, EveryRunIsApplicable}
 use Rattle.trace_run.specs.Rest.{OwedIsAllocatedOrLeft}
 use Rattle.trace_run.specs.Recorded.{KeepsTraceRules, IsRecorded, EveryRunIsRecorded}
+use Rattle.trace_run.proofs.Recorded.{demand_through-is, demand_none}
 use Rattle.own_texts.proofs.Formed.{own_entries, of_images}
 use Rattle.own_texts.proofs.PlanAsks.{at_most_added}
 
 -- ---- what a flow's entries add is what its lane owes
-
-through_is : (batches : List DemandBatch) (flow : Flow) (need : ℕ) → demand_through batches flow need ≡ need_through (map (λ batch. entry_of batch.entries flow) batches) need
-through_is [] flow need = refl
-through_is (batch ∷ batches) flow need = through_is batches flow (need_with (entry_of batch.entries flow) need)
-
-through_push : (batches : List DemandBatch) (batch : DemandBatch) (flow : Flow) (need : ℕ) → demand_through (batches ++ batch ∷ []) flow need ≡ need_with (entry_of batch.entries flow) (demand_through batches flow need)
-through_push [] batch flow need = refl
-through_push (x ∷ batches) batch flow need = through_push batches batch flow (need_with (entry_of x.entries flow) need)
 
 no_slots : (n : ℕ) (flow : Flow) → slots_of flow (drop n []) ≡ 0
 no_slots zero flow = refl
@@ -48,18 +41,12 @@ owes owed_is setting rounds src dst low high =
     let flow : Flow = record { src = src; dst = dst } in
     let is = owed_is setting 0 rounds src dst (omega arith) low high in
     let none = no_slots (last_reset (lane_after setting rounds src) * setting.b) flow in
-    let same = through_is (replayed setting rounds).batches flow 0 in
+    let same = demand_through-is (replayed setting rounds).batches flow 0 in
     omega (arith, is, none, same)
-
-without : (batches : List DemandBatch) (flow : Flow) → All (λ (x : DemandBatch). entry_of x.entries flow ≡ None) batches → demand_of batches flow ≡ 0
-without [] flow none = refl
-without (batch ∷ batches) flow none =
-    let P : DemandBatch → Type 0 = λ x. entry_of x.entries flow ≡ None in
-    ap (λ (o : Option Entry). demand_through batches flow (need_with o 0)) (All-head P batch batches none) ∙ without batches flow (All-tail P batch batches none)
 
 beyond : (endpoints : ℕ) (batches : List DemandBatch) (flow : Flow) → All (λ (x : DemandBatch). AreAmong endpoints x.entries) batches → ((flow.src < endpoints) × (flow.dst < endpoints) → ⊥) → demand_of batches flow ≡ 0
 beyond endpoints batches flow among out =
-    without batches flow (λ i d within. entry_of-none _ flow (λ k e inside same. out (subst (λ (f : Flow). (f.src < endpoints) × (f.dst < endpoints)) same (among i d within k e inside))))
+    demand_none batches flow (λ i d within. entry_of-none _ flow (λ k e inside same. out (subst (λ (f : Flow). (f.src < endpoints) × (f.dst < endpoints)) same (among i d within k e inside))))
 
 pub slots_few : (rounds all b : ℕ) → rounds ≤ all → all ≤ 100000 → b ≤ 64 → rounds * b ≤ 6400000
 slots_few rounds all b within long narrow =
@@ -87,7 +74,7 @@ few_all owed_is applicable recorded setting rounds all within trace flow =
 
 few_push : (earlier batches : List DemandBatch) (batch : DemandBatch) → FewAfter earlier batches → ((flow : Flow) → demand_of ((earlier ++ batches) ++ batch ∷ []) flow ≤ most_added) → FewAfter earlier (batches ++ batch ∷ [])
 few_push earlier [] batch few last =
-    ((λ flow. subst (λ (n : ℕ). n ≤ most_added) (through_push (earlier ++ []) batch flow 0 ∙ ap (λ bs. need_with (entry_of batch.entries flow) (demand_of bs flow)) (append-nil earlier)) (last flow)), tt)
+    ((λ flow. subst (λ (n : ℕ). n ≤ most_added) (demand_more (earlier ++ []) batch flow 0 ∙ ap (λ bs. need_with (entry_of batch.entries flow) (demand_of bs flow)) (append-nil earlier)) (last flow)), tt)
 few_push earlier (x ∷ batches) batch few last = (
   few.0,
   few_push (earlier ++ x ∷ []) batches batch few.1 (λ flow. subst (λ (bs : List DemandBatch). demand_of (bs ++ batch ∷ []) flow ≤ most_added) (sym (append_assoc earlier (x ∷ []) batches)) (last flow)),
@@ -114,10 +101,10 @@ with_says src dst add had_it clear = elim (cases_Bool (nat_lt 0 add || clear)) [
 ]
 
 -- each entry of a lane does
-lane_says : (endpoint g : ℕ) (h : LaneHistory) (dst : ℕ) → All (λ o. IfSome o Says) (entries_of endpoint g h dst)
+lane_says : (endpoint g : ℕ) (h : LaneHistory) (dst : ℕ) → All (λ o. IfSome o Says) (entries_of_batches endpoint g h dst)
 lane_says endpoint g [] dst = All-nil (λ (o : Option Entry). IfSome o Says)
 lane_says endpoint g (Records round ∷ h) dst =
-    All-push (λ (o : Option Entry). IfSome o Says) (entries_of endpoint g h dst) (entry_with endpoint dst (had g h dst) (is_reset h && had g h dst) (added g h dst)) (lane_says endpoint g h dst)
+    All-push (λ (o : Option Entry). IfSome o Says) (entries_of_batches endpoint g h dst) (entry_with endpoint dst (had g h dst) (is_reset h && had g h dst) (added g h dst)) (lane_says endpoint g h dst)
     (with_says endpoint dst (added g h dst) (had g h dst) (is_reset h && had g h dst))
 lane_says endpoint g (TakesUp round packet ∷ h) dst = lane_says endpoint g h dst
 lane_says endpoint g (MakesDown round told ∷ h) dst = lane_says endpoint g h dst

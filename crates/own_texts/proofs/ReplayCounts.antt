@@ -12,15 +12,15 @@ use Rattle.endpoint_history.specs.Agent.{asked, missed, in_time, slots_taken}
 use Rattle.endpoint_history.specs.AgentLaws.{TakingBringsSlots}
 use Rattle.endpoint_history.specs.Bounds.{TakenIsFew}
 use Rattle.endpoint_history.specs.Counts.{recorded, acknowledged, lost, owed}
-use Rattle.endpoint_history.specs.Entries.{entries_of, had}
+use Rattle.endpoint_history.specs.Entries.{entries_of_batches, had}
 use Rattle.endpoint_history.specs.Lane.{LaneHistory, last_reset}
 use Rattle.endpoint_history.specs.LedgerLaws as ledger
 use Rattle.endpoint_history.specs.Rest as lane
 use Rattle.endpoint_history.specs.RoundLaws.{RoundsAreInOrder}
 use Rattle.endpoint_history.specs.Sending.{sends}
 use Rattle.endpoint_history.specs.Steps.{Step, TakesInRound, lane_of}
-use Rattle.fcp_framing.specs.declared.packet.Told.{Told}
-use Rattle.schedule_audit.specs.Counts.{ClearsAt, OpensFrom}
+use Rattle.endpoint_history.specs.Tellings.{Told}
+use Rattle.schedule_audit.specs.Counts.{FlowClearsAt, FlowOpensFrom}
 use Rattle.schedule_audit.specs.Wrong.{Expected, expected_of_batches, allocated_since, left_of, is_bad_count}
 use Rattle.schedule_audit.specs.Texts.{records_of}
 use Rattle.trace_text.specs.Trace.{TraceContent}
@@ -39,38 +39,39 @@ use Rattle.window_engine.specs.declared.counts.Counts.{Counts}
 use Rattle.window_engine.specs.Replay.{replay_counts}
 use Rattle.run_lines.specs.Text.{count_lines_of, count_lines, counts_lines}
 use Rattle.clos_topology.specs.Network.{endpoints_of}
-use Rattle.own_texts.specs.Premises.{Slots, Ends, Runs}
+use Rattle.own_texts.specs.Premises.{SlotsPremises, EndsPremises, RunsPremises}
 use Rattle.own_texts.proofs.Shows.{Shows, shows-nil}
 use Rattle.own_texts.proofs.EachFlow.{each_flow}
 use Rattle.own_texts.proofs.ReplayAsks.{slots_few}
+use Rattle.own_texts.proofs.Formed.{below_most}
 
 -- ---- where a flow's slots begin to count
 
 abbrev entries : Flow → List DemandBatch → List (Option Entry)
 entries flow batches = map (λ batch. entry_of batch.entries flow) batches
 
-none_clears : (flow : Flow) (batches : List DemandBatch) → lane.NoneClears (entries flow batches) → NoneClears flow batches
+none_clears : (flow : Flow) (batches : List DemandBatch) → lane.NoEntryClears (entries flow batches) → NoneClears flow batches
 none_clears flow [] none = All-nil (λ (x : DemandBatch). clears (entry_of x.entries flow) ≡ false)
 none_clears flow (batch ∷ batches) none = All-cons (λ (x : DemandBatch). clears (entry_of x.entries flow) ≡ false) batch batches none.0 (none_clears flow batches none.1)
 
-clears_at : (flow : Flow) (place : ℕ) (batches : List DemandBatch) → lane.ClearsAt place (entries flow batches) → ClearsAt flow place batches
+clears_at : (flow : Flow) (place : ℕ) (batches : List DemandBatch) → lane.EntryClearsAt place (entries flow batches) → FlowClearsAt flow place batches
 clears_at flow place [] is = absurd is
 clears_at flow zero (batch ∷ batches) is = (is.0, none_clears flow batches is.1)
 clears_at flow (suc place) (batch ∷ batches) is = clears_at flow place batches is
 
-opens_from : (flow : Flow) (place : ℕ) (batches : List DemandBatch) → lane.OpensFrom place (entries flow batches) → OpensFrom flow place batches
+opens_from : (flow : Flow) (place : ℕ) (batches : List DemandBatch) → lane.EntryOpensFrom place (entries flow batches) → FlowOpensFrom flow place batches
 opens_from flow place [] is = absurd is
 opens_from flow zero (batch ∷ batches) is = All-cons (λ (x : DemandBatch). clears (entry_of x.entries flow) ≡ false) batch batches is.0 (none_clears flow batches is.1)
 opens_from flow (suc place) (batch ∷ batches) is = (is.0, opens_from flow place batches is.1)
 
 begins : RoundsAreInOrder → ledger.CountsBeginAtTheLastClear → EveryRunIsApplicable → (setting : Setting) (rounds src dst : ℕ) → src < setting.endpoints → dst < setting.endpoints → 0 < rounds
-    → ClearsAt (record { src = src; dst = dst }) (last_reset (lane_after setting rounds src)) (replayed setting rounds).batches
-    ⊎ OpensFrom (record { src = src; dst = dst }) (last_reset (lane_after setting rounds src)) (replayed setting rounds).batches
+    → FlowClearsAt (record { src = src; dst = dst }) (last_reset (lane_after setting rounds src)) (replayed setting rounds).batches
+    ⊎ FlowOpensFrom (record { src = src; dst = dst }) (last_reset (lane_after setting rounds src)) (replayed setting rounds).batches
 begins order law applicable setting zero src dst near far some = absurd (omega arith)
 begins order law applicable setting (suc rounds) src dst near far some =
     elim (law src setting.g (length ((replayed setting rounds).rounds src)) (recording setting rounds src) dst takes) [
-      | inl is ↦ inl (clears_at flow place batches (subst (λ (es : List (Option Entry)). lane.ClearsAt place es) (sym same) is))
-      | inr is ↦ inr (opens_from flow place batches (subst (λ (es : List (Option Entry)). lane.OpensFrom place es) (sym same) is))
+      | inl is ↦ inl (clears_at flow place batches (subst (λ (es : List (Option Entry)). lane.EntryClearsAt place es) (sym same) is))
+      | inr is ↦ inr (opens_from flow place batches (subst (λ (es : List (Option Entry)). lane.EntryOpensFrom place es) (sym same) is))
     ]
   where
     flow : Flow
@@ -85,7 +86,7 @@ begins order law applicable setting (suc rounds) src dst near far some =
     takes : TakesInRound (recording setting rounds src)
     takes = (order setting.endpoints setting.g ((replayed setting (suc rounds)).rounds src)).takes
 
-    same : entries flow batches ≡ entries_of src setting.g (lane_after setting (suc rounds) src) dst
+    same : entries flow batches ≡ entries_of_batches src setting.g (lane_after setting (suc rounds) src) dst
     same = (applicable setting (suc rounds)).entries src dst near far
 
 -- ---- the numbers of a count line
@@ -137,9 +138,6 @@ good_count setting rounds src dst is =
     (or_from (not (n == left_of e flow)) (not (a + f + l == allocated_since setting.b e flow)) (ap not (eq-eqb n (left_of e flow) refl))
     (ap not (eq-eqb (a + f + l) (allocated_since setting.b e flow) (parts_of all a l is.counted.within ∙ sym is.since))))
 
-low : (n most : ℕ) → n < most → most ≤ 256 → n ≤ 65535
-low n most below few = omega arith
-
 one_count : (setting : Setting) (rounds src dst : ℕ) → IsRight setting rounds src dst → setting.endpoints ≤ 256 → src < setting.endpoints → dst < setting.endpoints
     → Shows setting.b (expected_of_batches setting.b (records_of 0 (replayed setting rounds).batches) (replayed setting rounds).batches)
     (count_lines_of (record { src = src; dst = dst }) (replay_counts setting rounds (record { src = src; dst = dst }))) [] [] []
@@ -176,7 +174,7 @@ one_count setting rounds src dst is few near far = either (had setting.g h dst)
     either true = record {
       inner = (tt, tt);
       good = (good_count setting rounds src dst is, tt);
-      figures = ((low src setting.endpoints near few, (low dst setting.endpoints far few, (omega (arith, is.demanded), (acknowledged_fits, (flight_fits, (pending_fits, (omega (arith, is.owing), (omega (arith, is.sent), (omega (arith, is.missed), tt))))))))), tt);
+      figures = ((below_most src setting.endpoints near few, (below_most dst setting.endpoints far few, (omega (arith, is.demanded), (acknowledged_fits, (flight_fits, (pending_fits, (omega (arith, is.owing), (omega (arith, is.sent), (omega (arith, is.missed), tt))))))))), tt);
       recorded = refl;
       routed = refl;
       sent = refl;
@@ -184,7 +182,7 @@ one_count setting rounds src dst is few near far = either (had setting.g h dst)
 
 -- ---- all of them
 
-module _ (slots : Slots) (ends : Ends) (runs : Runs) where
+module _ (slots : SlotsPremises) (ends : EndsPremises) (runs : RunsPremises) where
   is_right : (setting : Setting) (rounds src dst : ℕ) → KeepsTraceRules setting rounds → 0 < rounds → src < setting.endpoints → dst < setting.endpoints → IsRight setting rounds src dst
   is_right setting rounds src dst trace some near far =
       let run = runs.recorded setting rounds rounds (omega arith) trace in

@@ -11,8 +11,8 @@ use Rattle.report_text.specs.declared.line.Line.{Line}
 use Rattle.report_text.specs.declared.line.Line.TheVariants as line
 use Rattle.schedule_audit.specs.declared.packets.Place.{Place}
 use Rattle.schedule_audit.specs.declared.packets.Path.{Path}
-use Rattle.schedule_audit.specs.Lines.{sent_by, sends}
-use Rattle.schedule_audit.specs.Wrong.{Expected, expected_of_batches, places_from, has_wrong_core, share_a_link, same_place}
+use Rattle.schedule_audit.specs.Lines.{sent_by_line, sends_in_lines}
+use Rattle.schedule_audit.specs.Wrong.{Expected, expected_of_batches, slot_places_from, has_wrong_core, share_a_link, same_place}
 use Rattle.schedule_audit.specs.Laws.{read}
 use Rattle.schedule_audit.specs.ReadLaws.{EachTextIsRead, EachTextHasOneReading}
 use Rattle.schedule_audit.specs.Texts.{records_of, IsTextOf, ATextOfBatchesHasNoBadLine}
@@ -20,12 +20,12 @@ use Rattle.trace_text.specs.Trace.{TraceContent}
 use Rattle.trace_run.specs.Recorded.{KeepsTraceRules}
 use Rattle.trace_run.specs.Run.{Setting, replayed}
 use Rattle.replay_rounds.specs.Setting.{setting_of}
-use Rattle.window_allocation.specs.Scheduled.{AreClean}
+use Rattle.window_engine.specs.Scheduled.{AreClean}
 use Rattle.run_lines.specs.Text.{counts_lines}
 use Rattle.run_text.specs.ReplayText.{all_steps_lines, replay_lines}
 use Rattle.run_text.specs.Sends.{SendsAreScheduled}
 use Rattle.run_text.proofs.SentLemmas.{sends_are_scheduled}
-use Rattle.own_texts.specs.Premises.{Slots, Ends, Runs}
+use Rattle.own_texts.specs.Premises.{SlotsPremises, EndsPremises, RunsPremises}
 use Rattle.own_texts.specs.Replays.{IsReplay, NoReplayHasABadLine}
 use Rattle.own_texts.proofs.Shows.{Shows, shows-append, shows-as, paths_by, read-append}
 use Rattle.own_texts.proofs.PathLemmas.{places-by, clean_slots, cores-by, apart-by}
@@ -41,7 +41,7 @@ use Rattle.own_texts.proofs.Pass.{passes}
 abbrev pub replay_body : SlotCores → Setting → TraceContent → List Line
 replay_body cores setting trace = all_steps_lines cores setting trace ++ counts_lines setting trace
 
-module _ (schedules : Slots) (ends : Ends) (runs : Runs) where
+module _ (schedules : SlotsPremises) (ends : EndsPremises) (runs : RunsPremises) where
   pub replay_shows : (b g : ℕ) (trace : TraceContent) (cores : SlotCores) → IsReplay b g trace cores →
       let setting : Setting = setting_of trace b g cores in
       let batches : List DemandBatch = (replayed setting trace.rounds).batches in
@@ -71,7 +71,7 @@ module _ (schedules : Slots) (ends : Ends) (runs : Runs) where
       let long : length batches ≡ trace.rounds = runs.long setting trace.rounds in
       let clean : AreClean trace.net cores 1 slots = clean_slots b trace.net batches cores is.scheduled in
       let right : SendsAreScheduled setting trace.rounds (body ++ last) = sends_are_scheduled cores setting trace runs.scheduled runs.once is.window.0 in
-      let same : sends (read (body ++ last)) ≡ sends (read body) = read-append sent_by body last ∙ append-nil (sends (read body)) in
+      let same : sends_in_lines (read (body ++ last)) ≡ sends_in_lines (read body) = read-append sent_by_line body last ∙ append-nil (sends_in_lines (read body)) in
       record {
         inner = shows.inner;
         recorded = (runs.recorded setting trace.rounds trace.rounds (omega arith) run).batches;
@@ -83,7 +83,7 @@ module _ (schedules : Slots) (ends : Ends) (runs : Runs) where
         places = ap (λ (ps : List Path). map (λ (p : Path). p.place) ps) shows.routed ∙ places-by cores 1 slots;
         cores = subst (λ (ps : List Path). All (λ (p : Path). has_wrong_core trace.net p.place.flow p.core ≡ false) ps) (sym shows.routed) (cores-by trace.net cores 1 slots clean);
         apart = subst (λ (ps : List Path). AllPairs (λ (p q : Path). share_a_link trace.net q p ≡ false) ps) (sym shows.routed) (apart-by trace.net cores 1 slots clean);
-        scheduled = subst (λ (ss : List Place). All (λ (s : Place). list_any (same_place s) (places_from 1 slots) ≡ true) ss) same (sends_scheduled setting trace.rounds (body ++ last) right.scheduled);
+        scheduled = subst (λ (ss : List Place). All (λ (s : Place). list_any (same_place s) (slot_places_from 1 slots) ≡ true) ss) same (sends_scheduled setting trace.rounds (body ++ last) right.scheduled);
         once = subst (λ (ss : List Place). AllPairs (λ (s t : Place). s.slot ≡ t.slot → s.flow.src ≢ t.flow.src) ss) same (sends_once (body ++ last) right.once);
         lines = shows.good;
       }

@@ -18,7 +18,7 @@ use Rattle.trace_run.specs.Windows.{batch_at}
 use Rattle.replay_rounds.specs.declared.played.Departure.{Departure}
 use Rattle.replay_rounds.specs.Played.{raw_answers, departures_in, EveryRefusalHasANumber}
 use Rattle.run_lines.specs.Text.{entry_line, refused_line, sent_line}
-use Rattle.run_text.specs.ReplayText.{round_lines, rounds_lines}
+use Rattle.run_text.specs.ReplayText.{round_lines, replay_rounds_lines}
 use Rattle.own_texts.proofs.Shows.{Shows, shows-nil, shows-append, shows-as, shows-entries}
 
 -- ---- the lines of a round
@@ -68,7 +68,7 @@ abbrev pub sent_from : Setting → ℕ → ℕ → List Place
 sent_from setting first count = flat_map (places_in setting) (range_with_len first count)
 
 pub rounds_show : EveryRefusalHasANumber → (b : ℕ) (e : Expected) (setting : Setting) (trace : TraceContent) (first count : ℕ) → first + count ≤ 100000
-    → Shows b e (rounds_lines setting trace first count) (records_of first (batches_from setting first count)) [] (sent_from setting first count)
+    → Shows b e (replay_rounds_lines setting trace first count) (records_of first (batches_from setting first count)) [] (sent_from setting first count)
 rounds_show named b e setting trace first zero low = shows-nil b e
 rounds_show named b e setting trace first (suc count) low =
     shows-append (round_shows named b e setting trace first (omega arith)) (rounds_show named b e setting trace (first + 1) count (omega arith))

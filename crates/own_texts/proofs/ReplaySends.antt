@@ -1,4 +1,4 @@
--- What the lines of a replay send is scheduled, and no endpoint sends twice in a slot.
+-- What the lines of a replay send is scheduled, and no endpoint sends_in_lines twice in a slot.
 use Rattle.std.proofs.Common.{◌≡◌, ◌≢◌, ◌<◌, ◌≤◌, ◌+◌, ◌-◌, ◌==◌, ◌&&◌, ◌||◌, ℕ, zero, suc, List, [], ◌∷◌, ◌++◌, map, cond, count_by, Bool, true, false, All, AllPairs, refl, sym, ap, ◌∙◌, subst, inl, inr, arith}
 use Rattle.std.specs.List.{list_any}
 use Rattle.std.proofs.lemmas.Bool.{cond-true, and_from, or_left, or_right, or_cases, eq-eqb, false≢true}
@@ -13,9 +13,10 @@ use Rattle.greedy_rules.proofs.Facts.{same_flow-refl, same_flow-true}
 use Rattle.report_text.specs.declared.line.Line.{Line}
 use Rattle.report_text.specs.declared.line.Line.TheVariants as line
 use Rattle.schedule_audit.specs.declared.packets.Place.{Place}
-use Rattle.schedule_audit.specs.Lines.{sends}
-use Rattle.schedule_audit.specs.Wrong.{places_from, same_place}
+use Rattle.schedule_audit.specs.Lines.{sends_in_lines}
+use Rattle.schedule_audit.specs.Wrong.{slot_places_from, same_place}
 use Rattle.schedule_audit.specs.Laws.{read}
+use Rattle.schedule_audit.proofs.Places.{Once}
 use Rattle.trace_run.specs.Run.{Setting, replayed}
 use Rattle.run_text.specs.Sends.{IsScheduledSend, is_send_in}
 
@@ -45,33 +46,33 @@ in_slot number flow (x ∷ slot) some = elim (or_cases (same_flow x flow) (has_f
   | inr there ↦ or_right (same_place (place number flow) (place number x)) (list_any (same_place (place number flow)) (map (place number) slot)) (in_slot number flow slot there)
 ]
 
-in_places : (number at : ℕ) (flow : Flow) (slots : List (List Flow)) → has_flow (slot_in slots at) flow ≡ true → list_any (same_place (place (number + at) flow)) (places_from number slots) ≡ true
+in_places : (number at : ℕ) (flow : Flow) (slots : List (List Flow)) → has_flow (slot_in slots at) flow ≡ true → list_any (same_place (place (number + at) flow)) (slot_places_from number slots) ≡ true
 in_places number at flow [] none = absurd (false≢true none)
 in_places number zero flow (slot ∷ slots) some =
     let same : number ≡ number + 0 = omega arith in
-    any_left (same_place (place (number + 0) flow)) (map (place number) slot) (places_from (number + 1) slots)
+    any_left (same_place (place (number + 0) flow)) (map (place number) slot) (slot_places_from (number + 1) slots)
     (subst (λ (n : ℕ). list_any (same_place (place n flow)) (map (place number) slot) ≡ true) same (in_slot number flow slot some))
 in_places number (suc at) flow (slot ∷ slots) some =
     let same : number + 1 + at ≡ number + suc at = omega arith in
-    any_right (same_place (place (number + suc at) flow)) (map (place number) slot) (places_from (number + 1) slots)
-    (subst (λ (n : ℕ). list_any (same_place (place n flow)) (places_from (number + 1) slots) ≡ true) same (in_places (number + 1) at flow slots some))
+    any_right (same_place (place (number + suc at) flow)) (map (place number) slot) (slot_places_from (number + 1) slots)
+    (subst (λ (n : ℕ). list_any (same_place (place n flow)) (slot_places_from (number + 1) slots) ≡ true) same (in_places (number + 1) at flow slots some))
 
--- ---- the sends of lines
+-- ---- the sends_in_lines of lines
 
 module _ (setting : Setting) (rounds : ℕ) where
   abbrev slots : List (List Flow)
   slots = schedule setting.b (replayed setting rounds).batches
 
-  scheduled_place : (s : Place) → (0 < s.slot) × (has_flow (slot_at slots s.slot) s.flow ≡ true) → list_any (same_place s) (places_from 1 slots) ≡ true
+  scheduled_place : (s : Place) → (0 < s.slot) × (has_flow (slot_at slots s.slot) s.flow ≡ true) → list_any (same_place s) (slot_places_from 1 slots) ≡ true
   scheduled_place s is =
       let there : 1 + (s.slot - 1) ≡ s.slot = let some = is.0 in omega arith in
-      subst (λ (n : ℕ). list_any (same_place (place n s.flow)) (places_from 1 slots) ≡ true) there (in_places 1 (s.slot - 1) s.flow slots is.1)
+      subst (λ (n : ℕ). list_any (same_place (place n s.flow)) (slot_places_from 1 slots) ≡ true) there (in_places 1 (s.slot - 1) s.flow slots is.1)
 
-  pub sends_scheduled : (ls : List Line) → All (IsScheduledSend setting rounds) ls → All (λ s. list_any (same_place s) (places_from 1 slots) ≡ true) (sends (read ls))
-  sends_scheduled [] all = All-nil (λ (s : Place). list_any (same_place s) (places_from 1 slots) ≡ true)
+  pub sends_scheduled : (ls : List Line) → All (IsScheduledSend setting rounds) ls → All (λ s. list_any (same_place s) (slot_places_from 1 slots) ≡ true) (sends_in_lines (read ls))
+  sends_scheduled [] all = All-nil (λ (s : Place). list_any (same_place s) (slot_places_from 1 slots) ≡ true)
   sends_scheduled (line.Sent slot src dst ∷ ls) all =
       let s : Place = place slot (record { src = src; dst = dst }) in
-      All-cons (λ (t : Place). list_any (same_place t) (places_from 1 slots) ≡ true) s (sends (read ls)) (scheduled_place s (All-head (IsScheduledSend setting rounds) (line.Sent slot src dst) ls all))
+      All-cons (λ (t : Place). list_any (same_place t) (slot_places_from 1 slots) ≡ true) s (sends_in_lines (read ls)) (scheduled_place s (All-head (IsScheduledSend setting rounds) (line.Sent slot src dst) ls all))
       (sends_scheduled ls (All-tail (IsScheduledSend setting rounds) (line.Sent slot src dst) ls all))
   sends_scheduled (l ∷ ls) all = sends_scheduled ls (All-tail (IsScheduledSend setting rounds) l ls all)
 
@@ -82,18 +83,15 @@ one_of slot src l = cond (is_send_in slot src l) 1 0
 counted : (slot src : ℕ) (l : Line) (ls : List Line) → count_by (is_send_in slot src) (l ∷ ls) ≡ one_of slot src l + count_by (is_send_in slot src) ls
 counted slot src l ls = sum_by-cons (one_of slot src) l ls
 
-abbrev Once : Place → Place → Type 0
-Once s t = s.slot ≡ t.slot → s.flow.src ≢ t.flow.src
-
 own_send : (slot src dst : ℕ) → one_of slot src (line.Sent slot src dst) ≡ 1
 own_send slot src dst = cond-true ((slot == slot) && (src == src)) 1 0 (and_from (slot == slot) (src == src) (eq-eqb slot slot refl) (eq-eqb src src refl))
 
--- where no line sends so, no send is so
-none_so : (s : Place) (ls : List Line) → count_by (is_send_in s.slot s.flow.src) ls ≡ 0 → All (Once s) (sends (read ls))
+-- where no line sends_in_lines so, no send is so
+none_so : (s : Place) (ls : List Line) → count_by (is_send_in s.slot s.flow.src) ls ≡ 0 → All (Once s) (sends_in_lines (read ls))
 none_so s [] none = All-nil (Once s)
 none_so s (line.Sent slot src dst ∷ ls) none =
     let sum = counted s.slot s.flow.src (line.Sent slot src dst) ls in
-    All-cons (Once s) (place slot (record { src = src; dst = dst })) (sends (read ls))
+    All-cons (Once s) (place slot (record { src = src; dst = dst })) (sends_in_lines (read ls))
     (λ same_slot same_src.
     let one : one_of s.slot s.flow.src (line.Sent slot src dst) ≡ 1 =
     cond-true ((slot == s.slot) && (src == s.flow.src)) 1 0 (and_from (slot == s.slot) (src == s.flow.src) (eq-eqb slot s.slot (sym same_slot)) (eq-eqb src s.flow.src (sym same_src))) in
@@ -104,10 +102,10 @@ none_so s (l ∷ ls) none = none_so s ls (omega (arith, none, counted s.slot s.f
 later_once : (l : Line) (ls : List Line) → ((slot src : ℕ) → count_by (is_send_in slot src) (l ∷ ls) ≤ 1) → (slot src : ℕ) → count_by (is_send_in slot src) ls ≤ 1
 later_once l ls once slot src = omega (arith, once slot src, counted slot src l ls)
 
-pub sends_once : (ls : List Line) → ((slot src : ℕ) → count_by (is_send_in slot src) ls ≤ 1) → AllPairs (λ (s t : Place). s.slot ≡ t.slot → s.flow.src ≢ t.flow.src) (sends (read ls))
+pub sends_once : (ls : List Line) → ((slot src : ℕ) → count_by (is_send_in slot src) ls ≤ 1) → AllPairs (λ (s t : Place). s.slot ≡ t.slot → s.flow.src ≢ t.flow.src) (sends_in_lines (read ls))
 sends_once [] once = AllPairs-nil Once
 sends_once (line.Sent slot src dst ∷ ls) once =
     let s : Place = place slot (record { src = src; dst = dst }) in
-    AllPairs-cons Once s (sends (read ls)) (none_so s ls (omega (arith, once slot src, counted slot src (line.Sent slot src dst) ls, own_send slot src dst)))
+    AllPairs-cons Once s (sends_in_lines (read ls)) (none_so s ls (omega (arith, once slot src, counted slot src (line.Sent slot src dst) ls, own_send slot src dst)))
     (sends_once ls (later_once (line.Sent slot src dst) ls once))
 sends_once (l ∷ ls) once = sends_once ls (later_once l ls once)

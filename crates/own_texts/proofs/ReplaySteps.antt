@@ -3,6 +3,7 @@ use Rattle.std.proofs.Common.{◌≡◌, ◌<◌, ◌≤◌, ◌+◌, ◌-◌, �
 use Rattle.std.specs.List.{flat_map, range_with_len}
 use Rattle.std.proofs.lemmas.List.{append_assoc, append-nil, take-append-drop}
 use Rattle.std.proofs.lemmas.List.Concat.{flat_map-append}
+use Rattle.list_facts.proofs.Lists.{range_both}
 use Rattle.greedy_rules.specs.declared.flows.Flow.{Flow}
 use Rattle.greedy_rules.specs.Batches.{DemandBatch}
 use Rattle.greedy_rules.specs.Fronts.{FrontsAreFronts, EveryBatchHasItsSlots}
@@ -22,17 +23,14 @@ use Rattle.trace_run.specs.Windows.{collected_after}
 use Rattle.replay_rounds.specs.Played.{EveryRefusalHasANumber}
 use Rattle.replay_rounds.specs.Standing.{slots_between}
 use Rattle.window_engine.specs.Replay.{EveryReplayTakesItsSteps}
-use Rattle.run_text.specs.ReplayText.{rounds_lines, window_lines, step_lines, steps_lines, steps_of}
-use Rattle.run_text.proofs.NumberedTexts.{range-plus, numbers-last}
+use Rattle.run_text.specs.ReplayText.{step_lines, steps_lines, steps_of}
+use Rattle.run_text.proofs.NumberedTexts.{numbers-last}
+use Rattle.run_text.proofs.SentLemmas.{collected_within}
 use Rattle.own_texts.proofs.Shows.{Shows, shows-nil, shows-append, shows-as, shows-slots, paths_by, paths_by-append}
 use Rattle.own_texts.proofs.ReplayRounds.{batches_from, sent_from, rounds_show, batches_grow, places_in}
 
 collected_rises : (g rounds steps : ℕ) → collected_after g rounds steps ≤ collected_after g rounds (suc steps)
 collected_rises g rounds steps = omega arith
-
-collected_within : (g rounds steps : ℕ) → collected_after g rounds steps ≤ rounds
-collected_within g rounds zero = omega arith
-collected_within g rounds (suc steps) = omega (arith, collected_within g rounds steps)
 
 -- the step before collected no more
 before_rises : (g rounds steps : ℕ) → collected_after g rounds (steps - 1) ≤ collected_after g rounds steps
@@ -88,7 +86,7 @@ module _ (fronts : FrontsAreFronts) (slots_of_all : EveryBatchHasItsSlots) (long
       let at : 0 + u ≡ u = omega arith in
       ap (λ (n : ℕ). sent_from setting 0 u ++ sent_from setting n (v - u)) (sym at)
       ∙ (sym (flat_map-append (places_in setting) (range_with_len 0 u) (range_with_len (0 + u) (v - u)))
-      ∙ (ap (flat_map (places_in setting)) (sym (range-plus 0 u (v - u))) ∙ ap (sent_from setting 0) there))
+      ∙ (ap (flat_map (places_in setting)) (sym (range_both 0 u (v - u))) ∙ ap (sent_from setting 0) there))
 
   step_shows : (j : ℕ) → Shows b e (step_lines cores setting trace j) (records_of (c j) (batches_from setting (c j) (c (suc j) - c j))) (paths_by cores (first_slot b (c (j - 1))) (slots_between setting (c (j - 1)) (c j)))
       (sent_from setting (c j) (c (suc j) - c j))

@@ -11,7 +11,7 @@ use Rattle.clos_topology.specs.NetSlots.{SlotCores}
 use Rattle.schedule_audit.specs.declared.packets.Path.{Path}
 use Rattle.schedule_audit.specs.Lines.{path_of, paths}
 use Rattle.schedule_audit.specs.Laws.{read}
-use Rattle.schedule_audit.specs.Reading.{AreLines}
+use Rattle.schedule_audit.specs.Reading.{ReadsLines}
 use Rattle.replay_rounds.specs.Setting.{setting_of}
 use Rattle.window_engine.specs.Batches.{plan_batches, EveryPlanIsRecorded}
 use Rattle.window_engine.specs.Counts.{EveryPlanBalances}
@@ -20,8 +20,8 @@ use Rattle.run_text.specs.ReplayScheduled.{replay_batches}
 use Rattle.run_text.specs.ReplayText.{replay_text}
 use Rattle.own_texts.specs.Passing.{HasNoBadLine}
 use Rattle.own_texts.specs.Plans.{NoPlanHasABadLine}
-use Rattle.plan_rounds.specs.Asked.{EveryPlanAddsWhatIsAsked}
-use Rattle.own_texts.specs.Premises.{Slots, Ends, Runs}
+use Rattle.window_engine.specs.Asked.{EveryPlanAddsWhatIsAsked}
+use Rattle.own_texts.specs.Premises.{SlotsPremises, EndsPremises, RunsPremises}
 use Rattle.own_texts.specs.Replays.{NoReplayHasABadLine}
 use Rattle.own_texts.specs.SameCores.{AgreeOn, EqualPlansHaveTheSameCores, EqualReplaysHaveTheSameCores}
 use Rattle.own_texts.proofs.Shows.{paths_by, read-append}
@@ -39,7 +39,7 @@ pub same_cores : (net other_net : Network) (b c rounds more : ℕ) (text other :
     → paths (read body) ≡ paths_by cores 1 slots → paths (read others) ≡ paths_by there 1 later → text ≡ other → AgreeOn slots cores there
 same_cores net other_net b c rounds more text other body others cores there slots later one two mine theirs same =
     let lines : read (others ++ line.End more ∷ []) ≡ read (body ++ line.End rounds ∷ []) =
-    one.only (read (others ++ line.End more ∷ [])) (subst (λ (bytes : List ℕ). AreLines bytes (read (others ++ line.End more ∷ []))) (sym same) two.reads) in
+    one.only (read (others ++ line.End more ∷ [])) (subst (λ (bytes : List ℕ). ReadsLines bytes (read (others ++ line.End more ∷ []))) (sym same) two.reads) in
     agree cores there slots later
     (sym mine ∙ (sym (with_end body rounds) ∙ (ap (λ (ls : List (Option Line)). paths ls) (sym lines) ∙ (with_end others more ∙ theirs))))
 
@@ -49,7 +49,7 @@ equal_plans slots recorded balances asked no_bad_line b c trace other cores othe
     (schedule b (plan_batches trace)) (schedule c (plan_batches other)) (no_bad_line b trace cores one) (no_bad_line c other others two)
     (plan_shows slots recorded balances asked b trace cores one).routed (plan_shows slots recorded balances asked c other others two).routed same
 
-pub equal_replays : Slots → Ends → Runs → NoReplayHasABadLine → EqualReplaysHaveTheSameCores
+pub equal_replays : SlotsPremises → EndsPremises → RunsPremises → NoReplayHasABadLine → EqualReplaysHaveTheSameCores
 equal_replays slots ends runs no_bad_line b c g h trace other cores others one two same =
     same_cores trace.net other.net b c trace.rounds other.rounds (replay_text cores b g trace) (replay_text others c h other)
     (replay_body cores (setting_of trace b g cores) trace) (replay_body others (setting_of other c h others) other) cores others

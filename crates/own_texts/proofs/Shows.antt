@@ -15,7 +15,7 @@ use Rattle.report_text.specs.Lines.{IsLine}
 use Rattle.schedule_audit.specs.declared.recorded.Recorded.{Recorded}
 use Rattle.schedule_audit.specs.declared.packets.Place.{Place}
 use Rattle.schedule_audit.specs.declared.packets.Path.{Path}
-use Rattle.schedule_audit.specs.Lines.{recorded_by, path_of, sent_by, records, paths, sends}
+use Rattle.schedule_audit.specs.Lines.{recorded_by, path_of, sent_by_line, records, paths, sends_in_lines}
 use Rattle.schedule_audit.specs.Wrong.{Expected}
 use Rattle.schedule_audit.specs.Laws.{read, IsInner, AreInner, IsGoodLine, AreGoodLines}
 use Rattle.schedule_audit.specs.Texts.{record_of}
@@ -39,7 +39,7 @@ pub record Shows (b : ℕ) (expected : Expected) (ls : List Line) (rs : List Rec
   pub figures : AreFigures ls
   pub recorded : records (read ls) ≡ rs
   pub routed : paths (read ls) ≡ ps
-  pub sent : sends (read ls) ≡ ss
+  pub sent : sends_in_lines (read ls) ≡ ss
 
 pub read-append : {X : Type 0} (f : Option Line → Option X) (xs ys : List Line) → filter_map f (read (xs ++ ys)) ≡ filter_map f (read xs) ++ filter_map f (read ys)
 read-append f xs ys = ap (filter_map f) (map-append (λ (l : Line). Some l) xs ys) ∙ filter_map-append f (read xs) (read ys)
@@ -72,7 +72,7 @@ shows-append {b} {e} {xs} {ys} {rs} {rt} {ps} {pt} {ss} {st} one two = record {
   figures = figures-append xs ys one.figures two.figures;
   recorded = read-append recorded_by xs ys ∙ both (records (read xs)) (records (read ys)) rs rt one.recorded two.recorded;
   routed = read-append path_of xs ys ∙ both (paths (read xs)) (paths (read ys)) ps pt one.routed two.routed;
-  sent = read-append sent_by xs ys ∙ both (sends (read xs)) (sends (read ys)) ss st one.sent two.sent;
+  sent = read-append sent_by_line xs ys ∙ both (sends_in_lines (read xs)) (sends_in_lines (read ys)) ss st one.sent two.sent;
 }
 
 -- the same, told otherwise

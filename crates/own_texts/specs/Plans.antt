@@ -3,7 +3,7 @@ use Rattle.std.specs.Prelude.{◌<◌, ◌≤◌, ℕ}
 use Rattle.clos_topology.specs.NetSlots.{SlotCores}
 use Rattle.trace_text.specs.Trace.{TraceContent}
 use Rattle.trace_text.specs.Valid.{IsTrace}
-use Rattle.window_allocation.specs.Scheduled.{EverySlotIsScheduled}
+use Rattle.window_engine.specs.Scheduled.{EverySlotIsScheduled}
 use Rattle.window_engine.specs.Batches.{plan_batches}
 use Rattle.run_text.specs.PlanText.{plan_lines, plan_text}
 use Rattle.own_texts.specs.Passing.{HasNoBadLine}

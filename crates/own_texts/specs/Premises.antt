@@ -5,7 +5,7 @@ use Rattle.endpoint_history.specs.AgentLaws.{SendsAreAsked, TakingBringsSlots}
 use Rattle.endpoint_history.specs.Bounds.{TakenIsFew}
 use Rattle.endpoint_history.specs.LedgerLaws as ledger
 use Rattle.endpoint_history.specs.RoundLaws.{RoundsAreInOrder}
-use Rattle.schedule_audit.specs.Counts.{CountsBeginAtTheLastClear}
+use Rattle.schedule_audit.specs.Counts.{SlotsBeginAtTheLastClear}
 use Rattle.trace_run.specs.Agents.{AskedIsWithinAll}
 use Rattle.trace_run.specs.Applicable.{EveryRunIsApplicable}
 use Rattle.trace_run.specs.Counts.{EveryFlowIsCounted}
@@ -19,14 +19,14 @@ use Rattle.replay_rounds.specs.Rules.{EverySettingIsOfATrace}
 use Rattle.window_engine.specs.Replay.{EveryReplayTakesItsSteps}
 
 -- of schedules, and where their slots begin to count
-pub record Slots : Type 0 where
+pub record SlotsPremises : Type 0 where
   pub schedules : Schedules
   pub fronts : FrontsAreFronts
   pub in_range : EverySlotIsInRange
-  pub since : CountsBeginAtTheLastClear
+  pub since : SlotsBeginAtTheLastClear
 
 -- of both ends of a connection
-pub record Ends : Type 0 where
+pub record EndsPremises : Type 0 where
   pub order : RoundsAreInOrder
   pub few : TakenIsFew
   pub taking : TakingBringsSlots
@@ -34,7 +34,7 @@ pub record Ends : Type 0 where
   pub begins : ledger.CountsBeginAtTheLastClear
 
 -- of the runs of traces, and the windows of their replays
-pub record Runs : Type 0 where
+pub record RunsPremises : Type 0 where
   pub long : EveryRoundHasABatch
   pub applicable : EveryRunIsApplicable
   pub recorded : EveryRunIsRecorded

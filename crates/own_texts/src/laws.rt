@@ -1,5 +1,5 @@
 ghost use Rattle.own_texts.specs.Plans.{NoPlanHasABadLine};
-ghost use Rattle.own_texts.specs.Premises.{Slots, Ends, Runs};
+ghost use Rattle.own_texts.specs.Premises.{SlotsPremises, EndsPremises, RunsPremises};
 ghost use Rattle.own_texts.specs.Replays.{NoReplayHasABadLine};
 ghost use Rattle.own_texts.specs.SameCores.{EqualPlansHaveTheSameCores, EqualReplaysHaveTheSameCores};
 
@@ -10,7 +10,6 @@ use greedy_rules::{
     every_batch_balances, every_schedule_balances, every_slot_is_in_range,
     every_slots_flows_are_of_entries, schedules_go_on,
 };
-use plan_rounds::every_plan_adds_what_is_asked;
 use replay_rounds::{every_refusal_has_a_number, every_setting_is_of_a_trace};
 use schedule_audit::{
     a_text_of_batches_has_no_bad_line, counts_begin_at_the_last_clear, each_text_has_one_reading,
@@ -20,7 +19,10 @@ use trace_run::{
     agents_boot_and_are_asked, every_flow_is_counted, every_run_is_applicable,
     every_run_is_recorded, every_send_is_scheduled, ledger_and_rest_agree, runs_go_on,
 };
-use window_engine::{every_plan_balances, every_plan_is_recorded, every_replay_takes_its_steps};
+use window_engine::{
+    every_plan_adds_what_is_asked, every_plan_balances, every_plan_is_recorded,
+    every_replay_takes_its_steps,
+};
 
 /// A law over every plan: with cores by which each slot is scheduled on paths that share no link, its text has no bad line, so
 /// no audit refuses it.
@@ -67,7 +69,7 @@ pub fn equal_texts_have_the_same_cores()
 
 /// The laws of schedules.
 fn slots_hold()
-    ensures { Slots }
+    ensures { SlotsPremises }
 {
     schedules_go_on();
     every_batch_balances();
@@ -79,7 +81,7 @@ fn slots_hold()
 
 /// The laws of both ends of a connection.
 fn ends_hold()
-    ensures { Ends }
+    ensures { EndsPremises }
 {
     agents_count_slots();
     counts_are_bounded();
@@ -89,7 +91,7 @@ fn ends_hold()
 
 /// The laws of runs and of replays.
 fn runs_hold()
-    ensures { Runs }
+    ensures { RunsPremises }
 {
     runs_go_on();
     agents_boot_and_are_asked();

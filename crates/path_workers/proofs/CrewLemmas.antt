@@ -1,6 +1,5 @@
 -- The path workers before and after a call.
-use Rattle.std.proofs.Common.{◌≡◌, ◌<◌, ◌≤◌, ◌+◌, ℕ, zero, suc, List, [], ◌∷◌, ◌++◌, All, Vec, length, get_or, sym, ap, ◌∙◌, subst, arith}
-use Rattle.std.specs.List.{range_with_len}
+use Rattle.std.proofs.Common.{◌≡◌, ◌<◌, ◌≤◌, ℕ, List, All, Vec, length, get_or, sym, ap, ◌∙◌, subst, arith}
 use Rattle.std.specs.Vec.{with_items}
 use Rattle.std.proofs.lemmas.List.{with_items_is}
 use Rattle.greedy_rules.specs.declared.flows.Flow.{Flow}
@@ -16,14 +15,6 @@ use Rattle.path_workers.proofs.PainterLemmas.{may_paint}
 pub colourable : (work inside : PathWork) (slots : List (List Flow)) → inside ≡ work → length slots ≤ work.slots → All (All (IsFlowOf work.net)) slots → All IsMatching slots → All (IsWithinCores work.net) slots → AreColourable inside.net inside.slots slots
 colourable work inside slots is count flows matchings within =
     subst (λ (w : PathWork). AreColourable w.net w.slots slots) (sym is) (record { count = count; flows = flows; matchings = matchings; within = within })
-
--- the numbers from one on, and the next
-pub next_number : (from count : ℕ) → range_with_len from (count + 1) ≡ range_with_len from count ++ (from + count) ∷ []
-next_number from zero = let same : from ≡ from + 0 = omega arith in ap (λ (n : ℕ). n ∷ []) same
-next_number from (suc count) =
-    let on : from + 1 + count ≡ from + suc count = omega arith in
-    let long : suc count + 1 ≡ suc (count + 1) = omega arith in
-    ap (range_with_len from) long ∙ (ap (λ (ns : List ℕ). from ∷ ns) (next_number (from + 1) count) ∙ ap (λ (n : ℕ). from ∷ (range_with_len (from + 1) count ++ n ∷ [])) on)
 
 -- workers that have forgotten what they coloured
 pub crew_ready : {Z : Type 0} (net : Network) (room : ℕ) (slots : List (List Flow)) (painters taken : Vec Painter Z) (shown new : List Painter) → All (IsPainter net room) painters.items → shown ≡ painters.items → (All (IsPainter net room) shown → All (HasPainted net room slots) new)

@@ -10,7 +10,7 @@ use Rattle.clos_topology.specs.Links.{CoreOf, HasItsCore}
 use Rattle.clos_topology.specs.RackGraph.{rack_edges}
 use Rattle.path_workers.specs.Coloured.{EveryNamedCoreIsBelow}
 
-abbrev Below : ℕ → Option ℕ → Type 0
+abbrev pub Below : ℕ → Option ℕ → Type 0
 Below cores core = IfSome core (λ c. c < cores)
 
 core_below : (hosts cores : ℕ) (flow : Flow) (core : Option ℕ) → MatchOption core (rack_of hosts flow.src ≡ rack_of hosts flow.dst) (λ c. (rack_of hosts flow.src ≢ rack_of hosts flow.dst) × (c < cores)) → Below cores core
@@ -18,7 +18,7 @@ core_below hosts cores flow None own = tt
 core_below hosts cores flow (Some c) own = own.1
 
 -- a source has such a core, or sends nothing to another rack
-found : (hosts cores : ℕ) (named : CoreOf) (slot : List Flow) (source : ℕ) → All (HasItsCore hosts cores named) slot → All (λ (edge : Edge). edge.source ≢ source) (rack_edges hosts slot) ⊎ Below cores (named source)
+pub found : (hosts cores : ℕ) (named : CoreOf) (slot : List Flow) (source : ℕ) → All (HasItsCore hosts cores named) slot → All (λ (edge : Edge). edge.source ≢ source) (rack_edges hosts slot) ⊎ Below cores (named source)
 found hosts cores named [] source own = inl (All-nil (λ (edge : Edge). edge.source ≢ source))
 found hosts cores named (flow ∷ slot) source own =
     let Other : Edge → Type 0 = λ edge. edge.source ≢ source in

@@ -1,10 +1,10 @@
 -- A painter's rows: which have the cores of a slot, and what changes where one is written.
-use Rattle.std.proofs.Common.{◌≡◌, ◌≢◌, ◌<◌, ◌≤◌, ◌+◌, ◌*◌, ℕ, List, [], length, get_or, set, take, drop, replicate, Option, Some, None, Vec, vec_len, sym, ap, ◌∙◌, subst, arith, inl, inr}
+use Rattle.std.proofs.Common.{◌≡◌, ◌≢◌, ◌<◌, ◌≤◌, ◌+◌, ◌*◌, ℕ, List, [], length, get_or, set, take, drop, Option, Some, None, Vec, vec_len, sym, ap, ◌∙◌, subst, arith, inl, inr}
 use borrow.Rule.Slice.PartMut.{put_mid, same_len_mid}
 use Rattle.std.specs.Vec.{with_items}
 use Rattle.std.proofs.Math.Path.{fun_ext}
-use Rattle.std.proofs.lemmas.Bool.{cases_eq, cases_lt}
-use Rattle.std.proofs.lemmas.List.{get_or_past, get_or_default, get_or-replicate, get_or-set_same, get_or-set_other, length-replicate, length-take, length-drop, with_items_is}
+use Rattle.std.proofs.lemmas.Bool.{cases_eq}
+use Rattle.std.proofs.lemmas.List.{get_or_past, get_or_default, get_or-set_same, get_or-set_other, length-take, length-drop, with_items_is}
 use Rattle.std.proofs.lemmas.Nat.{row_fits}
 use Rattle.greedy_rules.specs.declared.flows.Flow.{Flow}
 use Rattle.greedy_rules.specs.Schedule.{slot_in}
@@ -17,24 +17,15 @@ use Rattle.path_workers.specs.declared.painter.Painter.{Painter}
 use Rattle.path_workers.specs.CoreTable.{NamesNone}
 use Rattle.path_workers.specs.Coloured.{HasItsCores}
 use Rattle.path_workers.proofs.RowLemmas.{row_same, row_other}
-use Rattle.path_workers.specs.Painters.{AreColourable, place_of, row_of, row_at, IsPainter, HasRow, HasPainted, MayPaint}
-
--- no place of a list of Nones has another
-pub none_at : (n at : ℕ) → core_in (replicate n None) at ≡ None
-none_at n at =
-    let none : Option ℕ = None in
-    elim (cases_lt at n) [
-      | inl below ↦ get_or-replicate n at none none below
-      | inr above ↦ get_or_past (replicate n none) at none (omega (arith, above, length-replicate n none))
-    ]
+use Rattle.path_workers.specs.Painters.{AreColourable, cores_place, cores_row, row_at, IsPainter, HasRow, HasPainted, MayPaint}
 
 -- a part of the rows that is a row
-pub slice_is_row : (endpoints count place k : ℕ) (cores part : List (Option ℕ)) → count ≡ endpoints → k ≡ count → part ≡ cores → take k (drop (place * count) part) ≡ row_of endpoints cores place
+pub slice_is_row : (endpoints count place k : ℕ) (cores part : List (Option ℕ)) → count ≡ endpoints → k ≡ count → part ≡ cores → take k (drop (place * count) part) ≡ cores_row endpoints cores place
 slice_is_row endpoints count place k cores part same size from = λ i. take ((size ∙ same) i) (drop (place * same i) (from i))
 
 -- past the rows no core is named
-row_behind : (endpoints place : ℕ) (cores : List (Option ℕ)) → length cores ≤ place * endpoints → NamesNone (core_in (row_of endpoints cores place))
-row_behind endpoints place cores behind source = get_or_past (row_of endpoints cores place) source None (omega (arith, behind, length-take endpoints (drop (place * endpoints) cores), length-drop (place * endpoints) cores))
+row_behind : (endpoints place : ℕ) (cores : List (Option ℕ)) → length cores ≤ place * endpoints → NamesNone (core_in (cores_row endpoints cores place))
+row_behind endpoints place cores behind source = get_or_past (cores_row endpoints cores place) source None (omega (arith, behind, length-take endpoints (drop (place * endpoints) cores), length-drop (place * endpoints) cores))
 
 -- a worker's place past the rows
 pub idle_none : (net : Network) (room : ℕ) (painter : Painter) (place : ℕ) → place ≡ room → IsPainter net room painter → NamesNone (row_at painter place)
@@ -71,29 +62,29 @@ length_put from k cores row size fits = same_len_mid from k cores row (omega (ar
 
 -- a row that is written into a table, and the others
 pub written_row : {Z : Type 0} (endpoints count slot k : ℕ) (rows : Vec (Option ℕ) Z) (old row : List (Option ℕ)) → count ≡ endpoints → old ≡ rows.items → k ≡ count → length row ≡ count → slot * count + count ≤ length old
-    → core_in (row_of endpoints (with_items rows (put_mid (slot * count) k old row)).items slot) ≡ core_in row
+    → core_in (cores_row endpoints (with_items rows (put_mid (slot * count) k old row)).items slot) ≡ core_in row
 written_row endpoints count slot k rows old row same from size whole fits =
     let put : List (Option ℕ) = put_mid (slot * count) k old row in
     let len : length put ≡ rows.len = omega (arith, length_put (slot * count) k old row (omega (arith, whole, size)) (omega (arith, fits, size)), ap (λ (xs : List (Option ℕ)). length xs) from, rows.ok.0) in
-    ap (λ (xs : List (Option ℕ)). core_in (row_of endpoints xs slot)) (with_items_is rows put len)
-    ∙ (ap (λ (n : ℕ). core_in (row_of n put slot)) (sym same)
+    ap (λ (xs : List (Option ℕ)). core_in (cores_row endpoints xs slot)) (with_items_is rows put len)
+    ∙ (ap (λ (n : ℕ). core_in (cores_row n put slot)) (sym same)
     ∙ ap core_in (row_same count slot k old row size whole (omega (arith, fits))))
 
 pub other_row : {Z : Type 0} (endpoints count slot k place : ℕ) (rows : Vec (Option ℕ) Z) (old row : List (Option ℕ)) → count ≡ endpoints → old ≡ rows.items → k ≡ count → length row ≡ count → slot * count + count ≤ length old → place ≢ slot
-    → core_in (row_of endpoints rows.items place) ≡ core_in (row_of endpoints (with_items rows (put_mid (slot * count) k old row)).items place)
+    → core_in (cores_row endpoints rows.items place) ≡ core_in (cores_row endpoints (with_items rows (put_mid (slot * count) k old row)).items place)
 other_row endpoints count slot k place rows old row same from size whole fits other =
     let put : List (Option ℕ) = put_mid (slot * count) k old row in
     let len : length put ≡ rows.len = omega (arith, length_put (slot * count) k old row (omega (arith, whole, size)) (omega (arith, fits, size)), ap (λ (xs : List (Option ℕ)). length xs) from, rows.ok.0) in
-    ap (λ (xs : List (Option ℕ)). core_in (row_of endpoints xs place)) (sym from)
-    ∙ (ap (λ (n : ℕ). core_in (row_of n old place)) (sym same)
+    ap (λ (xs : List (Option ℕ)). core_in (cores_row endpoints xs place)) (sym from)
+    ∙ (ap (λ (n : ℕ). core_in (cores_row n old place)) (sym same)
     ∙ (ap core_in (sym (row_other count slot k place old row size whole (omega (arith, fits)) other))
-    ∙ (ap (λ (n : ℕ). core_in (row_of n put place)) same
-    ∙ ap (λ (xs : List (Option ℕ)). core_in (row_of endpoints xs place)) (sym (with_items_is rows put len)))))
+    ∙ (ap (λ (n : ℕ). core_in (cores_row n put place)) same
+    ∙ ap (λ (xs : List (Option ℕ)). core_in (cores_row endpoints xs place)) (sym (with_items_is rows put len)))))
 
 -- where nothing but the graph changed
 pub regraphed : (net : Network) (room : ℕ) (slots : List (List Flow)) (p q : Painter) → HasPainted net room slots p → q.net ≡ p.net → q.table ≡ p.table → q.graph.room ≡ p.graph.room → q.places ≡ p.places → q.rows ≡ p.rows → HasPainted net room slots q
 regraphed net room slots p q painted same_net same_table same_room same_places same_rows =
-    let rows_same : (place : ℕ) → row_at p place ≡ row_at q place = λ place. ap (λ (n : ℕ). core_in (row_of n p.rows.items place)) (ap endpoints_of (sym same_net)) ∙ ap (λ (v : _). core_in (row_of (endpoints_of q.net) v.items place)) (sym same_rows) in
+    let rows_same : (place : ℕ) → row_at p place ≡ row_at q place = λ place. ap (λ (n : ℕ). core_in (cores_row n p.rows.items place)) (ap endpoints_of (sym same_net)) ∙ ap (λ (v : _). core_in (cores_row (endpoints_of q.net) v.items place)) (sym same_rows) in
     let s = painted.sized in
     record {
       sized = record {
@@ -141,7 +132,7 @@ repainted net room slots p q slot painted within same_net table graph same_place
 pub placed : (net : Network) (room : ℕ) (slots : List (List Flow)) (p q : Painter) (slot place : ℕ) → HasPainted net room slots p → slot < length slots → length slots ≤ room → HasRow net room slots p slot place
     → q.net ≡ p.net → q.table ≡ p.table → q.graph ≡ p.graph → q.rows ≡ p.rows → vec_len q.places ≡ vec_len p.places → q.places.items ≡ set p.places.items slot (Some place) → HasPainted net room slots q
 placed net room slots p q slot place painted below fits row same_net same_table same_graph same_rows len places =
-    let rows_same : (at : ℕ) → row_at p at ≡ row_at q at = λ at. ap (λ (n : ℕ). core_in (row_of n p.rows.items at)) (ap endpoints_of (sym same_net)) ∙ ap (λ (v : _). core_in (row_of (endpoints_of q.net) v.items at)) (sym same_rows) in
+    let rows_same : (at : ℕ) → row_at p at ≡ row_at q at = λ at. ap (λ (n : ℕ). core_in (cores_row n p.rows.items at)) (ap endpoints_of (sym same_net)) ∙ ap (λ (v : _). core_in (cores_row (endpoints_of q.net) v.items at)) (sym same_rows) in
     let s = painted.sized in
     let moved : (other at : ℕ) → HasRow net room slots p other at → HasRow net room slots q other at = λ other at old. record { within = old.within; same = old.same; cores = subst (HasItsCores net (slot_in slots other)) (rows_same at) old.cores } in
     record {
@@ -167,9 +158,9 @@ placed net room slots p q slot place painted below fits row same_net same_table 
 
 -- before any slot is coloured
 pub forgotten : (net : Network) (room : ℕ) (slots : List (List Flow)) (p q : Painter) → IsPainter net room p → q.net ≡ p.net → q.table ≡ p.table → q.graph ≡ p.graph → q.rows ≡ p.rows → vec_len q.places ≡ vec_len p.places
-    → ((slot : ℕ) → place_of q slot ≡ None) → HasPainted net room slots q
+    → ((slot : ℕ) → cores_place q slot ≡ None) → HasPainted net room slots q
 forgotten net room slots p q s same_net same_table same_graph same_rows len none =
-    let rows_same : (at : ℕ) → row_at p at ≡ row_at q at = λ at. ap (λ (n : ℕ). core_in (row_of n p.rows.items at)) (ap endpoints_of (sym same_net)) ∙ ap (λ (v : _). core_in (row_of (endpoints_of q.net) v.items at)) (sym same_rows) in
+    let rows_same : (at : ℕ) → row_at p at ≡ row_at q at = λ at. ap (λ (n : ℕ). core_in (cores_row n p.rows.items at)) (ap endpoints_of (sym same_net)) ∙ ap (λ (v : _). core_in (cores_row (endpoints_of q.net) v.items at)) (sym same_rows) in
     record {
       sized = record {
         few = s.few;
@@ -183,7 +174,7 @@ forgotten net room slots p q s same_net same_table same_graph same_rows len none
     }
 
 -- what stands at a slot's place
-pub named_place : (slots : List (List Flow)) (p : Painter) (slot place : ℕ) (found : Option ℕ) → MayPaint slots p → slot < length slots → found ≡ get_or p.places.items slot found → found ≡ Some place → place_of p slot ≡ Some place
+pub named_place : (slots : List (List Flow)) (p : Painter) (slot place : ℕ) (found : Option ℕ) → MayPaint slots p → slot < length slots → found ≡ get_or p.places.items slot found → found ≡ Some place → cores_place p slot ≡ Some place
 named_place slots p slot place found may below at is =
     get_or_default p.places.items slot None found (omega (arith, below, may.colourable.count, p.places.ok.0)) ∙ (sym at ∙ is)
 

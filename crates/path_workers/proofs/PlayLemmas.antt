@@ -1,7 +1,7 @@
 -- What workers have done together: the jobs that were taken, and the rows of the slots that they name.
 use Rattle.std.proofs.Common.{◌≡◌, ◌<◌, ◌+◌, ◌-◌, ℕ, zero, suc, List, [], ◌∷◌, ◌++◌, length, get_or, set, Bool, true, false, cond, nat_lt, ◌==◌, ◌||◌, All, IsTrue, vec_len, refl, sym, ap, ◌∙◌, subst, arith, inl, inr}
 use Rattle.std.specs.List.{list_any}
-use Rattle.std.proofs.lemmas.Bool.{cases_lt, cond-true, cond-false, eq-eqb, le-ltb, or_cases}
+use Rattle.std.proofs.lemmas.Bool.{cases_lt, cond-true, cond-false, eq-eqb, le-ltb, or_cases, or_left, or_right}
 use Rattle.std.proofs.lemmas.Bool.Decides.{nat_tests}
 use Rattle.std.proofs.lemmas.List.{map-append, append-nil, length_push, length-append, get_or_push, get_or_append_left}
 use Rattle.std.proofs.lemmas.List.Elements.{All-push}
@@ -16,9 +16,9 @@ use Rattle.path_workers.specs.declared.jobs.Hand.{Hand}
 use Rattle.path_workers.specs.declared.painter.Painter.{Painter}
 use Rattle.path_workers.specs.declared.seats.Seat.{Seat}
 use Rattle.path_workers.specs.PathWork.{times_taken}
-use Rattle.path_workers.specs.Jobs.{hand, weigh, IsAtRest, is_slot, slots_named, slot_jobs, end_jobs}
+use Rattle.path_workers.specs.Jobs.{hand, weigh, HandIsAtRest, is_slot, slots_named, slot_jobs, end_jobs}
 use Rattle.path_workers.specs.Painters.{numbers_of, has_row, HasPainted, MayPaint, HasRowsOf, HaveRows}
-use Rattle.path_workers.specs.Seats.{MayPlay, HasPlayed, HaveAllPlayed}
+use Rattle.path_workers.specs.Seats.{SeatMayPlay, SeatHasPlayed, HaveAllPlayed}
 use Rattle.path_workers.proofs.QueueLemmas.{weigh-append}
 use Rattle.path_workers.proofs.PainterLemmas.{resized}
 
@@ -59,7 +59,7 @@ plays_on slots old was v w p q job playing is painted keeps named number = recor
 }
 
 -- and when it has played
-pub has_played : (slots : List (List Flow)) (was seat : Seat) (queue : _) → was.pass.table_id ≡ queue → seat.pass.table_id ≡ queue → seat.pass.me.1 ≡ [] → IsPlaying slots (view was.pass) was.painter (view seat.pass) seat.painter → HasPlayed slots was seat
+pub has_played : (slots : List (List Flow)) (was seat : Seat) (queue : _) → was.pass.table_id ≡ queue → seat.pass.table_id ≡ queue → seat.pass.me.1 ≡ [] → IsPlaying slots (view was.pass) was.painter (view seat.pass) seat.painter → SeatHasPlayed slots was seat
 has_played slots was seat queue was_queue same none playing = record { queue = same ∙ sym was_queue; none_out = none; parts = playing.parts; put = playing.put; painted = playing.painted; rows = playing.rows; number = playing.number }
 
 -- the slots' jobs name each slot
@@ -104,17 +104,9 @@ none_played slots workers painters new was is same view_is =
       numbers = ap numbers_of same;
     }
 
-or_left : (a b : Bool) → a ≡ true → (a || b) ≡ true
-or_left true b is = refl
-or_left false b is = absurd (cc)
-
-or_right : (a b : Bool) → b ≡ true → (a || b) ≡ true
-or_right true b is = refl
-or_right false b is = is
-
 -- the last worker has played, and so have the others
 pub one_played : (slots : List (List Flow)) (workers : ℕ) (all xs out ys : List Painter) (x : Painter) (seat was : Seat) (v0 v1 v2 v3 : Hand) → all ≡ xs ++ x ∷ [] → out ≡ ys ++ seat.painter ∷ [] → 0 < v0.parts → v1 ≡ hand (v0.parts - 1) v0.put v0.taken
-    → HaveAllPlayed slots workers xs v1 ys v2 → was.painter ≡ x → view was.pass ≡ hand 1 [] [] → HasPlayed slots was seat → v3 ≡ hand (v2.parts + (view seat.pass).parts) (v2.put ++ (view seat.pass).put) (v2.taken ++ (view seat.pass).taken)
+    → HaveAllPlayed slots workers xs v1 ys v2 → was.painter ≡ x → view was.pass ≡ hand 1 [] [] → SeatHasPlayed slots was seat → v3 ≡ hand (v2.parts + (view seat.pass).parts) (v2.put ++ (view seat.pass).put) (v2.taken ++ (view seat.pass).taken)
     → HaveAllPlayed slots workers all v0 out v3
 one_played slots workers all xs out ys x seat was v0 v1 v2 v3 all_is out_is some v1_is rest same was_view played v3_is =
     let parts1 : v1.parts ≡ v0.parts - 1 = ap (λ (v : Hand). v.parts) v1_is in
@@ -159,7 +151,7 @@ as_played slots workers old ps qs was v w painters views played =
     subst (λ (h : Hand). HaveAllPlayed slots workers old was qs h) (sym views) (subst (λ (l : List Painter). HaveAllPlayed slots workers old was l v) (sym painters) played)
 
 -- the last worker may play
-pub may_play : (slots : List (List Flow)) (all xs : List Painter) (seat : Seat) → all ≡ xs ++ seat.painter ∷ [] → All (MayPaint slots) all → view seat.pass ≡ hand 1 [] [] → MayPlay slots seat
+pub may_play : (slots : List (List Flow)) (all xs : List Painter) (seat : Seat) → all ≡ xs ++ seat.painter ∷ [] → All (MayPaint slots) all → view seat.pass ≡ hand 1 [] [] → SeatMayPlay slots seat
 may_play slots all xs seat is may view_is = record {
   parts = let one : (view seat.pass).parts ≡ 1 = ap (λ (v : Hand). v.parts) view_is in omega (arith, one);
   painter = All-last (MayPaint slots) all xs seat.painter is may;
@@ -197,7 +189,7 @@ all_rows slots workers old new y v1 v2 v3 even1 played put3 even3 some rows keep
     ]
 
 -- a pass that handed every part over, joined with the one that has them
-pub at_rest_again : (left whole both : Hand) → left ≡ hand 0 [] [] → both ≡ hand (left.parts + whole.parts) (left.put ++ whole.put) (left.taken ++ whole.taken) → IsAtRest whole → IsAtRest both × (both.put ≡ whole.put)
+pub at_rest_again : (left whole both : Hand) → left ≡ hand 0 [] [] → both ≡ hand (left.parts + whole.parts) (left.put ++ whole.put) (left.taken ++ whole.taken) → HandIsAtRest whole → HandIsAtRest both × (both.put ≡ whole.put)
 at_rest_again left whole both left_is both_is rest =
     let left_parts : left.parts ≡ 0 = ap (λ (v : Hand). v.parts) left_is in
     let put : both.put ≡ whole.put = ap (λ (v : Hand). v.put) both_is ∙ ap (λ (v : Hand). v.put ++ whole.put) left_is in
@@ -229,7 +221,7 @@ no_slot_put slot zero = refl
 no_slot_put slot (suc workers) = omega (arith, weigh-append (is_slot slot) (end_jobs workers) (End ∷ []), no_slot_put slot workers)
 
 -- and so it was taken once, if all that was put was taken
-pub taken_once : (slot count workers : ℕ) (before after : Hand) → IsAtRest before → IsAtRest after → after.put ≡ before.put ++ slot_jobs count ++ end_jobs workers
+pub taken_once : (slot count workers : ℕ) (before after : Hand) → HandIsAtRest before → HandIsAtRest after → after.put ≡ before.put ++ slot_jobs count ++ end_jobs workers
     → times_taken slot (slots_named after.taken) ≡ times_taken slot (slots_named before.taken) + cond (nat_lt slot count) 1 0
 taken_once slot count workers before after was is put =
     let h : Job → ℕ = is_slot slot in

@@ -6,18 +6,18 @@ use Rattle.crossbeam_queue.specs.Fifo.{Pushes, Pops, Forks, Merges, Learns, Held
 use Rattle.crossbeam_queue.proofs.Lists.{at_set, at_snoc}
 use Rattle.path_workers.specs.declared.jobs.Job.{Job}
 use Rattle.path_workers.specs.declared.jobs.Hand.{Hand}
-use Rattle.path_workers.specs.Jobs.{hand, weigh, total, SpentIsEmpty, Balanced, Even}
+use Rattle.path_workers.specs.Jobs.{hand, weigh, total_of_views, SpentIsEmpty, Balanced, Even}
 
 pub weigh-append : (h : Job → ℕ) (xs ys : List Job) → weigh h (xs ++ ys) ≡ weigh h xs + weigh h ys
 weigh-append h [] ys = omega arith
 weigh-append h (x ∷ xs) ys = let r = weigh-append h xs ys in omega arith
 
-total_set : (f : Hand → ℕ) (views : List Hand) (port : ℕ) (v w : Hand) → get_elem? views port ≡ some v → total f (set views port w) + f v ≡ total f views + f w
+total_set : (f : Hand → ℕ) (views : List Hand) (port : ℕ) (v w : Hand) → get_elem? views port ≡ some v → total_of_views f (set views port w) + f v ≡ total_of_views f views + f w
 total_set f [] port v w at = absurd (some-ne-none v (sym at))
 total_set f (x ∷ xs) zero v w at = let e : f x ≡ f v = ap f (some-injective x v at) in omega arith
 total_set f (x ∷ xs) (suc port) v w at = let r = total_set f xs port v w at in omega arith
 
-total_snoc : (f : Hand → ℕ) (views : List Hand) (v : Hand) → total f (views ++ v ∷ []) ≡ total f views + f v
+total_snoc : (f : Hand → ℕ) (views : List Hand) (v : Hand) → total_of_views f (views ++ v ∷ []) ≡ total_of_views f views + f v
 total_snoc f [] v = omega arith
 total_snoc f (x ∷ xs) v = let r = total_snoc f xs v in omega arith
 
@@ -30,21 +30,21 @@ spent_snoc views w mine others j u e none =
     ⊎_elim (λ a. others j u a none) (λ b. subst (λ (y : Hand). y.parts ≡ 0 → (y.put ≡ []) × (y.taken ≡ [])) b mine none) (at_snoc views w u j e)
 
 -- where no pass has a part, none has done anything
-none_did : (f : Hand → ℕ) (views : List Hand) → ((j : ℕ) (u : Hand) → get_elem? views j ≡ some u → u.parts ≡ 0 → f u ≡ 0) → total (λ v. v.parts) views ≡ 0 → total f views ≡ 0
+none_did : (f : Hand → ℕ) (views : List Hand) → ((j : ℕ) (u : Hand) → get_elem? views j ≡ some u → u.parts ≡ 0 → f u ≡ 0) → total_of_views (λ v. v.parts) views ≡ 0 → total_of_views f views ≡ 0
 none_did f [] zeros none = refl
 none_did f (x ∷ xs) zeros none =
     let a : f x ≡ 0 = zeros 0 x refl (omega arith) in
     let b = none_did f xs (λ j u e. zeros (suc j) u e) (omega arith) in
     omega arith
 
-at_most : (views : List Hand) (port : ℕ) (v : Hand) → get_elem? views port ≡ some v → v.parts ≤ total (λ u. u.parts) views
+at_most : (views : List Hand) (port : ℕ) (v : Hand) → get_elem? views port ≡ some v → v.parts ≤ total_of_views (λ u. u.parts) views
 at_most [] port v at = absurd (some-ne-none v (sym at))
 at_most (x ∷ xs) zero v at = let e : x.parts ≡ v.parts = ap (λ (y : Hand). y.parts) (some-injective x v at) in omega arith
 at_most (x ∷ xs) (suc port) v at = let r = at_most xs port v at in omega arith
 
 -- where one pass has every part, it did all that was done
 alone : (f : Hand → ℕ) (views : List Hand) (port : ℕ) (v : Hand) → get_elem? views port ≡ some v → ((j : ℕ) (u : Hand) → get_elem? views j ≡ some u → u.parts ≡ 0 → f u ≡ 0)
-    → total (λ u. u.parts) views ≡ v.parts → total f views ≡ f v
+    → total_of_views (λ u. u.parts) views ≡ v.parts → total_of_views f views ≡ f v
 alone f [] port v at zeros every = absurd (some-ne-none v (sym at))
 alone f (x ∷ xs) zero v at zeros every =
     let e : x.parts ≡ v.parts = ap (λ (y : Hand). y.parts) (some-injective x v at) in
@@ -153,7 +153,7 @@ merges port v other u some_part items views b at apart at' =
 
 pub learns : (port : ℕ) (v : Hand) → v.parts ≡ 17 → Learns Balanced port v (Even v)
 learns port v all items views b at = λ h.
-    let every : total (λ u. u.parts) views ≡ v.parts = b.parts ∙ sym all in
+    let every : total_of_views (λ u. u.parts) views ≡ v.parts = b.parts ∙ sym all in
     let p = b.weighs h in
     let s = alone (λ u. weigh h u.put) views port v at (λ j u e none. ap (weigh h) (b.spent j u e none).0) every in
     let t = alone (λ u. weigh h u.taken) views port v at (λ j u e none. ap (weigh h) (b.spent j u e none).1) every in

@@ -16,7 +16,7 @@ use Rattle.edge_colouring.specs.declared.degrees.Degree.{Degree}
 use Rattle.edge_colouring.specs.Degrees.{degree_on, HasDegreesWithin, IsFirstExcess}
 use Rattle.edge_colouring.specs.Colouring.{IsColouring, MakesClean}
 use Rattle.path_workers.specs.Coloured.{HasItsCores}
-use Rattle.path_workers.specs.Painters.{row_of}
+use Rattle.path_workers.specs.Painters.{cores_row}
 
 -- degrees within the bound are never refused
 pub no_excess : {X : Type 0} (result : Result X Degree) (most : ℕ) (edges : List Edge) → is_ok result ≡ false → HasDegreesWithin most edges → IfErr result (IsFirstExcess most edges) → ⊥
@@ -41,14 +41,14 @@ pub length-row : (endpoints k from : ℕ) (cores : List (Option ℕ)) → k ≡ 
 length-row endpoints k from cores size within = omega (arith, length-take k (drop from cores), length-drop from cores)
 
 -- a row that is written: it holds what was written, and the others what they had
-pub row_same : (endpoints slot k : ℕ) (cores row : List (Option ℕ)) → k ≡ endpoints → length row ≡ endpoints → slot * endpoints ≤ length cores → row_of endpoints (put_mid (slot * endpoints) k cores row) slot ≡ row
+pub row_same : (endpoints slot k : ℕ) (cores row : List (Option ℕ)) → k ≡ endpoints → length row ≡ endpoints → slot * endpoints ≤ length cores → cores_row endpoints (put_mid (slot * endpoints) k cores row) slot ≡ row
 row_same endpoints slot k cores row size whole within =
     let from : ℕ = slot * endpoints in
     let count : endpoints ≡ (from + endpoints) - from = omega arith in
     ap (λ (n : ℕ). take n (drop from (put_mid from k cores row))) count ∙ between-put_mid from k cores row (from + endpoints) within (omega (arith, whole))
 
 pub row_other : (endpoints slot k at : ℕ) (cores row : List (Option ℕ)) → k ≡ endpoints → length row ≡ endpoints → slot * endpoints ≤ length cores → at ≢ slot
-    → row_of endpoints (put_mid (slot * endpoints) k cores row) at ≡ row_of endpoints cores at
+    → cores_row endpoints (put_mid (slot * endpoints) k cores row) at ≡ cores_row endpoints cores at
 row_other endpoints slot k at cores row size whole within other =
     let from : ℕ = slot * endpoints in
     let place : ℕ = at * endpoints in

@@ -8,11 +8,11 @@ abbrev pub row_there : List (Option ℕ) → Place → List (Option ℕ)
 row_there cores place = take place.len (drop place.from cores)
 
 -- the rows that stand at places
-abbrev pub rows_of : List (Option ℕ) → List Place → List (List (Option ℕ))
-rows_of cores places = map (row_there cores) places
+abbrev pub rows_at_places : List (Option ℕ) → List Place → List (List (Option ℕ))
+rows_at_places cores places = map (row_there cores) places
 
 -- each place stands within the cores, no row is longer than there are endpoints, and there is room for a row of each slot
-pub record AreRows (table : Inside) : Type 0 where
+pub record AreCoreRows (table : Inside) : Type 0 where
   pub within : All (λ place. place.from + place.len ≤ vec_len table.cores) table.places.items
   pub count : vec_len table.places ≤ table.slots
   pub few : vec_len table.cores ≤ vec_len table.places * table.endpoints

@@ -17,9 +17,9 @@ weigh h [] = 0
 weigh h (job ∷ jobs) = h job + weigh h jobs
 
 -- a number of each view, added up
-abbrev pub total : (Hand → ℕ) → List Hand → ℕ
-total f [] = 0
-total f (view ∷ views) = f view + total f views
+abbrev pub total_of_views : (Hand → ℕ) → List Hand → ℕ
+total_of_views f [] = 0
+total_of_views f (view ∷ views) = f view + total_of_views f views
 
 -- a spent view, which has no part, has put and taken nothing
 abbrev pub SpentIsEmpty : List Hand → Type 0
@@ -27,8 +27,8 @@ SpentIsEmpty views = (port : ℕ) (view : Hand) → get_elem? views port ≡ som
 
 -- the rule of the queue, over the jobs that it holds and the views of all passes: of 17 parts each view has some or is spent
 pub record Balanced (jobs : List Job) (views : List Hand) : Type 0 where
-  pub parts : total (λ view. view.parts) views ≡ 17
-  pub weighs : (h : Job → ℕ) → total (λ view. weigh h view.put) views ≡ total (λ view. weigh h view.taken) views + weigh h jobs
+  pub parts : total_of_views (λ view. view.parts) views ≡ 17
+  pub weighs : (h : Job → ℕ) → total_of_views (λ view. weigh h view.put) views ≡ total_of_views (λ view. weigh h view.taken) views + weigh h jobs
   pub spent : SpentIsEmpty views
 
 -- what a pass has put is what it has taken and these jobs
@@ -36,7 +36,7 @@ abbrev pub Even : Hand → List Job → Type 0
 Even view jobs = (h : Job → ℕ) → weigh h view.put ≡ weigh h view.taken + weigh h jobs
 
 -- a pass at rest: it has every part, and has taken what it has put
-pub record IsAtRest (view : Hand) : Type 0 where
+pub record HandIsAtRest (view : Hand) : Type 0 where
   pub parts : view.parts ≡ 17
   pub even : (h : Job → ℕ) → weigh h view.put ≡ weigh h view.taken
 
@@ -56,8 +56,8 @@ slots_named (Slot number ∷ jobs) = number ∷ slots_named jobs
 slots_named (End ∷ jobs) = slots_named jobs
 
 -- the slots whose jobs a pass has taken
-abbrev pub slots_taken : Pass Job Hand → List ℕ
-slots_taken pass = slots_named (view pass).taken
+abbrev pub taken_slots : Pass Job Hand → List ℕ
+taken_slots pass = slots_named (view pass).taken
 
 -- a job for each of the first slots
 abbrev pub slot_jobs : ℕ → List Job

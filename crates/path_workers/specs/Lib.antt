@@ -1,3 +1,6 @@
+pub use Rattle.edge_colouring.specs.Cores
+pub use Rattle.edge_colouring.specs.Degrees
+pub use Rattle.edge_colouring.specs.Colouring
 pub mod CoreTable
 pub mod CoreRows
 pub mod PathWork

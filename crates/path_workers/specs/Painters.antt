@@ -24,18 +24,18 @@ pub record AreColourable (net : Network) (room : ℕ) (slots : List (List Flow))
   pub within : All (IsWithinCores net) slots
 
 -- where the cores of a slot stand, if it was coloured
-abbrev pub place_of : Painter → ℕ → Option ℕ
-place_of painter slot = slice_index_or painter.places.items slot None
+abbrev pub cores_place : Painter → ℕ → Option ℕ
+cores_place painter slot = slice_index_or painter.places.items slot None
 
 abbrev pub has_row : ℕ → Painter → Bool
-has_row slot painter = is_some (place_of painter slot)
+has_row slot painter = is_some (cores_place painter slot)
 
 -- the row at a place, where each has so many cores
-abbrev pub row_of : ℕ → List (Option ℕ) → ℕ → List (Option ℕ)
-row_of endpoints cores place = take endpoints (drop (place * endpoints) cores)
+abbrev pub cores_row : ℕ → List (Option ℕ) → ℕ → List (Option ℕ)
+cores_row endpoints cores place = take endpoints (drop (place * endpoints) cores)
 
 abbrev pub row_at : Painter → ℕ → CoreOf
-row_at painter place = core_in (row_of (endpoints_of painter.net) painter.rows.items place)
+row_at painter place = core_in (cores_row (endpoints_of painter.net) painter.rows.items place)
 
 -- a row for each slot
 pub record IsPainter (net : Network) (room : ℕ) (painter : Painter) : Type 0 where
@@ -54,7 +54,7 @@ pub record HasRow (net : Network) (room : ℕ) (slots : List (List Flow)) (paint
 
 pub record HasPainted (net : Network) (room : ℕ) (slots : List (List Flow)) (painter : Painter) : Type 0 where
   pub sized : IsPainter net room painter
-  pub rows : (slot place : ℕ) → slot < length slots → place_of painter slot ≡ Some place → HasRow net room slots painter slot place
+  pub rows : (slot place : ℕ) → slot < length slots → cores_place painter slot ≡ Some place → HasRow net room slots painter slot place
 
 -- each slot of these whose job was taken more often than before has a row
 abbrev pub HasRowsOf : ℕ → List Job → List Job → Painter → Type 0

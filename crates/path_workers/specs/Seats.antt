@@ -10,12 +10,12 @@ use Rattle.path_workers.specs.Jobs.{slot_jobs, end_jobs}
 use Rattle.path_workers.specs.Painters.{numbers_of, MayPaint, HasPainted, HasRowsOf, HaveRowsOf}
 
 -- it has a part, and its worker may paint
-pub record MayPlay (slots : List (List Flow)) (seat : Seat) : Type 0 where
+pub record SeatMayPlay (slots : List (List Flow)) (seat : Seat) : Type 0 where
   pub parts : 0 < (view seat.pass).parts
   pub painter : MayPaint slots seat.painter
 
 -- its pass has taken jobs alone, and each slot that they name has a row
-pub record HasPlayed (slots : List (List Flow)) (was seat : Seat) : Type 0 where
+pub record SeatHasPlayed (slots : List (List Flow)) (was seat : Seat) : Type 0 where
   pub queue : seat.pass.table_id ≡ was.pass.table_id
   pub none_out : seat.pass.me.1 ≡ []
   pub parts : (view seat.pass).parts ≡ (view was.pass).parts

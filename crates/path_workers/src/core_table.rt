@@ -27,13 +27,13 @@ pub(crate) struct Place {
 
 impl Model for CoreTable {
     ghost use Rattle.path_workers.specs.CoreTable.{CoreSlots};
-    ghost use Rattle.path_workers.specs.CoreRows.{AreRows, rows_of};
+    ghost use Rattle.path_workers.specs.CoreRows.{AreCoreRows, rows_at_places};
 
     ghost Value = { CoreSlots };
 
-    ghost view = { λ t. record { slots = t.slots; endpoints = t.endpoints; rows = rows_of t.cores.items t.places.items } };
+    ghost view = { λ t. record { slots = t.slots; endpoints = t.endpoints; rows = rows_at_places t.cores.items t.places.items } };
 
-    ghost invariant = { AreRows };
+    ghost invariant = { AreCoreRows };
 }
 
 impl CoreTable {

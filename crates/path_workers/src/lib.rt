@@ -20,6 +20,7 @@ mod paths;
 mod seats;
 
 pub use core_table::CoreTable;
+pub use edge_colouring::{every_matching_has_clean_cores, limits_are_degrees};
 pub use laws::every_named_core_is_below;
 pub use no_memory::NoMemory;
 pub use paths::Paths;

@@ -43,14 +43,14 @@ pub struct Paths {
 
 impl Model for Paths {
     ghost use Rattle.std.specs.Prelude.{vec_len};
-    ghost use Rattle.path_workers.specs.Jobs.{jobs_put, slots_taken};
+    ghost use Rattle.path_workers.specs.Jobs.{jobs_put, taken_slots};
     ghost use Rattle.path_workers.specs.Painters.{numbers_of};
     ghost use Rattle.path_workers.specs.PathWork.{PathWork};
     ghost use Rattle.path_workers.specs.Crews.{IsCrew};
 
     ghost Value = { PathWork };
 
-    ghost view = { λ p. record { net = p.net; slots = p.slots; paths = vec_len p.painters; numbers = numbers_of p.painters.items; jobs = jobs_put p.pass; taken = slots_taken p.pass } };
+    ghost view = { λ p. record { net = p.net; slots = p.slots; paths = vec_len p.painters; numbers = numbers_of p.painters.items; jobs = jobs_put p.pass; taken = taken_slots p.pass } };
 
     ghost invariant = { IsCrew };
 }

@@ -1,9 +1,9 @@
 //! The path workers at work: in threads of their own, and on the caller's.
 ghost use Rattle.std.specs.Prelude.{◌≡◌, ◌<◌, ◌≤◌, ◌++◌, ℕ, length, All, IsTrue, vec_len, vec_capacity};
 ghost use Rattle.crossbeam_queue.specs.Passes.{view, IsPassOf};
-ghost use Rattle.path_workers.specs.Jobs.{IsAtRest, slot_jobs, end_jobs};
+ghost use Rattle.path_workers.specs.Jobs.{HandIsAtRest, slot_jobs, end_jobs};
 ghost use Rattle.path_workers.specs.Painters.{numbers_of, MayPaint, MayAllPaint, HasPainted, HasRowsOf, HaveRows, has_row};
-ghost use Rattle.path_workers.specs.Seats.{MayPlay, HasPlayed, StayPainted, HaveAllPlayed};
+ghost use Rattle.path_workers.specs.Seats.{SeatMayPlay, SeatHasPlayed, StayPainted, HaveAllPlayed};
 
 use crate::jobs;
 use crate::jobs::{JobPass, JobQueue};
@@ -30,16 +30,16 @@ struct Played<'a> {
 }
 
 impl<'a> Promise<Seat> for Played<'a> {
-    ghost use Rattle.path_workers.specs.Seats.{HasPlayed};
+    ghost use Rattle.path_workers.specs.Seats.{SeatHasPlayed};
 
-    ghost kept_by = { λ p seat. HasPlayed p.slots.now.slots p.was.value seat };
+    ghost kept_by = { λ p seat. SeatHasPlayed p.slots.now.slots p.was.value seat };
 }
 
 /// Takes jobs and colours the slots that they name, until one is an end.
 fn work<R: Wait, G: Gate>(rt: &R, gate: &G, slots: &SlotTable, queue: &JobQueue, seat: Seat) -> Seat
     requires queue { IsPassOf queue.now seat.pass }
-    requires may { MayPlay slots.now.slots seat }
-    ensures { HasPlayed slots.now.slots seat result }
+    requires may { SeatMayPlay slots.now.slots seat }
+    ensures { SeatHasPlayed slots.now.slots seat result }
 {
     let Seat {
         mut painter,
@@ -70,7 +70,7 @@ pub(crate) fn finish<R: Wait, G: Gate>(
     requires parts { (view pass.old).parts ≡ 17 }
     requires may { MayPaint slots.now.slots painter.old }
     ensures queue { IsPassOf queue.now pass.new }
-    ensures rest { IsAtRest (view pass.new) }
+    ensures rest { HandIsAtRest (view pass.new) }
     ensures put { (view pass.new).put ≡ (view pass.old).put }
     ensures painted { HasPainted painter.old.net (vec_len painter.old.places) slots.now.slots painter.new }
     ensures rows { HasRowsOf (length slots.now.slots) (view pass.old).taken (view pass.new).taken painter.new }
@@ -119,8 +119,8 @@ fn play_all<'s, E, R: Threads + Wait + Sync, G: Gate + Sync>(
             was: Snapshot::of(&seat),
         };
         let play = move || -> Seat
-            requires { IsPassOf queue.now seat.pass × MayPlay slots.now.slots seat }
-            ensures { HasPlayed slots.entry.now.slots seat result }
+            requires { IsPassOf queue.now seat.pass × SeatMayPlay slots.now.slots seat }
+            ensures { SeatHasPlayed slots.entry.now.slots seat result }
         { work(rt, gate, slots, queue, seat) };
         match scope.spawn_with(promise, play) {
             Ok(child) => {
@@ -195,12 +195,12 @@ pub(crate) fn play<R: Threads + Wait + Sync, G: Gate + Sync>(
     pass: JobPass,
 ) -> (Vec<Painter>, JobPass)
     requires queue { IsPassOf queue.now pass }
-    requires rest { IsAtRest (view pass) }
+    requires rest { HandIsAtRest (view pass) }
     requires some { 0 < vec_len painters }
     requires few { vec_len painters ≤ 16 }
     requires may { MayAllPaint slots.now.slots painters.items }
     ensures queue { IsPassOf queue.now result.1 }
-    ensures rest { IsAtRest (view result.1) }
+    ensures rest { HandIsAtRest (view result.1) }
     ensures put { (view result.1).put ≡ (view pass).put ++ slot_jobs (length slots.now.slots) ++ end_jobs ends }
     ensures rows { HaveRows (length slots.now.slots) result.0.items }
     ensures painted { StayPainted slots.now.slots painters.items result.0.items }

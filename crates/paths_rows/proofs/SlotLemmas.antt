@@ -1,6 +1,5 @@
 -- A packet whose source and destination are free in a slot leaves it a matching.
-use Rattle.std.proofs.Common.{◌≡◌, ◌≢◌, ◌<◌, ℕ, List, [], ◌∷◌, length, get_or, set, true, Some, None, All, Result, Ok, Err, OnOk, refl, sym, ap, ◌∙◌, arith}
-use Rattle.std.specs.Result.{is_ok}
+use Rattle.std.proofs.Common.{◌≡◌, ◌≢◌, ◌<◌, ℕ, List, [], ◌∷◌, length, get_or, set, Some, None, All, refl, sym, ap, ◌∙◌, arith}
 use Rattle.std.proofs.lemmas.Bool.{eq-eqb, ne_eqb}
 use Rattle.std.proofs.lemmas.List.Elements.{All-nil, All-cons, All-set}
 use Rattle.greedy_rules.specs.declared.flows.Flow.{Flow}
@@ -12,10 +11,8 @@ use Rattle.list_facts.proofs.Pairs.{AllPairs-head, AllPairs-tail}
 use Rattle.greedy_rules.proofs.Facts.{IsMatching-slot_with}
 use Rattle.clos_topology.specs.Network.{Network, endpoints_of}
 use Rattle.greedy_rules.proofs.Facts.{this_source, other_source}
+use Rattle.greedy_rules.proofs.SlotLemmas.{Apart}
 use Rattle.path_workers.specs.Coloured.{IsFlowOf}
-
-abbrev Apart : Flow → Flow → Type 0
-Apart f g = (f.src ≢ g.src) × (f.dst ≢ g.dst)
 
 -- each flow's source sends to its destination
 sends : (slot : List Flow) → IsMatching slot → All (λ flow. destination_of slot flow.src ≡ Some flow.dst) slot
@@ -44,8 +41,3 @@ put_matching slots slot endpoints src dst below matchings each source destinatio
 
 pub slots_of_net : (net : Network) (endpoints : ℕ) (slots : List (List Flow)) → endpoints ≡ endpoints_of net → All (IsSlotOf endpoints) slots → All (All (IsFlowOf net)) slots
 slots_of_net net endpoints slots same each = λ k d below i e inside. let here = (each k d below).in_range i e inside in (omega (arith, here.0, same), omega (arith, here.1, same))
-
--- what holds at a success holds where one is seen
-pub at_ok : {X E : Type 0} (result : Result X E) (P : Type 0) → is_ok result ≡ true → OnOk result P → P
-at_ok (Ok x) P ok holds = holds
-at_ok (Err e) P ok holds = absurd (cc)

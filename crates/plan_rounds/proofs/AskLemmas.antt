@@ -14,10 +14,10 @@ use Rattle.trace_text.specs.Trace.{TraceContent}
 use Rattle.trace_text.specs.Valid.{amount_for, total_asked, IsAskList, IsTrace}
 use Rattle.window_allocation.specs.Needs.{place_of}
 use Rattle.plan_rounds.specs.Tallies.{Tallies}
-use Rattle.plan_rounds.specs.Batches.{Round, asks_for, is_asked}
+use Rattle.plan_rounds.specs.Batches.{AskedRound, asks_for, is_asked_for}
 
 -- a row of a round is a list of asks, also past the last source
-pub row_of : (endpoints : ℕ) (round : Round) (src : ℕ) → All (IsAskList endpoints) round → IsAskList endpoints (get_or round src [])
+pub row_of : (endpoints : ℕ) (round : AskedRound) (src : ℕ) → All (IsAskList endpoints) round → IsAskList endpoints (get_or round src [])
 row_of endpoints [] src rows = record { rising = λ i j d lt below. absurd (omega arith); in_range = λ k d below. absurd (omega arith); some = λ k d below. absurd (omega arith) }
 row_of endpoints (row ∷ rows) zero all = All-head (IsAskList endpoints) row rows all
 row_of endpoints (row ∷ rows) (suc src) all = row_of endpoints rows src (All-tail (IsAskList endpoints) row rows all)
@@ -49,15 +49,15 @@ amount_for-zero dst (p ∷ asks) some =
     ∙ (ap (λ b. not (p.0 == dst) && b) rest ∙ neither (p.0 == dst) (list_any (λ q. q.0 == dst) asks))))
 
 -- a flow opens exactly where none of its slots was asked for before
-pub total_asked-zero : (endpoints : ℕ) (rounds : List Round) (src dst : ℕ) → All (All (IsAskList endpoints)) rounds → (total_asked rounds src dst == 0) ≡ not (is_asked rounds src dst)
+pub total_asked-zero : (endpoints : ℕ) (rounds : List AskedRound) (src dst : ℕ) → All (All (IsAskList endpoints)) rounds → (total_asked rounds src dst == 0) ≡ not (is_asked_for rounds src dst)
 total_asked-zero endpoints [] src dst all = refl
 total_asked-zero endpoints (round ∷ rounds) src dst all =
     let rest = total_asked-zero endpoints rounds src dst (All-tail (All (IsAskList endpoints)) round rounds all) in
     let row = row_of endpoints round src (All-head (All (IsAskList endpoints)) round rounds all) in
-    ap (λ (n : ℕ). n == 0) (sum_by-cons (λ (r : Round). amount_for dst (get_or r src [])) round rounds)
+    ap (λ (n : ℕ). n == 0) (sum_by-cons (λ (r : AskedRound). amount_for dst (get_or r src [])) round rounds)
     ∙ (both_zero (amount_for dst (get_or round src [])) (total_asked rounds src dst)
     ∙ (ap (λ b. b && (total_asked rounds src dst == 0)) (amount_for-zero dst (get_or round src []) row.some)
-    ∙ (ap (λ b. not (asks_for src dst round) && b) rest ∙ neither (asks_for src dst round) (is_asked rounds src dst))))
+    ∙ (ap (λ b. not (asks_for src dst round) && b) rest ∙ neither (asks_for src dst round) (is_asked_for rounds src dst))))
 
 -- above all entries is above the last
 pub above_last : (batch : List Entry) (flow : Flow) → All (λ e. IsTrue (flow_below e.flow flow)) batch → IsAboveLast batch flow
@@ -72,7 +72,7 @@ read_at (y ∷ ys) (suc at) x d below is = read_at ys at x d (omega arith) is
 
 -- a table's 0 tells that the flow opens
 pub opens_is : (trace : TraceContent) (round src dst : ℕ) (table : List ℕ) (d : ℕ) → IsTrace trace → src < endpoints_of trace.net → dst < endpoints_of trace.net → Tallies (endpoints_of trace.net) (take round trace.asked) table
-    → (get_or table (place_of (endpoints_of trace.net) src dst) 0 == 0) ≡ not (is_asked (take round trace.asked) src dst)
+    → (get_or table (place_of (endpoints_of trace.net) src dst) 0 == 0) ≡ not (is_asked_for (take round trace.asked) src dst)
 opens_is trace round src dst table d sound s t tallies =
     ap (λ (n : ℕ). n == 0) (tallies.at src dst s t)
     ∙ total_asked-zero (endpoints_of trace.net) (take round trace.asked) src dst (All-take (All (IsAskList (endpoints_of trace.net))) round trace.asked sound.asks)

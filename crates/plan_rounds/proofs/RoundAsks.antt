@@ -11,35 +11,35 @@ use Rattle.trace_text.specs.Asks.{ask_for, asks_in}
 use Rattle.trace_text.specs.Trace.{TraceContent, asked_at}
 use Rattle.trace_text.specs.Valid.{IsTrace}
 use Rattle.trace_text.specs.declared.ask.Ask.{Ask}
-use Rattle.plan_rounds.specs.Batches.{Round, entry_for, entries_from}
+use Rattle.plan_rounds.specs.Batches.{AskedRound, asked_entry, asked_entries_from}
 use Rattle.plan_rounds.proofs.BatchCopies.{above_first}
 use Rattle.plan_rounds.proofs.PlanBatches.{among, long, rise_from, round_of}
 
 -- the entry of an ask
-abbrev pub entry_by : List Round → Ask → Entry
-entry_by before ask = entry_for before ask.src (ask.dst, ask.slots)
+abbrev pub entry_by : List AskedRound → Ask → Entry
+entry_by before ask = asked_entry before ask.src (ask.dst, ask.slots)
 
-own_entries : (before : List Round) (round src : ℕ) (asks : List (ℕ × ℕ)) → map (entry_by before) (map (ask_for round src) asks) ≡ map (entry_for before src) asks
+own_entries : (before : List AskedRound) (round src : ℕ) (asks : List (ℕ × ℕ)) → map (entry_by before) (map (ask_for round src) asks) ≡ map (asked_entry before src) asks
 own_entries before round src [] = refl
-own_entries before round src (ask ∷ asks) = ap (λ (es : List Entry). entry_for before src ask ∷ es) (own_entries before round src asks)
+own_entries before round src (ask ∷ asks) = ap (λ (es : List Entry). asked_entry before src ask ∷ es) (own_entries before round src asks)
 
 -- the entries of the asks of sources in turn
-entries_by : (before : List Round) (round src : ℕ) (rows : Round) (asked : ℕ → List (ℕ × ℕ)) → ((n : ℕ) → n < length rows → asked (src + n) ≡ get_or rows n [])
-    → map (entry_by before) (flat_map (λ s. map (ask_for round s) (asked s)) (range_with_len src (length rows))) ≡ entries_from before src rows
+entries_by : (before : List AskedRound) (round src : ℕ) (rows : AskedRound) (asked : ℕ → List (ℕ × ℕ)) → ((n : ℕ) → n < length rows → asked (src + n) ≡ get_or rows n [])
+    → map (entry_by before) (flat_map (λ s. map (ask_for round s) (asked s)) (range_with_len src (length rows))) ≡ asked_entries_from before src rows
 entries_by before round src [] asked are = refl
 entries_by before round src (row ∷ rows) asked are =
     let later : List Ask = flat_map (λ s. map (ask_for round s) (asked s)) (range_with_len (src + 1) (length rows)) in
     let here : asked src ≡ row = ap asked (omega arith) ∙ are 0 (omega arith) in
-    let rest : map (entry_by before) later ≡ entries_from before (src + 1) rows = entries_by before round (src + 1) rows asked (λ n below. ap asked (omega arith) ∙ are (suc n) (omega arith)) in
+    let rest : map (entry_by before) later ≡ asked_entries_from before (src + 1) rows = entries_by before round (src + 1) rows asked (λ n below. ap asked (omega arith) ∙ are (suc n) (omega arith)) in
     map-append (entry_by before) (map (ask_for round src) (asked src)) later
-    ∙ (ap (λ (es : List Entry). es ++ map (entry_by before) later) (own_entries before round src (asked src) ∙ ap (map (entry_for before src)) here)
-    ∙ ap (λ (es : List Entry). map (entry_for before src) row ++ es) rest)
+    ∙ (ap (λ (es : List Entry). es ++ map (entry_by before) later) (own_entries before round src (asked src) ∙ ap (map (asked_entry before src)) here)
+    ∙ ap (λ (es : List Entry). map (asked_entry before src) row ++ es) rest)
 
 -- the entries of a round's asks
-pub asks_entries : (trace : TraceContent) (round : ℕ) (before : List Round) (asks : List Ask) → IsTrace trace → round < trace.rounds → asks ≡ asks_in trace round
-    → map (entry_by before) asks ≡ entries_from before 0 (round_of trace round)
+pub asks_entries : (trace : TraceContent) (round : ℕ) (before : List AskedRound) (asks : List Ask) → IsTrace trace → round < trace.rounds → asks ≡ asks_in trace round
+    → map (entry_by before) asks ≡ asked_entries_from before 0 (round_of trace round)
 asks_entries trace round before asks sound below is =
-    let rows : Round = round_of trace round in
+    let rows : AskedRound = round_of trace round in
     let wide : length rows ≡ endpoints_of trace.net = sound.sources round [] (long trace round sound below) in
     ap (map (entry_by before)) is ∙
     ap (λ (n : ℕ). map (entry_by before) (flat_map (λ s. map (ask_for round s) (asked_at trace round s)) (range_with_len 0 n))) (sym wide)
@@ -50,7 +50,7 @@ pub ask_in_range : (trace : TraceContent) (round : ℕ) (asks : List Ask) (i : �
     → ((get_or asks i d).src < endpoints_of trace.net) × ((get_or asks i d).dst < endpoints_of trace.net)
 ask_in_range trace round asks i d sound below is within =
     let endpoints = endpoints_of trace.net in
-    let before : List Round = take round trace.asked in
+    let before : List AskedRound = take round trace.asked in
     let there = long trace round sound below in
     let all : AreAmong endpoints (map (entry_by before) asks) =
     subst (AreAmong endpoints) (sym (asks_entries trace round before asks sound below is)) (among endpoints before (round_of trace round) (sound.sources round [] there) (sound.asks round [] there)) in
@@ -61,7 +61,7 @@ ask_in_range trace round asks i d sound below is within =
 pub ask_above : (trace : TraceContent) (round : ℕ) (asks : List Ask) (i : ℕ) (d : Ask) → IsTrace trace → round < trace.rounds → asks ≡ asks_in trace round → i < length asks
     → IsAboveLast (map (entry_by (take round trace.asked)) (take i asks)) (record { src = (get_or asks i d).src; dst = (get_or asks i d).dst })
 ask_above trace round asks i d sound below is within =
-    let before : List Round = take round trace.asked in
+    let before : List AskedRound = take round trace.asked in
     let there = long trace round sound below in
     let entries : List Entry = map (entry_by before) asks in
     let entry : Entry = entry_by before (get_or asks i d) in

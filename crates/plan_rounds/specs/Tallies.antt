@@ -4,10 +4,10 @@ use Rattle.greedy_rules.specs.declared.flows.Entry.{Entry}
 use Rattle.greedy_rules.specs.Flows.{same_flow}
 use Rattle.trace_text.specs.Valid.{total_asked}
 use Rattle.window_allocation.specs.Needs.{place_of}
-use Rattle.plan_rounds.specs.Batches.{Round}
+use Rattle.plan_rounds.specs.Batches.{AskedRound}
 
 -- the table holds the slots of each flow over these rounds
-pub record Tallies (endpoints : ℕ) (rounds : List Round) (table : List ℕ) : Type 0 where
+pub record Tallies (endpoints : ℕ) (rounds : List AskedRound) (table : List ℕ) : Type 0 where
   pub long : length table ≡ endpoints * endpoints
   pub at : (src dst : ℕ) → src < endpoints → dst < endpoints → slice_index table (place_of endpoints src dst) ≡ total_asked rounds src dst
 

@@ -21,10 +21,6 @@ some_at [] at below = absurd (omega arith)
 some_at (x ∷ xs) zero below = x
 some_at (x ∷ xs) (suc at) below = some_at xs at (omega arith)
 
-pub none_left : {X : Type 0} (xs : List X) → length xs ≡ 0 → xs ≡ []
-none_left [] none = refl
-none_left (x ∷ xs) none = absurd (omega (arith, none))
-
 -- the line has all that the seat has put, and takes no more
 pub record IsClosed (desk : List LineState) (seat : SeatState) : Type 0 where
   pub taken : (d : LineState) → (get_or desk seat.endpoint d).taken ≡ seat.put

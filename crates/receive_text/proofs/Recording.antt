@@ -12,7 +12,8 @@ use Rattle.arbiter_lane.specs.declared.refusal.UpRefused.TheVariants as refused
 use Rattle.endpoint_history.specs.Lane.{LaneHistory}
 use Rattle.trace_text.specs.Trace.{TraceContent, puts_at}
 use Rattle.front_desk.specs.State.{LineState, recorded_line}
-use Rattle.front_desk.specs.Answers.{answer_number, answers_after, answers_of, entries_from, entries_of}
+use Rattle.front_desk.specs.Answers.{answer_number, answers_after, answers_of, desk_entries_from, entries_of}
+use Rattle.front_desk.proofs.Reading.{length-answers_after}
 use Rattle.report_text.specs.Names.{IsAnswer}
 use Rattle.receive_text.specs.ReceiveText.{answers_to, recorded_in, recorded_of, window_rounds}
 use Rattle.receive_text.specs.Received.{HasReceived, HasWindows}
@@ -51,12 +52,8 @@ all_named : (endpoint endpoints : ℕ) (packets : List (List ℕ)) (history : La
 all_named endpoint endpoints [] history = All-nil IsAnswer
 all_named endpoint endpoints (bytes ∷ packets) history = All-cons IsAnswer _ _ (has_name _) (all_named endpoint endpoints packets _)
 
-as_many : (endpoint endpoints : ℕ) (packets : List (List ℕ)) (history : LaneHistory) → length (answers_after endpoint endpoints packets history) ≡ length packets
-as_many endpoint endpoints [] history = refl
-as_many endpoint endpoints (bytes ∷ packets) history = ap suc (as_many endpoint endpoints packets _)
-
 pub answers-many : (trace : TraceContent) (endpoint : ℕ) → length (answers_to trace endpoint) ≡ length (puts_at trace endpoint)
-answers-many trace endpoint = as_many endpoint (endpoints_of trace.net) (puts_at trace endpoint) _
+answers-many trace endpoint = length-answers_after endpoint (endpoints_of trace.net) (puts_at trace endpoint) _
 
 pub answers-named : (trace : TraceContent) (endpoint place : ℕ) → place < length (answers_to trace endpoint) → IsAnswer (get_or (answers_to trace endpoint) place 0)
 answers-named trace endpoint place low = all_named endpoint (endpoints_of trace.net) (puts_at trace endpoint) _ place 0 low
@@ -84,19 +81,19 @@ taken-many trace desk endpoint place received low many =
 -- ---- what is recorded
 
 entries-of : (trace : TraceContent) (first : ℕ) (lines : List LineState) → ((at : ℕ) (d : LineState) → at < length lines → (get_or lines at d).taken ≡ puts_at trace (first + at)) → HasWindows lines
-    → entries_from (endpoints_of trace.net) first lines ≡ flat_map (recorded_of trace) (range_with_len first (length lines))
+    → desk_entries_from (endpoints_of trace.net) first lines ≡ flat_map (recorded_of trace) (range_with_len first (length lines))
 entries-of trace first [] taken windows = refl
 entries-of trace first (line ∷ lines) taken windows =
     let here : line.taken ≡ puts_at trace first = taken 0 line (omega arith) ∙ ap (puts_at trace) (omega arith) in
     let window : line.g ≡ window_rounds = windows 0 line (omega arith) in
-    ap (λ (packets : List (List ℕ)). entries_of first (endpoints_of trace.net) line.g packets ++ entries_from (endpoints_of trace.net) (first + 1) lines) here
-    ∙ (ap (λ g. entries_of first (endpoints_of trace.net) g (puts_at trace first) ++ entries_from (endpoints_of trace.net) (first + 1) lines) window
+    ap (λ (packets : List (List ℕ)). entries_of first (endpoints_of trace.net) line.g packets ++ desk_entries_from (endpoints_of trace.net) (first + 1) lines) here
+    ∙ (ap (λ g. entries_of first (endpoints_of trace.net) g (puts_at trace first) ++ desk_entries_from (endpoints_of trace.net) (first + 1) lines) window
     ∙ ap (λ (entries : List Entry). recorded_of trace first ++ entries)
     (entries-of trace (first + 1) lines (λ at d low. taken (suc at) d (omega arith) ∙ ap (puts_at trace) (omega arith)) (λ at d low. windows (suc at) d (omega arith))))
 
-pub entries-received : (trace : TraceContent) (desk : List LineState) → HasReceived trace desk → entries_from (length desk) 0 desk ≡ recorded_in trace
+pub entries-received : (trace : TraceContent) (desk : List LineState) → HasReceived trace desk → desk_entries_from (length desk) 0 desk ≡ recorded_in trace
 entries-received trace desk received =
-    ap (λ n. entries_from n 0 desk) received.endpoints
+    ap (λ n. desk_entries_from n 0 desk) received.endpoints
     ∙ (entries-of trace 0 desk (λ at d low. received.taken at d low ∙ ap (puts_at trace) (omega arith)) received.windows
     ∙ ap (λ n. flat_map (recorded_of trace) (range_with_len 0 n)) received.endpoints)
 

@@ -1,15 +1,12 @@
 -- The text of what was received, part by part.
-use Rattle.std.proofs.Common.{◌≡◌, ℕ, ◌+◌, ◌<◌, List, [], ◌∷◌, ◌++◌, get_or, map, take, drop, Some, slice_get, Result, Ok, Err, IsErrAnd, sym, ap, ◌∙◌, arith}
+use Rattle.std.proofs.Common.{◌≡◌, ℕ, ◌+◌, ◌<◌, List, [], ◌∷◌, ◌++◌, get_or, map, take, drop, Some, slice_get, sym, ap, ◌∙◌, arith}
 use Rattle.std.specs.List.{flat_map, range_with_len}
-use Rattle.std.proofs.lemmas.List.{append_assoc, append-nil, take_more, take-append-drop}
+use Rattle.std.proofs.lemmas.List.{append_assoc, append-nil, take-append-drop}
 use Rattle.std.proofs.lemmas.List.Concat.{flat_map-append}
 use Rattle.std.proofs.lemmas.List.FromFn.{get_or-range_with_len, length-range_with_len}
 use Rattle.std.proofs.lemmas.Option.{slice_get-get_or}
 use Rattle.report_text.specs.declared.line.Line.{Line}
 use Rattle.report_text.specs.declared.line.Line.TheVariants as line
-use Rattle.text_output.specs.Content.{OutputContent}
-use Rattle.text_output.specs.Output.{Passes, Ends}
-use Rattle.text_output.specs.declared.output.Stop.{Stop}
 use Rattle.text_output.specs.Text.{entry_line, line_text, text_of}
 use Rattle.text_output.proofs.TextLemmas.{text_more, text_rest}
 use Rattle.trace_text.specs.Trace.{TraceContent}
@@ -28,14 +25,6 @@ lines_more f n i low = text_more f (range_with_len 0 n) i i (omega (arith, lengt
 
 pub lines_rest : (f : ℕ → Line) (n i : ℕ) → text_of (map f (range_with_len 0 n)) ≡ text_of (map f (take i (range_with_len 0 n))) ++ text_of (map f (drop i (range_with_len 0 n)))
 lines_rest f n i = text_rest f (range_with_len 0 n) i
-
--- some lines for each, those of one more
-pub parts_more : (f : ℕ → List Line) (n i : ℕ) → i < n → text_of (flat_map f (take (i + 1) (range_with_len 0 n))) ≡ text_of (flat_map f (take i (range_with_len 0 n))) ++ text_of (f i)
-parts_more f n i low =
-    let here : get_or (range_with_len 0 n) i 0 ≡ i = get_or-range_with_len 0 n i 0 low ∙ omega arith in
-    ap (λ (l : List ℕ). text_of (flat_map f l)) (take_more (range_with_len 0 n) i 0 (omega (arith, length-range_with_len 0 n, low)) ∙ ap (λ k. take i (range_with_len 0 n) ++ k ∷ []) here)
-    ∙ (ap text_of (flat_map-append f (take i (range_with_len 0 n)) (i ∷ []) ∙ ap (λ (l : List Line). flat_map f (take i (range_with_len 0 n)) ++ l) (append-nil (f i)))
-    ∙ flat_map-append line_text (flat_map f (take i (range_with_len 0 n))) (f i))
 
 pub parts_rest : (f : ℕ → List Line) (n i : ℕ) → text_of (flat_map f (range_with_len 0 n)) ≡ text_of (flat_map f (take i (range_with_len 0 n))) ++ text_of (flat_map f (drop i (range_with_len 0 n)))
 parts_rest f n i =
@@ -60,8 +49,3 @@ whole_text trace =
     ∙ (ap (λ (t : List ℕ). text_of (flat_map (answer_lines trace) (endpoints_in trace) ++ map (entry_line 0) (recorded_in trace)) ++ t) (append-nil end_text)
     ∙ (ap (λ (t : List ℕ). t ++ end_text) (flat_map-append line_text (flat_map (answer_lines trace) (endpoints_in trace)) (map (entry_line 0) (recorded_in trace)))
     ∙ append_assoc (answers_text trace) (entries_text trace) end_text))
-
--- a text that stops ends there
-pub ends_stopped : {a b : OutputContent} {x : List ℕ} {r : Result (Unit {0}) Stop} (stop : Stop) → Passes a b x r → IsErrAnd r (λ d. d ≡ stop) → Ends a b x r
-ends_stopped {r = Ok done} stop passes is = absurd is
-ends_stopped {r = Err why} stop passes is = record { passes = passes; empty = tt }

@@ -3,7 +3,7 @@ ghost use Rattle.std.specs.Prelude.{◌≡◌, ◌<◌};
 ghost use Rattle.clos_topology.specs.Network.{endpoints_of};
 ghost use Rattle.trace_text.specs.Valid.{IsTrace};
 ghost use Rattle.text_output.specs.Content.{sink_content};
-ghost use Rattle.text_output.specs.Output.{Passes, Ends, Writes};
+ghost use Rattle.text_output.specs.Output.{Passes, EndsText, Writes};
 ghost use Rattle.text_output.specs.Text.{text_of};
 ghost use Rattle.std.specs.List.{flat_map};
 ghost use Rattle.receive_text.specs.ReceiveText.{answer_lines, endpoints_in, recorded_in, receive_text};
@@ -68,7 +68,7 @@ fn put_lines<K: Sink>(
     requires accepted { IsTrace trace.now }
     requires received { HasReceived trace.now desk.now }
     requires recorded { batch.now.entries ≡ recorded_in trace.now }
-    ensures { Ends output.old output.new (receive_text trace.now) result }
+    ensures { EndsText output.old output.new (receive_text trace.now) result }
 {
     texts_follow();
     put_all_answers(output, trace, desk)?;

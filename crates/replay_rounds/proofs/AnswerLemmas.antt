@@ -6,6 +6,7 @@ use Rattle.std.proofs.Math.Seq.{take-append_seam, set-append_seam}
 use Rattle.fcp_framing.specs.declared.refusal.FrameRefused.{FrameRefused}
 use Rattle.fcp_framing.specs.declared.refusal.FrameRefused.TheVariants.{Short, Version, Kind, Endpoint, Count, Order, SelfFlow, TooMuch, Mask, Trailing, Epoch, Seq}
 use Rattle.std.specs.List.{flat_map, list_any, range_with_len}
+use Rattle.list_facts.proofs.Lists.{flat-last}
 use Rattle.fcp_framing.specs.declared.packet.Demand.{Demand}
 use Rattle.fcp_framing.specs.declared.packet.Up.{Up}
 use Rattle.fcp_framing.specs.Spelling.{reset_of}
@@ -20,13 +21,12 @@ use Rattle.arbiter_lane.specs.declared.refusal.UpRefused.{UpRefused}
 use Rattle.arbiter_lane.specs.Refusals.{up_refusal, up_refusal_of_packet, up_refusal_or}
 use Rattle.lane_rounds.specs.Outside.{names}
 use Rattle.lane_rounds.specs.Raw.{Raw}
-use Rattle.lane_rounds.specs.Refused.{number_of, numbered, refused_in, with_arrival, with_raw}
+use Rattle.lane_rounds.specs.Refused.{up_refusal_number, numbered_refusal, refused_in, with_arrival, with_raw}
 use Rattle.trace_text.specs.Trace.{TraceContent, raw_at}
 use Rattle.trace_run.specs.Run.{Setting}
 use Rattle.replay_rounds.specs.Setting.{raw_rows, rows_from, setting_of}
 use Rattle.replay_rounds.specs.Played.{answer_after, raw_answers, lane_before, lane_before_raw}
 use Rattle.replay_rounds.specs.Collecting.{answers_below, framed_answer, framed_in, refused_of, source_of, with_numbers}
-use Rattle.replay_rounds.proofs.PartLemmas.{flat_map_more}
 use Rattle.replay_rounds.proofs.RowLemmas.{named}
 
 -- ---- the source of a packet is an endpoint
@@ -110,8 +110,8 @@ by_other bound (Some source) last first other =
 
 -- the last answer is the framing's where it refuses, and else the lane's
 answer_of : (refusal : Option FrameRefused) (src n : ℕ) (later : Option UpRefused) → (refusal ≡ None → src < n)
-    → answer_by n (cond (is_none refusal) (Some src) None) (option_map number_of (up_refusal_or refusal later)) (option_map framing.number_of refusal) ≡ option_map number_of (up_refusal_or refusal later)
-answer_of None src n later below = cond-true (nat_lt src n) (option_map number_of later) None (lt-ltb src n (below refl))
+    → answer_by n (cond (is_none refusal) (Some src) None) (option_map up_refusal_number (up_refusal_or refusal later)) (option_map framing.frame_refusal_number refusal) ≡ option_map up_refusal_number (up_refusal_or refusal later)
+answer_of None src n later below = cond-true (nat_lt src n) (option_map up_refusal_number later) None (lt-ltb src n (below refl))
 answer_of (Some refusal) src n later below = refl
 
 -- ---- numbers at their places
@@ -125,9 +125,9 @@ set_at before x y after place is = ap (λ (k : ℕ). slice_set (before ++ x ∷ 
 
 -- a lane's answer at the place of its packet
 numbered_at : (refusal : Option UpRefused) (before after : List (Option ℕ)) (place : ℕ) → place ≡ length before
-    → with_numbers (numbered place refusal) (before ++ None ∷ after) ≡ before ++ option_map number_of refusal ∷ after
+    → with_numbers (numbered_refusal place refusal) (before ++ None ∷ after) ≡ before ++ option_map up_refusal_number refusal ∷ after
 numbered_at None before after place is = refl
-numbered_at (Some refusal) before after place is = set_at before None (Some (number_of refusal)) after place is
+numbered_at (Some refusal) before after place is = set_at before None (Some (up_refusal_number refusal)) after place is
 
 -- ---- one lane's packets
 
@@ -135,7 +135,7 @@ is_source : (endpoint endpoints : ℕ) (bytes : List ℕ) → names endpoint end
 unfolding names
 is_source endpoint endpoints bytes own = eqb-true (up_of bytes).src endpoint (and_parts (is_none (first_refusal (refuses_up endpoints bytes))) ((up_of bytes).src == endpoint) own).1
 
-no_number : (refusal : Option FrameRefused) → is_none refusal ≡ true → option_map framing.number_of refusal ≡ None
+no_number : (refusal : Option FrameRefused) → is_none refusal ≡ true → option_map framing.frame_refusal_number refusal ≡ None
 no_number None none = refl
 no_number (Some refusal) none = absurd (cc)
 
@@ -156,7 +156,7 @@ module _ (bound n round : ℕ) (start : LaneHistory) (last : Raw → Option ℕ)
   abbrev AreAnswered : List Raw → List Raw → Type 0
   AreAnswered done [] = Unit {0}
   AreAnswered done (row ∷ rows) =
-      (row.place ≡ length done) × (names bound n row.bytes ≡ true → last row ≡ option_map number_of (up_refusal bound n (calls done) row.bytes)) × AreAnswered (done ++ row ∷ []) rows
+      (row.place ≡ length done) × (names bound n row.bytes ≡ true → last row ≡ option_map up_refusal_number (up_refusal bound n (calls done) row.bytes)) × AreAnswered (done ++ row ∷ []) rows
 
   calls-more : (history : LaneHistory) (done : List Raw) (row : Raw) → with_raw bound n round (done ++ row ∷ []) history ≡ with_arrival bound n round row.bytes (with_raw bound n round done history)
   calls-more history [] row = refl
@@ -179,12 +179,12 @@ module _ (bound n round : ℕ) (start : LaneHistory) (last : Raw → Option ℕ)
         | inl mine ↦
             let by_source = by_own bound source (last row) first (sym (named bound n row.bytes) ∙ mine) in
             let none : answer bound row ≡ None = by_source.0 ∙ framed_none bound n row.bytes mine in
-            let is : option_map number_of refusal ≡ answer (bound + 1) row = sym (are.1 mine) ∙ sym by_source.1 in
+            let is : option_map up_refusal_number refusal ≡ answer (bound + 1) row = sym (are.1 mine) ∙ sym by_source.1 in
             let place : row.place ≡ length before = are.0 ∙ sym many in
-            let x : Option ℕ = option_map number_of refusal in
+            let x : Option ℕ = option_map up_refusal_number refusal in
             ap (λ (rs : List Raw). with_numbers (told rs (calls done)) (before ++ answer bound row ∷ map (answer bound) rows)) (cond-true (names bound n row.bytes) (row ∷ later) later mine)
             ∙ (ap (λ (y : Option ℕ). with_numbers (told (row ∷ later) (calls done)) (before ++ y ∷ map (answer bound) rows)) none
-            ∙ (with_numbers-append (numbered row.place refusal) (told later (with_arrival bound n round row.bytes (calls done))) (before ++ None ∷ map (answer bound) rows)
+            ∙ (with_numbers-append (numbered_refusal row.place refusal) (told later (with_arrival bound n round row.bytes (calls done))) (before ++ None ∷ map (answer bound) rows)
             ∙ (ap (with_numbers (told later (with_arrival bound n round row.bytes (calls done)))) (numbered_at refusal before (map (answer bound) rows) row.place place ∙ split x (map (answer bound) rows))
             ∙ (ap (λ (h : LaneHistory). with_numbers (told later h) ((before ++ x ∷ []) ++ map (answer bound) rows)) (sym (calls-more start done row))
             ∙ (goes_on x
@@ -227,7 +227,7 @@ module _ (trace : TraceContent) (b g : ℕ) (cores : SlotCores) (round : ℕ) wh
         is,
         λ mine.
             ap (λ (rs : List Raw). answer_after run round rs row) earlier
-            ∙ ap (λ (s : ℕ). option_map number_of (up_refusal s n (lane_before run round done s) bytes)) (is_source bound n bytes mine),
+            ∙ ap (λ (s : ℕ). option_map up_refusal_number (up_refusal s n (lane_before run round done s) bytes)) (is_source bound n bytes mine),
         answered bound (place + 1) (done ++ row ∷ []) raw (omega (arith, is, length-append done (row ∷ []))) (append_assoc done (row ∷ []) (rows_from (place + 1) raw) ∙ whole),
       )
 
@@ -256,7 +256,7 @@ module _ (trace : TraceContent) (b g : ℕ) (cores : SlotCores) (round : ℕ) wh
       let refused = refused_of run trace round in
       let here : 0 + bound ≡ bound = omega arith in
       ap (λ (k : ℕ). with_numbers (flat_map refused (range_with_len 0 k)) (framed_in trace round)) (sym (add-one bound))
-      ∙ (ap (λ (rs : List (ℕ × ℕ)). with_numbers rs (framed_in trace round)) (flat_map_more refused 0 bound ∙ ap (λ (k : ℕ). flat_map refused (range_with_len 0 bound) ++ refused k) here)
+      ∙ (ap (λ (rs : List (ℕ × ℕ)). with_numbers rs (framed_in trace round)) (flat-last refused 0 bound ∙ ap (λ (k : ℕ). flat_map refused (range_with_len 0 bound) ++ refused k) here)
       ∙ (with_numbers-append (flat_map refused (range_with_len 0 bound)) (refused bound) (framed_in trace round)
       ∙ ap (with_numbers (refused bound)) (refused_below bound)))
 

@@ -20,3 +20,4 @@ pub mod RowLemmas
 pub mod Naming
 pub mod AnswerLemmas
 pub mod WindowLemmas
+pub mod ReplayCores

@@ -26,7 +26,7 @@ use Rattle.lane_rounds.specs.Outside.{names}
 use Rattle.lane_rounds.specs.Raw.{Raw}
 use Rattle.lane_rounds.specs.State.{RoundsState, MayAsk, with_each}
 use Rattle.arbiter_lane.proofs.Held.{open_to-is}
-use Rattle.trace_text.specs.Trace.{TraceContent, asked_at, boots_at, fate_at, last_of}
+use Rattle.trace_text.specs.Trace.{TraceContent, asked_at, boots_at, fate_at, last_one}
 use Rattle.trace_text.specs.Valid.{IsTrace, IsAskList}
 use Rattle.trace_run.specs.Run.{Setting, told_in, replayed}
 use Rattle.trace_run.specs.Histories.{agent_after, lane_after}
@@ -43,18 +43,18 @@ use Rattle.replay_rounds.proofs.TraceRules.{asked-bounded, booted-bounded, is_tr
 
 -- ---- what its rounds stand for, in the words of the run
 
-agent-stands : (setting : Setting) (round published endpoint : ℕ) (lane : RoundsState) → LaneStands setting round published endpoint lane → agents.StandsFor lane.agent (agent_after setting round endpoint)
+agent-stands : (setting : Setting) (round published endpoint : ℕ) (lane : RoundsState) → LaneStands setting round published endpoint lane → agents.AgentStandsFor lane.agent (agent_after setting round endpoint)
 agent-stands setting round published endpoint lane stands =
     let rounds = (replayed setting round).rounds endpoint in
-    subst (λ n. agents.StandsFor lane.agent (agent_of (played n setting.g rounds).steps)) stands.endpoints
-    (subst (λ g. agents.StandsFor lane.agent (agent_of (played lane.lane.endpoints g rounds).steps)) stands.g stands.stands.agent)
+    subst (λ n. agents.AgentStandsFor lane.agent (agent_of (played n setting.g rounds).steps)) stands.endpoints
+    (subst (λ g. agents.AgentStandsFor lane.agent (agent_of (played lane.lane.endpoints g rounds).steps)) stands.g stands.stands.agent)
 
 lane-stands : (setting : Setting) (round published endpoint : ℕ) (lane : RoundsState) (stands : LaneStands setting round published endpoint lane) →
-    lanes.StandsFor lane.lane (lane_after setting round endpoint) stands.allocations
+    lanes.LaneStandsFor lane.lane (lane_after setting round endpoint) stands.allocations
 lane-stands setting round published endpoint lane stands =
     let rounds = (replayed setting round).rounds endpoint in
-    subst (λ n. lanes.StandsFor lane.lane (lane_of (played n setting.g rounds).steps) stands.allocations) stands.endpoints
-    (subst (λ g. lanes.StandsFor lane.lane (lane_of (played lane.lane.endpoints g rounds).steps) stands.allocations) stands.g stands.stands.lane)
+    subst (λ n. lanes.LaneStandsFor lane.lane (lane_of (played n setting.g rounds).steps) stands.allocations) stands.endpoints
+    (subst (λ g. lanes.LaneStandsFor lane.lane (lane_of (played lane.lane.endpoints g rounds).steps) stands.allocations) stands.g stands.stands.lane)
 
 -- ---- boots
 
@@ -65,7 +65,7 @@ one_or_two version between = elim (cases_eq version 1) [
 ]
 
 -- the version of the last boot; 1 where there is none
-last-version : (versions : List ℕ) → All (λ version. (1 ≤ version) × (version ≤ 2)) versions → IsVersion (unwrap_or (last_of versions) 1)
+last-version : (versions : List ℕ) → All (λ version. (1 ≤ version) × (version ≤ 2)) versions → IsVersion (unwrap_or (last_one versions) 1)
 last-version versions all = elim (slice_get_cases versions (length versions - 1)).1 [
   | inl here ↦
       let between = subst (λ (v : ℕ). (1 ≤ v) × (v ≤ 2)) here.3 (all (length versions - 1) here.0 here.1) in

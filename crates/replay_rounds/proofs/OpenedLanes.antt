@@ -9,9 +9,9 @@ use Rattle.greedy_rules.specs.SlotTable.{IsSlotOf}
 use Rattle.greedy_rules.specs.Schedule.{first_slot}
 use Rattle.clos_topology.specs.Network.{endpoints_of}
 use Rattle.clos_topology.specs.NetSlots.{SlotCores, AreSlotCores}
-use Rattle.slot_publisher.specs.Window.{Window}
+use Rattle.slot_publisher.specs.Window.{PublisherWindow}
 use Rattle.lane_rounds.specs.State.{RoundsState}
-use Rattle.lane_rounds.specs.Standing.{StandsFor}
+use Rattle.lane_rounds.specs.Standing.{RoundsStandFor}
 use Rattle.trace_text.specs.Trace.{TraceContent}
 use Rattle.trace_run.specs.Run.{Setting}
 use Rattle.trace_run.specs.Rest.{allocated_from}
@@ -23,7 +23,7 @@ pub record IsOpened (all size window endpoint : ℕ) (lane : RoundsState) : Type
   pub b : lane.lane.b ≡ size
   pub g : lane.lane.g ≡ window
   pub whole : lane.is_whole ≡ true
-  pub stands : StandsFor lane [] []
+  pub stands : RoundsStandFor lane [] []
 
 abbrev pub AreOpened : ℕ → ℕ → ℕ → List RoundsState → Type 0
 AreOpened all size window lanes = (place : ℕ) (lane : RoundsState) → slice_get lanes place ≡ Some lane → IsOpened all size window place lane
@@ -59,7 +59,7 @@ lane_opened setting endpoint lane is = record {
   stands = is.stands;
 }
 
-pub stands_opened : (trace : TraceContent) (cores : SlotCores) (b g endpoints : ℕ) (lanes : List RoundsState) (window : Window) → AreSlotCores cores → (0 < b) × (b ≤ 64) → (0 < g) × (g ≤ 16) →
+pub stands_opened : (trace : TraceContent) (cores : SlotCores) (b g endpoints : ℕ) (lanes : List RoundsState) (window : PublisherWindow) → AreSlotCores cores → (0 < b) × (b ≤ 64) → (0 < g) × (g ≤ 16) →
     endpoints ≡ endpoints_of trace.net → length lanes ≡ endpoints → AreOpened endpoints b g lanes →
     window.endpoints ≡ endpoints → window.batches ≡ g → window.b ≡ b → window.first_batch ≡ 0 → window.count ≡ 0 → window.slots ≡ [] →
     AllRoundsStand trace cores (record { endpoints = endpoints; b = b; g = g; collected = 0; published = 0; counted = 0; lanes = lanes; window = window })

@@ -4,16 +4,17 @@ use Rattle.std.proofs.Common.{◌≡◌, ◌<◌, ◌≤◌, ◌==◌, ◌&&◌,
 use Rattle.std.specs.List.{flat_map, range_with_len, filter_map, cons_option}
 use Rattle.std.proofs.lemmas.Grind.{flat_map-append}
 use Rattle.std.proofs.lemmas.Bool.{lt-ltb}
-use Rattle.std.proofs.lemmas.List.{append-nil, take-append-drop, drop_more}
+use Rattle.std.proofs.lemmas.List.{take-append-drop, drop_more}
 use Rattle.std.proofs.lemmas.Option.{slice_get_within, get_or_from_slice_get}
 use Rattle.std.proofs.lemmas.List.Elements.{All-nil, All-cons, All-head}
 use Rattle.std.proofs.lemmas.List.FromFn.{get_or-map-range_with_len, length-map-range_with_len}
 use Rattle.greedy_rules.specs.declared.flows.Entry.{Entry}
 use Rattle.list_facts.proofs.Pairs.{AllPairs-append, AllPairs-head, AllPairs-tail}
+use Rattle.list_facts.proofs.Lists.{flat-last, range_both}
 use Rattle.greedy_rules.specs.Flows.{flow_below}
 use Rattle.greedy_rules.specs.Batches.{DemandBatch, IsAboveLast, IsBatch}
 use Rattle.endpoint_history.specs.Lane.{LaneHistory}
-use Rattle.endpoint_history.specs.Entries.{had, is_reset, added, entry_of}
+use Rattle.endpoint_history.specs.Entries.{had, is_reset, added, next_entry}
 use Rattle.endpoint_history.specs.Rounds.{Round, entries_by, read, played}
 use Rattle.endpoint_history.specs.Steps.{lane_of}
 use Rattle.lane_rounds.proofs.Entries.{Below, Below-append, Below-more, Below-filter_map, entry-below, above_last}
@@ -32,26 +33,6 @@ pub map_by : {X Y Z : Type 0} (f : Y → Z) (g : X → Y) (h : X → Z) → ((x 
 map_by f g h same [] = refl
 map_by f g h same (x ∷ xs) = cc (same x, map_by f g h same xs)
 
-range_more : (a n : ℕ) → range_with_len a (suc n) ≡ range_with_len a n ++ (a + n) ∷ []
-range_more a zero = ap (λ (k : ℕ). k ∷ []) (omega arith)
-range_more a (suc n) =
-    let last : a + 1 + n ≡ a + suc n = omega arith in
-    ap (λ (xs : List ℕ). a ∷ xs) (range_more (a + 1) n ∙ ap (λ (k : ℕ). range_with_len (a + 1) n ++ k ∷ []) last)
-
-pub flat_map_more : {X : Type 0} (f : ℕ → List X) (from n : ℕ) → flat_map f (range_with_len from (n + 1)) ≡ flat_map f (range_with_len from n) ++ f (from + n)
-flat_map_more {X} f from n =
-    ap (λ (k : ℕ). flat_map f (range_with_len from k)) (add-one n)
-    ∙ (ap (flat_map f) (range_more from n)
-    ∙ (flat_map-append f (range_with_len from n) ((from + n) ∷ [])
-    ∙ ap (λ (xs : List X). flat_map f (range_with_len from n) ++ xs) (append-nil (f (from + n)))))
-
-range_both : (from m k : ℕ) → range_with_len from (m + k) ≡ range_with_len from m ++ range_with_len (from + m) k
-range_both from zero k = let here : from ≡ from + 0 = omega arith in let none : 0 + k ≡ k = omega arith in ap (range_with_len from) none ∙ ap (λ (a : ℕ). range_with_len a k) here
-range_both from (suc m) k =
-    let next : from + 1 + m ≡ from + suc m = omega arith in
-    let more : suc m + k ≡ suc (m + k) = omega arith in
-    ap (range_with_len from) more ∙ ap (λ (xs : List ℕ). from ∷ xs) (range_both (from + 1) m k ∙ ap (λ (a : ℕ). range_with_len (from + 1) m ++ range_with_len a k) next)
-
 flat_map_both : {X : Type 0} (f : ℕ → List X) (from m k : ℕ)
     → flat_map f (range_with_len from m) ++ flat_map f (range_with_len (from + m) k) ≡ flat_map f (range_with_len from (m + k))
 flat_map_both f from m k = sym (ap (flat_map f) (range_both from m k) ∙ flat_map-append f (range_with_len from m) (range_with_len (from + m) k))
@@ -69,10 +50,10 @@ pub parts_more : (setting : Setting) (trace : TraceContent) (from n : ℕ) (numb
 parts_more setting trace from n numbers =
     map_by (with_endpoint setting trace (from + n)) (round_part setting trace from n) (round_part setting trace from (n + 1))
     (λ number. same_part (with_endpoint setting trace (from + n) (round_part setting trace from n number)) (round_part setting trace from (n + 1) number) refl
-    (sym (flat_map_more (entries_recorded setting number) from n)) refl
-    (sym (flat_map_more (refused_of setting trace number) from n))
+    (sym (flat-last (entries_recorded setting number) from n)) refl
+    (sym (flat-last (refused_of setting trace number) from n))
     (sort_front (λ (d : Departure). d.slot) (flat_map (departures_from setting number) (range_with_len from n)) (departures_from setting number (from + n))
-    ∙ ap by_slot (sym (flat_map_more (departures_from setting number) from n)))) numbers
+    ∙ ap by_slot (sym (flat-last (departures_from setting number) from n)))) numbers
 
 -- those behind
 pub part_both : (setting : Setting) (trace : TraceContent) (from m k number : ℕ)
@@ -93,7 +74,7 @@ part_both setting trace from m k number =
 entries-below : (endpoint endpoints g : ℕ) (rounds : List Round) → Below (endpoint + 1) (entries_by endpoint endpoints g rounds)
 entries-below endpoint endpoints g [] = tt
 entries-below endpoint endpoints g (round ∷ earlier) =
-    Below-filter_map (endpoint + 1) (entry_of endpoint g (lane_of (read endpoints g (length earlier) round (played endpoints g earlier))))
+    Below-filter_map (endpoint + 1) (next_entry endpoint g (lane_of (read endpoints g (length earlier) round (played endpoints g earlier))))
     (entry-below endpoint g (lane_of (read endpoints g (length earlier) round (played endpoints g earlier)))) (range_with_len 0 endpoints)
 
 below-bound : (setting : Setting) (number from n : ℕ) → Below (from + n) (flat_map (entries_recorded setting number) (range_with_len from n))
@@ -102,7 +83,7 @@ below-bound setting number from (suc n) =
     let entries = entries_recorded setting number in
     let next : from + n + 1 ≡ from + suc n = omega arith in
     subst (λ (k : ℕ). Below (from + suc n) (flat_map entries (range_with_len from k))) (add-one n)
-    (subst (λ (xs : List Entry). Below (from + suc n) xs) (sym (flat_map_more entries from n))
+    (subst (λ (xs : List Entry). Below (from + suc n) xs) (sym (flat-last entries from n))
     (subst (λ (k : ℕ). Below k (flat_map entries (range_with_len from n) ++ entries (from + n))) next
     (Below-append (from + n + 1) (flat_map entries (range_with_len from n)) (entries (from + n))
     (Below-more (from + n) (from + n + 1) (flat_map entries (range_with_len from n)) (omega arith) (below-bound setting number from n))
@@ -140,7 +121,7 @@ if_from : (some : Bool) (entry : Entry) (low : ℕ) → low ≤ entry.flow.src �
 if_from true entry low from = from
 if_from false entry low from = tt
 
-entry-from : (endpoint g : ℕ) (history : LaneHistory) (dst : ℕ) → IfSome (entry_of endpoint g history dst) (λ entry. endpoint ≤ entry.flow.src)
+entry-from : (endpoint g : ℕ) (history : LaneHistory) (dst : ℕ) → IfSome (next_entry endpoint g history dst) (λ entry. endpoint ≤ entry.flow.src)
 entry-from endpoint g history dst =
     if_from (nat_lt 0 (added g history dst) || (is_reset history && had g history dst))
     (record { flow = record { src = endpoint; dst = dst }; opens = nat_lt 0 (added g history dst) && not (had g history dst); clear = is_reset history && had g history dst; add = added g history dst })
@@ -149,7 +130,7 @@ entry-from endpoint g history dst =
 entries-from : (endpoint endpoints g : ℕ) (rounds : List Round) → From endpoint (entries_by endpoint endpoints g rounds)
 entries-from endpoint endpoints g [] = tt
 entries-from endpoint endpoints g (round ∷ earlier) =
-    From-filter_map endpoint (entry_of endpoint g (lane_of (read endpoints g (length earlier) round (played endpoints g earlier))))
+    From-filter_map endpoint (next_entry endpoint g (lane_of (read endpoints g (length earlier) round (played endpoints g earlier))))
     (entry-from endpoint g (lane_of (read endpoints g (length earlier) round (played endpoints g earlier)))) (range_with_len 0 endpoints)
 
 from-bound : (setting : Setting) (number from n : ℕ) → From from (flat_map (entries_recorded setting number) (range_with_len from n))

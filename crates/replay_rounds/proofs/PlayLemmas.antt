@@ -1,12 +1,12 @@
 -- One endpoint's round: that it may be played with what the trace and the publisher give, and what it leaves is the run's.
-use Rattle.std.proofs.Common.{◌≡◌, ◌<◌, ℕ, zero, suc, ◌+◌, List, [], ◌∷◌, ◌++◌, length, map, replicate, refl, sym, ap, ◌∙◌, subst, add-one}
+use Rattle.std.proofs.Common.{◌≡◌, ◌<◌, ℕ, ◌+◌, List, [], ◌∷◌, ◌++◌, length, map, replicate, refl, sym, ap, ◌∙◌, subst, add-one}
 use Rattle.greedy_rules.specs.declared.flows.Entry.{Entry}
 use Rattle.greedy_rules.specs.declared.limits.Limits.{Limits}
 use Rattle.greedy_rules.specs.Batches.{DemandBatch, IsAboveLast}
 use Rattle.fcp_framing.specs.declared.packet.Told.{Told}
 use Rattle.clos_topology.specs.Network.{endpoints_of}
 use Rattle.clos_topology.specs.NetSlots.{SlotCores}
-use Rattle.slot_publisher.specs.Window.{Window}
+use Rattle.slot_publisher.specs.Window.{PublisherWindow}
 use Rattle.endpoint_history.specs.Agent.{AgentHistory, Boots}
 use Rattle.endpoint_history.specs.Counts.{Allocation}
 use Rattle.lane_rounds.specs.AgentStanding as agents
@@ -20,9 +20,10 @@ use Rattle.lane_rounds.specs.Raw.{Raw}
 use Rattle.lane_rounds.specs.Refused.{refused_by, refused_in}
 use Rattle.lane_rounds.specs.Rounds.{MayPlayRound, HasRoundMore}
 use Rattle.lane_rounds.specs.State.{RoundsState, MayAsk, with_each}
-use Rattle.lane_rounds.specs.Standing.{StandsFor}
+use Rattle.lane_rounds.specs.Standing.{RoundsStandFor}
 use Rattle.trace_text.specs.Trace.{TraceContent}
 use Rattle.trace_run.specs.Run.{Setting, round_of, replayed}
+use Rattle.trace_run.proofs.Through.{rounds_length}
 use Rattle.replay_rounds.specs.declared.played.Departure.{Departure}
 use Rattle.replay_rounds.specs.Standing.{LaneStands}
 use Rattle.replay_rounds.specs.Played.{departure, departures_from}
@@ -32,7 +33,7 @@ use Rattle.replay_rounds.specs.Collecting.{entries_recorded, published_by, refus
 -- ---- that it may be played
 
 -- with what the trace says, and what the publisher tells, of the round and endpoint
-pub may_play : EveryRoundMayBePlayed → WhatIsToldIsHeld → (trace : TraceContent) (g : ℕ) (cores : SlotCores) (window : Window) (number endpoint : ℕ)
+pub may_play : EveryRoundMayBePlayed → WhatIsToldIsHeld → (trace : TraceContent) (g : ℕ) (cores : SlotCores) (window : PublisherWindow) (number endpoint : ℕ)
     → MayBeTold trace g cores window number → endpoint < endpoints_of trace.net
     → (lane : RoundsState) → LaneStands (setting_by trace g cores window) number (published_by window) endpoint lane
     → (events : Events) (told : List Told) → events ≡ events_for trace number endpoint → told ≡ told_by window g number endpoint
@@ -44,7 +45,7 @@ may_play rounds published trace g cores window number endpoint may below lane st
     (rounds trace window.b g cores may.sound may.named may.batch may.rounds number (published_by window) endpoint lane may.within below may.allocated stood))
 
 -- so it may in some run
-pub ready : EveryRoundMayBePlayed → WhatIsToldIsHeld → (trace : TraceContent) (g : ℕ) (window : Window) (earlier number endpoint : ℕ) → number ≡ earlier
+pub ready : EveryRoundMayBePlayed → WhatIsToldIsHeld → (trace : TraceContent) (g : ℕ) (window : PublisherWindow) (earlier number endpoint : ℕ) → number ≡ earlier
     → (lane : RoundsState) → (cores : SlotCores) × MayBeTold trace g cores window earlier × LaneStands (setting_by trace g cores window) earlier (published_by window) endpoint lane
     → endpoint < endpoints_of trace.net → (events : Events) (told : List Told) → events ≡ events_for trace number endpoint → told ≡ told_by window g number endpoint
     → (setting : Setting) × LaneStands setting number (published_by window) endpoint lane × MayPlayEndpoint setting number endpoint lane events told
@@ -82,17 +83,13 @@ may_play_round setting number published endpoint lane events told entries stood 
   rounds = few;
   version = may.version;
   epochs = may.epochs;
-  asks = of_lane (λ e n _ _. (calls : AgentHistory) × agents.StandsFor lane.agent calls × MayAsk e n (with_each Boots (replicate events.boots events.version) calls) events.asks) setting number published endpoint lane stood may.asks;
+  asks = of_lane (λ e n _ _. (calls : AgentHistory) × agents.AgentStandsFor lane.agent calls × MayAsk e n (with_each Boots (replicate events.boots events.version) calls) events.asks) setting number published endpoint lane stood may.asks;
   slots = of_lane (λ e n b _. AreSlots n b e told) setting number published endpoint lane stood may.slots;
   allocated = may.allocated;
   above = of_lane (λ e _ _ _. IsAboveLast entries (record { src = e; dst = 0 })) setting number published endpoint lane stood above;
 }
 
 -- ---- what it leaves
-
-rounds_number : (setting : Setting) (number endpoint : ℕ) → length ((replayed setting number).rounds endpoint) ≡ number
-rounds_number setting zero endpoint = refl
-rounds_number setting (suc number) endpoint = ap suc (rounds_number setting number endpoint)
 
 -- the round that the lane plays is the run's
 module _ (setting : Setting) (number published endpoint : ℕ) (lane : RoundsState) (events : Events) (told : List Told)
@@ -124,18 +121,18 @@ module _ (setting : Setting) (number published endpoint : ℕ) (lane : RoundsSta
     round = more.round;
     allocations = stood.allocations;
     counted = stood.counted;
-    stands = subst (λ (rounds : List Round). StandsFor next rounds stood.allocations) now_is
-        (from_lane (λ _ _ _ _ rounds. StandsFor next rounds stood.allocations) (more.stands before stood.allocations stood.stands));
+    stands = subst (λ (rounds : List Round). RoundsStandFor next rounds stood.allocations) now_is
+        (from_lane (λ _ _ _ _ rounds. RoundsStandFor next rounds stood.allocations) (more.stands before stood.allocations stood.stands));
   }
 
   pub entries_are : (old new : List Entry)
-      → ((rounds : List Round) (allocations : List Allocation) → StandsFor lane rounds allocations
+      → ((rounds : List Round) (allocations : List Allocation) → RoundsStandFor lane rounds allocations
       → new ≡ old ++ entries_by lane.lane.endpoint lane.lane.endpoints lane.lane.g (lanes.round_with lane.lane.endpoint lane.lane.endpoints events told ∷ rounds))
       → new ≡ old ++ entries_recorded setting number endpoint
   entries_are old new gives = from_lane (λ e n _ g rounds. new ≡ old ++ entries_by e n g rounds) (gives before stood.allocations stood.stands)
 
   pub sends_are : (sent : List Slot)
-      → ((rounds : List Round) (allocations : List Allocation) → StandsFor lane rounds allocations
+      → ((rounds : List Round) (allocations : List Allocation) → RoundsStandFor lane rounds allocations
       → sent ≡ sent_by lane.lane.endpoints lane.lane.b lane.lane.g (lanes.round_with lane.lane.endpoint lane.lane.endpoints events told ∷ rounds))
       → map (departure endpoint) sent ≡ departures_from setting number endpoint
   sends_are sent gives =
@@ -155,7 +152,7 @@ module _ (setting : Setting) (number published endpoint : ℕ) (lane : RoundsSta
   refused_in_last e n g (round ∷ earlier) = refused_in e n (length earlier) events.raw (lane_of (read n g (length earlier) (record round { raw = [] }) (played n g earlier)))
 
   pub refused_are : (trace : TraceContent) → events ≡ events_for trace number endpoint → (old new : List (ℕ × ℕ)) → old ≡ []
-      → ((rounds : List Round) (allocations : List Allocation) → StandsFor lane rounds allocations
+      → ((rounds : List Round) (allocations : List Allocation) → RoundsStandFor lane rounds allocations
       → new ≡ old ++ refused_by lane.lane.endpoint lane.lane.endpoints lane.lane.g events told rounds)
       → new ≡ refused_of setting trace number endpoint
   refused_are trace is_events old new none gives =
@@ -163,7 +160,7 @@ module _ (setting : Setting) (number published endpoint : ℕ) (lane : RoundsSta
       by_run
       ∙ (ap (λ (xs : List (ℕ × ℕ)). xs ++ refused_from events.raw (length before)) none
       ∙ (ap (λ (e : Events). refused_from e.raw (length before)) is_events
-      ∙ ap (λ (k : ℕ). refused_from (events_for trace number endpoint).raw k) (rounds_number setting number endpoint)))
+      ∙ ap (λ (k : ℕ). refused_from (events_for trace number endpoint).raw k) (rounds_length setting number endpoint)))
 
 -- equal fields make equal records
 same_batch : (x y : DemandBatch) → x.entries ≡ y.entries → x.limits ≡ y.limits → x ≡ y

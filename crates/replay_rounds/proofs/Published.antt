@@ -11,7 +11,7 @@ use Rattle.clos_topology.specs.NetSlots.{SlotCores}
 use Rattle.slot_publisher.specs.Window.{RoutedFlow, with_cores}
 use Rattle.slot_publisher.specs.Told as publisher
 use Rattle.slot_publisher.specs.Told.{packet_sent, slots_told}
-use Rattle.trace_run.specs.Run.{Setting, batch_of, told_at, told_from, told_of, replayed}
+use Rattle.trace_run.specs.Run.{Setting, slots_in_batch, told_at, slots_told_from, told_of, replayed}
 use Rattle.trace_run.specs.Windows.{EveryBatchIsNext}
 use Rattle.replay_rounds.specs.Setting.{byte_of, setting_of}
 use Rattle.replay_rounds.specs.Standing.{routed_from}
@@ -41,19 +41,19 @@ found cores endpoint (flow ∷ slot) = elim (cases_Bool (flow.src == endpoint)) 
 
 -- the slots with their cores, of which the first has this number and this offset in its batch
 told-same : (cores : SlotCores) (endpoint first offset : ℕ) (slots : List (List Flow)) →
-    publisher.told_from offset (map (packet_sent endpoint) (routed_from cores (first + offset) slots)) ≡ told_from (λ at. byte_of (cores (first + at) endpoint)) endpoint offset slots
+    publisher.told_from offset (map (packet_sent endpoint) (routed_from cores (first + offset) slots)) ≡ slots_told_from (λ at. byte_of (cores (first + at) endpoint)) endpoint offset slots
 told-same cores endpoint first offset [] = refl
 told-same cores endpoint first offset (slot ∷ slots) =
     let on : first + offset + 1 ≡ first + (offset + 1) = omega arith in
-    let rest : publisher.told_from (offset + 1) (map (packet_sent endpoint) (routed_from cores (first + offset + 1) slots)) ≡ told_from (λ at. byte_of (cores (first + at) endpoint)) endpoint (offset + 1) slots =
+    let rest : publisher.told_from (offset + 1) (map (packet_sent endpoint) (routed_from cores (first + offset + 1) slots)) ≡ slots_told_from (λ at. byte_of (cores (first + at) endpoint)) endpoint (offset + 1) slots =
     ap (λ (n : ℕ). publisher.told_from (offset + 1) (map (packet_sent endpoint) (routed_from cores n slots))) on ∙ told-same cores endpoint first (offset + 1) slots in
     ap (λ (o : Option RoutedFlow). publisher.told_from offset (o ∷ map (packet_sent endpoint) (routed_from cores (first + offset + 1) slots))) (found (cores (first + offset)) endpoint slot)
     ∙ one (destination_of slot endpoint) rest
   where
     one : (o : Option ℕ) →
-        publisher.told_from (offset + 1) (map (packet_sent endpoint) (routed_from cores (first + offset + 1) slots)) ≡ told_from (λ at. byte_of (cores (first + at) endpoint)) endpoint (offset + 1) slots →
+        publisher.told_from (offset + 1) (map (packet_sent endpoint) (routed_from cores (first + offset + 1) slots)) ≡ slots_told_from (λ at. byte_of (cores (first + at) endpoint)) endpoint (offset + 1) slots →
         publisher.told_from offset (option_map (routed (cores (first + offset) endpoint) endpoint) o ∷ map (packet_sent endpoint) (routed_from cores (first + offset + 1) slots))
-        ≡ told_at offset (byte_of (cores (first + offset) endpoint)) o ++ told_from (λ at. byte_of (cores (first + at) endpoint)) endpoint (offset + 1) slots
+        ≡ told_at offset (byte_of (cores (first + offset) endpoint)) o ++ slots_told_from (λ at. byte_of (cores (first + at) endpoint)) endpoint (offset + 1) slots
     one None rest = rest
     one (Some dst) rest = ap (λ (xs : List Told). record { offset = offset; core = byte_of (cores (first + offset) endpoint); dst = dst } ∷ xs) rest
 
@@ -96,10 +96,10 @@ what_is_told_is_published next trace b g cores is batch rounds window published 
         let here = held (leb-true (2 * g) round late) in
         let k : ℕ = round - 2 * g in
         let whole : List (List Flow) = schedule b (replayed setting published).batches in
-        let same : batch_of b k (replayed setting published).batches ≡ batch_of b k (replayed setting round).batches = (next setting k).slots published here.1 ∙ sym ((next setting k).slots round (omega arith)) in
-        let its : take window.b (drop ((k - window.first_batch) * window.b) window.slots) ≡ routed_from cores (first_slot b k) (batch_of b k (replayed setting round).batches) =
+        let same : slots_in_batch b k (replayed setting published).batches ≡ slots_in_batch b k (replayed setting round).batches = (next setting k).slots published here.1 ∙ sym ((next setting k).slots round (omega arith)) in
+        let its : take window.b (drop ((k - window.first_batch) * window.b) window.slots) ≡ routed_from cores (first_slot b k) (slots_in_batch b k (replayed setting round).batches) =
         ap (λ (n : ℕ). take n (drop ((k - window.first_batch) * n) window.slots)) same_b ∙ (ap (λ (xs : List (List RoutedFlow)). take b (drop ((k - window.first_batch) * b) xs)) slots
         ∙ (batch-within b window.first_batch k cores whole here.0 ∙ ap (routed_from cores (first_slot b k)) same)) in
         let none : first_slot b k ≡ first_slot b k + 0 = omega arith in
-        ap (λ (xs : List (List RoutedFlow)). publisher.told_from 0 (map (packet_sent endpoint) xs)) (its ∙ ap (λ (n : ℕ). routed_from cores n (batch_of b k (replayed setting round).batches)) none)
-        ∙ told-same cores endpoint (first_slot b k) 0 (batch_of b k (replayed setting round).batches)
+        ap (λ (xs : List (List RoutedFlow)). publisher.told_from 0 (map (packet_sent endpoint) xs)) (its ∙ ap (λ (n : ℕ). routed_from cores n (slots_in_batch b k (replayed setting round).batches)) none)
+        ∙ told-same cores endpoint (first_slot b k) 0 (slots_in_batch b k (replayed setting round).batches)

@@ -9,7 +9,7 @@ use Rattle.greedy_rules.specs.Schedule.{slot_in, first_slot}
 use Rattle.clos_topology.specs.Links.{CoreOf}
 use Rattle.clos_topology.specs.NetSlots.{SlotCores}
 use Rattle.slot_publisher.specs.CoreTable.{CoreSlots, core_of}
-use Rattle.slot_publisher.specs.Window.{RoutedFlow, Window, NamesCores, with_cores, slots_with_cores}
+use Rattle.slot_publisher.specs.Window.{RoutedFlow, PublisherWindow, NamesCores, with_cores, slots_with_cores}
 use Rattle.lane_rounds.specs.State.{RoundsState}
 use Rattle.trace_text.specs.Trace.{TraceContent}
 use Rattle.trace_text.specs.Valid.{IsTrace}
@@ -137,7 +137,7 @@ module _ (laws : CountingLaws) (trace : TraceContent) (cores : SlotCores) (all :
       subst (λ (core : Option ℕ). IfSome core (λ n. n < 64)) (next.routed at src (omega (arith, slot_count))) (stands.named (first_slot all.b all.published + at) src)
 
   -- once the publisher holds them, where the lanes have counted all slots before
-  pub stands_next : (window : Window) → all.counted ≡ all.published → all.published + count ≤ all.collected → slots.endpoints ≡ all.endpoints → All (IsSlotOf slots.endpoints) slots.slots →
+  pub stands_next : (window : PublisherWindow) → all.counted ≡ all.published → all.published + count ≤ all.collected → slots.endpoints ≡ all.endpoints → All (IsSlotOf slots.endpoints) slots.slots →
       window.endpoints ≡ all.window.endpoints → window.batches ≡ all.window.batches → window.b ≡ all.window.b → window.first_batch ≡ all.published → window.count ≡ count →
       window.slots ≡ slots_with_cores slots.slots table →
       AllRoundsStand trace cores (record all { published = all.published + count; window = window })

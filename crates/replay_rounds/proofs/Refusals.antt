@@ -18,15 +18,15 @@ use Rattle.arbiter_lane.specs.declared.refusal.UpRefused.{UpRefused}
 use Rattle.arbiter_lane.specs.declared.refusal.UpRefused.TheVariants as refused
 use Rattle.arbiter_lane.specs.Refusals.{up_refusal_of_number, up_refusal_of_packet, up_refusal_or}
 use Rattle.lane_rounds.specs.Raw.{Raw}
-use Rattle.lane_rounds.specs.Refused.{number_of}
+use Rattle.lane_rounds.specs.Refused.{up_refusal_number}
 use Rattle.replay_rounds.specs.Setting.{raw_rows}
-use Rattle.replay_rounds.specs.Played.{answer_after, lane_before, IsRefusal, EveryRefusalHasANumber}
+use Rattle.replay_rounds.specs.Played.{answer_after, lane_before, IsLaneRefusal, EveryRefusalHasANumber}
 
 -- the number of a refusal is one of those
 abbrev IsTold : Option UpRefused → Type 0
-IsTold refusal = IfSome (option_map number_of refusal) IsRefusal
+IsTold refusal = IfSome (option_map up_refusal_number refusal) IsLaneRefusal
 
-framing-told : (refusal : FrameRefused) → IsRefusal (framing.number_of refusal)
+framing-told : (refusal : FrameRefused) → IsLaneRefusal (framing.frame_refusal_number refusal)
 framing-told Short = inl (omega arith, omega arith)
 framing-told Version = inl (omega arith, omega arith)
 framing-told Kind = inl (omega arith, omega arith)
@@ -63,10 +63,10 @@ or-told (Some frame) later told = framing-told frame
 
 pub every_refusal_has_a_number : EveryRefusalHasANumber
 every_refusal_has_a_number setting trace round =
-    All-map (λ answer. IfSome answer IsRefusal) (λ raw. answer_after setting round (take raw.place (raw_rows trace round)) raw) (raw_rows trace round)
+    All-map (λ answer. IfSome answer IsLaneRefusal) (λ raw. answer_after setting round (take raw.place (raw_rows trace round)) raw) (raw_rows trace round)
     (λ i d below. told (get_or (raw_rows trace round) i d))
   where
-    told : (raw : Raw) → IfSome (answer_after setting round (take raw.place (raw_rows trace round)) raw) IsRefusal
+    told : (raw : Raw) → IfSome (answer_after setting round (take raw.place (raw_rows trace round)) raw) IsLaneRefusal
     told raw =
         let up = up_of raw.bytes in
         or-told (first_refusal (refuses_up setting.endpoints raw.bytes)) _ (packet-told up.src (lane_before setting round (take raw.place (raw_rows trace round)) up.src) up refl)

@@ -7,7 +7,7 @@ use Rattle.fcp_framing.specs.Refusals.{first_refusal, refuses_up}
 use Rattle.lane_rounds.specs.Outside.{names}
 use Rattle.lane_rounds.specs.Raw.{Raw}
 use Rattle.trace_text.specs.Asks.{ask_for}
-use Rattle.trace_text.specs.declared.ask.Ask.{Ask}
+use Rattle.trace_text.proofs.AskFacts.{pair_of}
 use Rattle.replay_rounds.specs.Setting.{rows_from}
 use Rattle.replay_rounds.specs.Collecting.{source_of}
 
@@ -57,10 +57,6 @@ row_got raw i bytes is =
 
 -- ---- asks
 
--- what an ask is for, and how much
-abbrev pub asked_of : Ask → ℕ × ℕ
-asked_of ask = (ask.dst, ask.slots)
-
-pub asked_back : (round src : ℕ) (asked : List (ℕ × ℕ)) → map asked_of (map (ask_for round src) asked) ≡ asked
+pub asked_back : (round src : ℕ) (asked : List (ℕ × ℕ)) → map pair_of (map (ask_for round src) asked) ≡ asked
 asked_back round src [] = refl
 asked_back round src (one ∷ asked) = ap (λ (rest : List (ℕ × ℕ)). one ∷ rest) (asked_back round src asked)

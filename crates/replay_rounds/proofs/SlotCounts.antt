@@ -12,20 +12,21 @@ use Rattle.greedy_rules.specs.Slot.{has_flow}
 use Rattle.greedy_rules.specs.SlotTable.{IsSlotOf, destination_of}
 use Rattle.greedy_rules.specs.Allocation.{slots_of}
 use Rattle.greedy_rules.specs.Schedule.{slot_in, schedule}
+use Rattle.greedy_rules.specs.Cells.{flow_of}
 use Rattle.endpoint_history.specs.Lane.{LaneHistory, last_reset}
 use Rattle.endpoint_history.specs.Counts.{Allocation, recorded, lost, allocated}
 use Rattle.endpoint_history.specs.Rounds.{Round, played}
 use Rattle.endpoint_history.specs.Steps.{lane_of}
 use Rattle.arbiter_lane.specs.declared.line.LaneLine.{LaneLine}
 use Rattle.lane_rounds.specs.State.{RoundsState}
-use Rattle.lane_rounds.specs.Standing.{StandsFor}
+use Rattle.lane_rounds.specs.Standing.{RoundsStandFor}
 use Rattle.trace_run.specs.Run.{Setting, replayed}
 use Rattle.trace_run.specs.Histories.{lane_after}
 use Rattle.trace_run.specs.Rest.{allocated_from}
 use Rattle.trace_run.specs.Allocations.{since}
 use Rattle.replay_rounds.specs.Standing.{LaneStands, slots_between}
 use Rattle.replay_rounds.specs.Publishing.{CountingLaws, with_slot}
-use Rattle.replay_rounds.specs.Counting.{schedule_of, among_first, flow_of, HasCounted, IsPlace}
+use Rattle.replay_rounds.specs.Counting.{schedule_of, among_first, HasCounted, IsPlace}
 use Rattle.replay_rounds.proofs.SlotSums.{goes_to, flow_goes, front_grows, between, sent_within, since_more, batch_reached, batch_ahead}
 
 pub schedule_length : (laws : CountingLaws) (setting : Setting) (rounds : ℕ) → length (schedule_of setting rounds) ≡ rounds * setting.b
@@ -131,7 +132,7 @@ count_more laws setting all place src to allocations is counted from dst low =
 -- a lane of which only the lines changed
 pub lane_more : (laws : CountingLaws) (setting : Setting) (collected all place src : ℕ) (to : Option ℕ) (lane new : RoundsState) → IsPlace setting all place src to →
     new ≡ record lane { lane = record lane.lane { lines = new.lane.lines } } →
-    ((rounds : List Round) (allocations : List Allocation) → StandsFor lane rounds allocations → StandsFor new rounds (with_slot (place / setting.b) to allocations)) →
+    ((rounds : List Round) (allocations : List Allocation) → RoundsStandFor lane rounds allocations → RoundsStandFor new rounds (with_slot (place / setting.b) to allocations)) →
     HasCounted setting collected all place src lane → HasCounted setting collected all (place + 1) src new
 lane_more laws setting collected all place src to lane new is frame stands has = record {
   own = ap (λ (s : RoundsState). s.lane.endpoint) frame ∙ has.own;

@@ -1,6 +1,5 @@
 -- How often a flow is among the first slots of a schedule, and what a lane's allocations sum to.
-use Rattle.replay_rounds.specs.Counting.{flow_of}
-use Rattle.std.proofs.Common.{◌≡◌, ◌<◌, ◌≤◌, ◌+◌, ◌-◌, ◌*◌, ◌/◌, ◌==◌, ◌&&◌, ◌||◌, ℕ, List, [], ◌∷◌, take, drop, cond, Bool, true, false, Option, Some, None, find, All, AllPairs, refl, sym, ap, ◌∙◌, subst, inl, inr, arith}
+use Rattle.std.proofs.Common.{◌≡◌, ◌<◌, ◌≤◌, ◌+◌, ◌-◌, ◌*◌, ◌/◌, ◌==◌, ◌&&◌, ◌||◌, ℕ, List, [], ◌∷◌, take, drop, cond, Bool, true, false, Option, Some, None, find, All, refl, sym, ap, ◌∙◌, subst, inl, inr, arith}
 use Rattle.std.specs.Prelude.{nat_le}
 use Rattle.std.specs.List.{sum_by}
 use Rattle.std.specs.Option.{option_map}
@@ -15,6 +14,8 @@ use Rattle.greedy_rules.specs.declared.flows.Flow.{Flow}
 use Rattle.greedy_rules.specs.Flows.{same_flow}
 use Rattle.greedy_rules.specs.Slot.{has_flow}
 use Rattle.greedy_rules.specs.SlotTable.{destination_of}
+use Rattle.greedy_rules.specs.Cells.{flow_of}
+use Rattle.greedy_rules.proofs.SlotSources.{Rises}
 use Rattle.list_facts.proofs.Pairs.{AllPairs-head, AllPairs-tail}
 use Rattle.endpoint_history.specs.Counts.{Allocation}
 use Rattle.trace_run.specs.Allocations.{since}
@@ -47,9 +48,6 @@ between weight xs k n =
 abbrev pub goes_to : Option ℕ → ℕ → Bool
 goes_to None dst = false
 goes_to (Some to) dst = to == dst
-
-abbrev Rises : List Flow → Type 0
-Rises slot = AllPairs (λ f g. f.src < g.src) slot
 
 other_source : (f : Flow) (src dst : ℕ) → (f.src == src) ≡ false → same_flow f (flow_of src dst) ≡ false
 other_source f src dst other = ap (λ (c : Bool). c && (f.dst == dst)) other

@@ -11,14 +11,14 @@ use Rattle.greedy_rules.specs.declared.flows.Flow.{Flow}
 use Rattle.greedy_rules.specs.SlotTable.{destination_of}
 use Rattle.greedy_rules.specs.Schedule.{first_slot, slot_in}
 use Rattle.clos_topology.specs.Links.{CoreOf}
-use Rattle.slot_publisher.specs.Window.{RoutedFlow, Window, with_cores, slots_of_batch}
+use Rattle.slot_publisher.specs.Window.{RoutedFlow, PublisherWindow, with_cores, slots_of_batch}
 use Rattle.slot_publisher.specs.Told.{packet_sent, slots_told, told_as, told_from}
 use Rattle.lane_rounds.specs.FlowCount.{pending}
 use Rattle.endpoint_history.specs.Counts.{Allocation}
 use Rattle.endpoint_history.specs.Rounds.{Round}
 use Rattle.arbiter_lane.specs.declared.line.LaneLine.{LaneLine}
 use Rattle.lane_rounds.specs.State.{RoundsState}
-use Rattle.lane_rounds.specs.Standing.{StandsFor}
+use Rattle.lane_rounds.specs.Standing.{RoundsStandFor}
 use Rattle.trace_run.specs.Run.{Setting}
 use Rattle.replay_rounds.specs.Standing.{slots_between}
 use Rattle.replay_rounds.specs.Publishing.{CountingLaws, WindowIsPublished, with_slot}
@@ -130,13 +130,13 @@ may_tell laws setting collected all src batch lane one told may next =
 -- and once it is, the rest is to be counted
 pub told_more : (laws : CountingLaws) (setting : Setting) (collected all src batch : ℕ) (lane new : RoundsState) (one : Told) (told : List Told) → IsNextTold setting collected all src batch lane one told →
     new ≡ record lane { lane = record lane.lane { lines = new.lane.lines } } →
-    ((rounds : List Round) (allocations : List Allocation) → StandsFor lane rounds allocations → StandsFor new rounds (record { dst = one.dst; batch = batch; slots = 1 } ∷ allocations)) →
+    ((rounds : List Round) (allocations : List Allocation) → RoundsStandFor lane rounds allocations → RoundsStandFor new rounds (record { dst = one.dst; batch = batch; slots = 1 } ∷ allocations)) →
     IsRest setting collected all src batch new told
 told_more laws setting collected all src batch lane new one told next frame stands =
     let place : ℕ = batch * setting.b + next.offset in
     let its : batch ≡ place / setting.b = sym (div-mul-add batch setting.b next.offset next.below) in
     next.after new (lane_more laws setting collected all place src (Some one.dst) lane new next.place frame
-    (subst (λ (n : ℕ). (rounds : List Round) (allocations : List Allocation) → StandsFor lane rounds allocations → StandsFor new rounds (with_slot n (Some one.dst) allocations)) its stands) next.has)
+    (subst (λ (n : ℕ). (rounds : List Round) (allocations : List Allocation) → RoundsStandFor lane rounds allocations → RoundsStandFor new rounds (with_slot n (Some one.dst) allocations)) its stands) next.has)
 
 -- ---- a batch of a window
 
@@ -144,7 +144,7 @@ goes : (core : Option ℕ) (src : ℕ) (dst : Option ℕ) → dst_of (option_map
 goes core src None = refl
 goes core src (Some dst) = refl
 
-pub batch_begins : (laws : CountingLaws) (setting : Setting) (collected : ℕ) (window : Window) (src batch : ℕ) (lane : RoundsState) (told : List Told) → WindowIsPublished setting collected window → src < window.endpoints →
+pub batch_begins : (laws : CountingLaws) (setting : Setting) (collected : ℕ) (window : PublisherWindow) (src batch : ℕ) (lane : RoundsState) (told : List Told) → WindowIsPublished setting collected window → src < window.endpoints →
     window.first_batch ≤ batch → batch < window.first_batch + window.count → told ≡ slots_told window src batch →
     HasCounted setting collected (window.first_batch + window.count) (batch * setting.b) src lane → IsRest setting collected (window.first_batch + window.count) src batch lane told
 batch_begins laws setting collected window src batch lane told published below from_first before_end told_is has =
@@ -193,7 +193,7 @@ batch_begins laws setting collected window src batch lane told published below f
       has = let start : batch * setting.b ≡ batch * setting.b + 0 = omega arith in subst (λ (n : ℕ). HasCounted setting collected all n src lane) start has;
     }
 
-pub may_be_counted : (setting : Setting) (collected : ℕ) (window : Window) (src : ℕ) → WindowIsPublished setting collected window → src < window.endpoints → MayCount setting collected (window.first_batch + window.count) src
+pub may_be_counted : (setting : Setting) (collected : ℕ) (window : PublisherWindow) (src : ℕ) → WindowIsPublished setting collected window → src < window.endpoints → MayCount setting collected (window.first_batch + window.count) src
 may_be_counted setting collected window src published below =
     let served = published.endpoints in
     record { behind = published.behind; src_below = omega arith }

@@ -17,7 +17,7 @@ use Rattle.clos_topology.specs.NetSlots.{SlotCores}
 use Rattle.endpoint_history.specs.Packets.{UpPacket, up_packet, framed_up, AreFramedAlike}
 use Rattle.lane_rounds.specs.Outside.{names}
 use Rattle.lane_rounds.specs.Raw.{Raw}
-use Rattle.trace_text.specs.Trace.{TraceContent, boots_at, raw_at, last_of}
+use Rattle.trace_text.specs.Trace.{TraceContent, boots_at, raw_at, last_one}
 use Rattle.trace_text.specs.Valid.{IsTrace, amount_for}
 use Rattle.trace_run.specs.Agents.{booted_in}
 use Rattle.trace_run.specs.Recorded.{asked_in}
@@ -57,7 +57,7 @@ booted-is : (trace : TraceContent) (n endpoint : ℕ) → booted_in (outside_of 
 booted-is trace zero endpoint = refl
 booted-is trace (suc n) endpoint =
     let before = booted-is trace n endpoint in
-    omega (arith, length-replicate (length (boots_at trace n endpoint)) (unwrap_or (last_of (boots_at trace n endpoint)) 1))
+    omega (arith, length-replicate (length (boots_at trace n endpoint)) (unwrap_or (last_one (boots_at trace n endpoint)) 1))
 
 pub booted-bounded : (trace : TraceContent) → IsTrace trace → (n endpoint : ℕ) → n ≤ trace.rounds → booted_in (outside_of trace) n endpoint ≤ 67108864
 booted-bounded trace is n endpoint within =

@@ -3,14 +3,14 @@
 use Rattle.std.specs.Prelude.{◌≡◌, ◌<◌, ◌≤◌, ℕ, zero, suc, ◌+◌, ◌*◌, ◌-◌, List, [], ◌∷◌, ◌++◌, length, map, Option, Some, None, option_map, is_none, slice_set, if◌then◌else◌, All, IsTrue}
 use Rattle.std.specs.List.{flat_map, range_with_len, slice_index_or}
 use Rattle.fcp_framing.specs.Fields.{up_of}
-use Rattle.fcp_framing.specs.Refusals.{first_refusal, refuses_up, number_of}
+use Rattle.fcp_framing.specs.Refusals.{first_refusal, refuses_up, frame_refusal_number}
 use Rattle.greedy_rules.specs.declared.flows.Entry.{Entry}
 use Rattle.greedy_rules.specs.Flows.{flow_below}
 use Rattle.greedy_rules.specs.Batches.{DemandBatch}
 use Rattle.greedy_rules.specs.Schedule.{first_slot}
 use Rattle.clos_topology.specs.Network.{endpoints_of}
 use Rattle.clos_topology.specs.NetSlots.{SlotCores, AreSlotCores, limits_of}
-use Rattle.slot_publisher.specs.Window.{Window}
+use Rattle.slot_publisher.specs.Window.{PublisherWindow}
 use Rattle.endpoint_history.specs.Rounds.{entries_by}
 use Rattle.lane_rounds.specs.Refused.{refused_in}
 use Rattle.lane_rounds.specs.State.{RoundsState}
@@ -45,7 +45,7 @@ named_in trace round = sort_by (λ one. one.source) (flat_map (λ row. named_at 
 
 -- the number of the refusal of bytes that spell none
 abbrev pub framed_answer : ℕ → List ℕ → Option ℕ
-framed_answer endpoints bytes = option_map number_of (first_refusal (refuses_up endpoints bytes))
+framed_answer endpoints bytes = option_map frame_refusal_number (first_refusal (refuses_up endpoints bytes))
 
 abbrev pub framed_in : TraceContent → ℕ → List (Option ℕ)
 framed_in trace round = map (framed_answer (endpoints_of trace.net)) (raw_at trace round)
@@ -136,15 +136,15 @@ AreRoundsFrom first parts = (at : ℕ) (d : RoundPart) → at < length parts →
 -- ---- when they may be played
 
 -- the batches of so many rounds are published by the end of a window
-abbrev pub published_by : Window → ℕ
+abbrev pub published_by : PublisherWindow → ℕ
 published_by window = window.first_batch + window.count
 
 -- the run whose slots a window has
-abbrev pub setting_by : TraceContent → ℕ → SlotCores → Window → Setting
+abbrev pub setting_by : TraceContent → ℕ → SlotCores → PublisherWindow → Setting
 setting_by trace g cores window = setting_of trace window.b g cores
 
 -- what is told in a round is allocated, and is published in this window
-pub record MayBeTold (trace : TraceContent) (g : ℕ) (cores : SlotCores) (window : Window) (number : ℕ) : Type 0 where
+pub record MayBeTold (trace : TraceContent) (g : ℕ) (cores : SlotCores) (window : PublisherWindow) (number : ℕ) : Type 0 where
   pub sound : IsTrace trace
   pub named : AreSlotCores cores
   pub batch : (0 < window.b) × (window.b ≤ 64)
@@ -158,7 +158,7 @@ pub record MayBeTold (trace : TraceContent) (g : ℕ) (cores : SlotCores) (windo
   pub held : 2 * g ≤ number → (window.first_batch ≤ number - 2 * g) × (number - 2 * g < published_by window)
 
 -- in each of so many rounds from this one on, before which the slots of the window may be counted
-pub record MayBeCollected (trace : TraceContent) (g : ℕ) (cores : SlotCores) (window : Window) (first count : ℕ) : Type 0 where
+pub record MayBeCollected (trace : TraceContent) (g : ℕ) (cores : SlotCores) (window : PublisherWindow) (first count : ℕ) : Type 0 where
   pub published : WindowIsPublished (setting_by trace g cores window) first window
   pub told : (number : ℕ) → first ≤ number → number < first + count → MayBeTold trace g cores window number
 

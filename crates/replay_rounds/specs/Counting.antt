@@ -6,19 +6,17 @@ use Rattle.greedy_rules.specs.declared.flows.Flow.{Flow}
 use Rattle.greedy_rules.specs.SlotTable.{IsSlotOf, destination_of}
 use Rattle.greedy_rules.specs.Allocation.{slots_of}
 use Rattle.greedy_rules.specs.Schedule.{slot_in, schedule}
+use Rattle.greedy_rules.specs.Cells.{flow_of}
 use Rattle.slot_publisher.specs.Window.{RoutedFlow}
 use Rattle.slot_publisher.specs.Told.{told_from}
 use Rattle.endpoint_history.specs.Counts.{Allocation}
 use Rattle.lane_rounds.specs.State.{RoundsState}
-use Rattle.lane_rounds.specs.Standing.{StandsFor}
+use Rattle.lane_rounds.specs.Standing.{RoundsStandFor}
 use Rattle.trace_run.specs.Run.{Setting, replayed}
 use Rattle.trace_run.specs.Allocations.{since}
 
 abbrev pub schedule_of : Setting → ℕ → List (List Flow)
 schedule_of setting rounds = schedule setting.b (replayed setting rounds).batches
-
-abbrev pub flow_of : ℕ → ℕ → Flow
-flow_of src dst = record { src = src; dst = dst }
 
 -- the slots of a flow among the first so many
 abbrev pub among_first : Setting → ℕ → ℕ → ℕ → ℕ → ℕ
@@ -34,7 +32,7 @@ pub record HasCounted (setting : Setting) (collected all places src : ℕ) (lane
   pub round : lane.lane.round ≡ collected
   pub allocations : List Allocation
   pub counted : (from dst : ℕ) → dst < setting.endpoints → since from allocations dst ≡ among_first setting all places src dst - among_first setting all (from * setting.b) src dst
-  pub stands : StandsFor lane ((replayed setting collected).rounds src) allocations
+  pub stands : RoundsStandFor lane ((replayed setting collected).rounds src) allocations
 
 -- the slot in this place of the schedule, and where the source sends in it
 pub record IsPlace (setting : Setting) (all place src : ℕ) (to : Option ℕ) : Type 0 where

@@ -1,6 +1,6 @@
 -- The counts of a flow in the run of a trace, as its lane and its agent keep them. From this project's own profile.
 use Rattle.std.specs.Prelude.{ℕ}
-use Rattle.lane_rounds.specs.Count.{FlowCount}
+pub use Rattle.lane_rounds.specs.Count.{FlowCount}
 use Rattle.endpoint_history.specs.Agent.{missed}
 use Rattle.endpoint_history.specs.Sending.{sends}
 use Rattle.endpoint_history.specs.Lane.{last_reset}
@@ -24,8 +24,8 @@ lane_count setting collected published src dst = record {
   lost = lost setting.g (lane_after setting collected src) dst;
 }
 
-abbrev pub counted : FlowCount → LaneCount
-counted count = record { demanded = count.demanded; allocated = count.allocated; acknowledged = count.acknowledged; lost = count.lost }
+abbrev pub count_of_lane : FlowCount → LaneCount
+count_of_lane count = record { demanded = count.demanded; allocated = count.allocated; acknowledged = count.acknowledged; lost = count.lost }
 
 -- the slots that the agent sent in, and those that it missed, since its last boot
 abbrev pub sent_and_missed : Setting → ℕ → ℕ → ℕ → ℕ × ℕ

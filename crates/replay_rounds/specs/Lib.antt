@@ -1,3 +1,5 @@
+pub use Rattle.slot_publisher.specs.Window
+pub use Rattle.lane_rounds.specs.State
 pub mod Setting
 pub mod Rules
 pub mod Played

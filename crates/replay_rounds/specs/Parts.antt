@@ -4,7 +4,7 @@ use Rattle.fcp_framing.specs.declared.packet.Told.{Told}
 use Rattle.fcp_framing.specs.Versions.{IsVersion}
 use Rattle.clos_topology.specs.Network.{endpoints_of}
 use Rattle.clos_topology.specs.NetSlots.{SlotCores, AreSlotCores}
-use Rattle.slot_publisher.specs.Window.{Window}
+use Rattle.slot_publisher.specs.Window.{PublisherWindow}
 use Rattle.slot_publisher.specs.Told.{slots_told}
 use Rattle.endpoint_history.specs.Agent.{AgentHistory, Boots}
 use Rattle.lane_rounds.specs.AgentStanding as agents
@@ -13,7 +13,7 @@ use Rattle.lane_rounds.specs.declared.events.Events.{Events}
 use Rattle.lane_rounds.specs.Outside.{names}
 use Rattle.lane_rounds.specs.Outside as lanes
 use Rattle.lane_rounds.specs.State.{RoundsState, MayAsk, with_each}
-use Rattle.trace_text.specs.Trace.{TraceContent, asked_at, fate_at, boots_at, last_of}
+use Rattle.trace_text.specs.Trace.{TraceContent, asked_at, fate_at, boots_at, last_one}
 use Rattle.trace_text.specs.Valid.{IsTrace}
 use Rattle.trace_run.specs.Run.{Setting, round_of, told_in, replayed}
 use Rattle.replay_rounds.specs.Setting.{raw_rows, setting_of}
@@ -23,7 +23,7 @@ use Rattle.replay_rounds.specs.Standing.{LaneStands, routed_from, slots_between}
 abbrev pub events_for : TraceContent → ℕ → ℕ → Events
 events_for trace round endpoint = record {
   boots = length (boots_at trace round endpoint);
-  version = unwrap_or (last_of (boots_at trace round endpoint)) 1;
+  version = unwrap_or (last_one (boots_at trace round endpoint)) 1;
   asks = asked_at trace round endpoint;
   up = fate_at trace round endpoint true;
   down = fate_at trace round endpoint false;
@@ -31,14 +31,14 @@ events_for trace round endpoint = record {
 }
 
 -- what a publisher tells an endpoint in a round: its slots of the batch two windows before, none in the first two windows
-abbrev pub told_by : Window → ℕ → ℕ → ℕ → List Told
+abbrev pub told_by : PublisherWindow → ℕ → ℕ → ℕ → List Told
 told_by window g round endpoint = if nat_le (2 * g) round then slots_told window endpoint (round - 2 * g) else []
 
 -- an endpoint's rounds may be played with these, and then they are its round of the run
 pub record MayPlayEndpoint (setting : Setting) (round endpoint : ℕ) (lane : RoundsState) (events : Events) (told : List Told) : Type 0 where
   pub version : 0 < events.boots → IsVersion events.version
   pub epochs : lane.agent.epoch + events.boots < 2 ^ 32
-  pub asks : (calls : AgentHistory) × agents.StandsFor lane.agent calls
+  pub asks : (calls : AgentHistory) × agents.AgentStandsFor lane.agent calls
       × MayAsk endpoint setting.endpoints (with_each Boots (replicate events.boots events.version) calls) events.asks
   pub slots : AreSlots setting.endpoints setting.b endpoint told
   pub allocated : AreAllocated lane.lane round told
@@ -56,7 +56,7 @@ EveryRoundMayBePlayed =
 abbrev pub WhatIsToldIsHeld : Type 0
 WhatIsToldIsHeld =
     (trace : TraceContent) (b g : ℕ) (cores : SlotCores) → IsTrace trace → (0 < b) × (b ≤ 64) → (0 < g) × (g ≤ 16) →
-    (window : Window) (published round endpoint : ℕ) → window.b ≡ b → window.first_batch + window.count ≡ published →
+    (window : PublisherWindow) (published round endpoint : ℕ) → window.b ≡ b → window.first_batch + window.count ≡ published →
     window.slots ≡ routed_from cores (window.first_batch * b + 1) (slots_between (setting_of trace b g cores) window.first_batch published) →
     published ≤ round → (2 * g ≤ round → (window.first_batch ≤ round - 2 * g) × (round - 2 * g < published)) →
     told_by window g round endpoint ≡ told_in (setting_of trace b g cores) (replayed (setting_of trace b g cores) round).batches round endpoint

@@ -11,7 +11,7 @@ use Rattle.endpoint_history.specs.Rounds.{read, sent_by}
 use Rattle.endpoint_history.specs.Steps.{lane_of}
 use Rattle.arbiter_lane.specs.Refusals.{up_refusal}
 use Rattle.lane_rounds.specs.Raw.{Raw}
-use Rattle.lane_rounds.specs.Refused.{number_of, with_raw}
+use Rattle.lane_rounds.specs.Refused.{up_refusal_number, with_raw}
 use Rattle.trace_text.specs.Trace.{TraceContent}
 use Rattle.trace_run.specs.Run.{Setting, round_of, replayed}
 use Rattle.trace_run.specs.Histories.{played_after}
@@ -33,7 +33,7 @@ lane_before setting round earlier endpoint = with_raw endpoint setting.endpoints
 -- the number of the refusal by the lane of the endpoint that a raw packet names, as that lane then stands; None where it is accepted
 abbrev pub answer_after : Setting → ℕ → List Raw → Raw → Option ℕ
 answer_after setting round earlier raw =
-    option_map number_of (up_refusal (up_of raw.bytes).src setting.endpoints (lane_before setting round earlier (up_of raw.bytes).src) raw.bytes)
+    option_map up_refusal_number (up_refusal (up_of raw.bytes).src setting.endpoints (lane_before setting round earlier (up_of raw.bytes).src) raw.bytes)
 
 -- for each raw packet of a round, in the order of rows
 abbrev pub raw_answers : Setting → TraceContent → ℕ → List (Option ℕ)
@@ -71,8 +71,8 @@ rounds_played setting trace first count = record {
 -- ---- what they are
 
 -- the numbers under which refusals are told: by the lane of the endpoint that a packet names, so none is of another endpoint's
-abbrev pub IsRefusal : ℕ → Type 0
-IsRefusal number = ((1 ≤ number) × (number ≤ 12)) ⊎ (((21 ≤ number) × (number ≤ 24)) ⊎ (number ≡ 26))
+abbrev pub IsLaneRefusal : ℕ → Type 0
+IsLaneRefusal number = ((1 ≤ number) × (number ≤ 12)) ⊎ (((21 ≤ number) × (number ≤ 24)) ⊎ (number ≡ 26))
 
 abbrev pub EveryRefusalHasANumber : Type 0
-EveryRefusalHasANumber = (setting : Setting) (trace : TraceContent) (round : ℕ) → All (λ answer. IfSome answer IsRefusal) (raw_answers setting trace round)
+EveryRefusalHasANumber = (setting : Setting) (trace : TraceContent) (round : ℕ) → All (λ answer. IfSome answer IsLaneRefusal) (raw_answers setting trace round)

@@ -4,7 +4,7 @@ use Rattle.greedy_rules.specs.Fronts.{FrontsAreFronts, EveryBatchHasItsSlots}
 use Rattle.greedy_rules.specs.Schedule.{first_slot}
 use Rattle.greedy_rules.specs.SlotTable.{IsSlotOf}
 use Rattle.clos_topology.specs.NetSlots.{SlotCores}
-use Rattle.slot_publisher.specs.Window.{Window}
+use Rattle.slot_publisher.specs.Window.{PublisherWindow}
 use Rattle.endpoint_history.specs.Counts.{Allocation}
 use Rattle.lane_rounds.specs.State.{RoundsState}
 use Rattle.trace_run.specs.Run.{Setting}
@@ -13,7 +13,7 @@ use Rattle.trace_run.specs.Rest.{OwedIsAllocatedOrLeft}
 use Rattle.replay_rounds.specs.Standing.{LaneStands, routed_from, slots_between}
 
 -- a window holds the slots of its batches in the schedule of a run, by some cores; their rounds are collected
-pub record WindowIsPublished (setting : Setting) (collected : ℕ) (window : Window) : Type 0 where
+pub record WindowIsPublished (setting : Setting) (collected : ℕ) (window : PublisherWindow) : Type 0 where
   pub b : setting.b ≡ window.b
   pub some : 0 < window.b
   pub endpoints : window.endpoints ≡ setting.endpoints

@@ -3,7 +3,7 @@
 use Rattle.std.specs.Prelude.{ℕ, ◌+◌, true, false, List, [], ◌∷◌, length, replicate, Option, unwrap_or}
 use Rattle.clos_topology.specs.Network.{endpoints_of}
 use Rattle.clos_topology.specs.NetSlots.{SlotCores, limits_of}
-use Rattle.trace_text.specs.Trace.{TraceContent, asked_at, fate_at, boots_at, raw_at, last_of}
+use Rattle.trace_text.specs.Trace.{TraceContent, asked_at, fate_at, boots_at, raw_at, last_one}
 use Rattle.lane_rounds.specs.Raw.{Raw}
 use Rattle.lane_rounds.specs.Outside.{packets_in}
 use Rattle.trace_run.specs.Run.{FromOutside, Setting}
@@ -22,7 +22,7 @@ raw_rows trace round = rows_from 0 (raw_at trace round)
 
 -- boots of one round follow each other with nothing between them, so the version of the last is that of all
 abbrev pub boots_in : List ℕ → List ℕ
-boots_in versions = replicate (length versions) (unwrap_or (last_of versions) 1)
+boots_in versions = replicate (length versions) (unwrap_or (last_one versions) 1)
 
 abbrev pub outside_of : TraceContent → FromOutside
 outside_of trace = record {

@@ -7,7 +7,7 @@ use Rattle.greedy_rules.specs.Schedule.{first_slot, schedule}
 use Rattle.clos_topology.specs.Network.{endpoints_of}
 use Rattle.clos_topology.specs.NetSlots.{SlotCores, AreSlotCores}
 use Rattle.slot_publisher.specs.CoreTable.{CoreSlots, core_of}
-use Rattle.slot_publisher.specs.Window.{RoutedFlow, Window, with_cores}
+use Rattle.slot_publisher.specs.Window.{RoutedFlow, PublisherWindow, with_cores}
 use Rattle.endpoint_history.specs.Counts.{Allocation}
 use Rattle.lane_rounds.specs.State.{RoundsState}
 use Rattle.lane_rounds.specs.Standing as lanes
@@ -26,7 +26,7 @@ pub record RoundsContent : Type 0 where
   pub published : ℕ
   pub counted : ℕ
   pub lanes : List RoundsState
-  pub window : Window
+  pub window : PublisherWindow
 
 -- the run with these cores
 abbrev pub setting_with : TraceContent → SlotCores → RoundsContent → Setting
@@ -51,7 +51,7 @@ pub record LaneStands (setting : Setting) (collected batches endpoint : ℕ) (la
   pub round : lane.lane.round ≡ collected
   pub allocations : List Allocation
   pub counted : AreCounted setting batches 0 endpoint allocations
-  pub stands : lanes.StandsFor lane ((replayed setting collected).rounds endpoint) allocations
+  pub stands : lanes.RoundsStandFor lane ((replayed setting collected).rounds endpoint) allocations
 
 pub record AllRoundsStand (trace : TraceContent) (cores : SlotCores) (all : RoundsContent) : Type 0 where
   pub named : AreSlotCores cores

@@ -10,7 +10,7 @@ ghost use Rattle.clos_topology.specs.NetSlots.{SlotCores, AreSlotCores};
 ghost use Rattle.slot_publisher.specs.Window.{NamesCores};
 ghost use Rattle.replay_rounds.specs.Played.{rounds_played};
 ghost use Rattle.replay_rounds.specs.Standing.{AllRoundsStand, IsNextWindow, setting_with};
-ghost use Rattle.replay_rounds.specs.Counts.{counted, lane_count, sent_and_missed};
+ghost use Rattle.replay_rounds.specs.Counts.{count_of_lane, lane_count, sent_and_missed};
 
 use crate::NoMemory;
 use crate::collect::{WindowInPlay, collect};
@@ -77,7 +77,7 @@ impl ReplayRounds {
         ensures g { IfOk result (λ all. all.g ≡ g) }
         ensures collected { IfOk result (λ all. all.collected ≡ 0) }
         ensures published { IfOk result (λ all. all.published ≡ 0) }
-        ensures counted { IfOk result (λ all. all.counted ≡ 0) }
+        ensures count_of_lane { IfOk result (λ all. all.counted ≡ 0) }
         ensures first { IfOk result (λ all. all.window.first_batch ≡ 0) }
     {
         let endpoints = trace.endpoints();
@@ -198,7 +198,7 @@ impl ReplayRounds {
         ensures opened { (trace : TraceContent) (cores : SlotCores) → AllRoundsStand trace cores self.now →
             (IsSome result ↔ (had self.now.g (lane_after (setting_with trace cores self.now) self.now.collected flow.src) flow.dst ≡ true)) }
         ensures counts { IfSome result (λ count. (trace : TraceContent) (cores : SlotCores) → AllRoundsStand trace cores self.now →
-            counted count ≡ lane_count (setting_with trace cores self.now) self.now.collected self.now.counted flow.src flow.dst) }
+            count_of_lane count ≡ lane_count (setting_with trace cores self.now) self.now.collected self.now.counted flow.src flow.dst) }
     {
         self.lanes[flow.src as usize].count(flow.dst)
     }

@@ -1,5 +1,5 @@
 -- The bytes of each output line, without its line feed (this project's own profile): its name, and then its fields, each
--- after a comma; numbers are plain decimal.
+-- after a comma; number_fields are plain decimal.
 use Rattle.std.specs.Prelude.{ℕ, ◌+◌, ◌≤◌, ⊤, List, [], ◌∷◌, ◌++◌, Bool, true, false, Option, Some, None, IfSome, codes, decimal, map, slice_index}
 use Rattle.report_text.specs.declared.line.Line.{Line}
 use Rattle.report_text.specs.declared.line.Line.TheVariants as line
@@ -10,8 +10,8 @@ abbrev pub fields : List (List ℕ) → List ℕ
 fields [] = []
 fields (field ∷ more) = 44 ∷ field ++ fields more
 
-abbrev pub numbers : List ℕ → List ℕ
-numbers ns = fields (map decimal ns)
+abbrev pub number_fields : List ℕ → List ℕ
+number_fields ns = fields (map decimal ns)
 
 -- a packet that stays in its rack takes no core
 abbrev pub core_field : Option ℕ → List ℕ
@@ -23,21 +23,21 @@ bit false = 0
 bit true = 1
 
 abbrev pub line_bytes : Line → List ℕ
-line_bytes (line.Batch batch src dst clear add) = codes "batch" ++ numbers (batch ∷ src ∷ dst ∷ bit clear ∷ add ∷ [])
-line_bytes (line.Slot slot src dst core) = codes "slot" ++ numbers (slot ∷ src ∷ dst ∷ []) ++ fields (core_field core ∷ [])
-line_bytes (line.Sent slot src dst) = codes "sent" ++ numbers (slot ∷ src ∷ dst ∷ [])
-line_bytes (line.Refused round number) = codes "refused" ++ numbers (round ∷ []) ++ fields (answer_name number ∷ [])
-line_bytes (line.Flow src dst demanded allocated pending) = codes "flow" ++ numbers (src ∷ dst ∷ demanded ∷ allocated ∷ pending ∷ [])
+line_bytes (line.Batch batch src dst clear add) = codes "batch" ++ number_fields (batch ∷ src ∷ dst ∷ bit clear ∷ add ∷ [])
+line_bytes (line.Slot slot src dst core) = codes "slot" ++ number_fields (slot ∷ src ∷ dst ∷ []) ++ fields (core_field core ∷ [])
+line_bytes (line.Sent slot src dst) = codes "sent" ++ number_fields (slot ∷ src ∷ dst ∷ [])
+line_bytes (line.Refused round number) = codes "refused" ++ number_fields (round ∷ []) ++ fields (answer_name number ∷ [])
+line_bytes (line.Flow src dst demanded allocated pending) = codes "flow" ++ number_fields (src ∷ dst ∷ demanded ∷ allocated ∷ pending ∷ [])
 line_bytes (line.Count src dst demanded acknowledged flight pending lost sent missed) =
-    codes "count" ++ numbers (src ∷ dst ∷ demanded ∷ acknowledged ∷ flight ∷ pending ∷ lost ∷ sent ∷ missed ∷ [])
-line_bytes (line.End rounds) = codes "end" ++ numbers (rounds ∷ [])
+    codes "count" ++ number_fields (src ∷ dst ∷ demanded ∷ acknowledged ∷ flight ∷ pending ∷ lost ∷ sent ∷ missed ∷ [])
+line_bytes (line.End rounds) = codes "end" ++ number_fields (rounds ∷ [])
 line_bytes (line.Made number flows demanded acknowledged flight pending lost sent missed) =
-    codes "made" ++ numbers (number ∷ flows ∷ demanded ∷ acknowledged ∷ flight ∷ pending ∷ lost ∷ sent ∷ missed ∷ [])
-line_bytes (line.Answer endpoint place number) = codes "answer" ++ numbers (endpoint ∷ place ∷ []) ++ fields (answer_name number ∷ [])
-line_bytes (line.Granted message node generation first) = codes "granted" ++ numbers (message ∷ node ∷ generation ∷ first ∷ [])
-line_bytes (line.Published node batch) = codes "published" ++ numbers (node ∷ batch ∷ [])
-line_bytes (line.Declined row place) = codes "refused" ++ numbers (row ∷ []) ++ fields (event_name place ∷ [])
-line_bytes (line.Total src dst asked sent) = codes "total" ++ numbers (src ∷ dst ∷ asked ∷ sent ∷ [])
+    codes "made" ++ number_fields (number ∷ flows ∷ demanded ∷ acknowledged ∷ flight ∷ pending ∷ lost ∷ sent ∷ missed ∷ [])
+line_bytes (line.Answer endpoint place number) = codes "answer" ++ number_fields (endpoint ∷ place ∷ []) ++ fields (answer_name number ∷ [])
+line_bytes (line.Granted message node generation first) = codes "granted" ++ number_fields (message ∷ node ∷ generation ∷ first ∷ [])
+line_bytes (line.Published node batch) = codes "published" ++ number_fields (node ∷ batch ∷ [])
+line_bytes (line.Declined row place) = codes "refused" ++ number_fields (row ∷ []) ++ fields (event_name place ∷ [])
+line_bytes (line.Total src dst asked sent) = codes "total" ++ number_fields (src ∷ dst ∷ asked ∷ sent ∷ [])
 
 -- ---- the range of each field
 
@@ -81,7 +81,7 @@ IsLine (line.Published node batch) = ⊥
 IsLine (line.Declined row place) = ⊥
 IsLine (line.Total src dst asked sent) = ⊥
 
--- what a line must keep to be written, beside the types of its numbers
+-- what a line must keep to be written, beside the types of its number_fields
 abbrev pub HasName : Line → Type 0
 HasName (line.Refused round number) = IsRefusal number
 HasName (line.Answer endpoint place number) = IsAnswer number

@@ -1,5 +1,5 @@
 ghost use Rattle.std.specs.Prelude.{◌≡◌, ◌≢◌, ◌<◌, ◌≤◌, ◌^◌, ℕ, List, [], ◌∷◌, ◌++◌, length, codes, decimal, Some, IfSome, IsSomeAnd, slice_index, slice_index_or, true, Bool, MatchBool, ◌⊎◌, Option};
-ghost use Rattle.report_text.specs.Lines.{fields, numbers, core_field, bit, AreWithin, endpoint_most};
+ghost use Rattle.report_text.specs.Lines.{fields, number_fields, core_field, bit, AreWithin, endpoint_most};
 ghost use Rattle.report_text.specs.Names.{answer_name, IsRefusal};
 
 use crate::names::number_named;
@@ -61,8 +61,8 @@ fn next_number(text: &[u8], most: u64) -> Option<(u64, &[u8])>
 /// Reads a number for each of `values`, each after a comma and at most what stood there, and answers the bytes behind them.
 pub(crate) fn read_numbers<'a>(text: &'a [u8], values: &mut [u64]) -> Option<&'a [u8]>
     ensures count { length values.new ≡ length values.old }
-    ensures spelled { IfSome result (λ rest. (text.now ≡ numbers values.new ++ rest.now) × AreWithin values.old values.new) }
-    ensures only { (ns rest : List ℕ) → length ns ≡ length values.old → AreWithin values.old ns → slice_index_or rest 0 44 ≡ 44 → text.now ≡ numbers ns ++ rest → IsSomeAnd result (λ r. (values.new ≡ ns) × (r.now ≡ rest)) }
+    ensures spelled { IfSome result (λ rest. (text.now ≡ number_fields values.new ++ rest.now) × AreWithin values.old values.new) }
+    ensures only { (ns rest : List ℕ) → length ns ≡ length values.old → AreWithin values.old ns → slice_index_or rest 0 44 ≡ 44 → text.now ≡ number_fields ns ++ rest → IsSomeAnd result (λ r. (values.new ≡ ns) × (r.now ≡ rest)) }
 {
     let mut rest = text;
     for value in values.iter_mut() {
@@ -76,8 +76,8 @@ pub(crate) fn read_numbers<'a>(text: &'a [u8], values: &mut [u64]) -> Option<&'a
 /// Reads a number for each of `values`, each after a comma and at most what stood there, and nothing more.
 pub(crate) fn read_all(text: &[u8], values: &mut [u64]) -> bool
     ensures count { length values.new ≡ length values.old }
-    ensures spelled { result ≡ true → (text.now ≡ numbers values.new) × AreWithin values.old values.new }
-    ensures only { (ns : List ℕ) → length ns ≡ length values.old → AreWithin values.old ns → text.now ≡ numbers ns → MatchBool result (values.new ≡ ns) ⊥ }
+    ensures spelled { result ≡ true → (text.now ≡ number_fields values.new) × AreWithin values.old values.new }
+    ensures only { (ns : List ℕ) → length ns ≡ length values.old → AreWithin values.old ns → text.now ≡ number_fields ns → MatchBool result (values.new ≡ ns) ⊥ }
 {
     match read_numbers(text, values) {
         Some(rest) => rest.is_empty(),

@@ -1,6 +1,6 @@
 //! Numbers spelled once for many lines.
 ghost use Rattle.std.specs.Prelude.{◌≡◌, ◌+◌, ◌≤◌, [], ◌∷◌, ◌++◌, length, take};
-ghost use Rattle.report_text.specs.Lines.{numbers};
+ghost use Rattle.report_text.specs.Lines.{number_fields};
 
 use crate::put::{put_front, spell};
 use std::marker::Model;
@@ -64,7 +64,7 @@ impl Numeral {
     pub(crate) fn put(&self, buf: &mut [u8], at: usize) -> usize
         requires { at + 16 ≤ length buf.old }
         ensures fits { result ≤ at + 11 }
-        ensures written { take result buf.new ≡ take at buf.old ++ numbers (self.now ∷ []) }
+        ensures written { take result buf.new ≡ take at buf.old ++ number_fields (self.now ∷ []) }
         ensures count { length buf.new ≡ length buf.old }
     {
         // Copied first: it can't overlap the buffer then, and is stored at once.

@@ -1,6 +1,6 @@
 //! Bytes put into a buffer at a place.
 ghost use Rattle.std.specs.Prelude.{◌≡◌, ◌+◌, ◌<◌, ◌≤◌, [], ◌∷◌, ◌++◌, length, take, decimal};
-ghost use Rattle.report_text.specs.Lines.{numbers};
+ghost use Rattle.report_text.specs.Lines.{number_fields};
 
 use itoa::Buffer;
 
@@ -33,7 +33,7 @@ pub(crate) fn put_front(buf: &mut [u8], at: usize, bytes: &[u8], count: usize) -
 pub(crate) fn spell(number: u32, field: &mut [u8]) -> usize
     requires { length (decimal number) < length field.old }
     ensures end { result ≡ length (decimal number) + 1 }
-    ensures spelled { take result field.new ≡ numbers (number ∷ []) }
+    ensures spelled { take result field.new ≡ number_fields (number ∷ []) }
     ensures count { length field.new ≡ length field.old }
 {
     let mut digits = Buffer::new();

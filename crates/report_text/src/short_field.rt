@@ -1,6 +1,6 @@
 //! The field of a small number.
 ghost use Rattle.std.specs.Prelude.{◌≡◌, ◌<◌, ◌≤◌, [], ◌∷◌, take};
-ghost use Rattle.report_text.specs.Lines.{numbers};
+ghost use Rattle.report_text.specs.Lines.{number_fields};
 
 use crate::put::spell;
 
@@ -16,7 +16,7 @@ pub(crate) struct ShortField {
 pub(crate) fn short_field(number: u16) -> ShortField
     requires { number < 1000 }
     ensures fits { result.end ≤ 4 }
-    ensures spelled { take result.end result.bytes ≡ numbers (number ∷ []) }
+    ensures spelled { take result.end result.bytes ≡ number_fields (number ∷ []) }
 {
     let mut bytes = [0; 4];
     let end = spell(number.into(), &mut bytes);

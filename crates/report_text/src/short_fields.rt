@@ -1,6 +1,6 @@
 //! The fields of small numbers, spelled once for all lines.
 ghost use Rattle.std.specs.Prelude.{◌≡◌, ◌+◌, ◌≤◌, [], ◌∷◌, ◌++◌, length, take};
-ghost use Rattle.report_text.specs.Lines.{numbers};
+ghost use Rattle.report_text.specs.Lines.{number_fields};
 ghost use Rattle.report_text.specs.ShortFields.{AreShortFields};
 
 use crate::numeral::Numeral;
@@ -32,7 +32,7 @@ impl ShortFields {
     pub(crate) fn put(&self, buf: &mut [u8], at: usize, number: u32) -> usize
         requires { at + 16 ≤ length buf.old }
         ensures fits { result ≤ at + 11 }
-        ensures written { take result buf.new ≡ take at buf.old ++ numbers (number ∷ []) }
+        ensures written { take result buf.new ≡ take at buf.old ++ number_fields (number ∷ []) }
         ensures count { length buf.new ≡ length buf.old }
     {
         if number < u32::from(SMALL) {
@@ -48,7 +48,7 @@ impl ShortFields {
 fn put_long(buf: &mut [u8], at: usize, number: u32) -> usize
     requires { at + 16 ≤ length buf.old }
     ensures fits { result ≤ at + 11 }
-    ensures written { take result buf.new ≡ take at buf.old ++ numbers (number ∷ []) }
+    ensures written { take result buf.new ≡ take at buf.old ++ number_fields (number ∷ []) }
     ensures count { length buf.new ≡ length buf.old }
 {
     Numeral::new(number).put(buf, at)

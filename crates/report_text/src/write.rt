@@ -1,5 +1,5 @@
 ghost use Rattle.std.specs.Prelude.{◌≡◌, ◌+◌, ◌*◌, ◌^◌, ◌<◌, ◌≤◌, [], ◌∷◌, ◌++◌, length, take, drop};
-ghost use Rattle.report_text.specs.Lines.{line_bytes, numbers, fields, HasName};
+ghost use Rattle.report_text.specs.Lines.{line_bytes, number_fields, fields, HasName};
 
 use crate::Line;
 use crate::names::{answer_name, event_name};
@@ -26,10 +26,10 @@ fn put(buf: &mut [u8; 192], at: usize, bytes: &[u8]) -> usize
 /// Spells a number after a comma.
 fn put_number(buf: &mut [u8; 192], at: usize, number: u64) -> usize
     requires { at + SUM ≤ 192 }
-    ensures end { result ≡ at + length (numbers (number ∷ [])) }
+    ensures end { result ≡ at + length (number_fields (number ∷ [])) }
     ensures fits { result ≤ at + SUM }
     ensures short { number < 2 ^ 32 → result ≤ at + NUMBER }
-    ensures written { take result buf.new ≡ take at buf.old ++ numbers (number ∷ []) }
+    ensures written { take result buf.new ≡ take at buf.old ++ number_fields (number ∷ []) }
     ensures rest { drop result buf.new ≡ drop result buf.old }
 {
     let mut digits = Buffer::new();
@@ -40,9 +40,9 @@ fn put_number(buf: &mut [u8; 192], at: usize, number: u64) -> usize
 /// Spells a name and its numbers at the front of the buffer.
 fn put_all(buf: &mut [u8; 192], name: &[u8], values: &[u32]) -> usize
     requires { length name.now + NUMBER * length values.now + NUMBER ≤ 192 }
-    ensures end { result ≡ length (name.now ++ numbers values.now) }
+    ensures end { result ≡ length (name.now ++ number_fields values.now) }
     ensures fits { result ≤ length name.now + NUMBER * length values.now }
-    ensures written { take result buf.new ≡ name.now ++ numbers values.now }
+    ensures written { take result buf.new ≡ name.now ++ number_fields values.now }
     ensures rest { drop result buf.new ≡ drop result buf.old }
 {
     let mut at = put(buf, 0, name);
@@ -55,9 +55,9 @@ fn put_all(buf: &mut [u8; 192], name: &[u8], values: &[u32]) -> usize
 /// Spells sums from a place on.
 fn put_sums(buf: &mut [u8; 192], start: usize, sums: &[u64]) -> usize
     requires { start + SUM * length sums.now ≤ 192 }
-    ensures end { result ≡ start + length (numbers sums.now) }
+    ensures end { result ≡ start + length (number_fields sums.now) }
     ensures fits { result ≤ start + SUM * length sums.now }
-    ensures written { take result buf.new ≡ take start buf.old ++ numbers sums.now }
+    ensures written { take result buf.new ≡ take start buf.old ++ number_fields sums.now }
     ensures rest { drop result buf.new ≡ drop result buf.old }
 {
     let mut at = start;
@@ -204,9 +204,9 @@ fn put_slot(buf: &mut [u8; 192], slot: u32, src: u16, dst: u16, core: Option<u16
 /// Spells a name, its numbers, and after them another name.
 fn put_named(buf: &mut [u8; 192], name: &[u8], values: &[u32], last: &[u8]) -> usize
     requires { length name.now + NUMBER * length values.now + length last.now + NUMBER < 192 }
-    ensures end { result ≡ length (name.now ++ numbers values.now ++ fields (last.now ∷ [])) }
+    ensures end { result ≡ length (name.now ++ number_fields values.now ++ fields (last.now ∷ [])) }
     ensures fits { result < 192 }
-    ensures written { take result buf.new ≡ name.now ++ numbers values.now ++ fields (last.now ∷ []) }
+    ensures written { take result buf.new ≡ name.now ++ number_fields values.now ++ fields (last.now ∷ []) }
     ensures rest { drop result buf.new ≡ drop result buf.old }
 {
     let at = put_all(buf, name, values);

@@ -8,15 +8,16 @@ use Rattle.std.proofs.lemmas.List.{get_or_default, take_all, take_at}
 use Rattle.greedy_rules.specs.declared.flows.Item.{Item}
 use Rattle.greedy_rules.specs.Batches.{DemandBatch}
 use Rattle.greedy_rules.specs.Schedule.{first_slot}
+use Rattle.greedy_rules.proofs.TableLemmas.{next_row}
 use Rattle.slot_batches.specs.Settled.{slots_filled}
-use Rattle.slot_batches.specs.Stands.{slots_of, IsSameWork, Stands, endpoints_of, batch_size_of, StageState}
+use Rattle.slot_batches.specs.Stands.{stage_slots, IsSameWork, Stands, stage_endpoints, batch_size_of, StageState}
 use Rattle.ring_core.specs.States.{WorkerState}
-use Rattle.ring_core.specs.Windows.{Window, batch_at, batch_of, first_slot_in, list_before_stage, pieces_before, is_fed, items_fed, slots_in, worker_after}
+use Rattle.ring_core.specs.Windows.{Window, batch_of_stage, batch_of, first_slot_in, list_before_stage, pieces_before, is_fed, items_fed, slots_of_stage, worker_after}
 use Rattle.ring_core.specs.Streams.{pieces_into}
-use Rattle.ring_core.specs.Workers.{own_stage, StageIsAt, HasBegun, HaveBegun, IsWorker, IsWindowOf, HasPlayed, first_ends}
+use Rattle.ring_core.specs.Workers.{own_stage, StageIsAt, HasBegun, HaveBegun, IsWorker, IsWorkerWindow, HasPlayed, first_ends}
 use Rattle.slot_batches.proofs.NodeCounts.{settled-all}
 use Rattle.ring_core.proofs.WindowLemmas.{one_list_on}
-use Rattle.ring_core.proofs.StreamLemmas.{row_on, into_none}
+use Rattle.ring_core.proofs.StreamLemmas.{into_none}
 use Rattle.ring_core.proofs.PlayLemmas.{get_set_same, get_set_other}
 
 -- earlier stages stand at earlier places
@@ -29,19 +30,19 @@ own_before workers worker place other below = elim (cases_lt place other) [
 -- the numbers of the slots
 pub slots_fit : (first stage n b most : ℕ) → stage < n → (first + n) * b + 1 ≤ most → (first + stage) * b + 1 + b ≤ most
 slots_fit first stage n b most below fit =
-    let on : (first + stage + 1) * b ≡ (first + stage) * b + b = row_on (first + stage) b in
+    let on : (first + stage + 1) * b ≡ (first + stage) * b + b = next_row (first + stage) b in
     omega (arith, on, fit, mul-le (first + stage + 1) b (first + n) b (omega arith) (omega arith))
 
 pub first_fits : (first stage n b most : ℕ) → 0 < b → stage < n → (first + n) * b + 1 ≤ most → first + stage < most
 first_fits first stage n b most some below fit = omega (arith, fit, below, mul-le (first + n) 1 (first + n) b (omega arith) (omega (arith, some)))
 
-pub batch_is : (batches : List DemandBatch) (stage : ℕ) (batch : DemandBatch) → stage < length batches → batch ≡ get_or batches stage batch → batch ≡ batch_at batches stage
+pub batch_is : (batches : List DemandBatch) (stage : ℕ) (batch : DemandBatch) → stage < length batches → batch ≡ get_or batches stage batch → batch ≡ batch_of_stage batches stage
 batch_is batches stage batch below is = is ∙ get_or_default batches stage batch _ below
 
 -- one more has begun
 pub one_begun : (endpoints b first : ℕ) (batches : List DemandBatch) (workers worker at stage : ℕ) (stages : List StageState) (old new : StageState) (batch : DemandBatch) (number : ℕ)
-    → stage ≡ own_stage workers worker at → batch ≡ batch_at batches stage → number ≡ first_slot b (first + stage) → endpoints_of old ≡ endpoints → batch_size_of old ≡ b
-    → IsSameWork (endpoints_of old) (batch_size_of old) (stage + 1) number new → Stands batch [] false 0 new
+    → stage ≡ own_stage workers worker at → batch ≡ batch_of_stage batches stage → number ≡ first_slot b (first + stage) → stage_endpoints old ≡ endpoints → batch_size_of old ≡ b
+    → IsSameWork (stage_endpoints old) (batch_size_of old) (stage + 1) number new → Stands batch [] false 0 new
     → ((place : ℕ) (state : StageState) → place < at → slice_get stages place ≡ Some state → HasBegun endpoints b first batches (own_stage workers worker place) state)
     → (place : ℕ) (state : StageState) → place < at + 1 → slice_get (set stages at new) place ≡ Some state → HasBegun endpoints b first batches (own_stage workers worker place) state
 one_begun endpoints b first batches workers worker at stage stages old new batch number stage_is batch_is number_is endpoints_are size_is work stands earlier place state below is = elim (cases_lt place at) [
@@ -67,7 +68,7 @@ none_fed n = of (n / 64 + 1) 0 (omega arith)
     of : (a b : ℕ) → b < a → nat_le a b ≡ false
     of a b less = grind (arith, nat_tests)
 
-module _ (w : WorkerState) (window : Window) (first : ℕ) (batches : List DemandBatch) (is_window : IsWindowOf w first batches window) where
+module _ (w : WorkerState) (window : Window) (first : ℕ) (batches : List DemandBatch) (is_window : IsWorkerWindow w first batches window) where
   begun_at : (number : ℕ) (state : StageState) → HasBegun w.endpoints w.b first batches number state → StageIsAt w.endpoints window number 0 0 state
   begun_at stage state begun = record {
     work = record {
@@ -76,8 +77,8 @@ module _ (w : WorkerState) (window : Window) (first : ℕ) (batches : List Deman
       same_number = begun.work.same_number;
       same_first = begun.work.same_first ∙ (λ i. first_slot (sym is_window.b_is i) (sym is_window.first_is i + stage));
     };
-    stands = subst (λ (b : Bool). Stands (batch_at window.batches stage) [] b 0 state) (sym (none_fed (length (list_before_stage window stage) - 1)))
-        (subst (λ (ds : List DemandBatch). Stands (batch_at ds stage) [] false 0 state) (sym is_window.batches_are) begun.stands);
+    stands = subst (λ (b : Bool). Stands (batch_of_stage window.batches stage) [] b 0 state) (sym (none_fed (length (list_before_stage window stage) - 1)))
+        (subst (λ (ds : List DemandBatch). Stands (batch_of_stage ds stage) [] false 0 state) (sym is_window.batches_are) begun.stands);
   }
 
   pub begun_played : (sent stage : ℕ) (stages : List StageState) → length batches ≤ w.batches → sent ≡ (first_ends window w.number).sent → stage ≡ w.number
@@ -111,7 +112,7 @@ module _ (w : WorkerState) (window : Window) (first : ℕ) (batches : List Deman
       }
 
 -- the slots of a stage that has ended
-pub ended_slots : (endpoints : ℕ) (window : Window) (stage given : ℕ) (state : StageState) → StageIsAt endpoints window stage (pieces_before window stage) given state → slots_of state ≡ slots_in window stage
+pub ended_slots : (endpoints : ℕ) (window : Window) (stage given : ℕ) (state : StageState) → StageIsAt endpoints window stage (pieces_before window stage) given state → stage_slots state ≡ slots_of_stage window stage
 ended_slots endpoints window stage given state at =
     let list : List Item = list_before_stage window stage in
     let all : is_fed window stage (pieces_before window stage) ≡ true = whole (pieces_before window stage) in
@@ -135,7 +136,7 @@ ended_nodes endpoints window stage given state below at given_is =
 -- a stage before the present one is one of those for which there are batches
 pub ended_within : (workers worker place present n : ℕ) → place < present → own_stage workers worker present < n + workers → own_stage workers worker place < n
 ended_within workers worker place present n before near =
-    let on : (place + 1) * workers ≡ place * workers + workers = row_on place workers in
+    let on : (place + 1) * workers ≡ place * workers + workers = next_row place workers in
     omega (arith, on, near, mul-le (place + 1) workers present workers (omega (arith, before)) (omega arith))
 
 pub place_of : (workers worker place : ℕ) → worker < workers → own_stage workers worker place / workers ≡ place
@@ -143,7 +144,7 @@ place_of workers worker place below = div-mul-add place workers worker below
 
 -- a worker whose stages were written anew
 pub worker_with : (w : WorkerState) (new : List StageState) (sent stage : ℕ) → IsWorker w → length new ≡ length w.stages
-    → All (λ s. endpoints_of s ≡ w.endpoints) new → All (λ s. batch_size_of s ≡ w.b) new → IsWorker (record w { stages = new; place = 0; stage = stage; taken = 0; sent = sent; held = None })
+    → All (λ s. stage_endpoints s ≡ w.endpoints) new → All (λ s. batch_size_of s ≡ w.b) new → IsWorker (record w { stages = new; place = 0; stage = stage; taken = 0; sent = sent; held = None })
 worker_with w new sent stage is_worker count endpoints sizes = record {
   number = is_worker.number;
   some_slots = is_worker.some_slots;

@@ -9,7 +9,7 @@ use Rattle.ring_core.specs.States.{EdgeState}
 use Rattle.ring_core.specs.Windows.{Window}
 use Rattle.ring_core.specs.Streams.{EdgeInto, IsPieceAt, edge_stream}
 use Rattle.ring_core.specs.Ends.{one_taken, one_sent}
-use Rattle.ring_core.specs.Edges.{between, Holds, AllHold, taken_of, sent_of, room_of, taken_at, sent_at, room_at, ends_between, OthersStay, IsFoundEmpty, IsFoundFull}
+use Rattle.ring_core.specs.Edges.{between, Holds, AllHold, taken_of, sent_on_edge, room_of, taken_at, sent_at, room_at, ends_between, OthersStay, IsFoundEmpty, IsFoundFull}
 use Rattle.ring_core.proofs.PlayLemmas.{get_set_same, get_set_other}
 
 module _ {A : Type 0} where
@@ -149,7 +149,7 @@ module _ (window : Window) (edges : List EdgeState) (at : ℕ) (old new : EdgeSt
   took_others after sent room = record {
     count = length-set edges at new;
     taken = λ number other. other_at taken_of number other;
-    sent = λ number other. same_at sent_of number sent;
+    sent = λ number other. same_at sent_on_edge number sent;
     rooms = λ number. same_at room_of number room;
   }
 
@@ -157,7 +157,7 @@ module _ (window : Window) (edges : List EdgeState) (at : ℕ) (old new : EdgeSt
   gave_others before taken room = record {
     count = length-set edges at new;
     taken = λ number other. same_at taken_of number taken;
-    sent = λ number other. other_at sent_of number other;
+    sent = λ number other. other_at sent_on_edge number other;
     rooms = λ number. same_at room_of number room;
   }
 
@@ -169,25 +169,25 @@ module _ (window : Window) (edges : List EdgeState) (at : ℕ) (old new : EdgeSt
   took_ends after None told sent =
       let taken : taken_at (set edges at new) at ≡ taken_at edges at = same_at taken_of at told.2 in
       let none : old.sent ≡ old.taken = omega (arith, between_length old.taken old.sent (edge_stream into) holds.order holds.within, ap length (sym holds.pieces ∙ told.1)) in
-      ((λ i. record { before = into; after = record { window = window; worker = after }; taken = taken i; sent = same_at sent_of after sent i }), (new_at sent_of ∙ (sent ∙ (none ∙ sym (old_at taken_of))), taken))
+      ((λ i. record { before = into; after = record { window = window; worker = after }; taken = taken i; sent = same_at sent_on_edge after sent i }), (new_at sent_on_edge ∙ (sent ∙ (none ∙ sym (old_at taken_of))), taken))
   took_ends after (Some piece) told sent =
       let taken : taken_at (set edges at new) at ≡ taken_at edges at + 1 = new_at taken_of ∙ (told.1 ∙ ap (λ (n : ℕ). n + 1) (sym (old_at taken_of))) in
       let next = (took into old new (part_of piece) holds told.0 told.1 sent).1 in
-      (subst (λ (n : ℕ). IsPieceAt into n piece) (sym (old_at taken_of)) next, (λ i. record { before = into; after = record { window = window; worker = after }; taken = taken i; sent = same_at sent_of after sent i }))
+      (subst (λ (n : ℕ). IsPieceAt into n piece) (sym (old_at taken_of)) next, (λ i. record { before = into; after = record { window = window; worker = after }; taken = taken i; sent = same_at sent_on_edge after sent i }))
 
   pub gave_ends : (before : ℕ) (result : Result (Unit {0}) Piece) (piece : Piece) → GaveOr old new piece result → new.taken ≡ old.taken → new.room ≡ old.room
       → MatchResult result
       (λ _. ends_between window (set edges at new) before at ≡ one_sent (ends_between window edges before at))
       (λ refused. (refused ≡ piece) × (ends_between window (set edges at new) before at ≡ ends_between window edges before at) × IsFoundFull (set edges at new) at (sent_at edges at))
   gave_ends before (Ok u) piece told taken room =
-      let sent : sent_at (set edges at new) at ≡ sent_at edges at + 1 = new_at sent_of ∙ (told.1 ∙ ap (λ (n : ℕ). n + 1) (sym (old_at sent_of))) in
+      let sent : sent_at (set edges at new) at ≡ sent_at edges at + 1 = new_at sent_on_edge ∙ (told.1 ∙ ap (λ (n : ℕ). n + 1) (sym (old_at sent_on_edge))) in
       λ i. record { before = record { window = window; worker = before }; after = into; taken = same_at taken_of before taken i; sent = sent i }
   gave_ends before (Err refused) piece told taken room =
-      let sent : sent_at (set edges at new) at ≡ sent_at edges at = same_at sent_of at told.2 in
+      let sent : sent_at (set edges at new) at ≡ sent_at edges at = same_at sent_on_edge at told.2 in
       let full : old.taken + old.room ≡ old.sent =
       omega (arith, between_length old.taken old.sent (edge_stream into) holds.order holds.within, ap length (sym holds.pieces), told.3) in
       let held : taken_at (set edges at new) at + room_at (set edges at new) at ≡ old.taken + old.room = λ i. (new_at taken_of ∙ taken) i + (new_at room_of ∙ room) i in
-      (told.0, (λ i. record { before = record { window = window; worker = before }; after = into; taken = same_at taken_of before taken i; sent = sent i }), (sent, held ∙ (full ∙ sym (old_at sent_of))))
+      (told.0, (λ i. record { before = record { window = window; worker = before }; after = into; taken = same_at taken_of before taken i; sent = sent i }), (sent, held ∙ (full ∙ sym (old_at sent_on_edge))))
 
 -- what holds of each by its place holds again once one more is pushed
 pub get_push : {X : Type 0} (P : ℕ → X → Type 0) (xs : List X) (x : X) (k : ℕ) (y : X) → P (length xs) x → ((j : ℕ) (z : X) → slice_get xs j ≡ Some z → P j z) → slice_get (xs ++ x ∷ []) k ≡ Some y → P k y

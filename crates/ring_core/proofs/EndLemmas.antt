@@ -7,7 +7,7 @@ use Rattle.ring_core.specs.States.{RingState, WorkerState}
 use Rattle.ring_core.specs.Windows.{Window, worker_of, worker_after}
 use Rattle.ring_core.specs.Streams.{pieces_at, pieces_into, edge_stream}
 use Rattle.ring_core.specs.Workers.{own_stage}
-use Rattle.ring_core.specs.Edges.{between, taken_of, sent_of}
+use Rattle.ring_core.specs.Edges.{between, taken_of, sent_on_edge}
 use Rattle.ring_core.specs.Cores.{IsPlaying, IsFinished, HoldsTheLastList, window_in}
 use Rattle.ring_core.proofs.StreamLemmas.{own_here, own_not, next_own, after_small, after_last, into_other}
 
@@ -73,7 +73,7 @@ module _ (batches : List DemandBatch) (core : RingState) (playing : IsPlaying ba
 
   -- and all is sent
   pub all_sent : (number before : ℕ) (w : WorkerState) → slice_get core.crew before ≡ Some w → before < core.workers → number < core.workers → worker_after core.workers before ≡ number → length batches ≤ w.stage
-      → sent_of (slice_get core.edges number) ≡ length (pieces_into window number (length batches + 1))
+      → sent_on_edge (slice_get core.edges number) ≡ length (pieces_into window number (length batches + 1))
   all_sent number before w is below within after past =
       let it = playing.ring.each before w is in
       let plays = playing.plays before w is in
@@ -85,7 +85,7 @@ module _ (batches : List DemandBatch) (core : RingState) (playing : IsPlaying ba
       let back = into_back window number (w.stage + 1) d within own (omega (arith, played.near, it.workers_is, past, playing.ring.some_workers)) (omega (arith, past)) in
       let at : w.stage + 1 - d ≡ length batches + 1 = omega (arith, past) in
       let none = (played.past past).1 in
-      ap (λ (n : ℕ). sent_of (slice_get core.edges n)) (sym after)
+      ap (λ (n : ℕ). sent_on_edge (slice_get core.edges n)) (sym after)
       ∙ (played.sent
       ∙ (played.sent_is
       ∙ ((λ i. length (pieces_into window (next i) (w.stage + 1)) + none i)
@@ -101,7 +101,7 @@ module _ (batches : List DemandBatch) (core : RingState) (playing : IsPlaying ba
       let holds = playing.holds.each number edge is in
       let taken : edge.taken ≡ length (pieces_into window number (length batches)) = sym (ap taken_of is) ∙ all_taken number this.0 this.1 below (ended number this.0 this.1) in
       let sent : edge.sent ≡ length (pieces_into window number (length batches + 1)) =
-      sym (ap sent_of is) ∙ all_sent number before.0 other.0 other.1 before.1 below before.2 (ended before.0 other.0 other.1) in
+      sym (ap sent_on_edge is) ∙ all_sent number before.0 other.0 other.1 before.1 below before.2 (ended before.0 other.0 other.1) in
       let on : length batches + 1 ≡ suc (length batches) = omega arith in
       let stream : pieces_into window number (length batches + 1) ≡ pieces_into window number (length batches) ++ pieces_at window number (length batches) = ap (pieces_into window number) on in
       holds.pieces ∙ (ap (between edge.taken edge.sent) stream ∙ between_back (pieces_into window number (length batches)) (pieces_at window number (length batches)) edge.taken edge.sent taken (sent ∙ ap length stream))

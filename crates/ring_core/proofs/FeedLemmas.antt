@@ -1,10 +1,11 @@
 -- What a worker takes up, and where it is then.
-use Rattle.std.proofs.Common.{◌≡◌, ◌<◌, ◌≤◌, ◌+◌, ◌-◌, ◌*◌, ◌/◌, ◌^◌, ℕ, zero, suc, Bool, true, false, cond, nat_le, nat_lt, List, [], ◌∷◌, ◌++◌, length, set, take, drop, Option, Some, None, slice_get, All, refl, sym, ap, ◌∙◌, subst, arith, inl, inr}
+use Rattle.std.proofs.Common.{◌≡◌, ◌<◌, ◌≤◌, ◌+◌, ◌-◌, ◌*◌, ◌/◌, ◌^◌, ℕ, Bool, true, false, cond, nat_le, nat_lt, List, ◌++◌, length, set, take, drop, Option, Some, None, slice_get, All, refl, sym, ap, ◌∙◌, subst, arith, inl, inr}
 use Rattle.std.proofs.lemmas.Bool.{cases_Bool, cases_lt, both_ways, or_right}
 use Rattle.std.proofs.lemmas.Bool.Decides.{nat_tests}
 use Rattle.std.proofs.lemmas.Option.{same_Some}
 use Rattle.std.proofs.lemmas.List.{take-append-drop, take_all, take_at}
 use Rattle.std.proofs.lemmas.List.Elements.{All-take, All-drop}
+use Rattle.list_facts.proofs.Lists.{joined}
 use Rattle.greedy_rules.specs.declared.flows.Item.{Item}
 use Rattle.greedy_rules.specs.Batches.{DemandBatch, entry_of}
 use Rattle.greedy_rules.specs.Demands.{AreBelow, OpensNewFlows, opened, need_with}
@@ -17,14 +18,14 @@ use Rattle.slot_batches.specs.Stands.{IsSameWork, Stands, MayBeFed, ListsMayBeFe
 use Rattle.ring_core.specs.States.{WorkerState}
 use Rattle.ring_core.specs.Windows.{Window, MayBePlayed, list_before_stage, batch_of, first_slot_in, pieces_before, worker_of, is_fed, items_fed, piece_given_next}
 use Rattle.ring_core.specs.Streams.{IsPieceAt, pieces_into, edge_stream}
-use Rattle.ring_core.specs.Ends.{Ends, one_taken}
+use Rattle.ring_core.specs.Ends.{WorkerEnds, one_taken}
 use Rattle.ring_core.specs.Workers.{StageIsAt, HasPlayed}
 use Rattle.ring_core.specs.Turns.{piece_to_push}
 use Rattle.ring_core.proofs.WindowLemmas.{one_list_on, list_before, few_pieces}
 use Rattle.ring_core.proofs.StreamLemmas.{own_here, stream_has, into_short}
 use Rattle.ring_core.proofs.PlayLemmas.{to_push, with_stage}
 
-le_of : (a b : ℕ) → nat_le a b ≡ true → a ≤ b
+pub le_of : (a b : ℕ) → nat_le a b ≡ true → a ≤ b
 le_of a b le = grind (arith, nat_tests)
 
 gt_of : (a b : ℕ) → nat_le a b ≡ false → b < a
@@ -41,13 +42,6 @@ ended_alike n fed = elim (cases_lt (64 * (fed + 1)) n) [
 
     yes : (a b : ℕ) → a ≤ b → nat_le a b ≡ true
     yes a b le = grind (arith, nat_tests)
-
-pub joined : {X : Type 0} (n m : ℕ) (xs : List X) → take n xs ++ take m (drop n xs) ≡ take (n + m) xs
-joined zero m xs = ap (λ (k : ℕ). take k xs) (omega arith)
-joined (suc n) m [] = take_all m [] (omega arith) ∙ sym (take_all (suc n + m) [] (omega arith))
-joined {X = X} (suc n) m (x ∷ xs) =
-    let on : suc n + m ≡ suc (n + m) = omega arith in
-    ap (λ (ys : List X). x ∷ ys) (joined n m xs) ∙ ap (λ (k : ℕ). take k (x ∷ xs)) (sym on)
 
 has_none : (has : Bool) (x : Part) → cond has (Some x) None ≡ None → has ≡ false
 has_none true x is = absurd (cc)
@@ -102,7 +96,7 @@ module _ (endpoints : ℕ) (window : Window) (stage fed given : ℕ) (may : MayB
       All-take (λ (item : Item). need_with (entry_of batch.entries item.flow) item.need < 4294967296) 64 (drop (64 * fed) list)
       (All-drop (λ (item : Item). need_with (entry_of batch.entries item.flow) item.need < 4294967296) (64 * fed) list (may.applies stage below).needs)
 
-module _ (batches : List DemandBatch) (ends : Ends) (w : WorkerState) (fed given : ℕ) (played : HasPlayed batches ends w fed given) (below : w.stage < length batches)
+module _ (batches : List DemandBatch) (ends : WorkerEnds) (w : WorkerState) (fed given : ℕ) (played : HasPlayed batches ends w fed given) (below : w.stage < length batches)
     (none : piece_to_push ends w ≡ None) where
   abbrev w_window : Window
   w_window = ends.before.window

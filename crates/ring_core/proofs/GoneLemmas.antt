@@ -1,20 +1,16 @@
 -- A worker whose stages have ended has no nodes.
-use Rattle.std.proofs.Common.{◌≡◌, ◌≤◌, ℕ, List, length, get_or, All, Some, slice_get, true, nat_le, refl, arith, inl, inr}
+use Rattle.std.proofs.Common.{◌≡◌, ◌≤◌, List, length, get_or, All, Some, slice_get, refl, arith, inl, inr}
 use Rattle.std.proofs.lemmas.Bool.{cases_lt}
-use Rattle.std.proofs.lemmas.Bool.Decides.{nat_tests}
 use Rattle.std.proofs.lemmas.Nat.{mul-le}
 use Rattle.std.proofs.lemmas.Option.{slice_get_read}
 use Rattle.std.proofs.lemmas.List.{get_or_default}
 use Rattle.greedy_rules.specs.Batches.{DemandBatch}
 use Rattle.slot_batches.specs.Stands.{StageState}
 use Rattle.ring_core.specs.States.{WorkerState}
-use Rattle.ring_core.specs.Ends.{Ends}
+use Rattle.ring_core.specs.Ends.{WorkerEnds}
 use Rattle.ring_core.specs.Workers.{Plays}
 
-pub le_of : (a b : ℕ) → nat_le a b ≡ true → a ≤ b
-le_of a b le = grind (arith, nat_tests)
-
-pub all_gone : (batches : List DemandBatch) (ends : Ends) (w : WorkerState) → Plays batches ends w → length batches ≤ w.stage → All (λ stage. stage.nodes ≡ 0) w.stages
+pub all_gone : (batches : List DemandBatch) (ends : WorkerEnds) (w : WorkerState) → Plays batches ends w → length batches ≤ w.stage → All (λ stage. stage.nodes ≡ 0) w.stages
 all_gone batches ends w plays ended = λ place d within.
     let played = plays.2 in
     let state : StageState = get_or w.stages place d in

@@ -10,8 +10,8 @@ use Rattle.slot_batches.specs.Pieces.{Part, piece_count, pieces}
 use Rattle.ring_core.specs.States.{EdgeState, RingState, WorkerState}
 use Rattle.ring_core.specs.Windows.{Window, list_before_stage, worker_of, worker_after}
 use Rattle.ring_core.specs.Streams.{items_of, pieces_at, pieces_into, edge_stream}
-use Rattle.ring_core.specs.Ends.{Ends}
-use Rattle.ring_core.specs.Edges.{between, AllHold, taken_of, sent_of, taken_at, sent_at, room_at}
+use Rattle.ring_core.specs.Ends.{WorkerEnds}
+use Rattle.ring_core.specs.Edges.{between, AllHold, taken_of, sent_on_edge, taken_at, sent_at, room_at}
 use Rattle.ring_core.specs.Workers.{own_stage, HasPlayed, Plays}
 use Rattle.ring_core.specs.Cores.{IsRing, IsPlaying, IsFinished, HasJustBegun, ends_in, window_in}
 use Rattle.ring_core.specs.Wholes.{with_parts, with_list, lying_in, MayBeSent, own_ends, StartsFrom, StandsBefore}
@@ -95,7 +95,7 @@ module _ (batches : List DemandBatch) (core : RingState) (playing : IsPlaying ba
   first_holds edge is =
       let holds = playing.holds.each 0 edge is in
       let taken : edge.taken ≡ 0 = sym (ap taken_of is) ∙ begun.none_taken 0 in
-      let sent : edge.sent ≡ piece_count core.list = sym (ap sent_of is) ∙ begun.list_sent 0 in
+      let sent : edge.sent ≡ piece_count core.list = sym (ap sent_on_edge is) ∙ begun.list_sent 0 in
       let front : pieces_into window 0 1 ≡ pieces 0 core.list = at_own window 0 0 (own_zero window.workers playing.ring.some_workers) ∙ first_pieces window in
       let all = front_of window 0 (length batches) 1 in
       let on : length batches + 1 ≡ 1 + length batches = omega arith in
@@ -107,14 +107,14 @@ module _ (batches : List DemandBatch) (core : RingState) (playing : IsPlaying ba
   others_hold_none number edge other is =
       let holds = playing.holds.each number edge is in
       let taken : edge.taken ≡ 0 = sym (ap taken_of is) ∙ begun.none_taken number in
-      let sent : edge.sent ≡ 0 = sym (ap sent_of is) ∙ (begun.list_sent number ∙ ap (λ (b : Bool). cond b (piece_count core.list) 0) (ne_eqb number 0 other)) in
+      let sent : edge.sent ≡ 0 = sym (ap sent_on_edge is) ∙ (begun.list_sent number ∙ ap (λ (b : Bool). cond b (piece_count core.list) 0) (ne_eqb number 0 other)) in
       holds.pieces ∙ (λ i. between (taken i) (sent i) (edge_stream (record { window = window; worker = number })))
 
   others_start : (number : ℕ) (edge : EdgeState) → number ≢ 0 → slice_get core.edges number ≡ Some edge → (edge.pieces ≡ []) × (edge.taken ≡ 0) × (edge.sent ≡ 0)
   others_start number edge other is = (
     others_hold_none number edge other is,
     sym (ap taken_of is) ∙ begun.none_taken number,
-    sym (ap sent_of is) ∙ (begun.list_sent number ∙ ap (λ (b : Bool). cond b (piece_count core.list) 0) (ne_eqb number 0 other)),
+    sym (ap sent_on_edge is) ∙ (begun.list_sent number ∙ ap (λ (b : Bool). cond b (piece_count core.list) 0) (ne_eqb number 0 other)),
   )
 
   -- the edges as the code has them, once the list lies whole
@@ -148,7 +148,7 @@ module _ (batches : List DemandBatch) (core : RingState) (playing : IsPlaying ba
             let same : edge ≡ old = get_set_same raw 0 new edge (ap (slice_get (set raw 0 new)) (sym at) ∙ is) ∙ stays stage refl in
             let held = (may.1 old (ap (slice_get raw) lies_here ∙ old_is)).0 in
             let taken : old.taken ≡ 0 = sym (ap taken_of first) ∙ begun.none_taken 0 in
-            let all : old.sent + length (pieces stage list) ≡ piece_count core.list = sym (ap sent_of first) ∙ begun.list_sent 0 in
+            let all : old.sent + length (pieces stage list) ≡ piece_count core.list = sym (ap sent_on_edge first) ∙ begun.list_sent 0 in
             let sent : old.sent ≡ 0 = omega (arith, all, count_is stage list, ap piece_count lies) in
             subst (λ (e : EdgeState). (e.pieces ≡ []) × (e.taken ≡ 0) × (e.sent ≡ 0)) (sym same) (held, taken, sent)
       ]
@@ -187,7 +187,7 @@ module _ (batches : List DemandBatch) (core : RingState) (playing : IsPlaying ba
         crewed = crewed;
         from = omega arith;
         near = omega (arith, first, below);
-        starts = subst (λ (e : Ends). HasPlayed batches e w 0 0) ends (subst (λ (n : ℕ). HasPlayed batches (ends_in batches core number) w n 0) fed_none (subst (λ (n : ℕ). HasPlayed batches (ends_in batches core number) w fed n) given_none played));
+        starts = subst (λ (e : WorkerEnds). HasPlayed batches e w 0 0) ends (subst (λ (n : ℕ). HasPlayed batches (ends_in batches core number) w n 0) fed_none (subst (λ (n : ℕ). HasPlayed batches (ends_in batches core number) w fed n) given_none played));
       }
 
   pub stands_first : (edges : List EdgeState) (list : List Item) → length edges ≡ core.workers → AreEmptied edges → list ≡ core.list → StandsBefore core.endpoints core.batches batches window 0 core.crew edges list
@@ -274,14 +274,14 @@ module _ (batches : List DemandBatch) (core : RingState) (playing : IsPlaying ba
       let taken_is : length (pieces_into w_window w.number w.stage) ≡ length (pieces_into w_window number stages) = ap (λ (n : ℕ). length (pieces_into w_window n w.stage)) crewed.number_is ∙ ap length back in
       let sent_is : length (pieces_into w_window (worker_after w.workers w.number) (w.stage + 1)) ≡ length (pieces_into w_window next (stages + 1)) = ap (λ (n : ℕ). length (pieces_into w_window n (w.stage + 1))) after ∙ ap length back_next in
       let taken : w.taken ≡ taken_at laid number = omega (arith, starts.taken_is, taken_is, (laid_at number edge.0 edge.1).0, ap taken_of edge.1) in
-      let sent : w.sent ≡ sent_at laid next = omega (arith, starts.sent_is, sent_is, (laid_at next other.0 other.1).1, ap sent_of other.1) in
+      let sent : w.sent ≡ sent_at laid next = omega (arith, starts.sent_is, sent_is, (laid_at next other.0 other.1).1, ap sent_on_edge other.1) in
       let ends : own_ends w_window w ≡ ends_in batches (record core { edges = laid; crew = crew; spare = spare }) number = λ i. record {
         before = record { window = w_window; worker = crewed.number_is i };
         after = record { window = w_window; worker = after i };
         taken = taken i;
         sent = sent i;
       } in
-      (0, 0, subst (λ (e : Ends). HasPlayed batches e w 0 0) ends starts)
+      (0, 0, subst (λ (e : WorkerEnds). HasPlayed batches e w 0 0) ends starts)
 
   laid_ring : IsRing (record core { edges = laid; crew = crew; spare = spare })
   laid_ring = record {

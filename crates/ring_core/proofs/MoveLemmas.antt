@@ -9,8 +9,8 @@ use Rattle.ring_core.specs.declared.turn.Turn.{Turn}
 use Rattle.ring_core.specs.declared.turn.Turn.TheVariants.{Moved, NoPiece, NoRoom, Done}
 use Rattle.ring_core.specs.Windows.{Window, pieces_before, worker_of, worker_after}
 use Rattle.ring_core.specs.Streams.{pieces_into}
-use Rattle.ring_core.specs.Ends.{Ends}
-use Rattle.ring_core.specs.Turns.{Answers, piece_to_push}
+use Rattle.ring_core.specs.Ends.{WorkerEnds}
+use Rattle.ring_core.specs.Turns.{TurnAnswers, piece_to_push}
 use Rattle.ring_core.specs.Edges.{OthersStay, IsFoundEmpty, IsFoundFull, taken_at, sent_at, room_at, ends_between}
 use Rattle.ring_core.specs.Cores.{IsPlaying, IsGoing, HasRoomForTwo, IsFree, window_in, ends_in}
 use Rattle.ring_core.proofs.CountLemmas.{into_up, into_past, into_most}
@@ -116,11 +116,11 @@ module _ (batches : List DemandBatch) (core : RingState) (playing : IsPlaying ba
   abbrev after : ℕ
   after = worker_after core.workers number
 
-  pub moves : (t : Turn) → Answers batches w (ends_in batches core number) (ends_between (window_in batches core) new number after) (IsFoundEmpty new number) (IsFoundFull new after) t → t ≡ Moved
+  pub moves : (t : Turn) → TurnAnswers batches w (ends_in batches core number) (ends_between (window_in batches core) new number after) (IsFoundEmpty new number) (IsFoundFull new after) t → t ≡ Moved
   moves Moved told = refl
   moves (NoPiece at) (going, none, at_is, stays, found) =
-      let taken : taken_at new number ≡ taken_at core.edges number = ap (λ (e : Ends). e.taken) stays in
-      let sent : sent_at new after ≡ sent_at core.edges after = ap (λ (e : Ends). e.sent) stays in
+      let taken : taken_at new number ≡ taken_at core.edges number = ap (λ (e : WorkerEnds). e.taken) stays in
+      let sent : sent_at new after ≡ sent_at core.edges after = ap (λ (e : WorkerEnds). e.sent) stays in
       let same : sent_at new number ≡ sent_at core.edges number = elim (cases_eq number after) [
         | inl here ↦ ap (sent_at new) here ∙ (sent ∙ ap (sent_at core.edges) (sym here))
         | inr other ↦ others.sent number other
@@ -128,8 +128,8 @@ module _ (batches : List DemandBatch) (core : RingState) (playing : IsPlaying ba
       absurd (omega (arith, free.pops none, taken, same, found.0, found.1))
   moves (NoRoom at) (going, some, at_is, stays, found) =
       let within : after < core.workers = mod_below (number + 1) core.workers playing.ring.some_workers in
-      let taken : taken_at new number ≡ taken_at core.edges number = ap (λ (e : Ends). e.taken) stays in
-      let sent : sent_at new after ≡ sent_at core.edges after = ap (λ (e : Ends). e.sent) stays in
+      let taken : taken_at new number ≡ taken_at core.edges number = ap (λ (e : WorkerEnds). e.taken) stays in
+      let sent : sent_at new after ≡ sent_at core.edges after = ap (λ (e : WorkerEnds). e.sent) stays in
       let same : taken_at new after ≡ taken_at core.edges after = elim (cases_eq after number) [
         | inl here ↦ ap (taken_at new) here ∙ (taken ∙ ap (taken_at core.edges) (sym here))
         | inr other ↦ others.taken after other

@@ -7,13 +7,13 @@ use Rattle.greedy_rules.specs.Batches.{DemandBatch}
 use Rattle.greedy_rules.specs.Demands.{opened}
 use Rattle.greedy_rules.specs.Limits.{is_barred}
 use Rattle.greedy_rules.specs.Room.{FlowsFitPairs}
+use Rattle.greedy_rules.proofs.TableLemmas.{next_row}
 use Rattle.slot_batches.specs.NextList.{EveryBatchKeepsItsFlows}
 use Rattle.ring_core.specs.States.{WorkerState}
 use Rattle.ring_core.specs.Windows.{Window, MayBePlayed, batch_of, first_slot_in, list_before_stage}
 use Rattle.ring_core.specs.Workers.{own_stage}
 use Rattle.ring_core.specs.Openings.{openings, own_openings, crew_openings}
 use Rattle.ring_core.proofs.WindowLemmas.{first_list, one_list_on}
-use Rattle.ring_core.proofs.StreamLemmas.{row_on}
 
 past : (batches : List DemandBatch) (at : ℕ) (d : DemandBatch) → length batches ≤ at → slice_index_or batches at d ≡ d
 past [] at d over = refl
@@ -59,7 +59,7 @@ own_stable : (batches : List DemandBatch) (workers places more stage : ℕ) → 
 own_stable batches workers zero more stage over = own_none (0 + more) batches workers stage (omega (arith, over))
 own_stable batches workers (suc places) more stage over =
     let one = ap (λ (n : ℕ). own_openings n batches workers stage) (let q : suc places + more ≡ suc (places + more) = omega arith in q) in
-    let row = row_on places workers in
+    let row = next_row places workers in
     let same = ap (λ (n : ℕ). n * workers) (let q : suc places ≡ places + 1 = omega arith in q) in
     omega (arith, one, own_stable batches workers places more (stage + workers) (omega (arith, over, row, same)))
 
@@ -86,7 +86,7 @@ block_row batches workers places (suc count) stage =
 block_all : (batches : List DemandBatch) (workers places stage : ℕ) → block batches workers places workers stage ≡ total batches (places * workers) stage
 block_all batches workers zero stage = block_none batches workers workers stage ∙ ap (λ (n : ℕ). total batches n stage) (let q : 0 ≡ 0 * workers = omega arith in q)
 block_all batches workers (suc places) stage =
-    let row : workers + places * workers ≡ suc places * workers = omega (arith, row_on places workers, ap (λ (n : ℕ). n * workers) (let q : suc places ≡ places + 1 = omega arith in q)) in
+    let row : workers + places * workers ≡ suc places * workers = omega (arith, next_row places workers, ap (λ (n : ℕ). n * workers) (let q : suc places ≡ places + 1 = omega arith in q)) in
     let all = ap (λ (n : ℕ). total batches n stage) row in
     omega (arith, block_row batches workers places workers stage, block_all batches workers places (stage + workers), total_split batches workers (places * workers) stage, all)
 

@@ -10,11 +10,11 @@ use Rattle.greedy_rules.specs.Batches.{DemandBatch}
 use Rattle.slot_batches.specs.declared.piece.Piece.{Piece}
 use Rattle.slot_batches.specs.Pieces.{Part, next_piece, part_of}
 use Rattle.slot_batches.specs.Settled.{settled}
-use Rattle.slot_batches.specs.Stands.{endpoints_of, batch_size_of, first_slot_of, number_of, StageState}
+use Rattle.slot_batches.specs.Stands.{stage_endpoints, batch_size_of, first_slot_of, stage_number, StageState}
 use Rattle.ring_core.specs.States.{WorkerState}
 use Rattle.ring_core.specs.Windows.{Window, batch_of, pieces_before, is_fed, items_fed, piece_given_next}
 use Rattle.ring_core.specs.Streams.{pieces_into}
-use Rattle.ring_core.specs.Ends.{Ends}
+use Rattle.ring_core.specs.Ends.{WorkerEnds}
 use Rattle.ring_core.specs.Workers.{own_stage, StageIsAt, IsWorker, HasPlayed, given_by}
 use Rattle.ring_core.specs.Turns.{fed_at, given_at, piece_to_push}
 
@@ -37,7 +37,7 @@ place_within w n place is few below = elim (cases_lt place (length w.stages)) [
   | inr past ↦ absurd (let more = mul-le (length w.stages) w.workers place w.workers past (omega arith) in omega (arith, more, is.enough, few, below))
 ]
 
-module _ (batches : List DemandBatch) (ends : Ends) (w : WorkerState) (fed given : ℕ) (played : HasPlayed batches ends w fed given) where
+module _ (batches : List DemandBatch) (ends : WorkerEnds) (w : WorkerState) (fed given : ℕ) (played : HasPlayed batches ends w fed given) where
   abbrev window : Window
   window = ends.before.window
 
@@ -76,7 +76,7 @@ module _ (batches : List DemandBatch) (ends : Ends) (w : WorkerState) (fed given
           number = played.is_worker.number;
           some_slots = played.is_worker.some_slots;
           few_batches = played.is_worker.few_batches;
-          endpoints = All-set (λ stage. endpoints_of stage ≡ w.endpoints) w.stages w.place x work.same_endpoints played.is_worker.endpoints;
+          endpoints = All-set (λ stage. stage_endpoints stage ≡ w.endpoints) w.stages w.place x work.same_endpoints played.is_worker.endpoints;
           sizes = All-set (λ stage. batch_size_of stage ≡ w.b) w.stages w.place x (work.same_size ∙ played.window.b_is) played.is_worker.sizes;
           enough = subst (λ (n : ℕ). w.batches ≤ own_stage w.workers w.number n) (sym (length-set w.stages w.place x)) played.is_worker.enough;
         };
@@ -102,7 +102,7 @@ module _ (batches : List DemandBatch) (ends : Ends) (w : WorkerState) (fed given
 
 -- the next piece of a stage, by its own numbers
 pub stage_gives : (endpoints : ℕ) (window : Window) (stage fed given : ℕ) (state : StageState) → StageIsAt endpoints window stage fed given state
-    → next_piece (number_of state) (is_fed window stage fed) given (settled (batch_of window stage) (first_slot_of state) (batch_size_of state) (items_fed window stage fed) (is_fed window stage fed))
+    → next_piece (stage_number state) (is_fed window stage fed) given (settled (batch_of window stage) (first_slot_of state) (batch_size_of state) (items_fed window stage fed) (is_fed window stage fed))
     ≡ piece_given_next window stage fed given
 stage_gives endpoints window stage fed given state at =
     λ i. next_piece (at.work.same_number i) (is_fed window stage fed) given (settled (batch_of window stage) (at.work.same_first i) (at.work.same_size i) (items_fed window stage fed) (is_fed window stage fed))

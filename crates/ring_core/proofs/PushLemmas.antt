@@ -1,37 +1,33 @@
 -- What a worker pushes, and where it is then.
-use Rattle.std.proofs.Common.{◌≡◌, ◌<◌, ◌≤◌, ◌+◌, ◌-◌, ◌*◌, ◌/◌, ◌^◌, ℕ, zero, suc, Bool, true, false, ◌&&◌, ◌||◌, cond, nat_le, nat_lt, List, [], ◌∷◌, ◌++◌, length, drop, Option, Some, None, slice_get, refl, sym, ap, ◌∙◌, subst, arith, inl, inr, length-append}
+use Rattle.std.proofs.Common.{◌≡◌, ◌<◌, ◌≤◌, ◌+◌, ◌-◌, ◌*◌, ◌/◌, ◌^◌, ℕ, Bool, true, false, ◌&&◌, ◌||◌, cond, nat_le, nat_lt, List, [], ◌++◌, length, drop, Option, Some, None, slice_get, refl, sym, ap, ◌∙◌, subst, arith, inl, inr, length-append}
 use Rattle.std.specs.Prelude.{is_some}
 use Rattle.std.proofs.lemmas.Bool.{cases_Bool, cases_lt}
 use Rattle.std.proofs.lemmas.Bool.Decides.{nat_tests}
 use Rattle.std.proofs.lemmas.Nat.{mod_below, mul-le}
 use Rattle.std.proofs.lemmas.Option.{same_Some}
 use Rattle.std.proofs.lemmas.List.{length-drop, take-append-drop}
+use Rattle.list_facts.proofs.Lists.{drop_whole}
 use Rattle.greedy_rules.specs.declared.flows.Item.{Item}
 use Rattle.greedy_rules.specs.Batches.{DemandBatch}
 use Rattle.greedy_rules.specs.Demands.{OpensNewFlows}
 use Rattle.greedy_rules.specs.Room.{FlowsFitPairs}
+use Rattle.greedy_rules.proofs.TableLemmas.{next_row}
 use Rattle.slot_batches.specs.NextList.{IsListBefore, EveryBatchLeavesAList, EveryBatchKeepsItsFlows}
 use Rattle.slot_batches.specs.Pieces.{Part, piece_count, piece_at, has_piece, next_piece}
 use Rattle.slot_batches.specs.Settled.{settled, SettledItemsStay, EarlyPiecesAreOfTheList}
 use Rattle.ring_core.specs.States.{WorkerState}
 use Rattle.ring_core.specs.Windows.{Window, MayBePlayed, list_before_stage, batch_of, first_slot_in, pieces_before, worker_of, worker_after, is_fed, items_fed, piece_given_next}
 use Rattle.ring_core.specs.Streams.{EdgeInto, pieces_into, edge_stream}
-use Rattle.ring_core.specs.Ends.{Ends, one_sent}
+use Rattle.ring_core.specs.Ends.{WorkerEnds, one_sent}
 use Rattle.ring_core.specs.Workers.{own_stage, StageIsAt, StageHasEnded, HasPlayed}
 use Rattle.ring_core.proofs.WindowLemmas.{one_list_on, list_before, few_pieces}
-use Rattle.ring_core.proofs.StreamLemmas.{own_here, next_own, stream_has, into_step, into_short, row_on}
+use Rattle.ring_core.proofs.StreamLemmas.{own_here, next_own, stream_has, into_step, into_short}
 use Rattle.ring_core.proofs.BeginLemmas.{ended_nodes, ended_slots}
 use Rattle.ring_core.proofs.PlayLemmas.{held_is}
 
 has_of : (has : Bool) (x p : Part) → cond has (Some x) None ≡ Some p → has ≡ true
 has_of true x p is = refl
 has_of false x p is = absurd (cc)
-
-drop_whole : {X : Type 0} (n : ℕ) (xs : List X) → length xs ≤ n → drop n xs ≡ []
-drop_whole zero [] short = refl
-drop_whole zero (x ∷ xs) short = absurd (omega arith)
-drop_whole (suc n) [] short = refl
-drop_whole (suc n) (x ∷ xs) short = drop_whole n xs (omega arith)
 
 fed_all : (n count fed : ℕ) → count ≡ (n - 1) / 64 + 1 → nat_le count fed ≡ true → n ≤ 64 * fed
 fed_all n count fed is le = let below : count ≤ fed = of count fed le in omega (arith, is, below)
@@ -124,7 +120,7 @@ module _ (endpoints : ℕ) (window : Window) (stage fed given : ℕ) (part : Par
       many_left n m is = grind (arith, nat_tests)
 
 -- what the present stage gives next is the next of the stream out of the worker
-pub gives_next : (batches : List DemandBatch) (ends : Ends) (w : WorkerState) (fed given : ℕ) (piece : Part) → HasPlayed batches ends w fed given → w.stage < length batches
+pub gives_next : (batches : List DemandBatch) (ends : WorkerEnds) (w : WorkerState) (fed given : ℕ) (piece : Part) → HasPlayed batches ends w fed given → w.stage < length batches
     → piece_given_next ends.before.window w.stage fed given ≡ Some piece → EveryBatchLeavesAList → SettledItemsStay → EarlyPiecesAreOfTheList → slice_get (edge_stream ends.after) ends.sent ≡ Some piece
 gives_next batches ends w fed given piece played below gives leaves stay early =
     let window : Window = ends.before.window in
@@ -138,7 +134,7 @@ gives_next batches ends w fed given piece played below gives leaves stay early =
     (subst (λ (n : ℕ). slice_get (edge_stream after) n ≡ Some piece) (sym at)
     (stream_has after (w.stage + 1) given own (omega (arith, inside)) played.given_within ∙ ap (λ (p : Part). Some p) (sym is)))
 
-module _ (batches : List DemandBatch) (ends : Ends) (w : WorkerState) (fed given : ℕ) (piece : Part) (played : HasPlayed batches ends w fed given) (held : w.held ≡ Some piece) where
+module _ (batches : List DemandBatch) (ends : WorkerEnds) (w : WorkerState) (fed given : ℕ) (piece : Part) (played : HasPlayed batches ends w fed given) (held : w.held ≡ Some piece) where
   abbrev w_window : Window
   w_window = ends.before.window
 
@@ -223,7 +219,7 @@ module _ (batches : List DemandBatch) (ends : Ends) (w : WorkerState) (fed given
       let turned : w.stage + w.workers + 1 ≡ w.stage + 1 + w_window.workers = omega (arith, workers_are) in
       let sent_on : length (pieces_into w_window next (w.stage + w.workers + 1)) ≡ length (pieces_into w_window next (w.stage + 1)) + pieces_before w_window (w.stage + 1) =
       ap (λ (n : ℕ). length (pieces_into w_window next n)) turned ∙ into_step w_window next (w.stage + 1) next_below own_next in
-      let on : own_stage w.workers w.number (w.place + 1) ≡ w.stage + w.workers = omega (arith, row_on w.place w.workers, played.stage) in
+      let on : own_stage w.workers w.number (w.place + 1) ≡ w.stage + w.workers = omega (arith, next_row w.place w.workers, played.stage) in
       rw none (record {
         is_worker = record { number = played.is_worker.number; some_slots = played.is_worker.some_slots; few_batches = played.is_worker.few_batches; endpoints = played.is_worker.endpoints; sizes = played.is_worker.sizes; enough = played.is_worker.enough };
         window = record { may = played.window.may; batches_are = played.window.batches_are; first_is = refl; b_is = played.window.b_is; workers_are = workers_are };

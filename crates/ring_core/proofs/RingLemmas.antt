@@ -5,7 +5,7 @@ use Rattle.std.proofs.lemmas.Option.{slice_get_read, slice_get_within}
 use Rattle.greedy_rules.specs.Batches.{DemandBatch}
 use Rattle.ring_core.specs.States.{EdgeState, RingState, WorkerState}
 use Rattle.ring_core.specs.Windows.{worker_after}
-use Rattle.ring_core.specs.Ends.{Ends}
+use Rattle.ring_core.specs.Ends.{WorkerEnds}
 use Rattle.ring_core.specs.Workers.{Plays, IsSameWorker}
 use Rattle.ring_core.specs.Edges.{AllHold, OthersStay, ends_between, taken_at, sent_at}
 use Rattle.ring_core.specs.Cores.{IsRing, IsWorkerOf, IsPlaying, window_in, ends_in}
@@ -75,7 +75,7 @@ module _ (batches : List DemandBatch) (core : RingState) (number : ℕ) (old new
         let sent : sent_at after (worker_after core.workers k) ≡ sent_at core.edges (worker_after core.workers k) = others.sent (worker_after core.workers k) apart in
         let ends : ends_in batches core k ≡ ends_in batches next k =
         λ i. record { before = record { window = window_in batches core; worker = k }; after = record { window = window_in batches core; worker = worker_after core.workers k }; taken = sym taken i; sent = sym sent i } in
-        subst (λ (e : Ends). Plays batches e w) ends (playing.plays k w there));
+        subst (λ (e : WorkerEnds). Plays batches e w) ends (playing.plays k w there));
   }
 
 -- as many nodes are spare

@@ -9,10 +9,11 @@ use Rattle.greedy_rules.specs.declared.flows.Item.{Item}
 use Rattle.greedy_rules.specs.Batches.{DemandBatch}
 use Rattle.greedy_rules.specs.Demands.{AreBelow, OpensNewFlows, opened}
 use Rattle.greedy_rules.specs.Room.{FlowsFitPairs}
+use Rattle.greedy_rules.proofs.TableLemmas.{next_row}
 use Rattle.slot_batches.specs.NextList.{IsListBefore, EveryBatchLeavesAList, EveryBatchKeepsItsFlows}
 use Rattle.slot_batches.specs.Pieces.{Part, next_piece}
 use Rattle.slot_batches.specs.Settled.{slots_filled, settled}
-use Rattle.slot_batches.specs.Stands.{StageState, IsSameWork, Stands, MayBeFed, ListsMayBeFed, endpoints_of, batch_size_of, first_slot_of, number_of, slots_of}
+use Rattle.slot_batches.specs.Stands.{StageState, IsSameWork, Stands, MayBeFed, ListsMayBeFed, stage_endpoints, batch_size_of, first_slot_of, stage_number, stage_slots}
 use Rattle.slot_batches.proofs.NodeCounts.{settled-all}
 use Rattle.slot_batches.proofs.SettledLemmas.{none_settled}
 use Rattle.ring_core.specs.States.{WorkerState}
@@ -21,7 +22,7 @@ use Rattle.ring_core.specs.Streams.{pieces_into}
 use Rattle.ring_core.specs.Workers.{own_stage, StageIsAt, StageHasEnded}
 use Rattle.ring_core.specs.Wholes.{own_ends, StartsStage}
 use Rattle.ring_core.proofs.WindowLemmas.{one_list_on, list_before, few_pieces, few_after}
-use Rattle.ring_core.proofs.StreamLemmas.{own_here, next_own, into_step, into_short, row_on}
+use Rattle.ring_core.proofs.StreamLemmas.{own_here, next_own, into_step, into_short}
 use Rattle.ring_core.proofs.PlayLemmas.{get_set_same, get_set_other, idle_state}
 use Rattle.ring_core.proofs.BeginLemmas.{none_fed}
 
@@ -54,7 +55,7 @@ module _ (batches : List DemandBatch) (window : Window) (w : WorkerState) (start
   pub begun : (state : StageState) → state ≡ get_or w.stages w.place state → Stands batch [] false 0 state
   begun state is = subst (λ (b : Bool). Stands batch [] b 0 state) (none_fed (length list - 1)) (state_at state is).stands
 
-  pub may_be_fed : (state : StageState) → state ≡ get_or w.stages w.place state → EveryBatchLeavesAList → ListsMayBeFed → MayBeFed batch.entries (endpoints_of state) (first_slot_of state) list
+  pub may_be_fed : (state : StageState) → state ≡ get_or w.stages w.place state → EveryBatchLeavesAList → ListsMayBeFed → MayBeFed batch.entries (stage_endpoints state) (first_slot_of state) list
   may_be_fed state is leaves feed =
       let at = state_at state is in
       let applies = starts.window.may.applies w.stage inside in
@@ -94,8 +95,8 @@ module _ (batches : List DemandBatch) (window : Window) (w : WorkerState) (start
   abbrev pub served : StageState → ℕ → ℕ → ℕ → WorkerState
   served new stage taken sent = record w { stages = set w.stages w.place new; place = w.place + 1; stage = stage; taken = taken; sent = sent }
 
-  pub starts_next : (state new : StageState) (stage taken sent : ℕ) → state ≡ get_or w.stages w.place state → IsSameWork (endpoints_of state) (batch_size_of state) (number_of state) (first_slot_of state) new
-      → slots_of new ≡ slots_filled batch (first_slot_of state) (batch_size_of state) list true → new.nodes ≡ 0 → stage ≡ w.stage + w.workers → taken ≡ w.taken + pieces_before window w.stage → sent ≡ w.sent + pieces_before window (w.stage + 1)
+  pub starts_next : (state new : StageState) (stage taken sent : ℕ) → state ≡ get_or w.stages w.place state → IsSameWork (stage_endpoints state) (batch_size_of state) (stage_number state) (first_slot_of state) new
+      → stage_slots new ≡ slots_filled batch (first_slot_of state) (batch_size_of state) list true → new.nodes ≡ 0 → stage ≡ w.stage + w.workers → taken ≡ w.taken + pieces_before window w.stage → sent ≡ w.sent + pieces_before window (w.stage + 1)
       → StartsStage batches window (served new stage taken sent)
   starts_next state new stage taken sent is work slots none stage_is taken_is sent_is =
       let at = state_at state is in
@@ -110,7 +111,7 @@ module _ (batches : List DemandBatch) (window : Window) (w : WorkerState) (start
       let turned : stage + 1 ≡ w.stage + 1 + window.workers = omega (arith, workers_are, stage_is) in
       let sent_on : length (pieces_into window next (stage + 1)) ≡ length (pieces_into window next (w.stage + 1)) + pieces_before window (w.stage + 1) =
       ap (λ (n : ℕ). length (pieces_into window next n)) turned ∙ into_step window next (w.stage + 1) next_below own_next in
-      let on : own_stage w.workers w.number (w.place + 1) ≡ stage = omega (arith, row_on w.place w.workers, starts.stage, stage_is) in
+      let on : own_stage w.workers w.number (w.place + 1) ≡ stage = omega (arith, next_row w.place w.workers, starts.stage, stage_is) in
       let is_new : StageHasEnded w.endpoints window w.stage new = record {
         work = record {
           same_endpoints = work.same_endpoints ∙ at.work.same_endpoints;
@@ -127,7 +128,7 @@ module _ (batches : List DemandBatch) (window : Window) (w : WorkerState) (start
           number = starts.is_worker.number;
           some_slots = starts.is_worker.some_slots;
           few_batches = starts.is_worker.few_batches;
-          endpoints = All-set (λ s. endpoints_of s ≡ w.endpoints) w.stages w.place new is_new.work.same_endpoints starts.is_worker.endpoints;
+          endpoints = All-set (λ s. stage_endpoints s ≡ w.endpoints) w.stages w.place new is_new.work.same_endpoints starts.is_worker.endpoints;
           sizes = All-set (λ s. batch_size_of s ≡ w.b) w.stages w.place new (is_new.work.same_size ∙ starts.window.b_is) starts.is_worker.sizes;
           enough = subst (λ (n : ℕ). w.batches ≤ own_stage w.workers w.number n) (sym (length-set w.stages w.place new)) starts.is_worker.enough;
         };

@@ -16,20 +16,20 @@ use Rattle.greedy_rules.specs.Schedule.{first_slot, list_then}
 use Rattle.slot_batches.specs.NextList.{IsListBefore, EveryBatchKeepsItsFlows}
 use Rattle.slot_batches.specs.Pieces.{Part, piece_count, pieces}
 use Rattle.ring_core.specs.States.{EdgeState, RingState, WorkerState}
-use Rattle.ring_core.specs.Workers.{IsWorker, MayBegin, IsWindowOf, HasBegunWith, Plays, first_ends}
+use Rattle.ring_core.specs.Workers.{IsWorker, MayBegin, IsWorkerWindow, HasBegunWith, Plays, first_ends}
 use Rattle.ring_core.specs.Cores.{IsRing, IsAtRest, MayStart, IsPlaying, pairs_of, window_in}
 use Rattle.ring_core.proofs.EdgeLemmas.{room_kept}
-use Rattle.ring_core.specs.Windows.{Window, MayBePlayed, list_after, list_before_stage, batch_at, batch_of, pieces_before, worker_of, worker_after, window_of}
+use Rattle.ring_core.specs.Windows.{Window, MayBePlayed, list_after, list_before_stage, batch_of_stage, batch_of, pieces_before, worker_of, worker_after, window_of}
 use Rattle.ring_core.specs.Streams.{EdgeInto, pieces_at, pieces_into, edge_stream}
-use Rattle.ring_core.specs.Ends.{Ends}
-use Rattle.ring_core.specs.Edges.{between, Holds, AllHold, StreamsAreShort, taken_of, sent_of, taken_at, sent_at, room_at, ends_between}
+use Rattle.ring_core.specs.Ends.{WorkerEnds}
+use Rattle.ring_core.specs.Edges.{between, Holds, AllHold, StreamsAreShort, taken_of, sent_on_edge, taken_at, sent_at, room_at, ends_between}
 use Rattle.ring_core.specs.Openings.{crew_openings}
 use Rattle.ring_core.proofs.WindowLemmas.{few_pieces}
 use Rattle.ring_core.proofs.OpeningLemmas.{crew_and_list, lists_fit}
 use Rattle.ring_core.proofs.StreamLemmas.{at_own, into_none, into_step, into_short, after_small, after_last}
 use Rattle.ring_core.proofs.PlayLemmas.{get_set_same, get_set_other}
 
-applies_each : (endpoints b k : ℕ) (list : List Item) (batches : List DemandBatch) → MayBeApplied endpoints b k list batches → (stage : ℕ) → stage < length batches → Applies endpoints (batch_at batches stage) (list_after b k list batches stage)
+applies_each : (endpoints b k : ℕ) (list : List Item) (batches : List DemandBatch) → MayBeApplied endpoints b k list batches → (stage : ℕ) → stage < length batches → Applies endpoints (batch_of_stage batches stage) (list_after b k list batches stage)
 applies_each endpoints b k list [] may stage below = absurd (omega arith)
 applies_each endpoints b k list (batch ∷ batches) may zero below = may.0
 applies_each endpoints b k list (batch ∷ batches) may (suc stage) below = applies_each endpoints b (k + 1) (list_then b k batch list) batches may.1 stage (omega arith)
@@ -69,7 +69,7 @@ pub list_sent : (edges : List EdgeState) (first : EdgeState) (count : ℕ) → A
 list_sent [] first count empty some sent number = absurd (omega arith)
 list_sent (e ∷ es) first count empty some sent zero = sent
 list_sent (e ∷ es) first count empty some sent (suc number) =
-    no_edge sent_of (slice_get es number) refl (λ edge is. (empty (suc number) edge is).2) ∙ sym (ap (λ (b : Bool). cond b count 0) (ne_eqb (suc number) 0 (λ q. omega (arith, q))))
+    no_edge sent_on_edge (slice_get es number) refl (λ edge is. (empty (suc number) edge is).2) ∙ sym (ap (λ (b : Bool). cond b count 0) (ne_eqb (suc number) 0 (λ q. omega (arith, q))))
 
 -- the window's list is the front of the stream into worker 0
 pub front_of : (window : Window) (worker d s : ℕ) → (rest : List Part) × (pieces_into window worker (s + d) ≡ pieces_into window worker s ++ rest)
@@ -198,10 +198,10 @@ module _ (core : RingState) (first : ℕ) (batches : List DemandBatch) (list : L
       let it = starts.ring.each number worker is in
       let range : All (λ batch. AreBelow core.endpoints (opened batch.entries)) batches = λ k d below.
       let applies = window_applies core.endpoints window starts.may k below in
-      let same : batch_at batches k ≡ get_or batches k d = get_or_default batches k _ d below in
-      let opened_below : AreBelow core.endpoints (opened (batch_at batches k).entries) =
-      subst (AreBelow core.endpoints) (drop_at (list_before_stage window k) (opened (batch_at batches k).entries) (length (list_before_stage window k)) refl)
-      (All-drop (λ (item : Item). (item.flow.src < core.endpoints) × (item.flow.dst < core.endpoints)) (length (list_before_stage window k)) (list_before_stage window k ++ opened (batch_at batches k).entries) applies.below) in
+      let same : batch_of_stage batches k ≡ get_or batches k d = get_or_default batches k _ d below in
+      let opened_below : AreBelow core.endpoints (opened (batch_of_stage batches k).entries) =
+      subst (AreBelow core.endpoints) (drop_at (list_before_stage window k) (opened (batch_of_stage batches k).entries) (length (list_before_stage window k)) refl)
+      (All-drop (λ (item : Item). (item.flow.src < core.endpoints) × (item.flow.dst < core.endpoints)) (length (list_before_stage window k)) (list_before_stage window k ++ opened (batch_of_stage batches k).entries) applies.below) in
       subst (λ (batch : DemandBatch). AreBelow core.endpoints (opened batch.entries)) same opened_below in (
         it.is_worker,
         record {
@@ -211,7 +211,7 @@ module _ (core : RingState) (first : ℕ) (batches : List DemandBatch) (list : L
         },
       )
 
-  pub is_window : (number : ℕ) (worker : WorkerState) → slice_get core.crew number ≡ Some worker → IsWindowOf worker first batches window
+  pub is_window : (number : ℕ) (worker : WorkerState) → slice_get core.crew number ≡ Some worker → IsWorkerWindow worker first batches window
   is_window number worker is =
       let it = starts.ring.each number worker is in
       record {
@@ -241,7 +241,7 @@ module _ (core : RingState) (first : ℕ) (batches : List DemandBatch) (list : L
         taken = sym (taken number) i;
         sent = (sym found.1 ∙ sym (sent (worker_after core.workers number))) i;
       } in
-      subst (λ (e : Ends). Plays batches e new) (ap (first_ends window) it.number_is ∙ there) plays
+      subst (λ (e : WorkerEnds). Plays batches e new) (ap (first_ends window) it.number_is ∙ there) plays
 
   -- the nodes that the stages take, beside those of the list's items
   pub nodes_found : EveryBatchKeepsItsFlows → FlowsFitPairs → length list ≤ pairs_of core.endpoints

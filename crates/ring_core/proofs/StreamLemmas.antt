@@ -1,11 +1,12 @@
 -- The pieces of an edge's stream by their places.
-use Rattle.std.proofs.Common.{◌≡◌, ◌<◌, ◌≤◌, ◌+◌, ◌-◌, ◌*◌, ◌/◌, ℕ, zero, suc, Bool, true, false, List, [], ◌∷◌, ◌++◌, length, map, cond, nat_eq, Some, slice_get, refl, sym, ap, ◌∙◌, subst, arith, inl, inr, length-append}
-use Rattle.std.specs.List.{range_with_len}
+use Rattle.std.proofs.Common.{◌≡◌, ◌<◌, ◌≤◌, ◌+◌, ◌-◌, ◌*◌, ◌/◌, ℕ, zero, suc, Bool, true, false, List, [], ◌∷◌, ◌++◌, length, cond, nat_eq, Some, slice_get, refl, sym, ap, ◌∙◌, subst, arith, inl, inr, length-append}
 use Rattle.std.proofs.lemmas.Bool.{ne_eqb, cases_lt}
 use Rattle.std.proofs.lemmas.Nat.{mod-mul-add, div-add-mod'}
 use Rattle.std.proofs.lemmas.List.{append-nil}
 use Rattle.std.proofs.lemmas.List.FromFn.{length-map-range_with_len}
+use Rattle.list_facts.proofs.Lists.{get_within}
 use Rattle.slot_batches.specs.Pieces.{Part, piece_at, pieces}
+use Rattle.greedy_rules.proofs.TableLemmas.{next_row}
 use Rattle.ring_core.specs.Windows.{Window, list_before_stage, pieces_before, worker_of}
 use Rattle.ring_core.specs.Streams.{EdgeInto, pieces_at, pieces_into, edge_stream}
 use Rattle.ring_core.specs.Workers.{own_stage}
@@ -14,9 +15,6 @@ use Rattle.ring_core.specs.Workers.{own_stage}
 pub own_here : (workers worker place : ℕ) → worker < workers → worker_of workers (own_stage workers worker place) ≡ worker
 own_here workers worker place below = mod-mul-add place workers worker below
 
-pub row_on : (place w : ℕ) → (place + 1) * w ≡ place * w + w
-row_on place w = grind arith
-
 pub own_not : (workers worker place d : ℕ) → worker < workers → 0 < d → d < workers → worker_of workers (own_stage workers worker place + d) ≡ worker → ⊥
 own_not workers worker place d below some few is = elim (cases_lt (worker + d) workers) [
   | inl here ↦
@@ -24,7 +22,7 @@ own_not workers worker place d below some few is = elim (cases_lt (worker + d) w
       let left : worker_of workers (own_stage workers worker place + d) ≡ worker + d = ap (worker_of workers) same ∙ mod-mul-add place workers (worker + d) here in
       omega (arith, left, is, some)
   | inr there ↦
-      let same : own_stage workers worker place + d ≡ (place + 1) * workers + (worker + d - workers) = omega (arith, row_on place workers, there) in
+      let same : own_stage workers worker place + d ≡ (place + 1) * workers + (worker + d - workers) = omega (arith, next_row place workers, there) in
       let left : worker_of workers (own_stage workers worker place + d) ≡ worker + d - workers = ap (worker_of workers) same ∙ mod-mul-add (place + 1) workers (worker + d - workers) (omega (arith, below, few)) in
       omega (arith, left, is, few, there)
 ]
@@ -57,7 +55,7 @@ next_own workers worker place below = elim (cases_lt (worker + 1) workers) [
       let same : own_stage workers worker place + 1 ≡ place * workers + (worker + 1) = omega arith in
       ap (worker_of workers) same ∙ (mod-mul-add place workers (worker + 1) here ∙ sym (after_small workers worker here))
   | inr there ↦
-      let same : own_stage workers worker place + 1 ≡ (place + 1) * workers + 0 = omega (arith, row_on place workers, there, below) in
+      let same : own_stage workers worker place + 1 ≡ (place + 1) * workers + 0 = omega (arith, next_row place workers, there, below) in
       ap (worker_of workers) same ∙ (mod-mul-add (place + 1) workers 0 (omega (arith, below)) ∙ sym (after_last workers worker below there))
 ]
 
@@ -129,11 +127,6 @@ get_right : {X : Type 0} (xs ys : List X) (k : ℕ) → slice_get (xs ++ ys) (le
 get_right [] ys k = ap (slice_get ys) (omega arith)
 get_right (x ∷ xs) ys k = let on : length (x ∷ xs) + k ≡ suc (length xs + k) = omega arith in ap (slice_get (x ∷ (xs ++ ys))) on ∙ get_right xs ys k
 
-get_piece : {X : Type 0} (f : ℕ → X) (a n place : ℕ) → place < n → slice_get (map f (range_with_len a n)) place ≡ Some (f (a + place))
-get_piece f a zero place below = absurd (omega arith)
-get_piece f a (suc n) zero below = ap (λ (k : ℕ). Some (f k)) (omega arith)
-get_piece f a (suc n) (suc place) below = get_piece f (a + 1) n place (omega arith) ∙ ap (λ (k : ℕ). Some (f k)) (omega arith)
-
 module _ (window : Window) (worker stage place : ℕ) (own : worker_of window.workers stage ≡ worker) (within : place < pieces_before window stage) where
   pub into_get : (t : ℕ) → stage < t → slice_get (pieces_into window worker t) (length (pieces_into window worker stage) + place) ≡ Some (piece_at stage (list_before_stage window stage) place)
   into_get zero below = absurd (omega arith)
@@ -144,7 +137,7 @@ module _ (window : Window) (worker stage place : ℕ) (own : worker_of window.wo
         subst (λ (n : ℕ). slice_get (pieces_into window worker n ++ pieces_at window worker n) (length (pieces_into window worker stage) + place) ≡ Some (piece_at stage (list_before_stage window stage) place)) (sym same)
         (ap (λ (more : List Part). slice_get (pieces_into window worker stage ++ more) (length (pieces_into window worker stage) + place)) (at_own window worker stage own)
         ∙ (get_right (pieces_into window worker stage) (pieces stage (list_before_stage window stage)) place
-        ∙ (get_piece (piece_at stage (list_before_stage window stage)) 0 (pieces_before window stage) place within ∙ ap (λ (k : ℕ). Some (piece_at stage (list_before_stage window stage) k)) (omega arith))))
+        ∙ (get_within (piece_at stage (list_before_stage window stage)) 0 (pieces_before window stage) place within ∙ ap (λ (k : ℕ). Some (piece_at stage (list_before_stage window stage) k)) (omega arith))))
   ]
 
 -- the piece at its place of the stream

@@ -3,39 +3,40 @@ use Rattle.std.proofs.Common.{◌≡◌, ◌<◌, ◌≤◌, ◌+◌, ◌-◌, �
 use Rattle.std.specs.List.{range_with_len}
 use Rattle.std.proofs.lemmas.Nat.{div-add-mod'}
 use Rattle.std.proofs.lemmas.List.{append-nil, append_assoc, length-append, length-replicate, length-take-le, take-append-drop, take_all, take_at, drop_all, drop-replicate}
+use Rattle.list_facts.proofs.Lists.{joined}
 use Rattle.greedy_rules.specs.declared.flows.Flow.{Flow}
 use Rattle.greedy_rules.specs.declared.flows.Item.{Item}
 use Rattle.greedy_rules.specs.Batches.{DemandBatch}
 use Rattle.greedy_rules.specs.Schedule.{slots_then, list_then, schedule_from, rest_from}
+use Rattle.greedy_rules.proofs.TableLemmas.{next_row}
 use Rattle.slot_batches.specs.Pieces.{piece_count, piece_at, pieces}
 use Rattle.ring_core.specs.States.{EdgeState, RingState, WorkerState}
-use Rattle.ring_core.specs.Windows.{Window, batch_at, list_after, list_before_stage, slots_in, worker_of}
+use Rattle.ring_core.specs.Windows.{Window, batch_of_stage, list_after, list_before_stage, slots_of_stage, worker_of}
 use Rattle.ring_core.specs.Streams.{EdgeInto, edge_stream, items_of}
 use Rattle.ring_core.specs.Workers.{own_stage, IsEndedStage}
 use Rattle.ring_core.specs.Cores.{IsRing, IsAtRest, IsPlaying, IsFinished, pairs_of, ends_in, window_in}
 use Rattle.ring_core.specs.Edges.{room_at}
-use Rattle.ring_core.proofs.StreamLemmas.{at_own, row_on}
+use Rattle.ring_core.proofs.StreamLemmas.{at_own}
 use Rattle.ring_core.proofs.BeginLemmas.{own_before}
 use Rattle.ring_core.proofs.EdgeLemmas.{between_length}
 use Rattle.ring_core.proofs.EndLemmas.{last_list}
-use Rattle.ring_core.proofs.FeedLemmas.{joined}
 use Rattle.ring_core.proofs.GoneLemmas.{all_gone}
 use Rattle.ring_core.proofs.StartLemmas.{AreEmptied, few_pairs}
 
 schedule_more : (b k : ℕ) (list : List Item) (batches : List DemandBatch) (t : ℕ) → t < length batches
-    → schedule_from b k list (take (suc t) batches) ≡ schedule_from b k list (take t batches) ++ slots_then b (k + t) (batch_at batches t) (list_after b k list batches t)
+    → schedule_from b k list (take (suc t) batches) ≡ schedule_from b k list (take t batches) ++ slots_then b (k + t) (batch_of_stage batches t) (list_after b k list batches t)
 schedule_more b k list [] t below = absurd (omega arith)
 schedule_more b k list (batch ∷ batches) zero below = append-nil (slots_then b k batch list) ∙ ap (λ (n : ℕ). slots_then b n batch list) (let q : k ≡ k + 0 = omega arith in q)
 schedule_more b k list (batch ∷ batches) (suc t) below =
     let then : List Item = list_then b k batch list in
     let on : k + 1 + t ≡ k + suc t = omega arith in
     ap (λ (xs : List (List Flow)). slots_then b k batch list ++ xs)
-    (schedule_more b (k + 1) then batches t (omega arith) ∙ ap (λ (n : ℕ). schedule_from b (k + 1) then (take t batches) ++ slots_then b n (batch_at batches t) (list_after b (k + 1) then batches t)) on)
-    ∙ sym (append_assoc (slots_then b k batch list) (schedule_from b (k + 1) then (take t batches)) (slots_then b (k + suc t) (batch_at batches t) (list_after b (k + 1) then batches t)))
+    (schedule_more b (k + 1) then batches t (omega arith) ∙ ap (λ (n : ℕ). schedule_from b (k + 1) then (take t batches) ++ slots_then b n (batch_of_stage batches t) (list_after b (k + 1) then batches t)) on)
+    ∙ sym (append_assoc (slots_then b k batch list) (schedule_from b (k + 1) then (take t batches)) (slots_then b (k + suc t) (batch_of_stage batches t) (list_after b (k + 1) then batches t)))
 
 -- the slots of one stage more
 pub slots_more : (window : Window) (t : ℕ) → t < length window.batches
-    → schedule_from window.b window.first_batch window.list (take (t + 1) window.batches) ≡ schedule_from window.b window.first_batch window.list (take t window.batches) ++ slots_in window t
+    → schedule_from window.b window.first_batch window.list (take (t + 1) window.batches) ≡ schedule_from window.b window.first_batch window.list (take t window.batches) ++ slots_of_stage window t
 unfolding list_before_stage
 slots_more window t below =
     ap (λ (n : ℕ). schedule_from window.b window.first_batch window.list (take n window.batches)) (let q : t + 1 ≡ suc t = omega arith in q)
@@ -112,7 +113,7 @@ none_copied passed batches core slots fits empty =
     )
 
 -- one stage's slots copied
-pub stage_copied : (front : List (List Flow)) (passed : ℕ) (batches : List DemandBatch) (core : RingState) (stage : ℕ) (slots old new : List (List Flow)) (to total : ℕ) → stage < length batches → slots ≡ slots_in (window_in batches core) stage → length slots ≡ core.b
+pub stage_copied : (front : List (List Flow)) (passed : ℕ) (batches : List DemandBatch) (core : RingState) (stage : ℕ) (slots old new : List (List Flow)) (to total : ℕ) → stage < length batches → slots ≡ slots_of_stage (window_in batches core) stage → length slots ≡ core.b
     → to ≡ (passed + stage) * core.b → (passed + stage + 1) * core.b ≤ total → old ≡ scheduled_behind front batches core stage ++ replicate (total - (passed + stage) * core.b) []
     → length (scheduled_behind front batches core stage) ≡ (passed + stage) * core.b → new ≡ take to old ++ slots ++ drop (to + length slots) old
     → (new ≡ scheduled_behind front batches core (stage + 1) ++ replicate (total - (passed + (stage + 1)) * core.b) []) × (length (scheduled_behind front batches core (stage + 1)) ≡ (passed + (stage + 1)) * core.b) × (length new ≡ total)
@@ -123,7 +124,7 @@ stage_copied front passed batches core stage slots old new to total below slots_
     ap (λ (xs : List (List Flow)). front ++ xs) (slots_more (window_in batches core) stage below ∙ ap (λ (xs : List (List Flow)). scheduled batches core stage ++ xs) (sym slots_are))
     ∙ sym (append_assoc front (scheduled batches core stage) slots) in
     let place : passed + (stage + 1) ≡ passed + stage + 1 = omega arith in
-    let on : (passed + (stage + 1)) * core.b ≡ (passed + stage) * core.b + core.b = ap (λ (n : ℕ). n * core.b) place ∙ row_on (passed + stage) core.b in
+    let on : (passed + (stage + 1)) * core.b ≡ (passed + stage) * core.b + core.b = ap (λ (n : ℕ). n * core.b) place ∙ next_row (passed + stage) core.b in
     let left : total - (passed + stage) * core.b - length slots ≡ total - (passed + (stage + 1)) * core.b = omega (arith, on, count) in
     let here : new ≡ scheduled_behind front batches core (stage + 1) ++ replicate (total - (passed + (stage + 1)) * core.b) none =
     new_is ∙ (copied_on was slots old to (total - (passed + stage) * core.b) old_is (long ∙ sym to_is) ∙ (λ i. sym more i ++ replicate (left i) none)) in

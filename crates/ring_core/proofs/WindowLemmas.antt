@@ -1,6 +1,7 @@
 -- The lists of a window, stage after stage.
 use Rattle.std.proofs.Common.{◌≡◌, ◌<◌, ◌≤◌, ◌+◌, ◌-◌, ◌*◌, ℕ, zero, suc, List, [], ◌∷◌, length, refl, sym, ap, ◌∙◌, subst, arith}
 use Rattle.std.proofs.lemmas.Nat.{mul-le}
+use Rattle.list_facts.proofs.Numbers.{slots_on}
 use Rattle.greedy_rules.specs.declared.flows.Item.{Item}
 use Rattle.greedy_rules.specs.Batches.{DemandBatch}
 use Rattle.greedy_rules.specs.Demands.{opened}
@@ -8,16 +9,18 @@ use Rattle.greedy_rules.specs.Limits.{is_barred}
 use Rattle.greedy_rules.specs.Room.{FlowsFitPairs}
 use Rattle.greedy_rules.specs.Schedule.{first_slot, list_then}
 use Rattle.slot_batches.specs.NextList.{IsListBefore, EveryBatchLeavesAList, EveryBatchKeepsItsFlows}
-use Rattle.ring_core.specs.Windows.{Window, list_after, list_before_stage, batch_at, batch_of, first_slot_in, pieces_before, MayBePlayed}
+use Rattle.ring_core.specs.Windows.{Window, list_after, list_before_stage, batch_of_stage, batch_of, first_slot_in, pieces_before, MayBePlayed}
+use Rattle.std.proofs.Common.{get_or}
+use Rattle.std.proofs.lemmas.List.{get_or_default}
 
 after_one : (b k : ℕ) (list : List Item) (batches : List DemandBatch) (count : ℕ) → count < length batches
-    → list_after b k list batches (suc count) ≡ list_then b (k + count) (batch_at batches count) (list_after b k list batches count)
+    → list_after b k list batches (suc count) ≡ list_then b (k + count) (batch_of_stage batches count) (list_after b k list batches count)
 after_one b k list [] count below = absurd (omega arith)
 after_one b k list (batch ∷ batches) zero below = ap (λ (n : ℕ). list_then b n batch list) (omega arith)
 after_one b k list (batch ∷ batches) (suc count) below =
     let on : k + 1 + count ≡ k + suc count = omega arith in
     after_one b (k + 1) (list_then b k batch list) batches count (omega arith)
-    ∙ ap (λ (n : ℕ). list_then b n (batch_at batches count) (list_after b (k + 1) (list_then b k batch list) batches count)) on
+    ∙ ap (λ (n : ℕ). list_then b n (batch_of_stage batches count) (list_after b (k + 1) (list_then b k batch list) batches count)) on
 
 -- each stage's batch leaves the list before the next stage
 pub one_list_on : (window : Window) (stage : ℕ) → stage < length window.batches
@@ -30,9 +33,6 @@ one_list_on window stage below =
 pub first_list : (window : Window) → list_before_stage window 0 ≡ window.list
 unfolding list_before_stage
 first_list window = refl
-
-slots_on : (k b : ℕ) → k * b + 1 + b ≡ (k + 1) * b + 1
-slots_on k b = grind arith
 
 module _ (endpoints : ℕ) (window : Window) (may : MayBePlayed endpoints window) where
   pub list_before : EveryBatchLeavesAList → (stage : ℕ) → stage ≤ length window.batches → IsListBefore (first_slot_in window stage) (list_before_stage window stage)
@@ -82,3 +82,6 @@ module _ (endpoints : ℕ) (window : Window) (may : MayBePlayed endpoints window
 
   pub few_pieces : EveryBatchKeepsItsFlows → FlowsFitPairs → (stage : ℕ) → stage ≤ length window.batches → pieces_before window stage ≤ 1024
   few_pieces keeps pairs stage within = let few = few_items keeps pairs stage within in omega (arith, few)
+
+pub batch_is : (batches all : List DemandBatch) (stage : ℕ) (batch : DemandBatch) → all ≡ batches → stage < length batches → batch ≡ get_or batches stage batch → batch ≡ batch_of_stage all stage
+batch_is batches all stage batch same below is = is ∙ (get_or_default batches stage batch _ below ∙ ap (λ (bs : List DemandBatch). batch_of_stage bs stage) (sym same))

@@ -10,9 +10,9 @@ use Rattle.ring_core.specs.States.{EdgeState, RingState, WorkerState}
 use Rattle.ring_core.specs.declared.turn.Turn.{Turn}
 use Rattle.ring_core.specs.Windows.{Window, MayBePlayed, window_of, list_before_stage, pieces_before, worker_after}
 use Rattle.ring_core.specs.Streams.{pieces_at}
-use Rattle.ring_core.specs.Ends.{Ends}
+use Rattle.ring_core.specs.Ends.{WorkerEnds}
 use Rattle.ring_core.specs.Workers.{IsWorker, Plays}
-use Rattle.ring_core.specs.Turns.{Answers, piece_to_push}
+use Rattle.ring_core.specs.Turns.{TurnAnswers, piece_to_push}
 use Rattle.ring_core.specs.Edges.{AllHold, StreamsAreShort, OthersStay, IsFoundEmpty, IsFoundFull, room_at, taken_at, sent_at, ends_between}
 
 -- the worker of this number among so many, for windows of at most so many batches of b slots
@@ -66,7 +66,7 @@ pub record MayStart (core : RingState) (first_batch : ℕ) (batches : List Deman
 abbrev pub window_in : List DemandBatch → RingState → Window
 window_in batches core = window_of core.list batches core.first_batch core.b core.workers
 
-abbrev pub ends_in : List DemandBatch → RingState → ℕ → Ends
+abbrev pub ends_in : List DemandBatch → RingState → ℕ → WorkerEnds
 ends_in batches core number = ends_between (window_in batches core) core.edges number (worker_after core.workers number)
 
 -- it plays a window of these batches: each edge holds exactly its stream from taken to sent, and each worker has played up to
@@ -84,7 +84,7 @@ pub record IsPlaying (batches : List DemandBatch) (core : RingState) : Type 0 wh
 abbrev pub AnswersIn : List DemandBatch → RingState → RingState → ℕ → Turn → Type 0
 AnswersIn batches old new number turn =
     (worker : WorkerState) → slice_get old.crew number ≡ Some worker
-    → Answers batches worker (ends_in batches old number) (ends_in batches new number) (IsFoundEmpty new.edges number) (IsFoundFull new.edges (worker_after old.workers number)) turn
+    → TurnAnswers batches worker (ends_in batches old number) (ends_in batches new number) (IsFoundEmpty new.edges number) (IsFoundFull new.edges (worker_after old.workers number)) turn
 
 -- it is a ring of the same sizes
 pub record IsSameRing (old new : RingState) : Type 0 where

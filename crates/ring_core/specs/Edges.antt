@@ -4,7 +4,7 @@ use Rattle.slot_batches.specs.Pieces.{Part}
 use Rattle.ring_core.specs.States.{EdgeState}
 use Rattle.ring_core.specs.Windows.{Window}
 use Rattle.ring_core.specs.Streams.{EdgeInto, edge_stream}
-use Rattle.ring_core.specs.Ends.{Ends}
+use Rattle.ring_core.specs.Ends.{WorkerEnds}
 
 -- the part of a list from one place up to another
 abbrev pub between : {A : Type 0} → ℕ → ℕ → List A → List A
@@ -37,9 +37,9 @@ abbrev pub taken_of : Option EdgeState → ℕ
 taken_of None = 0
 taken_of (Some edge) = edge.taken
 
-abbrev pub sent_of : Option EdgeState → ℕ
-sent_of None = 0
-sent_of (Some edge) = edge.sent
+abbrev pub sent_on_edge : Option EdgeState → ℕ
+sent_on_edge None = 0
+sent_on_edge (Some edge) = edge.sent
 
 abbrev pub room_of : Option EdgeState → ℕ
 room_of None = 0
@@ -49,13 +49,13 @@ abbrev pub taken_at : List EdgeState → ℕ → ℕ
 taken_at edges number = taken_of (slice_get edges number)
 
 abbrev pub sent_at : List EdgeState → ℕ → ℕ
-sent_at edges number = sent_of (slice_get edges number)
+sent_at edges number = sent_on_edge (slice_get edges number)
 
 abbrev pub room_at : List EdgeState → ℕ → ℕ
 room_at edges number = room_of (slice_get edges number)
 
 -- the two ends of a worker that pops from one of the edges and pushes to another
-abbrev pub ends_between : Window → List EdgeState → ℕ → ℕ → Ends
+abbrev pub ends_between : Window → List EdgeState → ℕ → ℕ → WorkerEnds
 ends_between window edges before after =
     record {
       before = record { window = window; worker = before };

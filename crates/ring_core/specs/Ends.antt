@@ -4,14 +4,14 @@ use Rattle.ring_core.specs.Streams.{EdgeInto}
 
 -- the edge before the worker, the edge after it, and the worker's positions on them: how many pieces it has taken of the
 -- first, and how many were sent into the second
-pub record Ends : Type 0 where
+pub record WorkerEnds : Type 0 where
   pub before : EdgeInto
   pub after : EdgeInto
   pub taken : ℕ
   pub sent : ℕ
 
-abbrev pub one_taken : Ends → Ends
+abbrev pub one_taken : WorkerEnds → WorkerEnds
 one_taken ends = record { before = ends.before; after = ends.after; taken = ends.taken + 1; sent = ends.sent }
 
-abbrev pub one_sent : Ends → Ends
+abbrev pub one_sent : WorkerEnds → WorkerEnds
 one_sent ends = record { before = ends.before; after = ends.after; taken = ends.taken; sent = ends.sent + 1 }

@@ -3,11 +3,11 @@ use Rattle.std.specs.Prelude.{ℕ, zero, suc, ◌+◌, List, [], ◌∷◌, leng
 use Rattle.greedy_rules.specs.Batches.{DemandBatch}
 use Rattle.greedy_rules.specs.Demands.{opened}
 use Rattle.ring_core.specs.States.{WorkerState}
-use Rattle.ring_core.specs.Windows.{batch_at}
+use Rattle.ring_core.specs.Windows.{batch_of_stage}
 
 -- in the stage of this number
 abbrev pub openings : List DemandBatch → ℕ → ℕ
-openings batches stage = length (opened (batch_at batches stage).entries)
+openings batches stage = length (opened (batch_of_stage batches stage).entries)
 
 -- in so many stages of one worker among so many, from this one on
 abbrev pub own_openings : ℕ → List DemandBatch → ℕ → ℕ → ℕ

@@ -8,7 +8,7 @@ use Rattle.ring_core.specs.States.{EdgeState, WorkerState}
 use Rattle.ring_core.specs.Windows.{Window, MayBePlayed, list_before_stage, worker_of, worker_after}
 use Rattle.ring_core.specs.Streams.{pieces_into, items_of}
 use Rattle.ring_core.specs.Edges.{room_at}
-use Rattle.ring_core.specs.Ends.{Ends}
+use Rattle.ring_core.specs.Ends.{WorkerEnds}
 use Rattle.ring_core.specs.Workers.{HasPlayed}
 use Rattle.ring_core.specs.Cores.{IsCrewed}
 
@@ -53,7 +53,7 @@ MayBeSent (Some stage) workers list edges =
     (length list ≤ 65536) × ((edge : EdgeState) → slice_get edges (worker_of workers stage) ≡ Some edge → (edge.pieces ≡ []) × (piece_count list ≤ edge.room))
 
 -- the two ends of a worker by its own positions
-abbrev pub own_ends : Window → WorkerState → Ends
+abbrev pub own_ends : Window → WorkerState → WorkerEnds
 own_ends window worker =
     record {
       before = record { window = window; worker = worker.number };

@@ -3,11 +3,11 @@ use Rattle.std.specs.Prelude.{◌≡◌, ◌<◌, ◌≤◌, ℕ, ◌+◌, ◌*�
 use Rattle.greedy_rules.specs.Batches.{DemandBatch}
 use Rattle.greedy_rules.specs.Demands.{AreBelow, opened}
 use Rattle.greedy_rules.specs.Schedule.{first_slot}
-use Rattle.slot_batches.specs.Stands.{IsSameWork, Stands, endpoints_of, batch_size_of, slots_of, StageState}
+use Rattle.slot_batches.specs.Stands.{IsSameWork, Stands, stage_endpoints, batch_size_of, stage_slots, StageState}
 use Rattle.ring_core.specs.States.{WorkerState}
-use Rattle.ring_core.specs.Windows.{Window, MayBePlayed, batch_at, batch_of, first_slot_in, pieces_before, slots_in, worker_after, is_fed, items_fed, piece_given_next}
+use Rattle.ring_core.specs.Windows.{Window, MayBePlayed, batch_of_stage, batch_of, first_slot_in, pieces_before, slots_of_stage, worker_after, is_fed, items_fed, piece_given_next}
 use Rattle.ring_core.specs.Streams.{pieces_into}
-use Rattle.ring_core.specs.Ends.{Ends}
+use Rattle.ring_core.specs.Ends.{WorkerEnds}
 
 -- the number of the stage at this place of the worker's own
 abbrev pub own_stage : ℕ → ℕ → ℕ → ℕ
@@ -21,7 +21,7 @@ pub record StageIsAt (endpoints : ℕ) (window : Window) (stage fed given : ℕ)
 -- the stage has ended: its slots are those of its batch
 pub record StageHasEnded (endpoints : ℕ) (window : Window) (stage : ℕ) (state : StageState) : Type 0 where
   pub work : IsSameWork endpoints window.b (stage + 1) (first_slot_in window stage) state
-  pub slots : slots_of state ≡ slots_in window stage
+  pub slots : stage_slots state ≡ slots_of_stage window stage
   pub none : state.nodes ≡ 0
 
 -- the worker has its stages: each of its number of slots a batch, and one for each of its own batches
@@ -29,7 +29,7 @@ pub record IsWorker (worker : WorkerState) : Type 0 where
   pub number : worker.number < worker.workers
   pub some_slots : 0 < worker.b
   pub few_batches : worker.batches < 2 ^ 16
-  pub endpoints : All (λ stage. endpoints_of stage ≡ worker.endpoints) worker.stages
+  pub endpoints : All (λ stage. stage_endpoints stage ≡ worker.endpoints) worker.stages
   pub sizes : All (λ stage. batch_size_of stage ≡ worker.b) worker.stages
   pub enough : worker.batches ≤ own_stage worker.workers worker.number (length worker.stages)
 
@@ -42,7 +42,7 @@ pub record MayBegin (worker : WorkerState) (first_batch : ℕ) (batches : List D
 -- the stage has begun its batch
 pub record HasBegun (endpoints b first_batch : ℕ) (batches : List DemandBatch) (stage : ℕ) (state : StageState) : Type 0 where
   pub work : IsSameWork endpoints b (stage + 1) (first_slot b (first_batch + stage)) state
-  pub stands : Stands (batch_at batches stage) [] false 0 state
+  pub stands : Stands (batch_of_stage batches stage) [] false 0 state
 
 -- so has each of the worker's stages, as far as there are batches for them
 abbrev pub HaveBegun : ℕ → ℕ → ℕ → List DemandBatch → ℕ → ℕ → List StageState → Type 0
@@ -51,7 +51,7 @@ HaveBegun endpoints b first_batch batches workers worker stages =
     → HasBegun endpoints b first_batch batches (own_stage workers worker place) state
 
 -- a window that the worker may have begun
-pub record IsWindowOf (worker : WorkerState) (first_batch : ℕ) (batches : List DemandBatch) (window : Window) : Type 0 where
+pub record IsWorkerWindow (worker : WorkerState) (first_batch : ℕ) (batches : List DemandBatch) (window : Window) : Type 0 where
   pub may : MayBePlayed worker.endpoints window
   pub batches_are : window.batches ≡ batches
   pub first_is : window.first_batch ≡ first_batch
@@ -59,7 +59,7 @@ pub record IsWindowOf (worker : WorkerState) (first_batch : ℕ) (batches : List
   pub workers_are : window.workers ≡ worker.workers
 
 -- the two ends of the worker when the window begins: the pieces of the window's list were sent into worker 0 before
-abbrev pub first_ends : Window → ℕ → Ends
+abbrev pub first_ends : Window → ℕ → WorkerEnds
 first_ends window worker =
     record {
       before = record { window = window; worker = worker };
@@ -74,9 +74,9 @@ given_by worker given = if is_some worker.held then given + 1 else given
 
 -- the worker has played these batches up to these ends: of its present stage's list it has taken so many pieces, and so
 -- many of the next it has sent
-pub record HasPlayed (batches : List DemandBatch) (ends : Ends) (worker : WorkerState) (fed given : ℕ) : Type 0 where
+pub record HasPlayed (batches : List DemandBatch) (ends : WorkerEnds) (worker : WorkerState) (fed given : ℕ) : Type 0 where
   pub is_worker : IsWorker worker
-  pub window : IsWindowOf worker ends.before.window.first_batch batches ends.before.window
+  pub window : IsWorkerWindow worker ends.before.window.first_batch batches ends.before.window
   pub before : ends.before.worker ≡ worker.number
   pub after : ends.after ≡ record { window = ends.before.window; worker = worker_after worker.workers worker.number }
   pub count : length batches ≤ worker.batches
@@ -98,7 +98,7 @@ pub record HasPlayed (batches : List DemandBatch) (ends : Ends) (worker : Worker
       → StageIsAt worker.endpoints ends.before.window (own_stage worker.workers worker.number place) 0 0 state
   pub idle : (place : ℕ) (state : StageState) → length batches ≤ own_stage worker.workers worker.number place → slice_get worker.stages place ≡ Some state → state.nodes ≡ 0
 
-abbrev pub Plays : List DemandBatch → Ends → WorkerState → Type 0
+abbrev pub Plays : List DemandBatch → WorkerEnds → WorkerState → Type 0
 Plays batches ends worker = (fed : ℕ) × (given : ℕ) × HasPlayed batches ends worker fed given
 
 -- all stages of the worker have ended
@@ -127,4 +127,4 @@ IsEndedStage worker stage = (place : ℕ) × (place < worker.place) × (stage �
 pub record HasBegunWith (first_batch : ℕ) (batches : List DemandBatch) (sent : ℕ) (old new : WorkerState) : Type 0 where
   pub same : IsSameWorker old new
   pub is_worker : IsWorker new
-  pub plays : (window : Window) → IsWindowOf old first_batch batches window → sent ≡ (first_ends window old.number).sent → Plays batches (first_ends window old.number) new
+  pub plays : (window : Window) → IsWorkerWindow old first_batch batches window → sent ≡ (first_ends window old.number).sent → Plays batches (first_ends window old.number) new

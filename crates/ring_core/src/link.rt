@@ -3,11 +3,11 @@ use slot_batches::Piece;
 /// The two ends of a worker: the edge that brings it pieces, and the edge into the worker after it.
 pub trait Link {
     ghost use Rattle.std.specs.Prelude.{◌≡◌, ℕ, MatchOption, MatchResult};
-    ghost use Rattle.ring_core.specs.Ends.{Ends, one_taken, one_sent};
+    ghost use Rattle.ring_core.specs.Ends.{WorkerEnds, one_taken, one_sent};
     ghost use Rattle.ring_core.specs.Streams.{IsPieceAt};
 
     /// The edges, and the worker's positions on them.
-    ghost ends: { Self → Ends };
+    ghost ends: { Self → WorkerEnds };
 
     /// It may be used.
     ghost ready: { Self → Type 0 };

@@ -9,7 +9,7 @@ ghost use Rattle.ring_core.specs.Windows.{Window, window_of, turns_of, worker_af
 ghost use Rattle.ring_core.specs.Workers.{Plays, IsWorker, MayBegin, HasBegunWith, IsSameWorker};
 ghost use Rattle.ring_core.specs.declared.turn.Turn.TheVariants.{Moved};
 ghost use Rattle.ring_core.specs.Streams.{items_of};
-ghost use Rattle.ring_core.specs.Turns.{Answers};
+ghost use Rattle.ring_core.specs.Turns.{TurnAnswers};
 ghost use Rattle.ring_core.specs.Edges.{room_at, AllHold, StreamsAreShort, OthersStay, IsFoundEmpty, IsFoundFull, ends_between};
 ghost use Rattle.ring_core.specs.Wholes.{room_for, StandsBefore};
 ghost use Rattle.ring_core.specs.Openings.{crew_openings};
@@ -262,6 +262,7 @@ impl RingCore {
     /// As `take`, but behind the slots of so many batches that came before, which stay as they are: slot i of stage s stands at
     /// place `(passed + s) * b + i`. The places behind theirs are empty.
     pub fn take_behind(&mut self, passed: u16, list: &mut DemandList, out: &mut SlotTable)
+        // Five conditions that a caller can break one by one, and a line for each thing that the call leaves.
         requires finished { IsFinished self.old }
         requires room { (batches : List DemandBatch) × IsPlaying batches self.old × (length (rest_from self.old.b self.old.first_batch self.old.list batches) ≤ length list.old.items + list.old.spare) }
         requires places { (passed + self.old.stages) * self.old.b ≤ length out.old.slots }
@@ -425,7 +426,7 @@ fn turn_at(
     requires plays { Plays batches.now (ends_between (window_of list.now.value.items batches.now first_batch b workers) edges.old before after) worker.old }
     ensures holds { AllHold (window_of list.now.value.items batches.now first_batch b workers) edges.new }
     ensures plays { Plays batches.now (ends_between (window_of list.now.value.items batches.now first_batch b workers) edges.new before after) worker.new }
-    ensures answer { Answers batches.now worker.old (ends_between (window_of list.now.value.items batches.now first_batch b workers) edges.old before after) (ends_between (window_of list.now.value.items batches.now first_batch b workers) edges.new before after) (IsFoundEmpty edges.new before) (IsFoundFull edges.new after) result }
+    ensures answer { TurnAnswers batches.now worker.old (ends_between (window_of list.now.value.items batches.now first_batch b workers) edges.old before after) (ends_between (window_of list.now.value.items batches.now first_batch b workers) edges.new before after) (IsFoundEmpty edges.new before) (IsFoundFull edges.new after) result }
     ensures others { OthersStay before after edges.old edges.new }
     ensures worker { IsSameWorker worker.old worker.new }
 {

@@ -2,14 +2,14 @@ ghost use Rattle.std.specs.Prelude.{◌≡◌, ◌<◌, ◌≤◌, ◌+◌, ◌*
 ghost use Rattle.greedy_rules.specs.Batches.{DemandBatch, entry_of};
 ghost use Rattle.greedy_rules.specs.Demands.{need_with, AreBelow, opened};
 ghost use Rattle.slot_batches.specs.Pieces.{Part, part_of, piece_count};
-ghost use Rattle.slot_batches.specs.Stands.{StageState, endpoints_of, batch_size_of, first_slot_of, number_of, IsSameWork, MayBeFed, Stands};
-ghost use Rattle.ring_core.specs.Windows.{Window, list_before_stage, slots_in};
+ghost use Rattle.slot_batches.specs.Stands.{StageState, stage_endpoints, batch_size_of, first_slot_of, stage_number, IsSameWork, MayBeFed, Stands};
+ghost use Rattle.ring_core.specs.Windows.{Window, list_before_stage, slots_of_stage};
 ghost use Rattle.ring_core.specs.Streams.{IsPieceAt};
-ghost use Rattle.ring_core.specs.Ends.{Ends, one_taken, one_sent};
-ghost use Rattle.ring_core.specs.Workers.{own_stage, IsWorker, MayBegin, IsWindowOf, first_ends, HaveBegun, Plays, IsAt, IsSameWorker, IsEndedStage};
+ghost use Rattle.ring_core.specs.Ends.{WorkerEnds, one_taken, one_sent};
+ghost use Rattle.ring_core.specs.Workers.{own_stage, IsWorker, MayBegin, IsWorkerWindow, first_ends, HaveBegun, Plays, IsAt, IsSameWorker, IsEndedStage};
 ghost use Rattle.ring_core.specs.Openings.{own_openings};
 ghost use Rattle.ring_core.specs.Wholes.{room_for, StartsStage};
-ghost use Rattle.ring_core.specs.Turns.{piece_to_push, Answers};
+ghost use Rattle.ring_core.specs.Turns.{piece_to_push, TurnAnswers};
 ghost use Rattle.ring_core.specs.declared.turn.Turn.TheVariants.{Done};
 
 use crate::link::Link;
@@ -100,7 +100,7 @@ impl Worker {
         requires none { All (λ stage. stage.nodes ≡ 0) self.old.stages }
         requires nodes { own_openings (length self.old.stages) batches.now self.old.workers self.old.number ≤ length spare.old }
         ensures plays { (window : Window) →
-            IsWindowOf self.old first_batch batches.now window →
+            IsWorkerWindow self.old first_batch batches.now window →
             sent ≡ (first_ends window self.old.number).sent →
             Plays batches.now (first_ends window self.old.number) self.new }
         ensures same { IsSameWorker self.old self.new }
@@ -137,7 +137,7 @@ impl Worker {
     /// Whether all its stages of so many batches have ended; it has no nodes then.
     pub fn has_ended(&self, batches: usize) -> bool
         ensures value { result ≡ nat_le batches self.now.stage }
-        ensures none { (played : List DemandBatch) → (ends : Ends) →
+        ensures none { (played : List DemandBatch) → (ends : WorkerEnds) →
             Plays played ends self.now →
             batches ≡ length played →
             result ≡ true →
@@ -159,7 +159,7 @@ impl Worker {
         requires ready { L.ready link.old }
         ensures plays { Plays batches.now (L.ends link.new) self.new }
         ensures ready { L.ready link.new × L.stays link.old link.new }
-        ensures answer { Answers batches.now self.old (L.ends link.old) (L.ends link.new) (L.found_empty link.new) (L.found_full link.new) result }
+        ensures answer { TurnAnswers batches.now self.old (L.ends link.old) (L.ends link.new) (L.found_empty link.new) (L.found_full link.new) result }
         ensures done { result ≡ Done → self.new ≡ self.old }
         ensures worker { IsSameWorker self.old self.new }
     {
@@ -174,12 +174,12 @@ impl Worker {
 
     /// The piece that was refused, or else the one that the present stage gives next.
     fn next_piece(&mut self) -> Option<Piece>
-        requires { (batches : List DemandBatch) × (ends : Ends) × Plays batches ends self.old × (self.old.stage < length batches) }
-        ensures piece { (batches : List DemandBatch) → (ends : Ends) →
+        requires { (batches : List DemandBatch) × (ends : WorkerEnds) × Plays batches ends self.old × (self.old.stage < length batches) }
+        ensures piece { (batches : List DemandBatch) → (ends : WorkerEnds) →
             Plays batches ends self.old →
             self.old.stage < length batches →
             option_map part_of result ≡ piece_to_push ends self.old }
-        ensures plays { (batches : List DemandBatch) → (ends : Ends) →
+        ensures plays { (batches : List DemandBatch) → (ends : WorkerEnds) →
             Plays batches ends self.old →
             self.old.stage < length batches →
             Plays batches ends (record self.new { held = option_map part_of result }) }
@@ -206,7 +206,7 @@ impl Worker {
         ensures ready { L.ready link.new × L.stays link.old link.new }
         ensures answer { (batches : List DemandBatch) →
             Plays batches (L.ends link.old) (record self.old { held = Some (part_of piece) }) →
-            Answers batches self.old (L.ends link.old) (L.ends link.new) (L.found_empty link.new) (L.found_full link.new) result }
+            TurnAnswers batches self.old (L.ends link.old) (L.ends link.new) (L.found_empty link.new) (L.found_full link.new) result }
         ensures worker { IsSameWorker self.old self.new }
     {
         early_pieces_are_of_the_list();
@@ -226,9 +226,9 @@ impl Worker {
 
     /// Counts a piece that was sent. With the end of its list the present stage has ended, and the next one follows.
     fn count_sent(&mut self, end: bool)
-        requires plays { (batches : List DemandBatch) × (ends : Ends) × (part : Part) × Plays batches ends (record self.old { held = Some part }) × (part.end ≡ end) }
+        requires plays { (batches : List DemandBatch) × (ends : WorkerEnds) × (part : Part) × Plays batches ends (record self.old { held = Some part }) × (part.end ≡ end) }
         requires held { self.old.held ≡ None }
-        ensures plays { (batches : List DemandBatch) → (ends : Ends) → (part : Part) →
+        ensures plays { (batches : List DemandBatch) → (ends : WorkerEnds) → (part : Part) →
             Plays batches ends (record self.old { held = Some part }) →
             part.end ≡ end →
             Plays batches (one_sent ends) self.new }
@@ -253,7 +253,7 @@ impl Worker {
         requires ready { L.ready link.old }
         ensures plays { Plays batches.now (L.ends link.new) self.new }
         ensures ready { L.ready link.new × L.stays link.old link.new }
-        ensures answer { Answers batches.now self.old (L.ends link.old) (L.ends link.new) (L.found_empty link.new) (L.found_full link.new) result }
+        ensures answer { TurnAnswers batches.now self.old (L.ends link.old) (L.ends link.new) (L.found_empty link.new) (L.found_full link.new) result }
         ensures worker { IsSameWorker self.old self.new }
     {
         let Some(piece) = link.pop() else {
@@ -265,10 +265,10 @@ impl Worker {
 
     /// Feeds the present stage, which gives no piece as it is, the next piece of its list.
     fn feed(&mut self, batches: &[Batch], piece: Piece)
-        requires plays { (ends : Ends) × Plays batches.now ends self.old × (piece_to_push ends self.old ≡ None) × IsPieceAt ends.before ends.taken piece }
+        requires plays { (ends : WorkerEnds) × Plays batches.now ends self.old × (piece_to_push ends self.old ≡ None) × IsPieceAt ends.before ends.taken piece }
         requires going { self.old.stage < length batches.now }
         requires held { self.old.held ≡ None }
-        ensures plays { (ends : Ends) →
+        ensures plays { (ends : WorkerEnds) →
             Plays batches.now ends self.old →
             piece_to_push ends self.old ≡ None →
             IsPieceAt ends.before ends.taken piece →
@@ -319,8 +319,8 @@ impl Worker {
 
     /// The slots of an own stage that has ended.
     pub fn slots(&self, stage: u32) -> &SlotTable
-        requires { (batches : List DemandBatch) × (ends : Ends) × Plays batches ends self.now × IsEndedStage self.now stage }
-        ensures slots { (batches : List DemandBatch) → (ends : Ends) → Plays batches ends self.now → result.now.slots ≡ slots_in ends.before.window stage }
+        requires { (batches : List DemandBatch) × (ends : WorkerEnds) × Plays batches ends self.now × IsEndedStage self.now stage }
+        ensures slots { (batches : List DemandBatch) → (ends : WorkerEnds) → Plays batches ends self.now → result.now.slots ≡ slots_of_stage ends.before.window stage }
         ensures endpoints { result.now.endpoints ≡ self.now.endpoints }
         ensures count { length result.now.slots ≡ self.now.b }
     {
@@ -341,13 +341,13 @@ fn begin_stages(
     requires workers { number < workers }
     requires some_slots { 0 < b }
     requires few { length batches.now < 2 ^ 16 }
-    requires in_range { All (λ stage. All (λ batch. AreBelow (endpoints_of stage) (opened batch.entries)) batches.now) stages.old }
+    requires in_range { All (λ stage. All (λ batch. AreBelow (stage_endpoints stage) (opened batch.entries)) batches.now) stages.old }
     requires sizes { All (λ stage. batch_size_of stage ≡ b) stages.old }
     requires numbers { (first_batch + length batches.now) * b + 1 ≤ 2 ^ 32 }
     requires none { All (λ stage. stage.nodes ≡ 0) stages.old }
     requires nodes { own_openings (length stages.old) batches.now workers number ≤ length spare.old }
-    ensures begun { (endpoints : ℕ) → All (λ stage. endpoints_of stage ≡ endpoints) stages.old → HaveBegun endpoints b first_batch batches.now workers number stages.new }
-    ensures endpoints { (endpoints : ℕ) → All (λ stage. endpoints_of stage ≡ endpoints) stages.old → All (λ stage. endpoints_of stage ≡ endpoints) stages.new }
+    ensures begun { (endpoints : ℕ) → All (λ stage. stage_endpoints stage ≡ endpoints) stages.old → HaveBegun endpoints b first_batch batches.now workers number stages.new }
+    ensures endpoints { (endpoints : ℕ) → All (λ stage. stage_endpoints stage ≡ endpoints) stages.old → All (λ stage. stage_endpoints stage ≡ endpoints) stages.new }
     ensures sizes { All (λ stage. batch_size_of stage ≡ b) stages.new }
     ensures count { length stages.new ≡ length stages.old }
     ensures spare { length spare.new + own_openings (length stages.old) batches.now workers number ≡ length spare.old }
@@ -367,12 +367,12 @@ fn begin_stages(
 /// Feeds a stage the items of a piece; with the end of the list it is finished.
 fn feed_stage(stage: &mut Stage, batch: &Batch, piece: Piece)
     requires few { length piece.items ≤ 64 }
-    requires may { (fed : List Item) × (given : ℕ) × Stands batch.now fed false given stage.old × MayBeFed batch.now.entries (endpoints_of stage.old) (first_slot_of stage.old) (fed ++ piece.items) }
+    requires may { (fed : List Item) × (given : ℕ) × Stands batch.now fed false given stage.old × MayBeFed batch.now.entries (stage_endpoints stage.old) (first_slot_of stage.old) (fed ++ piece.items) }
     requires needs { All (λ item. need_with (entry_of batch.now.entries item.flow) item.need < 2 ^ 32) piece.items }
-    ensures work { IsSameWork (endpoints_of stage.old) (batch_size_of stage.old) (number_of stage.old) (first_slot_of stage.old) stage.new }
+    ensures work { IsSameWork (stage_endpoints stage.old) (batch_size_of stage.old) (stage_number stage.old) (first_slot_of stage.old) stage.new }
     ensures stands { (fed : List Item) → (given : ℕ) →
         Stands batch.now fed false given stage.old →
-        MayBeFed batch.now.entries (endpoints_of stage.old) (first_slot_of stage.old) (fed ++ piece.items) →
+        MayBeFed batch.now.entries (stage_endpoints stage.old) (first_slot_of stage.old) (fed ++ piece.items) →
         Stands batch.now (fed ++ piece.items) piece.end given stage.new }
 {
     let mut items = piece.items;

@@ -2,7 +2,6 @@
 use Rattle.std.proofs.Common.{◌≡◌, ◌<◌, ◌≤◌, ◌+◌, ℕ, true, false, List, [], ◌∷◌, ◌++◌, Option, Some, nat_lt, ◌==◌, ◌&&◌, All, refl, sym, ap, ◌∙◌, subst, arith, inl, inr}
 use Rattle.std.specs.Prelude.{IsTrue}
 use Rattle.std.proofs.lemmas.Bool.{cases_Bool, cond-true, cond-false, or_left, lt-ltb}
-use Rattle.std.proofs.lemmas.List.{append-nil, append_assoc}
 use Rattle.std.proofs.lemmas.List.Elements.{All-head, All-tail}
 use Rattle.greedy_rules.specs.declared.flows.Flow.{Flow}
 use Rattle.greedy_rules.specs.declared.flows.Item.{Item}
@@ -11,7 +10,7 @@ use Rattle.greedy_rules.specs.declared.limits.Limits.{Limits}
 use Rattle.greedy_rules.specs.Flows.{same_flow, flow_below}
 use Rattle.greedy_rules.specs.Batches.{DemandBatch, IsBatch, IsAboveLast, entry_of}
 use Rattle.greedy_rules.specs.Demands.{need_with}
-use Rattle.greedy_rules.specs.Recorded.{demand_through, demand_of, IsRecordedAfter, AreRecordedAfter, AreRecorded, MayBeApplied, RecordedBatchesMayBeApplied}
+use Rattle.greedy_rules.specs.Recorded.{demand_through, demand_of, IsRecordedAfter, AreRecorded, MayBeApplied, RecordedBatchesMayBeApplied}
 use Rattle.slot_batches.specs.NextList.{IsListBefore}
 use Rattle.rules_rows.specs.Asks.{OpensOneSlot}
 
@@ -62,14 +61,6 @@ none_recorded limits earlier few = record {
   clears = λ k d below. absurd (omega (arith, below));
   fits = λ flow. omega (arith, few flow);
 }
-
-pub recorded_more : (endpoints : ℕ) (limits : Limits) (earlier batches : List DemandBatch) (batch : DemandBatch) → AreRecordedAfter endpoints limits earlier batches → IsRecordedAfter endpoints limits (earlier ++ batches) batch
-    → AreRecordedAfter endpoints limits earlier (batches ++ batch ∷ [])
-recorded_more endpoints limits earlier [] batch are is = (subst (λ (bs : List DemandBatch). IsRecordedAfter endpoints limits bs batch) (append-nil earlier) is, tt)
-recorded_more endpoints limits earlier (b ∷ batches) batch are is = (
-  are.0,
-  recorded_more endpoints limits (earlier ++ b ∷ []) batches batch are.1 (subst (λ (bs : List DemandBatch). IsRecordedAfter endpoints limits bs batch) (sym (append_assoc earlier (b ∷ []) batches)) is),
-)
 
 -- it adds no demand
 pub demand_same : (batches : List DemandBatch) (limits : Limits) (flow : Flow) (need : ℕ) → demand_through (batches ++ record { entries = []; limits = limits } ∷ []) flow need ≡ demand_through batches flow need

@@ -1,6 +1,7 @@
 -- The text of one batch of a step.
 use Rattle.std.proofs.Common.{◌≡◌, ◌+◌, ◌*◌, ℕ, List, ◌++◌, get_or, map, take, drop, sym, ap, ◌∙◌, arith}
 use Rattle.std.proofs.lemmas.List.Concat.{flat_map-append}
+use Rattle.list_facts.proofs.Numbers.{rows_on}
 use Rattle.greedy_rules.specs.Batches.{DemandBatch}
 use Rattle.greedy_rules.specs.SlotTable.{Slots}
 use Rattle.greedy_rules.specs.Schedule.{first_slot}
@@ -11,9 +12,6 @@ use Rattle.window_engine.specs.Step.{StepContent}
 use Rattle.run_lines.specs.Text.{line_text, text_of, no_batch, entry_line, slots_lines}
 use Rattle.run_lines.specs.Steps.{cores_of_step, batch_of_step}
 
-places : (k n b : ℕ) → (k + n) * b ≡ k * b + n * b
-places k n b = grind arith
-
 -- a batch of a step: its entries and then its slots
 pub batch_text : (b at k base from : ℕ) (step : StepContent) (batch : DemandBatch) (table : Slots) (cores : CoreSlots) → k ≡ step.window.span.first + at → batch ≡ get_or step.played.batches at no_batch → base ≡ first_slot b step.window.span.first
     → from ≡ at * b → table ≡ step.window.slots → cores ≡ step.window.cores
@@ -22,7 +20,7 @@ pub batch_text : (b at k base from : ℕ) (step : StepContent) (batch : DemandBa
 batch_text b at k base from step batch table cores k_is batch_is base_is from_is table_is cores_are =
     let n : ℕ = step.window.span.first + at in
     let entries : List Line = map (entry_line n) (get_or step.played.batches at no_batch).entries in
-    let number : base + from ≡ first_slot b n = omega (arith, places step.window.span.first at b) in
+    let number : base + from ≡ first_slot b n = omega (arith, rows_on step.window.span.first at b) in
     let Slots_of : ℕ → CoreSlots → ℕ → ℕ → Slots → List ℕ = λ f c m low t. text_of (slots_lines (cores_from f c) m (take b (drop low t.slots))) in
     ap (λ (m : ℕ). text_of (map (entry_line m) batch.entries) ++ Slots_of base cores (base + from) from table) k_is
     ∙ (ap (λ (x : DemandBatch). text_of (map (entry_line n) x.entries) ++ Slots_of base cores (base + from) from table) batch_is

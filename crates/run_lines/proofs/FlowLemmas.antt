@@ -3,11 +3,9 @@ use Rattle.std.proofs.Common.{◌≡◌, ◌<◌, ◌+◌, ◌-◌, ℕ, zero, s
 use Rattle.std.proofs.lemmas.List.{append_assoc, append-nil}
 use Rattle.std.proofs.lemmas.List.Concat.{flat_map-append}
 use Rattle.greedy_rules.specs.declared.flows.Flow.{Flow}
+use Rattle.greedy_rules.specs.Cells.{flow_of}
 use Rattle.report_text.specs.declared.line.Line.{Line}
 use Rattle.run_lines.specs.Text.{line_text, text_of, each_destination, each_source}
-
-abbrev pub flow_of : ℕ → ℕ → Flow
-flow_of src dst = record { src = src; dst = dst }
 
 each_destination-plus : (lines : Flow → List Line) (src dst m n : ℕ) → each_destination lines src dst (m + n) ≡ each_destination lines src dst m ++ each_destination lines src (dst + m) n
 each_destination-plus lines src dst zero n =

@@ -1,3 +1,4 @@
+pub use Rattle.text_output.proofs.OutputLemmas
 pub mod BatchTexts
 pub mod RoundTexts
 pub mod FlowLemmas

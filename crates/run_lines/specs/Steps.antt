@@ -7,7 +7,7 @@ use Rattle.report_text.specs.declared.line.Line.{Line}
 use Rattle.report_text.specs.Names.{IsRefusal}
 use Rattle.replay_rounds.specs.Played.{Played}
 use Rattle.window_engine.specs.Scheduled.{cores_from}
-use Rattle.window_engine.specs.Step.{StepContent}
+pub use Rattle.window_engine.specs.Step.{StepContent}
 use Rattle.run_lines.specs.Text.{no_batch, entry_line, batch_lines, refused_line, sent_line}
 
 -- ---- of a plan

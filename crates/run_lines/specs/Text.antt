@@ -11,7 +11,7 @@ pub use Rattle.text_output.specs.Text.{line_text, text_of, entry_line, slot_line
 use Rattle.trace_text.specs.Trace.{TraceContent}
 use Rattle.trace_run.specs.Run.{Setting}
 use Rattle.replay_rounds.specs.declared.played.Departure.{Departure}
-use Rattle.window_engine.specs.declared.counts.Counts.{Counts}
+pub use Rattle.window_engine.specs.declared.counts.Counts.{Counts}
 use Rattle.window_engine.specs.Batches.{plan_batches}
 use Rattle.window_engine.specs.Counts.{counts_of}
 use Rattle.window_engine.specs.Replay.{replay_counts}
@@ -65,12 +65,12 @@ abbrev pub flows_lines : ℕ → TraceContent → List Line
 flows_lines b trace = each_source (flow_lines b trace) (endpoints_of trace.net) 0 (endpoints_of trace.net)
 
 -- the slots of a flow that are allocated and neither acknowledged nor lost
-abbrev pub flight_of : Counts → ℕ
-flight_of counts = counts.allocated - counts.acknowledged - counts.lost
+abbrev pub in_flight_of : Counts → ℕ
+in_flight_of counts = counts.allocated - counts.acknowledged - counts.lost
 
 abbrev pub count_line : Flow → Counts → Line
 count_line flow counts =
-    line.Count flow.src flow.dst counts.demanded counts.acknowledged (flight_of counts) counts.pending counts.lost counts.sent counts.missed
+    line.Count flow.src flow.dst counts.demanded counts.acknowledged (in_flight_of counts) counts.pending counts.lost counts.sent counts.missed
 
 abbrev pub count_lines_of : Flow → Option Counts → List Line
 count_lines_of flow None = []

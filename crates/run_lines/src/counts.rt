@@ -5,7 +5,7 @@ ghost use Rattle.clos_topology.specs.NetSlots.{SlotCores};
 ghost use Rattle.trace_text.specs.Valid.{IsTrace};
 ghost use Rattle.window_engine.specs.Standing.{StandsForReplay, run_of};
 ghost use Rattle.text_output.specs.Output.{Passes};
-ghost use Rattle.run_lines.specs.Text.{text_of, flight_of, count_lines_of, counts_of_source, counts_lines};
+ghost use Rattle.run_lines.specs.Text.{text_of, in_flight_of, count_lines_of, counts_of_source, counts_lines};
 
 use crate::laws::every_count_has_a_flight;
 use fp_edge::Sink;
@@ -18,7 +18,7 @@ use window_engine::{Counts, Engine};
 /// The slots of a flow that are allocated and neither acknowledged nor lost.
 pub fn flight(counts: Counts) -> u32
     requires { counts.acknowledged + counts.lost ≤ counts.allocated }
-    ensures { result ≡ flight_of counts }
+    ensures { result ≡ in_flight_of counts }
 {
     counts.allocated - counts.acknowledged - counts.lost
 }

@@ -15,4 +15,4 @@ pub use flows::put_flows;
 pub use laws::every_count_has_a_flight;
 pub use lines::{put_batch, put_slots};
 pub use rounds::put_round;
-pub use text_output::{Output, Stop, texts_follow, write_all};
+pub use text_output::{Output, Stop, put_entries, texts_follow, write_all};

@@ -1,10 +1,13 @@
 -- The text of batches with their slots, one after another.
 use Rattle.std.proofs.Common.{◌≡◌, ◌<◌, ◌≤◌, ◌+◌, ◌-◌, ◌*◌, ℕ, suc, List, [], ◌∷◌, ◌++◌, length, get_or, take, drop, sym, ap, ◌∙◌, arith}
-use Rattle.std.proofs.lemmas.List.{append-nil, append_assoc, take-append-drop, take-take, take_all, length-take, drop-drop, drop-take, drop_more}
+use Rattle.std.proofs.lemmas.List.{append-nil, append_assoc, take-take, take_all, length-take, drop-drop, drop-take, drop_more}
 use Rattle.std.proofs.lemmas.List.Concat.{flat_map-append}
+use Rattle.list_facts.proofs.Lists.{take_on}
+use Rattle.list_facts.proofs.Numbers.{rows_on}
 use Rattle.greedy_rules.specs.declared.flows.Flow.{Flow}
 use Rattle.greedy_rules.specs.Batches.{DemandBatch}
 use Rattle.greedy_rules.specs.Schedule.{schedule}
+use Rattle.greedy_rules.proofs.FrontLemmas.{times_more}
 use Rattle.clos_topology.specs.NetSlots.{SlotCores}
 use Rattle.report_text.specs.declared.line.Line.{Line}
 use Rattle.trace_text.specs.Trace.{TraceContent}
@@ -12,9 +15,6 @@ use Rattle.window_engine.specs.Batches.{plan_batches}
 use Rattle.run_lines.specs.Text.{text_of, no_batch, batch_lines, line_text}
 use Rattle.run_text.specs.PlanText.{batches_lines}
 use Rattle.run_text.specs.Progress.{window_lines, rounds_lines}
-
-times_more : (n b : ℕ) → suc n * b ≡ b + n * b
-times_more n b = grind arith
 
 batches_lines-append : (cores : SlotCores) (b k : ℕ) (xs ys : List DemandBatch) (slots : List (List Flow))
     → batches_lines cores b k (xs ++ ys) slots ≡ batches_lines cores b k xs (take (length xs * b) slots) ++ batches_lines cores b (k + length xs) ys (drop (length xs * b) slots)
@@ -38,15 +38,6 @@ batches_lines-append cores b k (x ∷ xs) ys slots =
     ∙ (sym (append_assoc (batch_lines cores b k x (take b slots)) (batches_lines cores b (k + 1) xs (drop b own)) tail)
     ∙ ap (λ (xss : List (List Flow)). (batch_lines cores b k x xss ++ batches_lines cores b (k + 1) xs (drop b own)) ++ tail) (sym first))
 
--- so many batches with their slots, and so many after them
-take-plus : {X : Type 0} (m n : ℕ) (xs : List X) → take (m + n) xs ≡ take m xs ++ take n (drop m xs)
-take-plus m n xs =
-    sym (take-append-drop m (take (m + n) xs))
-    ∙ (ap (λ ys. ys ++ drop m (take (m + n) xs)) (take-take m (m + n) xs (omega arith)) ∙ ap (λ ys. take m xs ++ ys) (drop-take m n xs))
-
-places : (k n b : ℕ) → (k + n) * b ≡ k * b + n * b
-places k n b = grind arith
-
 pub front_more : (cores : SlotCores) (b j k n : ℕ) (batches : List DemandBatch) (slots : List (List Flow)) → k + n ≤ length batches
     → batches_lines cores b j (take (k + n) batches) (take ((k + n) * b) slots)
     ≡ batches_lines cores b j (take k batches) (take (k * b) slots) ++ batches_lines cores b (j + k) (take n (drop k batches)) (take (n * b) (drop (k * b) slots))
@@ -56,11 +47,11 @@ front_more cores b j k n batches slots within =
     let here : List (List Flow) = take ((k + n) * b) slots in
     let count : length xs ≡ k = omega (arith, length-take k batches) in
     let size : length xs * b ≡ k * b = ap (λ (m : ℕ). m * b) count in
-    let all : (k + n) * b ≡ k * b + n * b = places k n b in
+    let all : (k + n) * b ≡ k * b + n * b = rows_on k n b in
     let at : j + length xs ≡ j + k = omega arith in
     let first : take (k * b) here ≡ take (k * b) slots = take-take (k * b) ((k + n) * b) slots (omega arith) in
     let rest : drop (k * b) here ≡ take (n * b) (drop (k * b) slots) = ap (λ (m : ℕ). drop (k * b) (take m slots)) all ∙ drop-take (k * b) (n * b) slots in
-    ap (λ (bs : List DemandBatch). batches_lines cores b j bs here) (take-plus k n batches)
+    ap (λ (bs : List DemandBatch). batches_lines cores b j bs here) (take_on k n batches)
     ∙ (batches_lines-append cores b j xs ys here
     ∙ (ap (λ (m : ℕ). batches_lines cores b j xs (take m here) ++ batches_lines cores b (j + length xs) ys (drop m here)) size
     ∙ (ap (λ (m : ℕ). batches_lines cores b j xs (take (k * b) here) ++ batches_lines cores b m ys (drop (k * b) here)) at

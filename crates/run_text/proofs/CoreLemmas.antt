@@ -99,7 +99,7 @@ slots_lines-same f h number (slot ∷ slots) same =
     subst (λ (n : ℕ). f n source ≡ h n source) on (same (suc i) source (omega arith))) in
     ap (λ (ls : List Line). ls ++ slots_lines f (number + 1) slots) here ∙ ap (λ (ls : List Line). map (slot_line number (h number)) slot ++ ls) later
 
-next_first : (b k : ℕ) → first_slot b (k + 1) ≡ first_slot b k + b
+pub next_first : (b k : ℕ) → first_slot b (k + 1) ≡ first_slot b k + b
 next_first b k = grind arith
 
 pub batches_lines-same : (f g : SlotCores) (b k : ℕ) (batches : List DemandBatch) (slots : List (List Flow)) → ((number : ℕ) → first_slot b k ≤ number → number < first_slot b k + length slots → f number ≡ g number)

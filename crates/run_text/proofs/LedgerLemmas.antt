@@ -7,6 +7,7 @@ use Rattle.std.proofs.lemmas.List.{drop_all, drop-append-le, length-append}
 use Rattle.std.proofs.lemmas.List.Elements.{All-nil, All-cons, All-head, All-tail, All-append, All-map, All-weaker}
 use Rattle.std.proofs.lemmas.List.Sums.{sum_by-cons, sum_by-append, sum_by_push}
 use Rattle.list_facts.proofs.Pairs.{AllPairs-head, AllPairs-tail}
+use Rattle.list_facts.proofs.Lists.{All-flat, sum_by-map}
 use Rattle.greedy_rules.specs.declared.flows.Flow.{Flow}
 use Rattle.greedy_rules.specs.declared.flows.Entry.{Entry}
 use Rattle.greedy_rules.specs.Flows.{same_flow, flow_below}
@@ -36,9 +37,9 @@ use Rattle.window_engine.specs.Counts.{counts_of, AllIsAllocatedOrPending}
 use Rattle.window_engine.specs.Replay.{replay_counts, EveryReplayTakesItsSteps}
 use Rattle.run_lines.specs.Text.{entry_line, slots_lines, batch_lines, sent_line, refused_line, flow_lines_of, flows_lines, count_line, count_lines_of, counts_lines}
 use Rattle.run_text.specs.PlanText.{batches_lines, plan_lines}
-use Rattle.run_text.specs.ReplayText.{round_lines, rounds_lines, window_lines, step_lines, steps_lines, steps_of, replay_lines}
-use Rattle.run_text.specs.Ledger.{IsBalanced, added_in, AddsUp, LedgerIsKept}
-use Rattle.run_text.proofs.LineSums.{sum-none, sum-of_map, sum-last, refusals_all, slots_all, sources_all, steps_sum}
+use Rattle.run_text.specs.ReplayText.{round_lines, replay_rounds_lines, replay_window_lines, step_lines, steps_lines, steps_of, replay_lines}
+use Rattle.run_text.specs.Ledger.{IsBalanced, added_by_line, AddsUp, LedgerIsKept}
+use Rattle.run_text.proofs.LineSums.{sum-none, sum-last, refusals_all, slots_all, sources_all, steps_sum}
 
 -- ---- lines that name no counts
 
@@ -58,10 +59,6 @@ adds_up_without setting rounds lines (line.Flow src dst demanded allocated pendi
 adds_up_without setting rounds lines (line.Count src dst demanded acknowledged flight pending lost sent missed) is = absurd is
 adds_up_without setting rounds lines l is = tt
 
-All-flat : {X : Type 0} (P : X → Type 0) (f : ℕ → List X) (ks : List ℕ) → ((k : ℕ) → All P (f k)) → All P (flat_map f ks)
-All-flat P f [] all = All-nil P
-All-flat P f (k ∷ ks) all = All-append P (f k) (flat_map f ks) (all k) (All-flat P f ks all)
-
 round_without : (setting : Setting) (trace : TraceContent) (round : ℕ) → All NamesNoCounts (round_lines setting trace round)
 round_without setting trace round =
     let entries : List Line = map (entry_line round) (batch_at setting round).entries in
@@ -75,7 +72,7 @@ step_without cores setting trace step =
     let here : ℕ = collected_after setting.g trace.rounds step in
     let next : ℕ = collected_after setting.g trace.rounds (suc step) in
     let before : ℕ = collected_after setting.g trace.rounds (step - 1) in
-    All-append NamesNoCounts (rounds_lines setting trace here (next - here)) (window_lines cores setting before here)
+    All-append NamesNoCounts (replay_rounds_lines setting trace here (next - here)) (replay_window_lines cores setting before here)
     (All-flat NamesNoCounts (round_lines setting trace) (range_with_len here (next - here)) (round_without setting trace))
     (slots_all NamesNoCounts cores (first_slot setting.b before) (slots_between setting before here) (λ number core_of flow. tt))
 
@@ -148,19 +145,19 @@ one_added (e ∷ es) flow rises =
 abbrev counted : Bool → Flow → Entry → ℕ
 counted counts flow x = cond (counts && same_flow x.flow flow) x.add 0
 
-entries_add : (first round : ℕ) (es : List Entry) (flow : Flow) → IsBatch es → sum_by (added_in first flow) (map (entry_line round) es) ≡ cond (nat_le first round) (added_by (entry_of es flow)) 0
+entries_add : (first round : ℕ) (es : List Entry) (flow : Flow) → IsBatch es → sum_by (added_by_line first flow) (map (entry_line round) es) ≡ cond (nat_le first round) (added_by (entry_of es flow)) 0
 entries_add first round es flow rises =
     let total : Bool → ℕ = λ counts. sum_by (counted counts flow) es in
-    let lines : sum_by (added_in first flow) (map (entry_line round) es) ≡ total (nat_le first round) = sum-of_map (added_in first flow) (entry_line round) es in
+    let lines : sum_by (added_by_line first flow) (map (entry_line round) es) ≡ total (nat_le first round) = sum_by-map (added_by_line first flow) (entry_line round) es in
     elim (cases_Bool (nat_le first round)) [
       | inl is ↦ lines ∙ (ap total is ∙ (one_added es flow rises ∙ sym (cond-true (nat_le first round) (added_by (entry_of es flow)) 0 is)))
       | inr other ↦ lines ∙ (ap total other ∙ (sum-none (counted false flow) es (λ i d below. refl) ∙ sym (cond-false (nat_le first round) (added_by (entry_of es flow)) 0 other)))
     ]
 
 round_adds : (first round : ℕ) (setting : Setting) (trace : TraceContent) (flow : Flow) → IsBatch (batch_at setting round).entries
-    → sum_by (added_in first flow) (round_lines setting trace round) ≡ cond (nat_le first round) (added_by (entry_of (batch_at setting round).entries flow)) 0
+    → sum_by (added_by_line first flow) (round_lines setting trace round) ≡ cond (nat_le first round) (added_by (entry_of (batch_at setting round).entries flow)) 0
 round_adds first round setting trace flow rises =
-    let m : Line → ℕ = added_in first flow in
+    let m : Line → ℕ = added_by_line first flow in
     let es : List Entry = (batch_at setting round).entries in
     let entries : List Line = map (entry_line round) es in
     let refusals : List Line = flat_map (refused_line round) (raw_answers setting trace round) in
@@ -195,12 +192,12 @@ one_batch_more first count flow batches batch long =
     ]
 
 rounds_add : (first rounds : ℕ) (setting : Setting) (trace : TraceContent) (flow : Flow) → EveryRunIsApplicable → ((n : ℕ) → length (replayed setting n).batches ≡ n)
-    → sum_by (added_in first flow) (rounds_lines setting trace 0 rounds) ≡ added_from first flow (replayed setting rounds).batches
+    → sum_by (added_by_line first flow) (replay_rounds_lines setting trace 0 rounds) ≡ added_from first flow (replayed setting rounds).batches
 rounds_add first zero setting trace flow applicable long =
     let none : drop first (replayed setting 0).batches ≡ [] = drop_all first (replayed setting 0).batches (omega (arith, long 0)) in
     sym (ap (added_of flow) none)
 rounds_add first (suc round) setting trace flow applicable long =
-    let m : Line → ℕ = added_in first flow in
+    let m : Line → ℕ = added_by_line first flow in
     let batches : List DemandBatch = (replayed setting round).batches in
     let batch : DemandBatch = batch_at setting round in
     let rises : IsBatch batch.entries = last_rises [] batches batch (applicable setting (suc round)).in_order in
@@ -225,7 +222,7 @@ flow_balances setting rounds src dst counted =
     ]
 
 flow_adds_up : (setting : Setting) (rounds src dst : ℕ) (lines : List Line)
-    → sum_by (added_in (last_reset (lane_after setting rounds src)) (record { src = src; dst = dst })) lines ≡ recorded (lane_after setting rounds src) dst + lost setting.g (lane_after setting rounds src) dst
+    → sum_by (added_by_line (last_reset (lane_after setting rounds src)) (record { src = src; dst = dst })) lines ≡ recorded (lane_after setting rounds src) dst + lost setting.g (lane_after setting rounds src) dst
     → All (AddsUp setting rounds lines) (count_lines_of (record { src = src; dst = dst }) (replay_counts setting rounds (record { src = src; dst = dst })))
 flow_adds_up setting rounds src dst lines adds =
     let flow : Flow = record { src = src; dst = dst } in
@@ -237,12 +234,12 @@ flow_adds_up setting rounds src dst lines adds =
       | inr other ↦ subst Q (sym (cond-false known _ _ other)) (All-nil P)
     ]
 
-no_counts_add : (setting : Setting) (rounds first : ℕ) (flow named : Flow) → All (λ l. added_in first flow l ≡ 0) (count_lines_of named (replay_counts setting rounds named))
+no_counts_add : (setting : Setting) (rounds first : ℕ) (flow named : Flow) → All (λ l. added_by_line first flow l ≡ 0) (count_lines_of named (replay_counts setting rounds named))
 no_counts_add setting rounds first flow named = of_counts (replay_counts setting rounds named)
   where
-    of_counts : (o : Option Counts) → All (λ l. added_in first flow l ≡ 0) (count_lines_of named o)
-    of_counts None = All-nil (λ l. added_in first flow l ≡ 0)
-    of_counts (Some counts) = All-cons (λ l. added_in first flow l ≡ 0) (count_line named counts) [] refl (All-nil (λ l. added_in first flow l ≡ 0))
+    of_counts : (o : Option Counts) → All (λ l. added_by_line first flow l ≡ 0) (count_lines_of named o)
+    of_counts None = All-nil (λ l. added_by_line first flow l ≡ 0)
+    of_counts (Some counts) = All-cons (λ l. added_by_line first flow l ≡ 0) (count_line named counts) [] refl (All-nil (λ l. added_by_line first flow l ≡ 0))
 
 all_collected : (setting : Setting) (trace : TraceContent) → EveryReplayTakesItsSteps → 0 < setting.g → 0 < trace.rounds → collected_after setting.g trace.rounds (steps_of setting trace) ≡ trace.rounds
 all_collected setting trace takes some positive =
@@ -253,17 +250,17 @@ all_collected setting trace takes some positive =
 
 -- over the whole text
 text_adds : (cores : SlotCores) (setting : Setting) (trace : TraceContent) (first : ℕ) (flow : Flow) → EveryRunIsApplicable → ((n : ℕ) → length (replayed setting n).batches ≡ n) → EveryReplayTakesItsSteps → 0 < setting.g → 0 < trace.rounds
-    → sum_by (added_in first flow) (replay_lines cores setting trace) ≡ added_from first flow (replayed setting trace.rounds).batches
+    → sum_by (added_by_line first flow) (replay_lines cores setting trace) ≡ added_from first flow (replayed setting trace.rounds).batches
 text_adds cores setting trace first flow applicable long takes some positive =
-    let m : Line → ℕ = added_in first flow in
+    let m : Line → ℕ = added_by_line first flow in
     let all : ℕ = steps_of setting trace in
     let steps : List Line = steps_lines cores setting trace all in
     let counts : List Line = counts_lines setting trace in
     let last : List Line = line.End trace.rounds ∷ [] in
     let no_counts : sum_by m counts ≡ 0 = sum-none m counts (sources_all (λ l. m l ≡ 0) (λ f. count_lines_of f (replay_counts setting trace.rounds f)) (endpoints_of trace.net) (λ src dst low high. no_counts_add setting trace.rounds first flow (record { src = src; dst = dst }))) in
     let no_last : sum_by m last ≡ 0 = sum-none m last (All-cons (λ l. m l ≡ 0) (line.End trace.rounds) [] refl (All-nil (λ l. m l ≡ 0))) in
-    let reached : sum_by m (rounds_lines setting trace 0 (collected_after setting.g trace.rounds all)) ≡ sum_by m (rounds_lines setting trace 0 trace.rounds) =
-    ap (λ (n : ℕ). sum_by m (rounds_lines setting trace 0 n)) (all_collected setting trace takes some positive) in
+    let reached : sum_by m (replay_rounds_lines setting trace 0 (collected_after setting.g trace.rounds all)) ≡ sum_by m (replay_rounds_lines setting trace 0 trace.rounds) =
+    ap (λ (n : ℕ). sum_by m (replay_rounds_lines setting trace 0 n)) (all_collected setting trace takes some positive) in
     omega (
       arith,
       sum_by-append m (steps ++ counts) last,

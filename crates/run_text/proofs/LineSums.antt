@@ -1,10 +1,10 @@
 -- Facts about each line of a replay's text, and sums over its lines, part by part.
-use Rattle.std.proofs.Common.{◌≡◌, ◌<◌, ◌≤◌, ◌+◌, ◌-◌, ℕ, zero, suc, List, [], ◌∷◌, ◌++◌, map, sum_by, Option, Some, None, All, refl, ap, ◌∙◌, arith}
+use Rattle.std.proofs.Common.{◌≡◌, ◌<◌, ◌≤◌, ◌+◌, ◌-◌, ℕ, zero, suc, List, [], ◌∷◌, map, sum_by, Option, Some, None, All, refl, ap, ◌∙◌, arith}
 use Rattle.std.specs.List.{flat_map, range_with_len}
-use Rattle.std.proofs.lemmas.List.{append-nil}
 use Rattle.std.proofs.lemmas.List.Concat.{flat_map-append}
 use Rattle.std.proofs.lemmas.List.Elements.{All-nil, All-cons, All-head, All-tail, All-append, All-map}
 use Rattle.std.proofs.lemmas.List.Sums.{sum_by-cons, sum_by-append}
+use Rattle.list_facts.proofs.Lists.{range_both, flat-last}
 use Rattle.greedy_rules.specs.declared.flows.Flow.{Flow}
 use Rattle.greedy_rules.specs.Schedule.{first_slot}
 use Rattle.clos_topology.specs.Links.{CoreOf}
@@ -16,22 +16,13 @@ use Rattle.trace_run.specs.Run.{Setting}
 use Rattle.trace_run.specs.Windows.{collected_after}
 use Rattle.replay_rounds.specs.Standing.{slots_between}
 use Rattle.run_lines.specs.Text.{slot_line, slots_lines, each_destination, each_source, refused_line}
-use Rattle.run_text.specs.ReplayText.{round_lines, rounds_lines, window_lines, step_lines, steps_lines}
-use Rattle.run_text.proofs.NumberedTexts.{range-plus}
+use Rattle.run_text.specs.ReplayText.{round_lines, replay_rounds_lines, replay_window_lines, step_lines, steps_lines}
 
 -- ---- one more
-
-pub flat-last : {X : Type 0} (f : ℕ → List X) (a n : ℕ) → flat_map f (range_with_len a (n + 1)) ≡ flat_map f (range_with_len a n) ++ f (a + n)
-flat-last f a n =
-    ap (flat_map f) (range-plus a n 1) ∙ (flat_map-append f (range_with_len a n) (range_with_len (a + n) 1) ∙ ap (λ xs. flat_map f (range_with_len a n) ++ xs) (append-nil (f (a + n))))
 
 pub sum-none : {X : Type 0} (m : X → ℕ) (xs : List X) → All (λ x. m x ≡ 0) xs → sum_by m xs ≡ 0
 sum-none m [] all = refl
 sum-none m (x ∷ xs) all = omega (arith, sum_by-cons m x xs, All-head (λ y. m y ≡ 0) x xs all, sum-none m xs (All-tail (λ y. m y ≡ 0) x xs all))
-
-pub sum-of_map : {X Y : Type 0} (m : Y → ℕ) (f : X → Y) (xs : List X) → sum_by m (map f xs) ≡ sum_by (λ x. m (f x)) xs
-sum-of_map m f [] = refl
-sum-of_map m f (x ∷ xs) = omega (arith, sum_by-cons m (f x) (map f xs), sum_by-cons (λ y. m (f y)) x xs, sum-of_map m f xs)
 
 pub sum-last : {X : Type 0} (m : X → ℕ) (f : ℕ → List X) (n : ℕ) → sum_by m (flat_map f (range_with_len 0 (suc n))) ≡ sum_by m (flat_map f (range_with_len 0 n)) + sum_by m (f n)
 sum-last m f n =
@@ -74,21 +65,21 @@ sources_all P lines endpoints each = sources_from P lines endpoints 0 endpoints 
 
 -- what no slot line adds to is the same over the steps and over the rounds that they collect
 pub steps_sum : (m : Line → ℕ) (cores : SlotCores) (setting : Setting) (trace : TraceContent) (steps : ℕ) → ((n : ℕ) (core_of : CoreOf) (flow : Flow) → m (slot_line n core_of flow) ≡ 0)
-    → sum_by m (steps_lines cores setting trace steps) ≡ sum_by m (rounds_lines setting trace 0 (collected_after setting.g trace.rounds steps))
+    → sum_by m (steps_lines cores setting trace steps) ≡ sum_by m (replay_rounds_lines setting trace 0 (collected_after setting.g trace.rounds steps))
 steps_sum m cores setting trace zero no_slots = refl
 steps_sum m cores setting trace (suc steps) no_slots =
-    let rounds : ℕ → ℕ → List Line = rounds_lines setting trace in
+    let rounds : ℕ → ℕ → List Line = replay_rounds_lines setting trace in
     let here : ℕ = collected_after setting.g trace.rounds steps in
     let next : ℕ = collected_after setting.g trace.rounds (suc steps) in
     let start : 0 + here ≡ here = omega arith in
     let before : ℕ = collected_after setting.g trace.rounds (steps - 1) in
-    let window : List Line = window_lines cores setting before here in
+    let window : List Line = replay_window_lines cores setting before here in
     let split : sum_by m (steps_lines cores setting trace (suc steps)) ≡ sum_by m (steps_lines cores setting trace steps) + sum_by m (step_lines cores setting trace steps) = sum-last m (step_lines cores setting trace) steps in
     let own : sum_by m (step_lines cores setting trace steps) ≡ sum_by m (rounds here (next - here)) + sum_by m window = sum_by-append m (rounds here (next - here)) window in
     let parts : next ≡ here + (next - here) = omega arith in
     let all : sum_by m (rounds 0 next) ≡ sum_by m (rounds 0 here) + sum_by m (rounds here (next - here)) =
     ap (λ (n : ℕ). sum_by m (rounds 0 n)) parts
-    ∙ (ap (λ (ks : List ℕ). sum_by m (flat_map (round_lines setting trace) ks)) (range-plus 0 here (next - here))
+    ∙ (ap (λ (ks : List ℕ). sum_by m (flat_map (round_lines setting trace) ks)) (range_both 0 here (next - here))
     ∙ (ap (sum_by m) (flat_map-append (round_lines setting trace) (range_with_len 0 here) (range_with_len (0 + here) (next - here)))
     ∙ (sum_by-append m (rounds 0 here) (rounds (0 + here) (next - here)) ∙ ap (λ (k : ℕ). sum_by m (rounds 0 here) + sum_by m (rounds k (next - here))) start))) in
     let none : sum_by m window ≡ 0 = sum-none m window (slots_all (λ l. m l ≡ 0) cores (first_slot setting.b before) (slots_between setting before here) no_slots) in

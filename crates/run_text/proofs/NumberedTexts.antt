@@ -1,20 +1,14 @@
 -- The lines of things one after the other, of a list or by number.
-use Rattle.std.proofs.Common.{◌≡◌, ◌<◌, ◌+◌, ◌-◌, ℕ, zero, suc, List, [], ◌∷◌, ◌++◌, length, get_or, take, drop, refl, sym, ap, ◌∙◌, arith}
+use Rattle.std.proofs.Common.{◌≡◌, ◌<◌, ◌+◌, ◌-◌, ℕ, zero, suc, List, ◌++◌, refl, sym, ap, ◌∙◌, arith}
 use Rattle.std.specs.List.{flat_map, range_with_len}
-use Rattle.std.proofs.lemmas.List.{append-nil, take_more, take-append-drop}
+use Rattle.std.proofs.lemmas.List.{append-nil}
 use Rattle.std.proofs.lemmas.List.Concat.{flat_map-append}
+use Rattle.list_facts.proofs.Lists.{range_both}
 use Rattle.report_text.specs.declared.line.Line.{Line}
 use Rattle.run_lines.specs.Text.{text_of, line_text}
 
-pub range-plus : (a m n : ℕ) → range_with_len a (m + n) ≡ range_with_len a m ++ range_with_len (a + m) n
-range-plus a zero n = ap (λ (k : ℕ). range_with_len a k) (omega arith) ∙ ap (λ (k : ℕ). range_with_len k n) (omega arith)
-range-plus a (suc m) n =
-    let on : suc m + n ≡ suc (m + n) = omega arith in
-    let next : a + 1 + m ≡ a + suc m = omega arith in
-    ap (λ (k : ℕ). range_with_len a k) on ∙ (ap (λ (ks : List ℕ). a ∷ ks) (range-plus (a + 1) m n) ∙ ap (λ (k : ℕ). a ∷ (range_with_len (a + 1) m ++ range_with_len k n)) next)
-
 numbers-plus : (lines : ℕ → List Line) (a m n : ℕ) → flat_map lines (range_with_len a (m + n)) ≡ flat_map lines (range_with_len a m) ++ flat_map lines (range_with_len (a + m) n)
-numbers-plus lines a m n = ap (flat_map lines) (range-plus a m n) ∙ flat_map-append lines (range_with_len a m) (range_with_len (a + m) n)
+numbers-plus lines a m n = ap (flat_map lines) (range_both a m n) ∙ flat_map-append lines (range_with_len a m) (range_with_len (a + m) n)
 
 pub numbers-last : (lines : ℕ → List Line) (a n : ℕ) → flat_map lines (range_with_len a (n + 1)) ≡ flat_map lines (range_with_len a n) ++ lines (a + n)
 numbers-last lines a n = numbers-plus lines a n 1 ∙ ap (λ (ls : List Line). flat_map lines (range_with_len a n) ++ ls) (append-nil (lines (a + n)))
@@ -46,20 +40,3 @@ numbers-same f h a (suc n) same =
     ∙ (ap (λ (ls : List Line). flat_map f (range_with_len 0 n) ++ ls) (same n (omega arith))
     ∙ (ap (λ (ls : List Line). ls ++ h (a + n)) (numbers-same f h a n (λ i below. same i (omega arith)))
     ∙ (sym (numbers-last h a n) ∙ ap (λ (k : ℕ). flat_map h (range_with_len a k)) (sym one))))))
-
--- one item of a list more
-pub items_more : {X : Type 0} (lines : X → List Line) (xs : List X) (i : ℕ) (d : X) → i < length xs
-    → text_of (flat_map lines (take (i + 1) xs)) ≡ text_of (flat_map lines (take i xs)) ++ text_of (lines (get_or xs i d))
-items_more lines xs i d below =
-    ap (λ ys. text_of (flat_map lines ys)) (take_more xs i d below)
-    ∙ (ap text_of (flat_map-append lines (take i xs) (get_or xs i d ∷ []))
-    ∙ (flat_map-append line_text (flat_map lines (take i xs)) (lines (get_or xs i d) ++ [])
-    ∙ ap (λ (ls : List Line). text_of (flat_map lines (take i xs)) ++ text_of ls) (append-nil (lines (get_or xs i d)))))
-
-pub items_whole : {X : Type 0} (lines : X → List Line) (xs : List X) (i : ℕ) (d : X) → i < length xs
-    → text_of (flat_map lines xs) ≡ (text_of (flat_map lines (take i xs)) ++ text_of (lines (get_or xs i d))) ++ text_of (flat_map lines (drop (i + 1) xs))
-items_whole lines xs i d below =
-    ap (λ ys. text_of (flat_map lines ys)) (sym (take-append-drop (i + 1) xs))
-    ∙ (ap text_of (flat_map-append lines (take (i + 1) xs) (drop (i + 1) xs))
-    ∙ (flat_map-append line_text (flat_map lines (take (i + 1) xs)) (flat_map lines (drop (i + 1) xs))
-    ∙ ap (λ (t : List ℕ). t ++ text_of (flat_map lines (drop (i + 1) xs))) (items_more lines xs i d below)))

@@ -5,7 +5,7 @@ use Rattle.clos_topology.specs.NetSlots.{SlotCores, AreSlotCores}
 use Rattle.trace_text.specs.Trace.{TraceContent}
 use Rattle.trace_text.specs.Valid.{IsTrace}
 use Rattle.replay_rounds.specs.Standing.{slots_between}
-use Rattle.window_allocation.specs.declared.window.Span.{Span}
+use Rattle.window_engine.specs.Step.{Span, StepContent, HasCoresOf}
 use Rattle.window_engine.specs.Windows.{IsWindowOf}
 use Rattle.run_text.specs.ReplayScheduled.{AgreeAbove}
 use Rattle.run_text.proofs.CoreLemmas.{spliced}
@@ -13,7 +13,6 @@ use Rattle.run_text.proofs.ReplayCores.{limited, limited-named, places, spliced_
 use Rattle.run_text.proofs.ReplayLoop.{agree_before, agree_in, agree_self}
 use Rattle.run_text.proofs.ReplaySteps.{has_cores_of}
 use Rattle.window_engine.specs.Standing.{EngineState, StandsForReplay, HasReplayedWindow, run_of}
-use Rattle.window_engine.specs.Step.{StepContent, HasCoresOf}
 use Rattle.run_lines.specs.Steps.{cores_of_step}
 use Rattle.window_engine.proofs.EngineFacts.{replay_within}
 

@@ -1,6 +1,6 @@
 -- Cores for the slots of a replay: none is 64 or more, and those of one window can be put in place of others.
 use Rattle.std.proofs.Common.{◌≡◌, ◌≢◌, ◌<◌, ◌≤◌, ◌+◌, ◌-◌, ◌*◌, ℕ, List, [], ◌∷◌, length, get_or, take, drop, Option, Some, None, IfSome, ◌&&◌, ◌==◌, nat_lt, nat_le, cond, All, refl, sym, ap, ◌∙◌, subst, arith, inl, inr}
-use Rattle.std.specs.Option.{MatchOption, unwrap_or}
+use Rattle.std.specs.Option.{MatchOption}
 use Rattle.std.proofs.lemmas.Bool.{cond-true, cond-false, cases_Bool, ltb-true, ltb-false, lt-ltb}
 use Rattle.std.proofs.lemmas.Nat.{mul-le}
 use Rattle.std.proofs.lemmas.List.{get_or-take, get_or-drop, length-drop, length-take, take-append-drop}
@@ -11,10 +11,10 @@ use Rattle.greedy_rules.specs.Fronts.{FrontsAreFronts, EveryBatchHasItsSlots}
 use Rattle.greedy_rules.specs.Schedule.{first_slot, schedule, slot_in, slot_at}
 use Rattle.clos_topology.specs.declared.graph.Edge.{Edge}
 use Rattle.greedy_rules.specs.Limits.{rack_of}
-use Rattle.clos_topology.specs.Links.{CoreOf, IsClean, links, SharesNoLink}
+use Rattle.clos_topology.specs.Links.{CoreOf, IsClean}
 use Rattle.clos_topology.specs.RackGraph.{rack_edges}
 use Rattle.clos_topology.specs.NetSlots.{SlotCores, AreSlotCores}
-use Rattle.path_workers.specs.Coloured.{NamesNoOther}
+use Rattle.window_engine.specs.Coloured.{NamesNoOther}
 use Rattle.trace_text.specs.Trace.{TraceContent}
 use Rattle.trace_text.specs.Valid.{IsTrace}
 use Rattle.trace_run.specs.Run.{Setting, replayed}
@@ -24,6 +24,8 @@ use Rattle.replay_rounds.specs.Standing.{slots_between}
 use Rattle.window_engine.specs.Scheduled.{EverySlotIsScheduled, AreClean, HasCores}
 use Rattle.trace_run.specs.Cores.{CoresDecideNothing}
 use Rattle.window_engine.specs.Replay.{EveryReplayHasCores}
+use Rattle.replay_rounds.proofs.ReplayCores.{between-length}
+use Rattle.window_engine.proofs.ReplayScheduled.{clean-same}
 use Rattle.run_text.specs.ReplayScheduled.{replay_batches, AreReplayCores, WithReplayCores}
 use Rattle.run_text.proofs.CoreLemmas.{spliced, scheduled_between}
 
@@ -64,22 +66,9 @@ clean_small hosts cores slot core_of few clean i d below =
     let flow : Flow = get_or slot i d in
     core_small hosts cores flow.src flow.dst (core_of flow.src) few (clean.named i d below)
 
--- cores that name the same for a slot's sources are as clean
-clean_same : (hosts cores : ℕ) (slot : List Flow) (f h : CoreOf) → All (λ flow. f flow.src ≡ h flow.src) slot → IsClean hosts cores slot f → IsClean hosts cores slot h
-clean_same hosts cores slot f h same clean = record {
-  named = λ i d below.
-      let flow : Flow = get_or slot i d in
-      subst (λ (o : Option ℕ). MatchOption o (rack_of hosts flow.src ≡ rack_of hosts flow.dst) (λ core. (rack_of hosts flow.src ≢ rack_of hosts flow.dst) × (core < cores))) (same i d below) (clean.named i d below);
-  apart = λ i j d less below.
-      let one : Flow = get_or slot i d in
-      let other : Flow = get_or slot j d in
-      subst (λ (o : Option ℕ). SharesNoLink (links hosts one.src one.dst (unwrap_or (h one.src) 0)) (links hosts other.src other.dst (unwrap_or o 0))) (same j d below)
-      (subst (λ (o : Option ℕ). SharesNoLink (links hosts one.src one.dst (unwrap_or o 0)) (links hosts other.src other.dst (unwrap_or (f other.src) 0))) (same i d (omega (arith, less, below))) (clean.apart i j d less below));
-}
-
 pub clean_limited : (hosts cores : ℕ) (slot : List Flow) (core_of : CoreOf) → cores ≤ 64 → IsClean hosts cores slot core_of → IsClean hosts cores slot (λ source. below_64 (core_of source))
 clean_limited hosts cores slot core_of few clean =
-    clean_same hosts cores slot core_of (λ source. below_64 (core_of source)) (λ i d below. sym (below_64-same (core_of (get_or slot i d).src) (clean_small hosts cores slot core_of few clean i d below))) clean
+    clean-same hosts cores slot core_of (λ source. below_64 (core_of source)) (λ i d below. sym (below_64-same (core_of (get_or slot i d).src) (clean_small hosts cores slot core_of few clean i d below))) clean
 
 -- the sources of a slot's edges are those of its flows
 edges_of : (hosts source : ℕ) (slot : List Flow) → All (λ flow. flow.src ≢ source) slot → All (λ edge. edge.source ≢ source) (rack_edges hosts slot)
@@ -156,12 +145,6 @@ slot_between setting first rounds all at begins counts fronts within below =
     ∙ (ap (λ (xs : List (List Flow)). get_or xs (low + at) []) is
     ∙ (get_or-take size slots (low + at) [] (omega (arith, length-take size slots, long)) ∙ ap (λ (m : ℕ). get_or slots m []) place))
 
--- how many slots there are of the batches of so many rounds, from this one on
-pub length-between : (setting : Setting) (first rounds : ℕ) → EveryRoundHasABatch → EveryBatchHasItsSlots → length (slots_between setting first rounds) ≡ rounds * setting.b - first * setting.b
-length-between setting first rounds counts each =
-    length-drop (first * setting.b) (schedule setting.b (replayed setting rounds).batches)
-    ∙ ap (λ (n : ℕ). n - first * setting.b) (each setting.b 0 [] (replayed setting rounds).batches ∙ ap (λ (n : ℕ). n * setting.b) (counts setting rounds))
-
 sum_times : (k n b : ℕ) → k * b + n * b ≡ (k + n) * b
 sum_times k n b = grind arith
 
@@ -190,7 +173,7 @@ replay_spliced trace b g first rounds here there nothing begins counts fronts ea
     let new : EverySlotIsScheduled b trace.net batches cores =
     scheduled_between b trace.net batches low size here there old.scheduled (λ number above below within_all.
     let at : ℕ = number - (low + 1) in
-    let inside : at < length (slots_between setting first rounds) = omega (arith, length-between setting first rounds counts each, places first rounds b some) in
+    let inside : at < length (slots_between setting first rounds) = omega (arith, between-length setting first rounds counts each, places first rounds b some) in
     let is : low + 1 + at ≡ number = omega arith in
     subst (λ (m : ℕ). IsClean trace.net.hosts trace.net.cores (slot_at (schedule b batches) m) (here m)) is
     (subst (λ (slot : List Flow). IsClean trace.net.hosts trace.net.cores slot (here (low + 1 + at))) (slot_between setting first rounds trace.rounds at begins counts fronts within inside) (clean at inside))) in
@@ -208,5 +191,5 @@ clean_between trace b g first rounds there begins counts fronts each within old 
     let number : ℕ = first * b + 1 + at in
     let all : length (schedule b batches) ≡ trace.rounds * b = each b 0 [] batches ∙ ap (λ (n : ℕ). n * b) (counts setting trace.rounds) in
     let most : rounds * b ≤ trace.rounds * b = mul-le rounds b trace.rounds b within (omega arith) in
-    let inside : number ≤ length (schedule b batches) = omega (arith, all, most, length-between setting first rounds counts each, below) in
+    let inside : number ≤ length (schedule b batches) = omega (arith, all, most, between-length setting first rounds counts each, below) in
     subst (λ (slot : List Flow). IsClean trace.net.hosts trace.net.cores slot (there number)) (sym (slot_between setting first rounds trace.rounds at begins counts fronts within below)) (old.scheduled number (omega arith) inside).clean

@@ -8,7 +8,7 @@ use Rattle.trace_run.specs.Run.{Setting}
 use Rattle.replay_rounds.specs.Setting.{setting_of}
 use Rattle.window_engine.specs.Replay.{EveryReplayTakesItsSteps}
 use Rattle.run_lines.specs.Text.{text_of}
-use Rattle.run_text.specs.ReplayProgress.{next_lines}
+use Rattle.run_text.specs.ReplayProgress.{next_replay_lines}
 use Rattle.run_text.specs.ReplayScheduled.{AgreeAbove}
 use Rattle.run_text.specs.ReplayText.{step_lines, steps_lines, steps_of}
 use Rattle.run_text.proofs.CoreLemmas.{spliced, spliced-here, spliced-there}
@@ -31,14 +31,14 @@ pub same_run : (trace : TraceContent) (cores : SlotCores) (engine : EngineState)
 same_run trace cores engine b g size window = ap (λ (n : ℕ). setting_of trace n engine.g cores) size ∙ ap (λ (n : ℕ). setting_of trace b n cores) window
 
 pub step_here : (trace : TraceContent) (cores : SlotCores) (engine : EngineState) (b g steps : ℕ) → IsAfter g trace.rounds steps engine → engine.rounds ≡ trace.rounds → engine.b ≡ b → engine.g ≡ g
-    → next_lines cores trace engine ≡ step_lines cores (setting_of trace b g cores) trace steps
+    → next_replay_lines cores trace engine ≡ step_lines cores (setting_of trace b g cores) trace steps
 step_here trace cores engine b g steps after all size window =
     next_step trace cores engine g steps after all window ∙ ap (λ (s : Setting). step_lines cores s trace steps) (same_run trace cores engine b g size window)
 
 -- one step more
 pub steps_more : (trace : TraceContent) (cores : SlotCores) (engine : EngineState) (b g steps : ℕ) → IsAfter g trace.rounds steps engine → engine.rounds ≡ trace.rounds → engine.b ≡ b → engine.g ≡ g →
     let setting : Setting = setting_of trace b g cores in
-    text_of (steps_lines cores setting trace (suc steps)) ≡ text_of (steps_lines cores setting trace steps) ++ text_of (next_lines cores trace engine)
+    text_of (steps_lines cores setting trace (suc steps)) ≡ text_of (steps_lines cores setting trace steps) ++ text_of (next_replay_lines cores trace engine)
 steps_more trace cores engine b g steps after all size window =
     let setting : Setting = setting_of trace b g cores in
     let one : suc steps ≡ steps + 1 = omega arith in
@@ -52,7 +52,7 @@ steps_after cores setting trace steps = text_of (flat_map (step_lines cores sett
 pub steps_stop : (trace : TraceContent) (cores : SlotCores) (engine : EngineState) (b g steps : ℕ) → EveryReplayTakesItsSteps → 0 < g → 0 < trace.rounds → IsAfter g trace.rounds steps engine → engine.rounds ≡ trace.rounds → engine.b ≡ b → engine.g ≡ g
     → engine.allocated ≢ engine.rounds →
     let setting : Setting = setting_of trace b g cores in
-    text_of (steps_lines cores setting trace (steps_of setting trace)) ≡ (text_of (steps_lines cores setting trace steps) ++ text_of (next_lines cores trace engine)) ++ steps_after cores setting trace steps
+    text_of (steps_lines cores setting trace (steps_of setting trace)) ≡ (text_of (steps_lines cores setting trace steps) ++ text_of (next_replay_lines cores trace engine)) ++ steps_after cores setting trace steps
 steps_stop trace cores engine b g steps takes some positive after all size window more =
     let setting : Setting = setting_of trace b g cores in
     numbers_whole (step_lines cores setting trace) (steps_of setting trace) steps (more_steps g trace.rounds steps engine takes some positive after (λ is. more (is ∙ sym all)))

@@ -14,7 +14,7 @@ use Rattle.clos_topology.specs.Network.{Network}
 use Rattle.clos_topology.specs.Links.{CoreOf, IsClean}
 use Rattle.clos_topology.specs.NetSlots.{SlotCores}
 use Rattle.greedy_rules.specs.SlotTable.{Slots}
-use Rattle.path_workers.specs.CoreTable.{CoreSlots, core_of}
+use Rattle.window_engine.specs.CoreTable.{CoreSlots, core_of}
 use Rattle.report_text.specs.declared.line.Line.{Line}
 use Rattle.report_text.specs.Names.{IsRefusal}
 use Rattle.trace_text.specs.Trace.{TraceContent}
@@ -24,20 +24,19 @@ use Rattle.trace_run.specs.Windows.{collected_after, batch_at}
 use Rattle.replay_rounds.specs.declared.played.Departure.{Departure}
 use Rattle.replay_rounds.specs.Played.{Played, rounds_played, raw_answers, departures_in, EveryRefusalHasANumber}
 use Rattle.replay_rounds.specs.Standing.{slots_between}
-use Rattle.window_allocation.specs.declared.window.Span.{Span}
+use Rattle.window_engine.specs.Step.{Span, StepContent, HasCoresOf}
 use Rattle.window_engine.specs.Scheduled.{AreClean, cores_from}
 use Rattle.window_engine.specs.Windows.{WindowContent, IsWindowOf}
 use Rattle.window_engine.specs.Replay.{EveryReplayTakesItsSteps}
 use Rattle.run_lines.specs.Text.{text_of, no_batch, entry_line, slots_lines, refused_line, sent_line, line_text}
-use Rattle.run_text.specs.ReplayText.{round_lines, rounds_lines, window_lines, step_lines}
+use Rattle.run_text.specs.ReplayText.{round_lines, replay_rounds_lines, replay_window_lines, step_lines}
 use Rattle.run_lines.specs.Steps.{played_round, StepIsPlayed, cores_of_step}
-use Rattle.run_text.specs.ReplayProgress.{played_lines, HasSlots, step_text_lines, next_lines}
+use Rattle.run_text.specs.ReplayProgress.{played_lines, HasSlots, step_text_lines, next_replay_lines}
 use Rattle.run_text.specs.ReplayScheduled.{AgreeAbove}
 use Rattle.run_text.proofs.CoreLemmas.{slots_lines-same}
 use Rattle.run_text.proofs.NumberedTexts.{numbers-same}
 use Rattle.run_text.proofs.ReplayCores.{limited, below_64-same, cores_small, clean_limited}
-use Rattle.window_engine.specs.Standing.{EngineState, StandsForReplay, run_of, window_of}
-use Rattle.window_engine.specs.Step.{StepContent, HasCoresOf}
+use Rattle.window_engine.specs.Standing.{EngineState, StandsForReplay, run_of, engine_window}
 use Rattle.window_engine.proofs.EngineFacts.{replay_within}
 
 -- ---- how many steps there are
@@ -52,7 +51,7 @@ pub record IsAfter (g rounds steps : ℕ) (engine : EngineState) : Type 0 where
   pub least : 1 ≤ steps → collected_after g rounds (steps - 2) ≢ rounds
 
 pub after_step : (g rounds steps : ℕ) (old new : EngineState) → IsAfter g rounds steps old → old.rounds ≡ rounds → old.g ≡ g → old.allocated ≢ old.rounds
-    → new.collected ≡ old.collected + window_of old → new.allocated ≡ old.collected → IsAfter g rounds (suc steps) new
+    → new.collected ≡ old.collected + engine_window old → new.allocated ≡ old.collected → IsAfter g rounds (suc steps) new
 after_step g rounds steps old new after all window more collected published = record {
   collected = collected
       ∙ (ap (λ (n : ℕ). old.collected + min n (old.rounds - old.collected)) window
@@ -94,7 +93,7 @@ sent_entries first at setting trace batch answers departures batch_is answers_ar
     ∙ ap (λ (ds : List Departure). (map (entry_line round) (batch_at setting round).entries ++ flat_map (refused_line round) (raw_answers setting trace round)) ++ map sent_line ds) departures_are)
 
 -- the rounds that were played
-pub played_text : (setting : Setting) (trace : TraceContent) (first count : ℕ) → played_lines first (rounds_played setting trace first count) count ≡ rounds_lines setting trace first count
+pub played_text : (setting : Setting) (trace : TraceContent) (first count : ℕ) → played_lines first (rounds_played setting trace first count) count ≡ replay_rounds_lines setting trace first count
 played_text setting trace first count =
     numbers-same (played_round first (rounds_played setting trace first count)) (round_lines setting trace) first count
     (λ at below. sent_entries first at setting trace _ _ _ (get_or-map-range_with_len (batch_at setting) first count at (first + at) no_batch below refl)
@@ -180,34 +179,34 @@ has_cores_of net b first size slots step cores few start is long agree at source
 
 -- what a step gives is what comes next in the run
 pub next_text : (trace : TraceContent) (cores : SlotCores) (old : EngineState) (step : StepContent) (size : ℕ) → IsTrace trace
-    → step.collected.first ≡ old.collected → step.played ≡ rounds_played (run_of trace cores old) trace old.collected (window_of old) → step.window.span.first ≡ old.allocated
+    → step.collected.first ≡ old.collected → step.played ≡ rounds_played (run_of trace cores old) trace old.collected (engine_window old) → step.window.span.first ≡ old.allocated
     → IsWindowOf trace.net old.b (slots_between (run_of trace cores old) old.allocated old.collected) step.window
     → length (slots_between (run_of trace cores old) old.allocated old.collected) ≡ size
     → AgreeAbove (old.allocated * old.b) size cores (limited (cores_of_step old.b step))
-    → step_text_lines old.b step ≡ next_lines cores trace old
+    → step_text_lines old.b step ≡ next_replay_lines cores trace old
 next_text trace cores old step size sound first played start window long agree =
     let b : ℕ = old.b in
     let setting : Setting = run_of trace cores old in
-    let count : ℕ = window_of old in
+    let count : ℕ = engine_window old in
     let slots : List Line = slots_lines (cores_of_step b step) (first_slot b step.window.span.first) step.window.slots.slots in
     ap (λ (k : ℕ). played_lines k step.played (length step.played.batches) ++ slots) first
     ∙ (ap (λ (n : ℕ). played_lines old.collected step.played n ++ slots) (played_count setting trace old.collected count step.played played)
     ∙ (ap (λ (p : Played). played_lines old.collected p count ++ slots) played
     ∙ (ap (λ (ls : List Line). ls ++ slots) (played_text setting trace old.collected count)
-    ∙ ap (λ (ls : List Line). rounds_lines setting trace old.collected count ++ ls)
+    ∙ ap (λ (ls : List Line). replay_rounds_lines setting trace old.collected count ++ ls)
     (window_text trace.net b old.allocated size (slots_between setting old.allocated old.collected) step.window cores sound.net.most_cores start window long agree))))
 
 -- which step that is
-pub next_step : (trace : TraceContent) (cores : SlotCores) (old : EngineState) (g steps : ℕ) → IsAfter g trace.rounds steps old → old.rounds ≡ trace.rounds → old.g ≡ g → next_lines cores trace old ≡ step_lines cores (run_of trace cores old) trace steps
+pub next_step : (trace : TraceContent) (cores : SlotCores) (old : EngineState) (g steps : ℕ) → IsAfter g trace.rounds steps old → old.rounds ≡ trace.rounds → old.g ≡ g → next_replay_lines cores trace old ≡ step_lines cores (run_of trace cores old) trace steps
 next_step trace cores old g steps after all window =
     let setting : Setting = run_of trace cores old in
-    let from : ℕ → ℕ → ℕ → List Line = λ first count published. rounds_lines setting trace first count ++ window_lines cores setting published first in
+    let from : ℕ → ℕ → ℕ → List Line = λ first count published. replay_rounds_lines setting trace first count ++ replay_window_lines cores setting published first in
     let collected : old.collected ≡ collected_after old.g trace.rounds steps = after.collected ∙ ap (λ (n : ℕ). collected_after n trace.rounds steps) (sym window) in
     let published : old.allocated ≡ collected_after old.g trace.rounds (steps - 1) = after.published ∙ ap (λ (n : ℕ). collected_after n trace.rounds (steps - 1)) (sym window) in
     let now : ℕ = collected_after old.g trace.rounds steps in
-    let count : window_of old ≡ collected_after old.g trace.rounds (suc steps) - now =
+    let count : engine_window old ≡ collected_after old.g trace.rounds (suc steps) - now =
     ap (λ (n : ℕ). min old.g (n - old.collected)) all ∙ (ap (λ (n : ℕ). min old.g (trace.rounds - n)) collected ∙ omega arith) in
-    ap (λ (n : ℕ). from n (window_of old) old.allocated) collected ∙ (ap (λ (n : ℕ). from now n old.allocated) count ∙ ap (λ (n : ℕ). from now (collected_after old.g trace.rounds (suc steps) - now) n) published)
+    ap (λ (n : ℕ). from n (engine_window old) old.allocated) collected ∙ (ap (λ (n : ℕ). from now n old.allocated) count ∙ ap (λ (n : ℕ). from now (collected_after old.g trace.rounds (suc steps) - now) n) published)
 
 -- the text of a step in its two parts, as its tables hold it
 pub step_parts : (b base count : ℕ) (slots : Slots) (table : CoreSlots) (step : StepContent) → HasSlots b step → slots ≡ step.window.slots → table ≡ step.window.cores

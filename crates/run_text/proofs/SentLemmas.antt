@@ -1,15 +1,16 @@
 -- The `sent` lines of a replay's text are what its rounds send.
 use Rattle.std.proofs.Common.{◌≡◌, ◌≢◌, ◌<◌, ◌≤◌, ◌+◌, ◌-◌, ℕ, zero, suc, Bool, true, false, cond, ◌&&◌, ◌==◌, nat_lt, List, [], ◌∷◌, ◌++◌, map, count_by, Option, Some, None, All, refl, sym, ap, ◌∙◌, subst, arith, inl, inr}
-use Rattle.std.specs.Bool.{⊤}
 use Rattle.std.specs.List.{flat_map, range_with_len}
 use Rattle.std.proofs.lemmas.Bool.{cond-true, cond-false, cases_Bool, and_left, and_right, eqb-true, eqb-false, ne_eqb}
 use Rattle.std.proofs.lemmas.List.Elements.{All-nil, All-cons, All-head, All-tail, All-append, All-map}
-use Rattle.std.proofs.lemmas.List.Sums.{sum_by-cons, sum_by-append}
 use Rattle.list_facts.specs.Order.{insert_by, sort_by}
+use Rattle.list_facts.proofs.Lists.{flat-last, All-flat}
+use Rattle.list_facts.proofs.Counting.{count-append, one_of, count-cons, count-none, count-map}
 use Rattle.greedy_rules.specs.declared.flows.Flow.{Flow}
 use Rattle.endpoint_history.specs.Rounds.{sent_by}
 use Rattle.endpoint_history.specs.Sending.{Slot}
 use Rattle.endpoint_history.specs.Tellings.{Among}
+use Rattle.endpoint_history.proofs.Once.{numbered}
 use Rattle.report_text.specs.declared.line.Line.{Line}
 use Rattle.report_text.specs.declared.line.Line.TheVariants as line
 use Rattle.trace_text.specs.Trace.{TraceContent}
@@ -25,30 +26,12 @@ use Rattle.clos_topology.specs.Network.{endpoints_of}
 use Rattle.clos_topology.specs.NetSlots.{SlotCores}
 use Rattle.greedy_rules.specs.Schedule.{first_slot}
 use Rattle.run_lines.specs.Text.{entry_line, refused_line, sent_line, count_line, count_lines_of, counts_lines}
-use Rattle.run_text.specs.ReplayText.{round_lines, rounds_lines, window_lines, step_lines, steps_lines, steps_of, replay_lines}
+use Rattle.text_output.proofs.TextLemmas.{IsNoSend}
+use Rattle.run_text.specs.ReplayText.{round_lines, replay_rounds_lines, replay_window_lines, step_lines, steps_lines, steps_of, replay_lines}
 use Rattle.run_text.specs.Sends.{IsScheduledSend, is_send_in, SendsAreScheduled}
-use Rattle.run_text.proofs.LineSums.{flat-last, refusals_all, slots_all, sources_all, steps_sum}
+use Rattle.run_text.proofs.LineSums.{refusals_all, slots_all, sources_all, steps_sum}
 
 -- ---- how many elements pass
-
-abbrev one_of : {X : Type 0} → (X → Bool) → X → ℕ
-one_of p x = cond (p x) 1 0
-
-count-cons : {X : Type 0} (p : X → Bool) (x : X) (xs : List X) → count_by p (x ∷ xs) ≡ one_of p x + count_by p xs
-count-cons p x xs = sum_by-cons (one_of p) x xs
-
-count-append : {X : Type 0} (p : X → Bool) (xs ys : List X) → count_by p (xs ++ ys) ≡ count_by p xs + count_by p ys
-count-append p xs ys = sum_by-append (one_of p) xs ys
-
-count-none : {X : Type 0} (p : X → Bool) (xs : List X) → All (λ x. p x ≡ false) xs → count_by p xs ≡ 0
-count-none p [] all = refl
-count-none p (x ∷ xs) all =
-    let here : one_of p x ≡ 0 = cond-false (p x) 1 0 (All-head (λ y. p y ≡ false) x xs all) in
-    omega (arith, count-cons p x xs, here, count-none p xs (All-tail (λ y. p y ≡ false) x xs all))
-
-count-map : {X Y : Type 0} (p : Y → Bool) (f : X → Y) (xs : List X) → count_by p (map f xs) ≡ count_by (λ x. p (f x)) xs
-count-map p f [] = refl
-count-map p f (x ∷ xs) = omega (arith, count-cons p (f x) (map f xs), count-cons (λ y. p (f y)) x xs, count-map p f xs)
 
 -- a sort by a number keeps elements and their number
 count-insert : {X : Type 0} (p : X → Bool) (number : X → ℕ) (x : X) (ys : List X) → count_by p (insert_by number x ys) ≡ one_of p x + count_by p ys
@@ -79,10 +62,6 @@ All-sort : {X : Type 0} (P : X → Type 0) (number : X → ℕ) (xs : List X) �
 All-sort P number [] all = All-nil P
 All-sort P number (x ∷ xs) all = All-insert P number x (sort_by number xs) (All-head P x xs all) (All-sort P number xs (All-tail P x xs all))
 
-All-flat : {X : Type 0} (P : X → Type 0) (f : ℕ → List X) (ks : List ℕ) → ((k : ℕ) → All P (f k)) → All P (flat_map f ks)
-All-flat P f [] all = All-nil P
-All-flat P f (k ∷ ks) all = All-append P (f k) (flat_map f ks) (all k) (All-flat P f ks all)
-
 All-among : {X : Type 0} (P : X → Type 0) (xs : List X) → ((x : X) → Among x xs → P x) → All P xs
 All-among P [] each = All-nil P
 All-among P (x ∷ xs) each = All-cons P x xs (each x (inl refl)) (All-among P xs (λ y among. each y (inr among)))
@@ -92,10 +71,6 @@ Among-later x [] ys among = among
 Among-later x (y ∷ xs) ys among = inr (Among-later x xs ys among)
 
 -- ---- lines that are no sends
-
-abbrev IsNoSend : Line → Type 0
-IsNoSend (line.Sent slot src dst) = ⊥
-IsNoSend _ = ⊤
 
 no_send : (slot src : ℕ) (l : Line) → IsNoSend l → is_send_in slot src l ≡ false
 no_send slot src (line.Sent number source dst) is = absurd is
@@ -128,21 +103,18 @@ without_sends setting trace round =
 abbrev sends_in : Setting → ℕ → ℕ → List Slot
 sends_in setting round src = sent_by setting.endpoints setting.b setting.g ((replayed setting (round + 1)).rounds src)
 
-abbrev is_slot : ℕ → Slot → Bool
-is_slot slot s = s.slot == slot
-
 abbrev is_departure : ℕ → ℕ → Departure → Bool
 is_departure slot src d = d.slot == slot && d.src == src
 
-own_source : (slot src : ℕ) (ss : List Slot) → count_by (is_departure slot src) (map (departure src) ss) ≤ count_by (is_slot slot) ss
+own_source : (slot src : ℕ) (ss : List Slot) → count_by (is_departure slot src) (map (departure src) ss) ≤ count_by (numbered slot) ss
 own_source slot src [] = omega arith
 own_source slot src (s ∷ ss) =
     let later = own_source slot src ss in
     let first = count-cons (is_departure slot src) (departure src s) (map (departure src) ss) in
-    let second = count-cons (is_slot slot) s ss in
+    let second = count-cons (numbered slot) s ss in
     elim (cases_Bool (s.slot == slot)) [
       | inl is ↦
-          let one : one_of (is_slot slot) s ≡ 1 = cond-true (s.slot == slot) 1 0 is in
+          let one : one_of (numbered slot) s ≡ 1 = cond-true (s.slot == slot) 1 0 is in
           omega (arith, first, second, later, one, at_most_one (is_departure slot src (departure src s)))
       | inr other ↦
           let none : one_of (is_departure slot src) (departure src s) ≡ 0 = cond-false (is_departure slot src (departure src s)) 1 0 (and_left (s.slot == slot) (src == src) other) in
@@ -160,7 +132,7 @@ other_source slot src e ss other =
 -- over the first so many endpoints: none where the source isn't among them, and no more than it sends
 sources_send : (setting : Setting) (round slot src count : ℕ) →
     let total : ℕ = count_by (is_departure slot src) (flat_map (departures_from setting round) (range_with_len 0 count)) in
-    (count ≤ src → total ≡ 0) × (total ≤ count_by (is_slot slot) (sends_in setting round src))
+    (count ≤ src → total ≡ 0) × (total ≤ count_by (numbered slot) (sends_in setting round src))
 sources_send setting round slot src zero = (λ le. refl, omega arith)
 sources_send setting round slot src (suc count) =
     let f : ℕ → List Departure = departures_from setting round in
@@ -175,8 +147,8 @@ sources_send setting round slot src (suc count) =
     elim (cases_Bool (count == src)) [
       | inl is ↦
           let same : count ≡ src = eqb-true count src is in
-          let own : count_by p (f count) ≤ count_by (is_slot slot) (sends_in setting round src) =
-          subst (λ (e : ℕ). count_by p (f e) ≤ count_by (is_slot slot) (sends_in setting round src)) (sym same) (own_source slot src (sends_in setting round src)) in (
+          let own : count_by p (f count) ≤ count_by (numbered slot) (sends_in setting round src) =
+          subst (λ (e : ℕ). count_by p (f e) ≤ count_by (numbered slot) (sends_in setting round src)) (sym same) (own_source slot src (sends_in setting round src)) in (
             λ le. absurd (omega (arith, le, same)),
             omega (arith, split, none (omega (arith, same)), own),
           )
@@ -186,7 +158,7 @@ sources_send setting round slot src (suc count) =
           (λ le. omega (arith, split, none (omega (arith, le)), no), omega (arith, split, few, no))
     ]
 
-round_sends : (setting : Setting) (trace : TraceContent) (round slot src : ℕ) → count_by (is_send_in slot src) (round_lines setting trace round) ≤ count_by (is_slot slot) (sends_in setting round src)
+round_sends : (setting : Setting) (trace : TraceContent) (round slot src : ℕ) → count_by (is_send_in slot src) (round_lines setting trace round) ≤ count_by (numbered slot) (sends_in setting round src)
 round_sends setting trace round slot src =
     let p : Line → Bool = is_send_in slot src in
     let before : List Line = before_sends setting trace round in
@@ -195,21 +167,21 @@ round_sends setting trace round slot src =
     let sent : count_by p (map sent_line sorted) ≡ count_by (is_departure slot src) all = count-map p sent_line sorted ∙ count-sort (is_departure slot src) (λ d. d.slot) all in
     omega (arith, count-append p before (map sent_line sorted), none_counted slot src before (without_sends setting trace round), sent, (sources_send setting round slot src setting.endpoints).1)
 
-rounds_send : (setting : Setting) (trace : TraceContent) (slot src rounds : ℕ) → count_by (is_send_in slot src) (rounds_lines setting trace 0 rounds) ≤ count_by (is_slot slot) (sent_up_to setting rounds src)
+rounds_send : (setting : Setting) (trace : TraceContent) (slot src rounds : ℕ) → count_by (is_send_in slot src) (replay_rounds_lines setting trace 0 rounds) ≤ count_by (numbered slot) (sent_up_to setting rounds src)
 rounds_send setting trace slot src zero = omega arith
 rounds_send setting trace slot src (suc round) =
     let p : Line → Bool = is_send_in slot src in
     let f : ℕ → List Line = round_lines setting trace in
     let one : suc round ≡ round + 1 = omega arith in
     let at : 0 + round ≡ round = omega arith in
-    let split : count_by p (rounds_lines setting trace 0 (suc round)) ≡ count_by p (rounds_lines setting trace 0 round) + count_by p (f round) =
+    let split : count_by p (replay_rounds_lines setting trace 0 (suc round)) ≡ count_by p (replay_rounds_lines setting trace 0 round) + count_by p (f round) =
     ap (λ (n : ℕ). count_by p (flat_map f (range_with_len 0 n))) one
     ∙ (ap (count_by p) (flat-last f 0 round)
-    ∙ (count-append p (rounds_lines setting trace 0 round) (f (0 + round)) ∙ ap (λ (k : ℕ). count_by p (rounds_lines setting trace 0 round) + count_by p (f k)) at)) in
+    ∙ (count-append p (replay_rounds_lines setting trace 0 round) (f (0 + round)) ∙ ap (λ (k : ℕ). count_by p (replay_rounds_lines setting trace 0 round) + count_by p (f k)) at)) in
     let now : List Slot = sent_by setting.endpoints setting.b setting.g ((replayed setting (suc round)).rounds src) in
-    let same : count_by (is_slot slot) (sends_in setting round src) ≡ count_by (is_slot slot) now =
-    ap (λ (n : ℕ). count_by (is_slot slot) (sent_by setting.endpoints setting.b setting.g ((replayed setting n).rounds src))) (sym one) in
-    omega (arith, split, rounds_send setting trace slot src round, round_sends setting trace round slot src, same, count-append (is_slot slot) (sent_up_to setting round src) now)
+    let same : count_by (numbered slot) (sends_in setting round src) ≡ count_by (numbered slot) now =
+    ap (λ (n : ℕ). count_by (numbered slot) (sent_by setting.endpoints setting.b setting.g ((replayed setting n).rounds src))) (sym one) in
+    omega (arith, split, rounds_send setting trace slot src round, round_sends setting trace round slot src, same, count-append (numbered slot) (sent_up_to setting round src) now)
 
 -- ---- scheduled sends
 
@@ -227,7 +199,7 @@ round_scheduled setting trace round rounds scheduled some below =
     All-append P (before_sends setting trace round) (map sent_line (departures_in setting round)) (none_unscheduled setting rounds (before_sends setting trace round) (without_sends setting trace round))
     (All-map P sent_line (departures_in setting round) (All-sort (λ d. P (sent_line d)) (λ d. d.slot) all (All-flat (λ d. P (sent_line d)) (departures_from setting round) (range_with_len 0 setting.endpoints) own)))
 
-rounds_scheduled : (setting : Setting) (trace : TraceContent) (first count rounds : ℕ) → EverySendIsScheduled → 0 < setting.g → first + count ≤ rounds → All (IsScheduledSend setting rounds) (rounds_lines setting trace first count)
+rounds_scheduled : (setting : Setting) (trace : TraceContent) (first count rounds : ℕ) → EverySendIsScheduled → 0 < setting.g → first + count ≤ rounds → All (IsScheduledSend setting rounds) (replay_rounds_lines setting trace first count)
 rounds_scheduled setting trace first zero rounds scheduled some within = All-nil (IsScheduledSend setting rounds)
 rounds_scheduled setting trace first (suc count) rounds scheduled some within =
     let P : Line → Type 0 = IsScheduledSend setting rounds in
@@ -235,9 +207,9 @@ rounds_scheduled setting trace first (suc count) rounds scheduled some within =
     let one : count + 1 ≡ suc count = omega arith in
     subst (λ (n : ℕ). All P (flat_map f (range_with_len first n))) one
     (subst (All P) (sym (flat-last f first count))
-    (All-append P (rounds_lines setting trace first count) (f (first + count)) (rounds_scheduled setting trace first count rounds scheduled some (omega (arith, within))) (round_scheduled setting trace (first + count) rounds scheduled some (omega (arith, within)))))
+    (All-append P (replay_rounds_lines setting trace first count) (f (first + count)) (rounds_scheduled setting trace first count rounds scheduled some (omega (arith, within))) (round_scheduled setting trace (first + count) rounds scheduled some (omega (arith, within)))))
 
-collected_within : (g rounds steps : ℕ) → collected_after g rounds steps ≤ rounds
+pub collected_within : (g rounds steps : ℕ) → collected_after g rounds steps ≤ rounds
 collected_within g rounds zero = omega arith
 collected_within g rounds (suc steps) = omega (arith, collected_within g rounds steps)
 
@@ -247,8 +219,8 @@ step_scheduled cores setting trace step scheduled some =
     let next : ℕ = collected_after setting.g trace.rounds (suc step) in
     let before : ℕ = collected_after setting.g trace.rounds (step - 1) in
     let within : here + (next - here) ≤ trace.rounds = omega (arith, collected_within setting.g trace.rounds step, collected_within setting.g trace.rounds (suc step)) in
-    All-append (IsScheduledSend setting trace.rounds) (rounds_lines setting trace here (next - here)) (window_lines cores setting before here) (rounds_scheduled setting trace here (next - here) trace.rounds scheduled some within)
-    (none_unscheduled setting trace.rounds (window_lines cores setting before here) (slots_all IsNoSend cores (first_slot setting.b before) (slots_between setting before here) (λ number core_of flow. tt)))
+    All-append (IsScheduledSend setting trace.rounds) (replay_rounds_lines setting trace here (next - here)) (replay_window_lines cores setting before here) (rounds_scheduled setting trace here (next - here) trace.rounds scheduled some within)
+    (none_unscheduled setting trace.rounds (replay_window_lines cores setting before here) (slots_all IsNoSend cores (first_slot setting.b before) (slots_between setting before here) (λ number core_of flow. tt)))
 
 -- ---- the whole text
 

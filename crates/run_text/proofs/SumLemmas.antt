@@ -6,6 +6,7 @@ use Rattle.std.proofs.lemmas.List.{append-nil}
 use Rattle.std.proofs.lemmas.List.Concat.{flat_map-append}
 use Rattle.std.proofs.lemmas.List.Elements.{filter_map-append, All-nil, All-cons, All-head, All-tail, All-append}
 use Rattle.std.proofs.lemmas.List.Sums.{sum_by-cons}
+use Rattle.list_facts.proofs.Lists.{range_both}
 use Rattle.greedy_rules.specs.declared.flows.Flow.{Flow}
 use Rattle.greedy_rules.specs.Batches.{DemandBatch}
 use Rattle.greedy_rules.specs.Demands.{item_of, need_in}
@@ -20,10 +21,9 @@ use Rattle.trace_run.specs.Histories.{lane_after}
 use Rattle.trace_run.specs.Rest.{allocated_from, left_after}
 use Rattle.window_engine.specs.declared.counts.Counts.{Counts}
 use Rattle.window_engine.specs.Replay.{replay_counts}
-use Rattle.run_lines.specs.Text.{flight_of}
+use Rattle.run_lines.specs.Text.{in_flight_of}
 use Rattle.run_text.specs.Made.{counts_to, counts_from, counts_of_run, sums_of, SumsBalance}
 use Rattle.run_text.specs.Sums.{counts_listed}
-use Rattle.run_text.proofs.NumberedTexts.{range-plus}
 
 -- ---- one more
 
@@ -36,7 +36,7 @@ counts_more setting rounds src dst =
     let h : ℕ → Option Counts = λ d. replay_counts setting rounds (record { src = src; dst = d }) in
     let before : List Counts = filter_map h (range_with_len 0 dst) in
     let at : 0 + dst ≡ dst = omega arith in
-    ap (filter_map h) (range-plus 0 dst 1)
+    ap (filter_map h) (range_both 0 dst 1)
     ∙ (filter_map-append h (range_with_len 0 dst) (range_with_len (0 + dst) 1)
     ∙ (ap (λ (k : ℕ). before ++ cons_option (h k) []) at ∙ ap (λ (cs : List Counts). before ++ cs) (listed (h dst))))
 
@@ -46,7 +46,7 @@ sources_more setting rounds src =
     let f : ℕ → List Counts = counts_from setting rounds in
     let before : List Counts = flat_map f (range_with_len 0 src) in
     let at : 0 + src ≡ src = omega arith in
-    ap (flat_map f) (range-plus 0 src 1)
+    ap (flat_map f) (range_both 0 src 1)
     ∙ (flat_map-append f (range_with_len 0 src) (range_with_len (0 + src) 1) ∙ ap (λ (cs : List Counts). before ++ cs) (append-nil (f (0 + src)) ∙ ap f at))
 
 items_same : (f h : ℕ → Option Counts) (ks : List ℕ) → ((k : ℕ) → f k ≡ h k) → filter_map f ks ≡ filter_map h ks
@@ -99,13 +99,13 @@ same_counts_of_run setting cores rounds nothing no_count = lists_same _ _ (range
 -- ---- balance
 
 abbrev IsBalanced : Counts → Type 0
-IsBalanced c = c.demanded ≡ c.acknowledged + flight_of c + c.pending
+IsBalanced c = c.demanded ≡ c.acknowledged + in_flight_of c + c.pending
 
 sums_balance : (counts : List Counts) → All IsBalanced counts → SumsBalance (sums_of counts)
 sums_balance [] all = refl
 sums_balance (c ∷ counts) all =
     let later = sums_balance counts (All-tail IsBalanced c counts all) in
-    omega (arith, All-head IsBalanced c counts all, later, sum_by-cons (λ (k : Counts). k.demanded) c counts, sum_by-cons (λ (k : Counts). k.acknowledged) c counts, sum_by-cons flight_of c counts, sum_by-cons (λ (k : Counts). k.pending) c counts)
+    omega (arith, All-head IsBalanced c counts all, later, sum_by-cons (λ (k : Counts). k.demanded) c counts, sum_by-cons (λ (k : Counts). k.acknowledged) c counts, sum_by-cons in_flight_of c counts, sum_by-cons (λ (k : Counts). k.pending) c counts)
 
 flow_balances : (setting : Setting) (rounds : ℕ) (flow : Flow) → EveryFlowIsCounted → 0 < setting.g → flow.src < setting.endpoints → flow.dst < setting.endpoints → All IsBalanced (counts_listed (replay_counts setting rounds flow))
 flow_balances setting rounds flow counted some src dst =

@@ -16,14 +16,14 @@ IsBalanced (line.Count src dst demanded acknowledged flight pending lost sent mi
 IsBalanced _ = ⊤
 
 -- what a line adds to a flow, if it is a `batch` line of this batch or a later one
-abbrev pub added_in : ℕ → Flow → Line → ℕ
-added_in first flow (line.Batch batch src dst clear add) = if nat_le first batch && same_flow (record { src = src; dst = dst }) flow then add else 0
-added_in first flow _ = 0
+abbrev pub added_by_line : ℕ → Flow → Line → ℕ
+added_by_line first flow (line.Batch batch src dst clear add) = if nat_le first batch && same_flow (record { src = src; dst = dst }) flow then add else 0
+added_by_line first flow _ = 0
 
 -- the flow of a `count` line got all that the line says is demanded and lost, by the `batch` lines from its endpoint's last reset on
 abbrev pub AddsUp : Setting → ℕ → List Line → Line → Type 0
 AddsUp setting rounds lines (line.Count src dst demanded acknowledged flight pending lost sent missed) =
-    sum_by (added_in (last_reset (lane_after setting rounds src)) (record { src = src; dst = dst })) lines ≡ demanded + lost
+    sum_by (added_by_line (last_reset (lane_after setting rounds src)) (record { src = src; dst = dst })) lines ≡ demanded + lost
 AddsUp setting rounds lines _ = ⊤
 
 pub record LedgerIsKept (setting : Setting) (rounds : ℕ) (lines : List Line) : Type 0 where

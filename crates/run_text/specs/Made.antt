@@ -12,7 +12,7 @@ use Rattle.trace_run.specs.Run.{Setting}
 use Rattle.replay_rounds.specs.Setting.{setting_of}
 use Rattle.window_engine.specs.declared.counts.Counts.{Counts}
 use Rattle.window_engine.specs.Replay.{replay_counts}
-use Rattle.run_lines.specs.Text.{text_of, flight_of}
+use Rattle.run_lines.specs.Text.{text_of, in_flight_of}
 use Rattle.run_text.specs.declared.sums.Sums.{Sums}
 
 -- ---- the trace
@@ -50,7 +50,7 @@ sums_of counts = record {
   flows = length counts;
   demanded = sum_by (λ c. c.demanded) counts;
   acknowledged = sum_by (λ c. c.acknowledged) counts;
-  flight = sum_by flight_of counts;
+  flight = sum_by in_flight_of counts;
   pending = sum_by (λ c. c.pending) counts;
   lost = sum_by (λ c. c.lost) counts;
   sent = sum_by (λ c. c.sent) counts;

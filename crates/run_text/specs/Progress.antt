@@ -5,7 +5,7 @@ use Rattle.clos_topology.specs.NetSlots.{SlotCores}
 use Rattle.report_text.specs.declared.line.Line.{Line}
 use Rattle.trace_text.specs.Trace.{TraceContent}
 use Rattle.window_engine.specs.Batches.{plan_batches}
-use Rattle.window_engine.specs.Standing.{EngineState, window_of}
+use Rattle.window_engine.specs.Standing.{EngineState, engine_window}
 use Rattle.window_engine.specs.Step.{StepContent, window_slots}
 use Rattle.run_lines.specs.Steps.{cores_of_step}
 use Rattle.run_text.specs.PlanText.{batches_lines}
@@ -24,4 +24,4 @@ rounds_lines cores b k trace = batches_lines cores b 0 (take k (plan_batches tra
 
 -- those of the window that an engine plans next
 abbrev pub next_lines : SlotCores → ℕ → TraceContent → EngineState → List Line
-next_lines cores b trace engine = window_lines cores b engine.collected (window_of engine) trace
+next_lines cores b trace engine = window_lines cores b engine.collected (engine_window engine) trace

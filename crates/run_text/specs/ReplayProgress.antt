@@ -14,8 +14,8 @@ use Rattle.run_lines.specs.Steps.{played_round, cores_of_step}
 use Rattle.run_lines.specs.Text.{slots_lines, text_of}
 use Rattle.text_output.specs.declared.output.Stop.{Stop}
 use Rattle.run_text.specs.ReplayScheduled.{AreReplayCores, WithCoresBetween, AgreeAbove}
-use Rattle.run_text.specs.ReplayText.{rounds_lines, window_lines, all_steps_lines}
-use Rattle.window_engine.specs.Standing.{EngineState, StandsForReplay, run_of, window_of}
+use Rattle.run_text.specs.ReplayText.{replay_rounds_lines, replay_window_lines, all_steps_lines}
+use Rattle.window_engine.specs.Standing.{EngineState, StandsForReplay, run_of, engine_window}
 use Rattle.window_engine.specs.Step.{StepContent}
 
 -- the first so many of the rounds that were played, from this one on
@@ -35,10 +35,10 @@ abbrev pub step_text_lines : ℕ → StepContent → List Line
 step_text_lines b step = played_lines step.collected.first step.played (length step.played.batches) ++ slots_lines (cores_of_step b step) (first_slot b step.window.span.first) step.window.slots.slots
 
 -- what the next step gives in the run with these cores
-abbrev pub next_lines : SlotCores → TraceContent → EngineState → List Line
-next_lines cores trace engine =
-    rounds_lines (run_of trace cores engine) trace engine.collected (window_of engine)
-    ++ window_lines cores (run_of trace cores engine) engine.allocated engine.collected
+abbrev pub next_replay_lines : SlotCores → TraceContent → EngineState → List Line
+next_replay_lines cores trace engine =
+    replay_rounds_lines (run_of trace cores engine) trace engine.collected (engine_window engine)
+    ++ replay_window_lines cores (run_of trace cores engine) engine.allocated engine.collected
 
 -- what a step of a replay gives, whatever clean cores it stands for: its own slots have clean cores, and with all cores that name
 -- those the replay stands on, and the text of the step was passed on
@@ -47,7 +47,7 @@ GivesStep b trace old new before after result =
     (there : SlotCores) → AreReplayCores b old.g trace there → StandsForReplay trace there old
     → WithCoresBetween b old.g trace there old.allocated old.collected (λ here. (cores : SlotCores)
     → StandsForReplay trace cores old → AgreeAbove (old.allocated * b) ((old.collected - old.allocated) * b) cores here
-    → OnOk result (StandsForReplay trace cores new) × Passes before after (text_of (next_lines cores trace old)) result)
+    → OnOk result (StandsForReplay trace cores new) × Passes before after (text_of (next_replay_lines cores trace old)) result)
 
 -- what all steps give, with these cores
 abbrev pub GivesSteps : ℕ → ℕ → TraceContent → EngineState → OutputContent → OutputContent → Result (Unit {0}) Stop → SlotCores → Type 0

@@ -22,20 +22,20 @@ round_lines setting trace round =
     (map (entry_line round) (batch_at setting round).entries ++ flat_map (refused_line round) (raw_answers setting trace round))
     ++ map sent_line (departures_in setting round)
 
-abbrev pub rounds_lines : Setting → TraceContent → ℕ → ℕ → List Line
-rounds_lines setting trace first count = flat_map (round_lines setting trace) (range_with_len first count)
+abbrev pub replay_rounds_lines : Setting → TraceContent → ℕ → ℕ → List Line
+replay_rounds_lines setting trace first count = flat_map (round_lines setting trace) (range_with_len first count)
 
 -- ---- steps
 
 -- the slots of the batches from this one on, of so many rounds
-abbrev pub window_lines : SlotCores → Setting → ℕ → ℕ → List Line
-window_lines cores setting first rounds = slots_lines cores (first_slot setting.b first) (slots_between setting first rounds)
+abbrev pub replay_window_lines : SlotCores → Setting → ℕ → ℕ → List Line
+replay_window_lines cores setting first rounds = slots_lines cores (first_slot setting.b first) (slots_between setting first rounds)
 
 -- step j gives the rounds of window j, and the slots of window j - 1
 abbrev pub step_lines : SlotCores → Setting → TraceContent → ℕ → List Line
 step_lines cores setting trace j =
-    rounds_lines setting trace (collected_after setting.g trace.rounds j) (collected_after setting.g trace.rounds (suc j) - collected_after setting.g trace.rounds j)
-    ++ window_lines cores setting (collected_after setting.g trace.rounds (j - 1)) (collected_after setting.g trace.rounds j)
+    replay_rounds_lines setting trace (collected_after setting.g trace.rounds j) (collected_after setting.g trace.rounds (suc j) - collected_after setting.g trace.rounds j)
+    ++ replay_window_lines cores setting (collected_after setting.g trace.rounds (j - 1)) (collected_after setting.g trace.rounds j)
 
 -- the first so many steps
 abbrev pub steps_lines : SlotCores → Setting → TraceContent → ℕ → List Line

@@ -6,7 +6,7 @@ use Rattle.clos_topology.specs.NetSlots.{SlotCores}
 use Rattle.trace_text.specs.Trace.{TraceContent}
 use Rattle.window_engine.specs.Batches.{plan_batches}
 use Rattle.window_engine.specs.Scheduled.{EverySlotIsScheduled, AreClean}
-use Rattle.window_engine.specs.Standing.{EngineState, window_of}
+use Rattle.window_engine.specs.Standing.{EngineState, engine_window}
 use Rattle.window_engine.specs.Step.{window_slots}
 
 -- with some cores every slot of the trace's schedule is so, and what is told of them holds
@@ -19,4 +19,4 @@ WithCoresOfWindow b first count trace holds = (cores : SlotCores) × AreClean tr
 
 -- the same of the window that an engine plans next
 abbrev pub WithCoresOfNext : ℕ → TraceContent → EngineState → (SlotCores → Type 0) → Type 0
-WithCoresOfNext b trace engine holds = WithCoresOfWindow b engine.collected (window_of engine) trace holds
+WithCoresOfNext b trace engine holds = WithCoresOfWindow b engine.collected (engine_window engine) trace holds

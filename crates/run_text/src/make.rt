@@ -16,7 +16,6 @@ use crate::sizes::Sizes;
 use crate::sums::{Sums, sum_counts};
 use clos_topology::Net;
 use fp_edge::{Gate, Sink};
-use no_memory::NoMemory;
 use report_text::LineBuffer;
 use run_lines::{Output, Stop, texts_follow};
 use std::alloc::Global;
@@ -26,7 +25,7 @@ use trace_run::{
     cores_are_only_told, cores_decide_nothing, every_flow_is_counted, every_replay_shows,
 };
 use trace_text::{Trace, make_trace};
-use window_engine::Engine;
+use window_engine::{Engine, NoMemory};
 
 /// The racks of a made trace's net.
 const RACKS: u16 = 8;

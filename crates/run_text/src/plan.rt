@@ -4,9 +4,9 @@ ghost use Rattle.trace_text.specs.Valid.{IsTrace};
 ghost use Rattle.window_engine.specs.Batches.{plan_batches};
 ghost use Rattle.window_engine.specs.Counts.{AllIsAllocatedOrPending};
 ghost use Rattle.window_engine.specs.Scheduled.{HasCores};
-ghost use Rattle.window_engine.specs.Standing.{StandsForPlan, window_of};
+ghost use Rattle.window_engine.specs.Standing.{StandsForPlan, engine_window};
 ghost use Rattle.run_lines.specs.Content.{sink_content};
-ghost use Rattle.run_lines.specs.Output.{Passes, Ends, Writes};
+ghost use Rattle.run_lines.specs.Output.{Passes, EndsText, Writes};
 ghost use Rattle.run_lines.specs.Steps.{IsStepWindow};
 ghost use Rattle.run_lines.specs.Text.{text_of};
 ghost use Rattle.run_text.specs.Ledger.{IsBalanced};
@@ -17,7 +17,6 @@ ghost use Rattle.run_text.specs.Sizes.{AreSizes};
 
 use crate::sizes::Sizes;
 use fp_edge::{Gate, Sink};
-use no_memory::NoMemory;
 use report_text::{Line, LineBuffer};
 use run_lines::{Output, Stop, put_batch, put_flows, texts_follow};
 use std::alloc::Global;
@@ -25,7 +24,7 @@ use std::sync::Wait;
 use std::thread::Threads;
 use trace_text::Trace;
 use window_engine::{
-    Engine, Step, every_plan_balances, every_plan_has_its_slots, every_plan_is_recorded,
+    Engine, NoMemory, Step, every_plan_balances, every_plan_has_its_slots, every_plan_is_recorded,
     every_record_has_cores,
 };
 
@@ -69,7 +68,7 @@ fn put_step<R: Threads + Wait + Sync, G: Gate + Sync, K: Sink>(
     requires b { engine.old.b ≡ b }
     requires cores { HasCores b trace.now.net (plan_batches trace.now) }
     ensures stands { OnOk result (StandsForPlan trace.now engine.new) }
-    ensures round { OnOk result (engine.new.collected ≡ engine.old.collected + window_of engine.old) }
+    ensures round { OnOk result (engine.new.collected ≡ engine.old.collected + engine_window engine.old) }
     ensures rounds { OnOk result (engine.new.rounds ≡ engine.old.rounds) }
     ensures b { OnOk result (engine.new.b ≡ b) }
     ensures passes { WithCoresOfNext b trace.now engine.old (λ cores.
@@ -121,7 +120,7 @@ fn put_lines<R: Threads + Wait + Sync, G: Gate + Sync, K: Sink>(
     requires accepted { IsTrace trace.now }
     requires sizes { AreSizes sizes }
     requires cores { HasCores sizes.b trace.now.net (plan_batches trace.now) }
-    ensures { WithCores sizes.b trace.now (λ cores. Ends output.old output.new (plan_text cores sizes.b trace.now) result) }
+    ensures { WithCores sizes.b trace.now (λ cores. EndsText output.old output.new (plan_text cores sizes.b trace.now) result) }
 {
     texts_follow();
     every_plan_has_its_slots();

@@ -3,9 +3,9 @@ ghost use Rattle.clos_topology.specs.NetSlots.{SlotCores, AreSlotCores};
 ghost use Rattle.trace_text.specs.Valid.{IsTrace};
 ghost use Rattle.trace_run.specs.Shown.{IsShown};
 ghost use Rattle.replay_rounds.specs.Setting.{setting_of};
-ghost use Rattle.window_engine.specs.Standing.{StandsForReplay, window_of};
+ghost use Rattle.window_engine.specs.Standing.{StandsForReplay, engine_window};
 ghost use Rattle.run_lines.specs.Content.{sink_content};
-ghost use Rattle.run_lines.specs.Output.{Passes, Ends, Writes};
+ghost use Rattle.run_lines.specs.Output.{Passes, EndsText, Writes};
 ghost use Rattle.run_lines.specs.Steps.{StepIsPlayed};
 ghost use Rattle.run_lines.specs.Text.{text_of};
 ghost use Rattle.run_text.specs.ReplayProgress.{HasSlots, played_lines, step_text_lines, GivesStep, GivesSteps};
@@ -18,7 +18,6 @@ ghost use Rattle.run_text.specs.Sizes.{AreSizes};
 use crate::sizes::Sizes;
 use fp_edge::{Gate, Sink};
 use greedy_rules::schedules_go_on;
-use no_memory::NoMemory;
 use replay_rounds::every_refusal_has_a_number;
 use report_text::{Line, LineBuffer};
 use run_lines::{Output, Stop, put_counts, put_round, put_slots, texts_follow};
@@ -30,7 +29,7 @@ use trace_run::{
     runs_go_on,
 };
 use trace_text::Trace;
-use window_engine::{Engine, Step, every_replay_has_cores, every_replay_takes_its_steps};
+use window_engine::{Engine, NoMemory, Step, every_replay_has_cores, every_replay_takes_its_steps};
 
 /// The replay of a trace, before its first round.
 pub(crate) fn open_replay(alloc: Global, trace: &Trace, sizes: Sizes) -> Result<Engine, NoMemory>
@@ -89,7 +88,7 @@ fn put_step<R: Threads + Wait + Sync, G: Gate + Sync, K: Sink>(
     ensures rounds { OnOk result (replay.new.rounds ≡ replay.old.rounds) }
     ensures b { OnOk result (replay.new.b ≡ b) }
     ensures g { OnOk result (replay.new.g ≡ replay.old.g) }
-    ensures collected { OnOk result (replay.new.collected ≡ replay.old.collected + window_of replay.old) }
+    ensures collected { OnOk result (replay.new.collected ≡ replay.old.collected + engine_window replay.old) }
     ensures allocated { OnOk result (replay.new.allocated ≡ replay.old.collected) }
     ensures passes { GivesStep b trace.now replay.old replay.new output.old output.new result }
 {
@@ -147,7 +146,7 @@ fn put_lines<R: Threads + Wait + Sync, G: Gate + Sync, K: Sink>(
     requires sizes { AreSizes sizes }
     requires cores { WithReplayCores sizes.b sizes.g trace.now (λ cores. ⊤) }
     ensures { WithReplayCores sizes.b sizes.g trace.now (λ cores.
-        Ends output.old output.new (replay_text cores sizes.b sizes.g trace.now) result) }
+        EndsText output.old output.new (replay_text cores sizes.b sizes.g trace.now) result) }
 {
     texts_follow();
     let mut replay = open_replay(alloc, trace, sizes)?;

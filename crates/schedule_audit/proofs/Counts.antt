@@ -22,7 +22,7 @@ use Rattle.list_facts.proofs.Pairs.{AllPairs-head, AllPairs-tail}
 use Rattle.schedule_audit.specs.Lines.{Recorded}
 use Rattle.schedule_audit.specs.Wrong.{last_clear}
 use Rattle.schedule_audit.specs.Texts.{record_of, records_of}
-use Rattle.schedule_audit.specs.Counts.{ClearsAt, OpensFrom, CountsBeginAtTheLastClear}
+use Rattle.schedule_audit.specs.Counts.{FlowClearsAt, FlowOpensFrom, SlotsBeginAtTheLastClear}
 
 abbrev it_clears : Flow → Recorded → Bool
 it_clears flow s = s.clear && same_flow s.flow flow
@@ -111,7 +111,7 @@ none-all endpoints k limits front (batch ∷ batches) flow are none =
     (clears-one k batch.entries flow are.0.rises ∙ All-head P batch batches none)
     (none-all endpoints (k + 1) limits (front ++ batch ∷ []) batches flow are.1 (All-tail P batch batches none))
 
-clears-there : (endpoints k : ℕ) (limits : Limits) (front batches : List DemandBatch) (flow : Flow) (place : ℕ) → AreRecordedAfter endpoints limits front batches → ClearsAt flow place batches → list_any (it_clears flow) (records_of k batches) ≡ true
+clears-there : (endpoints k : ℕ) (limits : Limits) (front batches : List DemandBatch) (flow : Flow) (place : ℕ) → AreRecordedAfter endpoints limits front batches → FlowClearsAt flow place batches → list_any (it_clears flow) (records_of k batches) ≡ true
 clears-there endpoints k limits front [] flow place are at = absurd at
 clears-there endpoints k limits front (batch ∷ batches) flow zero are at =
     list_any-append (it_clears flow) (map (record_of k) batch.entries) (records_of (k + 1) batches)
@@ -120,7 +120,7 @@ clears-there endpoints k limits front (batch ∷ batches) flow (suc place) are a
     list_any-append (it_clears flow) (map (record_of k) batch.entries) (records_of (k + 1) batches)
     ∙ or_right (list_any (it_clears flow) (map (record_of k) batch.entries)) (list_any (it_clears flow) (records_of (k + 1) batches)) (clears-there endpoints (k + 1) limits (front ++ batch ∷ []) batches flow place are.1 at)
 
-clear-at : (endpoints k : ℕ) (limits : Limits) (front batches : List DemandBatch) (flow : Flow) (place : ℕ) → AreRecordedAfter endpoints limits front batches → ClearsAt flow place batches → last_clear flow (records_of k batches) ≡ k + place
+clear-at : (endpoints k : ℕ) (limits : Limits) (front batches : List DemandBatch) (flow : Flow) (place : ℕ) → AreRecordedAfter endpoints limits front batches → FlowClearsAt flow place batches → last_clear flow (records_of k batches) ≡ k + place
 clear-at endpoints k limits front [] flow place are at = absurd at
 clear-at endpoints k limits front (batch ∷ batches) flow zero are at =
     this flow k batch.entries (records_of (k + 1) batches) (none-all endpoints (k + 1) limits (front ++ batch ∷ []) batches flow are.1 at.1) (clears-one k batch.entries flow are.0.rises ∙ at.0) ∙ omega arith
@@ -128,7 +128,7 @@ clear-at endpoints k limits front (batch ∷ batches) flow (suc place) are at =
     past flow (map (record_of k) batch.entries) (records_of (k + 1) batches) (clears-there endpoints (k + 1) limits (front ++ batch ∷ []) batches flow place are.1 at)
     ∙ (clear-at endpoints (k + 1) limits (front ++ batch ∷ []) batches flow place are.1 at ∙ omega arith)
 
-opens-none : (flow : Flow) (place : ℕ) (batches : List DemandBatch) → OpensFrom flow place batches → NoneClears flow batches
+opens-none : (flow : Flow) (place : ℕ) (batches : List DemandBatch) → FlowOpensFrom flow place batches → NoneClears flow batches
 opens-none flow zero batches opens = opens
 opens-none flow (suc place) [] opens = absurd opens
 opens-none flow (suc place) (batch ∷ batches) opens =
@@ -143,13 +143,13 @@ not_of flow (e ∷ es) none = elim (cases_Bool (same_flow e.flow flow)) [
   | inr other ↦ All-cons (λ (x : Entry). IsTrue (not (same_flow x.flow flow))) e es (ap not other) (not_of flow es (rw other at none))
 ]
 
-without : (flow : Flow) (place : ℕ) (batches : List DemandBatch) → OpensFrom flow place batches → All (λ batch. HoldsOfEntries (λ f. not (same_flow f flow)) batch.entries) (take place batches)
+without : (flow : Flow) (place : ℕ) (batches : List DemandBatch) → FlowOpensFrom flow place batches → All (λ batch. HoldsOfEntries (λ f. not (same_flow f flow)) batch.entries) (take place batches)
 without flow zero batches opens = All-nil (λ (x : DemandBatch). HoldsOfEntries (λ f. not (same_flow f flow)) x.entries)
 without flow (suc place) [] opens = absurd opens
 without flow (suc place) (batch ∷ batches) opens =
     All-cons (λ (x : DemandBatch). HoldsOfEntries (λ f. not (same_flow f flow)) x.entries) batch (take place batches) (not_of flow batch.entries opens.0) (without flow place batches opens.1)
 
-long_enough : (flow : Flow) (place : ℕ) (batches : List DemandBatch) → OpensFrom flow place batches → length (take place batches) ≡ place
+long_enough : (flow : Flow) (place : ℕ) (batches : List DemandBatch) → FlowOpensFrom flow place batches → length (take place batches) ≡ place
 long_enough flow zero batches opens = refl
 long_enough flow (suc place) [] opens = absurd opens
 long_enough flow (suc place) (batch ∷ batches) opens = ap suc (long_enough flow place batches opens.1)
@@ -171,7 +171,7 @@ no_slots flow (slot ∷ slots) all =
     let P : List Flow → Type 0 = All (λ f. IsTrue (not (same_flow f flow))) in
     omega (arith, sum_by-cons (λ (s : List Flow). cond (has_flow s flow) 1 0) slot slots, cond-false {A = ℕ} (has_flow slot flow) 1 0 (has_not flow slot (All-head P slot slots all)), no_slots flow slots (All-tail P slot slots all))
 
-pub counts_begin : FrontsAreFronts → EverySlotsFlowsAreOfEntries → CountsBeginAtTheLastClear
+pub counts_begin : FrontsAreFronts → EverySlotsFlowsAreOfEntries → SlotsBeginAtTheLastClear
 counts_begin fronts of_entries endpoints b limits batches flow place are (inl at) =
     ap (λ n. slots_of flow (drop (n * b) (schedule b batches))) (clear-at endpoints 0 limits [] batches flow place are at ∙ omega arith)
 counts_begin fronts of_entries endpoints b limits batches flow place are (inr opens) =

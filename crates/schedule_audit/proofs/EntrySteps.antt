@@ -3,9 +3,8 @@ use Rattle.std.proofs.Common.{◌≡◌, ◌<◌, ◌≤◌, ◌+◌, ◌&&◌, 
 use Rattle.std.specs.Option.{option_or}
 use Rattle.std.proofs.lemmas.Bool.{cases_Bool, cond-true, cond-false}
 use Rattle.std.proofs.lemmas.List.{take_more}
-use Rattle.std.proofs.lemmas.List.Elements.{All-nil, All-cons, All-head, All-tail}
+use Rattle.std.proofs.lemmas.List.Elements.{All-head, All-tail}
 use Rattle.std.proofs.lemmas.List.Folds.{find-append}
-use Rattle.list_facts.proofs.Pairs.{AllPairs-head, AllPairs-tail}
 use Rattle.greedy_rules.specs.declared.flows.Flow.{Flow}
 use Rattle.greedy_rules.specs.declared.flows.Entry.{Entry}
 use Rattle.greedy_rules.specs.Flows.{same_flow, flow_below}
@@ -13,23 +12,14 @@ use Rattle.greedy_rules.specs.Batches.{IsBatch, IsAboveLast, entry_of}
 use Rattle.greedy_rules.specs.Balance.{added_by, clears}
 use Rattle.greedy_rules.proofs.Facts.{same_flow-true}
 use Rattle.schedule_audit.specs.declared.ledger.Ledger.{Ledger}
-use Rattle.schedule_audit.specs.FlowNumbers.{Numbers, number_of}
+use Rattle.schedule_audit.specs.FlowNumbers.{Numbers, flow_number_of}
 use Rattle.schedule_audit.specs.Entered.{Enters}
-use Rattle.schedule_audit.proofs.Records.{none_before}
+use Rattle.schedule_audit.proofs.Records.{none_before, pairs_before}
 
-abbrev Rises : Entry → Entry → Type 0
+abbrev pub Rises : Entry → Entry → Type 0
 Rises x y = IsTrue (flow_below x.flow y.flow)
 
 -- ---- the entries before one
-
-below_front : (front : List Entry) (e : Entry) (rest : List Entry) → IsBatch (front ++ e ∷ rest) → All (λ x. flow_below x.flow e.flow ≡ true) front
-below_front [] e rest rises = All-nil (λ (x : Entry). flow_below x.flow e.flow ≡ true)
-below_front (x ∷ front) e rest rises =
-    All-cons (λ (y : Entry). flow_below y.flow e.flow ≡ true) x front (middle front (AllPairs-head Rises x (front ++ e ∷ rest) rises)) (below_front front e rest (AllPairs-tail Rises x (front ++ e ∷ rest) rises))
-  where
-    middle : (ys : List Entry) → All (Rises x) (ys ++ e ∷ rest) → Rises x e
-    middle [] all = All-head (Rises x) e rest all
-    middle (y ∷ ys) all = middle ys (All-tail (Rises x) y (ys ++ e ∷ rest) all)
 
 above_last : (front : List Entry) (flow : Flow) → All (λ x. flow_below x.flow flow ≡ true) front → IsAboveLast front flow
 above_last [] flow below = tt
@@ -43,7 +33,7 @@ split_at (e ∷ entries) zero d within = refl
 split_at (e ∷ entries) (suc at) d within = ap (λ xs. e ∷ xs) (split_at entries at d (omega arith))
 
 pub below_entry : (entries : List Entry) (at : ℕ) (d : Entry) → IsBatch entries → at < length entries → All (λ x. flow_below x.flow (get_or entries at d).flow ≡ true) (take at entries)
-below_entry entries at d rises within = below_front (take at entries) (get_or entries at d) (drop (suc at) entries) (subst IsBatch (split_at entries at d within) rises)
+below_entry entries at d rises within = pairs_before (take at entries) (get_or entries at d) (drop (suc at) entries) (subst IsBatch (split_at entries at d within) rises)
 
 pub above_entry : (entries : List Entry) (at : ℕ) (d : Entry) → IsBatch entries → at < length entries → IsAboveLast (take at entries) (get_or entries at d).flow
 above_entry entries at d rises within = above_last (take at entries) (get_or entries at d).flow (below_entry entries at d rises within)
@@ -79,15 +69,15 @@ entry-other entries at d flow within other =
 -- ---- one entry more
 
 abbrev Holds : List Entry → ℕ → Numbers → Ledger → Ledger → Flow → Type 0
-Holds entries at slots start new flow = (number_of new.seen flow ≡ cond (is_some (entry_of (take (at + 1) entries) flow)) 1 (number_of start.seen flow))
-    × (number_of new.added flow ≡ number_of start.added flow + added_by (entry_of (take (at + 1) entries) flow))
-    × (number_of new.added flow ≤ number_of start.added flow + 4294967295)
-    × (number_of new.cleared flow ≡ cond (clears (entry_of (take (at + 1) entries) flow)) (number_of slots flow) (number_of start.cleared flow))
+Holds entries at slots start new flow = (flow_number_of new.seen flow ≡ cond (is_some (entry_of (take (at + 1) entries) flow)) 1 (flow_number_of start.seen flow))
+    × (flow_number_of new.added flow ≡ flow_number_of start.added flow + added_by (entry_of (take (at + 1) entries) flow))
+    × (flow_number_of new.added flow ≤ flow_number_of start.added flow + 4294967295)
+    × (flow_number_of new.cleared flow ≡ cond (clears (entry_of (take (at + 1) entries) flow)) (flow_number_of slots flow) (flow_number_of start.cleared flow))
 
 pub enters-more : (entries : List Entry) (at : ℕ) (d : Entry) (slots : Numbers) (start old new : Ledger) → IsBatch entries → at < length entries → (get_or entries at d).add ≤ 4294967295 → Enters (take at entries) slots start old
-    → ((other : Flow) → number_of new.seen other ≡ cond (same_flow (get_or entries at d).flow other) 1 (number_of old.seen other))
-    → ((other : Flow) → number_of new.added other ≡ cond (same_flow (get_or entries at d).flow other) (number_of old.added (get_or entries at d).flow + (get_or entries at d).add) (number_of old.added other))
-    → ((other : Flow) → number_of new.cleared other ≡ cond ((get_or entries at d).clear && same_flow (get_or entries at d).flow other) (number_of slots (get_or entries at d).flow) (number_of old.cleared other))
+    → ((other : Flow) → flow_number_of new.seen other ≡ cond (same_flow (get_or entries at d).flow other) 1 (flow_number_of old.seen other))
+    → ((other : Flow) → flow_number_of new.added other ≡ cond (same_flow (get_or entries at d).flow other) (flow_number_of old.added (get_or entries at d).flow + (get_or entries at d).add) (flow_number_of old.added other))
+    → ((other : Flow) → flow_number_of new.cleared other ≡ cond ((get_or entries at d).clear && same_flow (get_or entries at d).flow other) (flow_number_of slots (get_or entries at d).flow) (flow_number_of old.cleared other))
     → Enters (take (at + 1) entries) slots start new
 enters-more entries at d slots start old new rises within small so seen added cleared = record { seen = λ f. (each f).0; added = λ f. (each f).1; few = λ f. (each f).2; cleared = λ f. (each f).3 }
   where
@@ -99,30 +89,30 @@ enters-more entries at d slots start old new rises within small so seen added cl
       | inl same ↦
           let it : e.flow ≡ flow = same_flow-true e.flow flow same in
           let this = entry-this entries at d flow rises within same in
-          let before : number_of old.added e.flow ≡ number_of start.added flow =
-          ap (λ f. number_of old.added f) it ∙ (so.added flow ∙ (ap (λ o. number_of start.added flow + added_by o) this.0 ∙ plain (number_of start.added flow))) in
-          let now : number_of new.added flow ≡ number_of start.added flow + e.add =
-          added flow ∙ (cond-true (same_flow e.flow flow) (number_of old.added e.flow + e.add) (number_of old.added flow) same ∙ ap (λ n. n + e.add) before) in (
-            seen flow ∙ (cond-true (same_flow e.flow flow) 1 (number_of old.seen flow) same ∙ sym (ap (λ o. cond (is_some o) 1 (number_of start.seen flow)) this.1)),
-            now ∙ sym (ap (λ o. number_of start.added flow + added_by o) this.1),
+          let before : flow_number_of old.added e.flow ≡ flow_number_of start.added flow =
+          ap (λ f. flow_number_of old.added f) it ∙ (so.added flow ∙ (ap (λ o. flow_number_of start.added flow + added_by o) this.0 ∙ plain (flow_number_of start.added flow))) in
+          let now : flow_number_of new.added flow ≡ flow_number_of start.added flow + e.add =
+          added flow ∙ (cond-true (same_flow e.flow flow) (flow_number_of old.added e.flow + e.add) (flow_number_of old.added flow) same ∙ ap (λ n. n + e.add) before) in (
+            seen flow ∙ (cond-true (same_flow e.flow flow) 1 (flow_number_of old.seen flow) same ∙ sym (ap (λ o. cond (is_some o) 1 (flow_number_of start.seen flow)) this.1)),
+            now ∙ sym (ap (λ o. flow_number_of start.added flow + added_by o) this.1),
             omega (arith, now, small),
             cleared flow
-                ∙ (ap (λ b. cond (e.clear && b) (number_of slots e.flow) (number_of old.cleared flow)) same
-                ∙ (ap (λ b. cond b (number_of slots e.flow) (number_of old.cleared flow)) (and-true e.clear)
-                ∙ (ap (λ f. cond e.clear (number_of slots f) (number_of old.cleared flow)) it
-                ∙ (ap (λ n. cond e.clear (number_of slots flow) n) (so.cleared flow ∙ ap (λ o. cond (clears o) (number_of slots flow) (number_of start.cleared flow)) this.0)
-                ∙ sym (ap (λ o. cond (clears o) (number_of slots flow) (number_of start.cleared flow)) this.1))))),
+                ∙ (ap (λ b. cond (e.clear && b) (flow_number_of slots e.flow) (flow_number_of old.cleared flow)) same
+                ∙ (ap (λ b. cond b (flow_number_of slots e.flow) (flow_number_of old.cleared flow)) (and-true e.clear)
+                ∙ (ap (λ f. cond e.clear (flow_number_of slots f) (flow_number_of old.cleared flow)) it
+                ∙ (ap (λ n. cond e.clear (flow_number_of slots flow) n) (so.cleared flow ∙ ap (λ o. cond (clears o) (flow_number_of slots flow) (flow_number_of start.cleared flow)) this.0)
+                ∙ sym (ap (λ o. cond (clears o) (flow_number_of slots flow) (flow_number_of start.cleared flow)) this.1))))),
           )
       | inr other ↦
           let same_one = entry-other entries at d flow within other in
-          let kept : number_of new.added flow ≡ number_of old.added flow = added flow ∙ cond-false (same_flow e.flow flow) (number_of old.added e.flow + e.add) (number_of old.added flow) other in (
-            seen flow ∙ (cond-false (same_flow e.flow flow) 1 (number_of old.seen flow) other ∙ (so.seen flow ∙ sym (ap (λ o. cond (is_some o) 1 (number_of start.seen flow)) same_one))),
-            kept ∙ (so.added flow ∙ sym (ap (λ o. number_of start.added flow + added_by o) same_one)),
+          let kept : flow_number_of new.added flow ≡ flow_number_of old.added flow = added flow ∙ cond-false (same_flow e.flow flow) (flow_number_of old.added e.flow + e.add) (flow_number_of old.added flow) other in (
+            seen flow ∙ (cond-false (same_flow e.flow flow) 1 (flow_number_of old.seen flow) other ∙ (so.seen flow ∙ sym (ap (λ o. cond (is_some o) 1 (flow_number_of start.seen flow)) same_one))),
+            kept ∙ (so.added flow ∙ sym (ap (λ o. flow_number_of start.added flow + added_by o) same_one)),
             (let few = so.few flow in omega (arith, kept, few)),
             cleared flow
-                ∙ (ap (λ b. cond (e.clear && b) (number_of slots e.flow) (number_of old.cleared flow)) other
-                ∙ (ap (λ b. cond b (number_of slots e.flow) (number_of old.cleared flow)) (and-false e.clear)
-                ∙ (so.cleared flow ∙ sym (ap (λ o. cond (clears o) (number_of slots flow) (number_of start.cleared flow)) same_one)))),
+                ∙ (ap (λ b. cond (e.clear && b) (flow_number_of slots e.flow) (flow_number_of old.cleared flow)) other
+                ∙ (ap (λ b. cond b (flow_number_of slots e.flow) (flow_number_of old.cleared flow)) (and-false e.clear)
+                ∙ (so.cleared flow ∙ sym (ap (λ o. cond (clears o) (flow_number_of slots flow) (flow_number_of start.cleared flow)) same_one)))),
           )
     ]
       where

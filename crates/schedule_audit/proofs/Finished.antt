@@ -20,16 +20,16 @@ use Rattle.clos_topology.specs.Network.{Network, endpoints_of}
 use Rattle.report_text.specs.declared.line.Line.{Line}
 use Rattle.schedule_audit.specs.declared.rounds.Rounds.{Rounds}
 use Rattle.schedule_audit.specs.declared.judges.Judges.{Judges}
-use Rattle.schedule_audit.specs.Lines.{Path, path_of, sent_by, paths, records}
-use Rattle.schedule_audit.specs.Wrong.{Expected, expected_of, expected_of_batches, places_from, added_in_all, allocated_since, is_wrong}
+use Rattle.schedule_audit.specs.Lines.{Path, path_of, sent_by_line, paths, records}
+use Rattle.schedule_audit.specs.Wrong.{Expected, expected_of, expected_of_batches, slot_places_from, added_in_all, allocated_since, is_wrong}
 use Rattle.schedule_audit.specs.Entered.{IsCleared}
 use Rattle.schedule_audit.specs.BadLines.{first_from, first_wrong}
-use Rattle.schedule_audit.specs.Numbered.{Numbered, at_line, numbered}
-use Rattle.schedule_audit.specs.Totals.{total_of, is_wrong_total, first_total}
-use Rattle.schedule_audit.specs.FlowNumbers.{Numbers, number_of}
+use Rattle.schedule_audit.specs.Numbered.{Numbered, at_line, numbered_lines}
+use Rattle.schedule_audit.specs.Totals.{total_in_line, is_wrong_total, first_total}
+use Rattle.schedule_audit.specs.FlowNumbers.{Numbers, flow_number_of}
 use Rattle.schedule_audit.specs.Judged.{first_path, earlier, first_missed}
 use Rattle.schedule_audit.specs.Judging.{AreSmall}
-use Rattle.schedule_audit.specs.Played.{ArePlayed}
+use Rattle.schedule_audit.specs.Played.{AuditIsPlayed}
 use Rattle.schedule_audit.specs.Summed.{AreFigures}
 use Rattle.schedule_audit.proofs.ReadBatches.{ReadOff}
 use Rattle.schedule_audit.proofs.Counts.{counts_begin}
@@ -66,10 +66,10 @@ drop-whole : {X : Type 0} (xs : List X) → drop (length xs) xs ≡ []
 drop-whole [] = refl
 drop-whole (x ∷ xs) = drop-whole xs
 
-pub all-played : (net : Network) (b n : ℕ) (batches : List DemandBatch) (rounds : Rounds) (judges : Judges) → length batches ≡ n → ArePlayed net b (take n batches) (drop n batches) rounds judges → ArePlayed net b batches [] rounds judges
+pub all-played : (net : Network) (b n : ℕ) (batches : List DemandBatch) (rounds : Rounds) (judges : Judges) → length batches ≡ n → AuditIsPlayed net b (take n batches) (drop n batches) rounds judges → AuditIsPlayed net b batches [] rounds judges
 all-played net b n batches rounds judges many played =
-    subst (λ xs. ArePlayed net b batches xs rounds judges) (ap (λ m. drop m batches) (sym many) ∙ drop-whole batches)
-    (subst (λ xs. ArePlayed net b xs (drop n batches) rounds judges) (take_all n batches (omega (arith, many))) played)
+    subst (λ xs. AuditIsPlayed net b batches xs rounds judges) (ap (λ m. drop m batches) (sym many) ∙ drop-whole batches)
+    (subst (λ xs. AuditIsPlayed net b xs (drop n batches) rounds judges) (take_all n batches (omega (arith, many))) played)
 
 -- ---- how many `slot` lines there are
 
@@ -77,9 +77,9 @@ count-one : (n : ℕ) (o : Option Path) (rest : List (Numbered Path)) (ps : List
 count-one n None rest ps same = same
 count-one n (Some p) rest ps same = ap suc same
 
-count-numbered : (n : ℕ) (lines : List (Option Line)) → length (numbered path_of n lines) ≡ length (paths lines)
+count-numbered : (n : ℕ) (lines : List (Option Line)) → length (numbered_lines path_of n lines) ≡ length (paths lines)
 count-numbered n [] = refl
-count-numbered n (l ∷ lines) = count-one n (path_of l) (numbered path_of (n + 1) lines) (paths lines) (count-numbered (n + 1) lines)
+count-numbered n (l ∷ lines) = count-one n (path_of l) (numbered_lines path_of (n + 1) lines) (paths lines) (count-numbered (n + 1) lines)
 
 module _ (net : Network) (b : ℕ) (lines : List (Option Line)) (off : ReadOff net lines) where
   abbrev pub told : Expected
@@ -90,8 +90,8 @@ module _ (net : Network) (b : ℕ) (lines : List (Option Line)) (off : ReadOff n
 
   -- ---- what sums the text up
 
-  pub figures-are : FrontsAreFronts → EverySlotIsInRange → EverySlotsFlowsAreOfEntries → (rounds : Rounds) (judges : Judges) (left : Numbers) → ArePlayed net b off.batches [] rounds judges
-      → ((flow : Flow) → number_of left flow ≡ need_in (item_of rounds.demand.items flow)) → AreFigures b told rounds.ledger.added judges.slots rounds.ledger.cleared left
+  pub figures-are : FrontsAreFronts → EverySlotIsInRange → EverySlotsFlowsAreOfEntries → (rounds : Rounds) (judges : Judges) (left : Numbers) → AuditIsPlayed net b off.batches [] rounds judges
+      → ((flow : Flow) → flow_number_of left flow ≡ need_in (item_of rounds.demand.items flow)) → AreFigures b told rounds.ledger.added judges.slots rounds.ledger.cleared left
   figures-are fronts ranged flows rounds judges left played needs = record {
     all = λ flow. played.played.ledger.added flow ∙ ap (λ rs. added_in_all flow rs) off.is;
     allocated = allocated;
@@ -103,10 +103,10 @@ module _ (net : Network) (b : ℕ) (lines : List (Option Line)) (off : ReadOff n
       slots-are = ranged (endpoints_of net) b off.batches
           (among-front (endpoints_of net) (record { hosts = net.hosts; cores = net.cores }) [] off.batches [] (subst (AreRecorded (endpoints_of net) (record { hosts = net.hosts; cores = net.cores })) (sym (append-nil off.batches)) off.are))
 
-      allocated : (flow : Flow) → number_of judges.slots flow ≡ slots_of flow (schedule b off.batches)
+      allocated : (flow : Flow) → flow_number_of judges.slots flow ≡ slots_of flow (schedule b off.batches)
       allocated flow = played.judged.slots flow ∙ counted-places (endpoints_of net) 1 flow (schedule b off.batches) slots-are
 
-      since : (flow : Flow) → IsCleared b off.batches flow (number_of rounds.ledger.cleared flow) → slots_of flow (schedule b off.batches) ≡ number_of rounds.ledger.cleared flow + allocated_since b told flow
+      since : (flow : Flow) → IsCleared b off.batches flow (flow_number_of rounds.ledger.cleared flow) → slots_of flow (schedule b off.batches) ≡ flow_number_of rounds.ledger.cleared flow + allocated_since b told flow
       since flow (place, at, before) =
           let later : allocated_since b told flow ≡ slots_of flow (drop (place * b) (schedule b off.batches)) =
           ap (λ rs. allocated_since b (expected_of_batches b rs off.batches) flow) (sym off.is)
@@ -116,17 +116,17 @@ module _ (net : Network) (b : ℕ) (lines : List (Option Line)) (off : ReadOff n
 
   -- ---- the first wrong line
 
-  pub found-is : AreSmall lines → (judges : Judges) (path send total : Option ℕ) → judges.paths.lines.items ≡ numbered path_of 1 lines → judges.sends.lines.items ≡ sort_by number (numbered sent_by 1 lines)
-      → path ≡ first_path net (places_from 1 (schedule b off.batches)) [] judges.paths.lines.items → send ≡ first_missed (places_from 1 (schedule b off.batches)) [] judges.sends.lines.items
-      → total ≡ first_total (is_wrong_total b told (length (paths lines))) (numbered total_of 1 lines) → earlier path (earlier send total) ≡ first_wrong net b lines
+  pub found-is : AreSmall lines → (judges : Judges) (path send total : Option ℕ) → judges.paths.lines.items ≡ numbered_lines path_of 1 lines → judges.sends.lines.items ≡ sort_by number (numbered_lines sent_by_line 1 lines)
+      → path ≡ first_path net (slot_places_from 1 (schedule b off.batches)) [] judges.paths.lines.items → send ≡ first_missed (slot_places_from 1 (schedule b off.batches)) [] judges.sends.lines.items
+      → total ≡ first_total (is_wrong_total b told (length (paths lines))) (numbered_lines total_in_line 1 lines) → earlier path (earlier send total) ≡ first_wrong net b lines
   found-is small judges path send total ps ss is_path is_send is_total =
-      let places = places_from 1 (schedule b off.batches) in
-      let P : path ≡ first_path net places [] (numbered path_of 1 lines) = is_path ∙ ap (λ xs. first_path net places [] xs) ps in
-      let S : send ≡ first_missed places [] (numbered sent_by 1 lines) = is_send ∙ (ap (λ xs. first_missed places [] xs) ss ∙ missed-sort places [] (numbered sent_by 1 lines)) in
+      let places = slot_places_from 1 (schedule b off.batches) in
+      let P : path ≡ first_path net places [] (numbered_lines path_of 1 lines) = is_path ∙ ap (λ xs. first_path net places [] xs) ps in
+      let S : send ≡ first_missed places [] (numbered_lines sent_by_line 1 lines) = is_send ∙ (ap (λ xs. first_missed places [] xs) ss ∙ missed-sort places [] (numbered_lines sent_by_line 1 lines)) in
       ap (λ o. earlier o (earlier send total)) P
-      ∙ (ap (λ o. earlier (first_path net places [] (numbered path_of 1 lines)) (earlier o total)) S
-      ∙ (ap (λ o. earlier (first_path net places [] (numbered path_of 1 lines)) (earlier (first_missed places [] (numbered sent_by 1 lines)) o)) is_total
+      ∙ (ap (λ o. earlier (first_path net places [] (numbered_lines path_of 1 lines)) (earlier o total)) S
+      ∙ (ap (λ o. earlier (first_path net places [] (numbered_lines path_of 1 lines)) (earlier (first_missed places [] (numbered_lines sent_by_line 1 lines)) o)) is_total
       ∙ (sym (first-of-all net b told lines small) ∙ ap (λ (e : Expected). first_from (is_wrong net b e lines) 1 [] lines) (sym told-is))))
 
-  pub short-is : (rounds : Rounds) (judges : Judges) (short : Bool) (count : ℕ) → ArePlayed net b off.batches [] rounds judges → count ≡ length (numbered path_of 1 lines) → short ≡ nat_lt count judges.places → short ≡ nat_lt (length (paths lines)) (length told.places)
+  pub short-is : (rounds : Rounds) (judges : Judges) (short : Bool) (count : ℕ) → AuditIsPlayed net b off.batches [] rounds judges → count ≡ length (numbered_lines path_of 1 lines) → short ≡ nat_lt count judges.places → short ≡ nat_lt (length (paths lines)) (length told.places)
   short-is rounds judges short count played is so = so ∙ (ap (λ n. nat_lt n judges.places) (is ∙ count-numbered 1 lines) ∙ ap (λ n. nat_lt (length (paths lines)) n) played.judged.count)

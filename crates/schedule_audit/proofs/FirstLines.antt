@@ -4,10 +4,10 @@ use Rattle.std.specs.List.{flat_map, AllZip}
 use Rattle.std.proofs.lemmas.List.Elements.{All-nil, All-cons, All-head, All-tail}
 use Rattle.report_text.specs.declared.line.Line.{Line}
 use Rattle.report_text.proofs.Spelling.{own_spelling}
-use Rattle.schedule_audit.specs.Reading.{Reads, IsCut, unformed_line, AreLines, BeginsWith}
+use Rattle.schedule_audit.specs.Reading.{Reads, IsCut, unformed_line, ReadsLines, ReadsLine}
 use Rattle.schedule_audit.specs.ReadLaws.{EachTextHasOneReading}
 
-abbrev IsFree : List ℕ → Type 0
+abbrev pub IsFree : List ℕ → Type 0
 IsFree bytes = All (λ byte. byte ≢ 10) bytes
 
 abbrev fed : List ℕ → List ℕ
@@ -58,10 +58,10 @@ none_read : (formed : List (Option Line)) → AllZip Reads [] formed → formed 
 none_read [] all = refl
 none_read (l ∷ formed) all = absurd all
 
-pub no_lines : AreLines [] []
+pub no_lines : ReadsLines [] []
 no_lines = ([], [], [], record { whole = refl; formed = All-nil IsFree; unformed = All-nil (λ (byte : ℕ). byte ≢ 10) }, tt, refl)
 
-pub empty_text : (lines : List (Option Line)) → AreLines [] lines → lines ≡ []
+pub empty_text : (lines : List (Option Line)) → ReadsLines [] lines → lines ≡ []
 empty_text lines ([], [], formed, cut, read, is) = is ∙ ap (λ xs. xs ++ []) (none_read formed read)
 empty_text lines ([], b ∷ rest, formed, cut, read, is) = let no : [] ≡ b ∷ rest = cut.whole in absurd (cc)
 empty_text lines ([] ∷ qs, rest, formed, cut, read, is) = let no : [] ≡ 10 ∷ (flat_map fed qs ++ rest) = cut.whole ∙ piece_first [] qs rest in absurd (cc)
@@ -71,7 +71,7 @@ a_rest : (bytes : List ℕ) → bytes ≢ [] → unformed_line bytes ≡ None �
 a_rest [] some = absurd (some refl)
 a_rest (b ∷ bytes) some = refl
 
-pub goes_on : (bytes later : List ℕ) (line : Option Line) (after : List (Option Line)) → BeginsWith bytes line later → AreLines later after → AreLines bytes (line ∷ after)
+pub goes_on : (bytes later : List ℕ) (line : Option Line) (after : List (Option Line)) → ReadsLine bytes line later → ReadsLines later after → ReadsLines bytes (line ∷ after)
 goes_on bytes later line after (inl (piece, is, free, reads)) (pieces, rest, formed, cut, read, lines) = (
   piece ∷ pieces,
   rest,
@@ -85,12 +85,12 @@ goes_on bytes later line after (inl (piece, is, free, reads)) (pieces, rest, for
   ap (λ xs. line ∷ xs) lines,
 )
 goes_on bytes later line after (inr (some, free, none, empty)) are =
-    let nothing : after ≡ [] = empty_text after (subst (λ xs. AreLines xs after) empty are) in
+    let nothing : after ≡ [] = empty_text after (subst (λ xs. ReadsLines xs after) empty are) in
     let is : line ∷ after ≡ unformed_line bytes = ap (λ l. l ∷ after) none ∙ (ap (λ xs. None ∷ xs) nothing ∙ sym (a_rest bytes some)) in
     ([], bytes, [], record { whole = refl; formed = All-nil IsFree; unformed = free }, tt, is)
 
-pub comes_first : (bytes later : List ℕ) (line : Option Line) (lines : List (Option Line)) → BeginsWith bytes line later → AreLines bytes lines
-    → (after : List (Option Line)) × (lines ≡ line ∷ after) × AreLines later after
+pub comes_first : (bytes later : List ℕ) (line : Option Line) (lines : List (Option Line)) → ReadsLine bytes line later → ReadsLines bytes lines
+    → (after : List (Option Line)) × (lines ≡ line ∷ after) × ReadsLines later after
 comes_first bytes later line lines (inl (piece, is, free, reads)) ([], rest, formed, cut, read, all) =
     absurd (has_feed piece later (subst IsFree (sym cut.whole ∙ is) cut.unformed))
 comes_first bytes later line lines (inl (piece, is, free, reads)) (q ∷ qs, rest, [], cut, read, all) = absurd read
@@ -104,21 +104,21 @@ comes_first bytes later line lines (inl (piece, is, free, reads)) (q ∷ qs, res
 comes_first bytes later line lines (inr (some, free, none, empty)) ([], rest, formed, cut, read, all) = (
   [],
   all ∙ (ap (λ xs. xs ++ unformed_line rest) (none_read formed read) ∙ (ap unformed_line (sym cut.whole) ∙ (a_rest bytes some ∙ ap (λ l. l ∷ []) (sym none)))),
-  subst (λ xs. AreLines xs []) (sym empty) no_lines,
+  subst (λ xs. ReadsLines xs []) (sym empty) no_lines,
 )
 comes_first bytes later line lines (inr (some, free, none, empty)) (q ∷ qs, rest, formed, cut, read, all) =
     absurd (has_feed q (flat_map fed qs ++ rest) (subst IsFree (cut.whole ∙ piece_first q qs rest) free))
 
-pub shorter : (bytes later : List ℕ) (line : Option Line) → BeginsWith bytes line later → length later < length bytes
+pub shorter : (bytes later : List ℕ) (line : Option Line) → ReadsLine bytes line later → length later < length bytes
 shorter bytes later line (inl (piece, is, free, reads)) = omega (arith, ap (λ xs. length xs) is, length-append piece (10 ∷ later))
 shorter [] later line (inr (some, free, none, empty)) = absurd (some refl)
 shorter (b ∷ bytes) later line (inr (some, free, none, empty)) = omega (arith, ap (λ xs. length xs) empty)
 
 -- ---- one reading
 
-one_reading : (pieces : List (List ℕ)) (bytes rest : List ℕ) (formed others : List (Option Line)) → IsCut bytes pieces rest → AllZip Reads pieces formed → AreLines bytes others → formed ++ unformed_line rest ≡ others
+one_reading : (pieces : List (List ℕ)) (bytes rest : List ℕ) (formed others : List (Option Line)) → IsCut bytes pieces rest → AllZip Reads pieces formed → ReadsLines bytes others → formed ++ unformed_line rest ≡ others
 one_reading [] bytes [] formed others cut read are =
-    ap (λ xs. xs ++ []) (none_read formed read) ∙ sym (empty_text others (subst (λ xs. AreLines xs others) cut.whole are))
+    ap (λ xs. xs ++ []) (none_read formed read) ∙ sym (empty_text others (subst (λ xs. ReadsLines xs others) cut.whole are))
 one_reading [] bytes (b ∷ rest) formed others cut read are =
     let some : bytes ≢ [] = λ none. let no : b ∷ rest ≡ [] = sym cut.whole ∙ none in absurd (cc) in
     let first = comes_first bytes [] None others (inr (some, subst IsFree (sym cut.whole) cut.unformed, refl, refl)) are in

@@ -5,14 +5,15 @@ use Rattle.std.specs.List.{list_any, slice_get, cons_option}
 use Rattle.std.proofs.Math.Nat.{min-eq_left, min-eq_right}
 use Rattle.std.proofs.lemmas.Bool.{cases_lt, cond-true, cond-false, eq-eqb, eqb-true, and_from, and_parts}
 use Rattle.std.proofs.lemmas.List.Folds.{list_any-append}
+use Rattle.greedy_rules.specs.Cells.{flow_of}
 use Rattle.clos_topology.specs.Network.{Network}
 use Rattle.report_text.specs.declared.line.Line.{Line}
 use Rattle.report_text.specs.declared.line.Line.TheVariants as line
-use Rattle.schedule_audit.specs.Lines.{Place, Path, flow_of, path_of, sent_by, paths, sends}
+use Rattle.schedule_audit.specs.Lines.{Place, Path, path_of, sent_by_line, paths, sends_in_lines}
 use Rattle.schedule_audit.specs.Wrong.{Expected, same_place, is_at, share_a_link, has_wrong_core, is_bad_path, is_bad_send, is_bad_flow, is_bad_count, is_wrong}
 use Rattle.schedule_audit.specs.BadLines.{first_from}
-use Rattle.schedule_audit.specs.Numbered.{Numbered, at_line, numbered}
-use Rattle.schedule_audit.specs.Totals.{Total, total_of, is_wrong_total, first_total}
+use Rattle.schedule_audit.specs.Numbered.{Numbered, at_line, numbered_lines}
+use Rattle.schedule_audit.specs.Totals.{Total, total_in_line, is_wrong_total, first_total}
 use Rattle.schedule_audit.specs.Judged.{is_off, first_path, order_of, has_order, is_missed, earlier, line_if, first_missed}
 use Rattle.schedule_audit.specs.Judging.{AreSmall}
 
@@ -34,9 +35,9 @@ one-from : {X : Type 0} (n : ℕ) (o : Option X) (rest : List (Numbered X)) → 
 one-from n None rest later = later
 one-from n (Some x) rest later = (omega arith, later)
 
-numbered-from : {X : Type 0} (says : Option Line → Option X) (n : ℕ) (lines : List (Option Line)) → From n (numbered says n lines)
+numbered-from : {X : Type 0} (says : Option Line → Option X) (n : ℕ) (lines : List (Option Line)) → From n (numbered_lines says n lines)
 numbered-from says n [] = tt
-numbered-from says n (l ∷ lines) = one-from n (says l) (numbered says (n + 1) lines) (from-lower n (n + 1) (numbered says (n + 1) lines) (omega arith) (numbered-from says (n + 1) lines))
+numbered-from says n (l ∷ lines) = one-from n (says l) (numbered_lines says (n + 1) lines) (from-lower n (n + 1) (numbered_lines says (n + 1) lines) (omega arith) (numbered-from says (n + 1) lines))
 
 cond-least : (n : ℕ) (b : Bool) (o p : Option ℕ) → AtLeast n o → AtLeast n p → AtLeast n (cond b o p)
 cond-least n true o p one other = one
@@ -97,12 +98,12 @@ off-there net expected before p k places is at line ps = subst (λ xs. first_pat
     by (x ∷ xs) zero = refl
     by (x ∷ xs) (suc n) = by xs n
 
--- ---- the sends so far
+-- ---- the sends_in_lines so far
 
 abbrev AreSame : List (Numbered Place) → List Place → Type 0
 AreSame front before = (place : Place) → place.flow.src ≤ 65535 → has_order front place ≡ list_any (λ other. (other.slot == place.slot) && (other.flow.src == place.flow.src)) before
 
-same-truth : (a b : Bool) → (a ≡ true → b ≡ true) → (b ≡ true → a ≡ true) → a ≡ b
+pub same-truth : (a b : Bool) → (a ≡ true → b ≡ true) → (b ≡ true → a ≡ true) → a ≡ b
 same-truth true b there back = sym (there refl)
 same-truth false true there back = back refl
 same-truth false false there back = refl
@@ -145,52 +146,52 @@ module _ (net : Network) (b : ℕ) (expected : Expected) (whole : List (Option L
   count = length (paths whole)
 
   abbrev path_from : List (Option Line) → ℕ → List (Option Line) → Option ℕ
-  path_from before number lines = first_path net (drop (length (paths before)) expected.places) (paths before) (numbered path_of number lines)
+  path_from before number lines = first_path net (drop (length (paths before)) expected.places) (paths before) (numbered_lines path_of number lines)
 
   abbrev send_from : List (Numbered Place) → ℕ → List (Option Line) → Option ℕ
-  send_from front number lines = first_missed expected.places front (numbered sent_by number lines)
+  send_from front number lines = first_missed expected.places front (numbered_lines sent_by_line number lines)
 
   abbrev total_from : ℕ → List (Option Line) → Option ℕ
-  total_from number lines = first_total (is_wrong_total b expected count) (numbered total_of number lines)
+  total_from number lines = first_total (is_wrong_total b expected count) (numbered_lines total_in_line number lines)
 
-  path-later : (places : List Place) (before : List Path) (number : ℕ) (lines : List (Option Line)) → AtLeast number (first_path net places before (numbered path_of (number + 1) lines))
-  path-later places before number lines = lower-least number _ (path-least net (number + 1) places before (numbered path_of (number + 1) lines) (numbered-from path_of (number + 1) lines))
+  path-later : (places : List Place) (before : List Path) (number : ℕ) (lines : List (Option Line)) → AtLeast number (first_path net places before (numbered_lines path_of (number + 1) lines))
+  path-later places before number lines = lower-least number _ (path-least net (number + 1) places before (numbered_lines path_of (number + 1) lines) (numbered-from path_of (number + 1) lines))
 
-  send-later : (front : List (Numbered Place)) (number : ℕ) (lines : List (Option Line)) → AtLeast number (first_missed expected.places front (numbered sent_by (number + 1) lines))
-  send-later front number lines = lower-least number _ (missed-least expected.places (number + 1) front (numbered sent_by (number + 1) lines) (numbered-from sent_by (number + 1) lines))
+  send-later : (front : List (Numbered Place)) (number : ℕ) (lines : List (Option Line)) → AtLeast number (first_missed expected.places front (numbered_lines sent_by_line (number + 1) lines))
+  send-later front number lines = lower-least number _ (missed-least expected.places (number + 1) front (numbered_lines sent_by_line (number + 1) lines) (numbered-from sent_by_line (number + 1) lines))
 
   total-later : (number : ℕ) (lines : List (Option Line)) → AtLeast number (total_from (number + 1) lines)
-  total-later number lines = lower-least number _ (total-least (is_wrong_total b expected count) (number + 1) (numbered total_of (number + 1) lines) (numbered-from total_of (number + 1) lines))
+  total-later number lines = lower-least number _ (total-least (is_wrong_total b expected count) (number + 1) (numbered_lines total_in_line (number + 1) lines) (numbered-from total_in_line (number + 1) lines))
 
   abbrev Splits : List (Option Line) → List (Numbered Place) → ℕ → List (Option Line) → Type 0
   Splits before front number lines = first_from (is_wrong net b expected whole) number before lines ≡ earlier (path_from before number lines) (earlier (send_from front number lines) (total_from number lines))
 
   slot-line : (before lines : List (Option Line)) (front : List (Numbered Place)) (number : ℕ) (p : Path) (wrong : Bool) → is_bad_path net expected (paths before) p ≡ wrong → (then : Option ℕ)
-      → then ≡ earlier (first_path net (drop (suc (length (paths before))) expected.places) (p ∷ paths before) (numbered path_of (number + 1) lines)) (earlier (send_from front (number + 1) lines) (total_from (number + 1) lines))
+      → then ≡ earlier (first_path net (drop (suc (length (paths before))) expected.places) (p ∷ paths before) (numbered_lines path_of (number + 1) lines)) (earlier (send_from front (number + 1) lines) (total_from (number + 1) lines))
       → cond (is_bad_path net expected (paths before) p) (Some number) then
-      ≡ earlier (first_path net (drop (length (paths before)) expected.places) (paths before) (at_line number p ∷ numbered path_of (number + 1) lines)) (earlier (send_from front (number + 1) lines) (total_from (number + 1) lines))
+      ≡ earlier (first_path net (drop (length (paths before)) expected.places) (paths before) (at_line number p ∷ numbered_lines path_of (number + 1) lines)) (earlier (send_from front (number + 1) lines) (total_from (number + 1) lines))
   slot-line before lines front number p true is then so =
-      let step = off-there net expected (paths before) p (length (paths before)) (drop (length (paths before)) expected.places) refl refl number (numbered path_of (number + 1) lines) in
+      let step = off-there net expected (paths before) p (length (paths before)) (drop (length (paths before)) expected.places) refl refl number (numbered_lines path_of (number + 1) lines) in
       cond-true (is_bad_path net expected (paths before) p) (Some number) then is
       ∙ sym (ap (λ o. earlier o (earlier (send_from front (number + 1) lines) (total_from (number + 1) lines)))
-      (step ∙ cond-true (is_bad_path net expected (paths before) p) (Some number) (first_path net (drop (suc (length (paths before))) expected.places) (p ∷ paths before) (numbered path_of (number + 1) lines)) is)
+      (step ∙ cond-true (is_bad_path net expected (paths before) p) (Some number) (first_path net (drop (suc (length (paths before))) expected.places) (p ∷ paths before) (numbered_lines path_of (number + 1) lines)) is)
       ∙ comes-first number (earlier (send_from front (number + 1) lines) (total_from (number + 1) lines)) (earlier-least number (send_from front (number + 1) lines) (total_from (number + 1) lines) (send-later front number lines) (total-later number lines)))
   slot-line before lines front number p false is then so =
-      let step = off-there net expected (paths before) p (length (paths before)) (drop (length (paths before)) expected.places) refl refl number (numbered path_of (number + 1) lines) in
+      let step = off-there net expected (paths before) p (length (paths before)) (drop (length (paths before)) expected.places) refl refl number (numbered_lines path_of (number + 1) lines) in
       cond-false (is_bad_path net expected (paths before) p) (Some number) then is
       ∙ (so ∙ sym (ap (λ o. earlier o (earlier (send_from front (number + 1) lines) (total_from (number + 1) lines)))
-      (step ∙ cond-false (is_bad_path net expected (paths before) p) (Some number) (first_path net (drop (suc (length (paths before))) expected.places) (p ∷ paths before) (numbered path_of (number + 1) lines)) is)))
+      (step ∙ cond-false (is_bad_path net expected (paths before) p) (Some number) (first_path net (drop (suc (length (paths before))) expected.places) (p ∷ paths before) (numbered_lines path_of (number + 1) lines)) is)))
 
-  sent-line : (before lines : List (Option Line)) (front : List (Numbered Place)) (number : ℕ) (s : Place) (wrong : Bool) → is_bad_send expected (sends before) s ≡ wrong → s.flow.src ≤ 65535 → AreSame front (sends before) → (then : Option ℕ)
+  sent-line : (before lines : List (Option Line)) (front : List (Numbered Place)) (number : ℕ) (s : Place) (wrong : Bool) → is_bad_send expected (sends_in_lines before) s ≡ wrong → s.flow.src ≤ 65535 → AreSame front (sends_in_lines before) → (then : Option ℕ)
       → then ≡ earlier (path_from before (number + 1) lines) (earlier (send_from (front ++ at_line number s ∷ []) (number + 1) lines) (total_from (number + 1) lines))
-      → cond (is_bad_send expected (sends before) s) (Some number) then
+      → cond (is_bad_send expected (sends_in_lines before) s) (Some number) then
       ≡ earlier (path_from before (number + 1) lines) (earlier (earlier (line_if (is_missed expected.places front s) number) (send_from (front ++ at_line number s ∷ []) (number + 1) lines)) (total_from (number + 1) lines))
   sent-line before lines front number s true is small same then so =
       let P = path_from before (number + 1) lines in
       let S = send_from (front ++ at_line number s ∷ []) (number + 1) lines in
       let T = total_from (number + 1) lines in
-      let missed : is_missed expected.places front s ≡ true = sym (bad-is-missed expected front (sends before) s small same) ∙ is in
-      cond-true (is_bad_send expected (sends before) s) (Some number) then is
+      let missed : is_missed expected.places front s ≡ true = sym (bad-is-missed expected front (sends_in_lines before) s small same) ∙ is in
+      cond-true (is_bad_send expected (sends_in_lines before) s) (Some number) then is
       ∙ sym (ap (λ x. earlier P (earlier (earlier (line_if x number) S) T)) missed
       ∙ (ap (λ o. earlier P (earlier o T)) (comes-first number S (send-later (front ++ at_line number s ∷ []) number lines))
       ∙ (ap (λ o. earlier P o) (comes-first number T (total-later number lines))
@@ -199,8 +200,8 @@ module _ (net : Network) (b : ℕ) (expected : Expected) (whole : List (Option L
       let P = path_from before (number + 1) lines in
       let S = send_from (front ++ at_line number s ∷ []) (number + 1) lines in
       let T = total_from (number + 1) lines in
-      let missed : is_missed expected.places front s ≡ false = sym (bad-is-missed expected front (sends before) s small same) ∙ is in
-      cond-false (is_bad_send expected (sends before) s) (Some number) then is ∙ (so ∙ sym (ap (λ x. earlier P (earlier (earlier (line_if x number) S) T)) missed))
+      let missed : is_missed expected.places front s ≡ false = sym (bad-is-missed expected front (sends_in_lines before) s small same) ∙ is in
+      cond-false (is_bad_send expected (sends_in_lines before) s) (Some number) then is ∙ (so ∙ sym (ap (λ x. earlier P (earlier (earlier (line_if x number) S) T)) missed))
 
   total-line : (before lines : List (Option Line)) (front : List (Numbered Place)) (number : ℕ) (wrong : Bool) (then : Option ℕ) → then ≡ earlier (path_from before (number + 1) lines) (earlier (send_from front (number + 1) lines) (total_from (number + 1) lines))
       → cond wrong (Some number) then ≡ earlier (path_from before (number + 1) lines) (earlier (send_from front (number + 1) lines) (cond wrong (Some number) (total_from (number + 1) lines)))
@@ -209,7 +210,7 @@ module _ (net : Network) (b : ℕ) (expected : Expected) (whole : List (Option L
       ∙ comes-last number (path_from before (number + 1) lines) (path-later (drop (length (paths before)) expected.places) (paths before) number lines))
   total-line before lines front number false then so = so
 
-  splits : (before lines : List (Option Line)) (front : List (Numbered Place)) (number : ℕ) → AreSmall lines → AreSame front (sends before) → Splits before front number lines
+  splits : (before lines : List (Option Line)) (front : List (Numbered Place)) (number : ℕ) → AreSmall lines → AreSame front (sends_in_lines before) → Splits before front number lines
   splits before [] front number small same = refl
   splits before (None ∷ lines) front number small same = splits (None ∷ before) lines front (number + 1) small.1 same
   splits before (Some (line.Slot slot src dst core) ∷ lines) front number small same =
@@ -218,8 +219,8 @@ module _ (net : Network) (b : ℕ) (expected : Expected) (whole : List (Option L
       (splits (Some (line.Slot slot src dst core) ∷ before) lines front (number + 1) small.1 same)
   splits before (Some (line.Sent slot src dst) ∷ lines) front number small same =
       let s : Place = record { slot = slot; flow = flow_of src dst } in
-      sent-line before lines front number s (is_bad_send expected (sends before) s) refl small.0 same (first_from (is_wrong net b expected whole) (number + 1) (Some (line.Sent slot src dst) ∷ before) lines)
-      (splits (Some (line.Sent slot src dst) ∷ before) lines (front ++ at_line number s ∷ []) (number + 1) small.1 (same-more front (sends before) number s small.0 same))
+      sent-line before lines front number s (is_bad_send expected (sends_in_lines before) s) refl small.0 same (first_from (is_wrong net b expected whole) (number + 1) (Some (line.Sent slot src dst) ∷ before) lines)
+      (splits (Some (line.Sent slot src dst) ∷ before) lines (front ++ at_line number s ∷ []) (number + 1) small.1 (same-more front (sends_in_lines before) number s small.0 same))
   splits before (Some (line.Flow src dst demanded allocated pending) ∷ lines) front number small same =
       total-line before lines front number (is_bad_flow expected (flow_of src dst) demanded allocated pending) (first_from (is_wrong net b expected whole) (number + 1) (Some (line.Flow src dst demanded allocated pending) ∷ before) lines)
       (splits (Some (line.Flow src dst demanded allocated pending) ∷ before) lines front (number + 1) small.1 same)
@@ -233,5 +234,5 @@ module _ (net : Network) (b : ℕ) (expected : Expected) (whole : List (Option L
   splits before (Some l ∷ lines) front number small same = splits (Some l ∷ before) lines front (number + 1) small.1 same
 
   pub first-of-all : AreSmall whole → first_from (is_wrong net b expected whole) 1 [] whole
-      ≡ earlier (first_path net expected.places [] (numbered path_of 1 whole)) (earlier (first_missed expected.places [] (numbered sent_by 1 whole)) (first_total (is_wrong_total b expected count) (numbered total_of 1 whole)))
+      ≡ earlier (first_path net expected.places [] (numbered_lines path_of 1 whole)) (earlier (first_missed expected.places [] (numbered_lines sent_by_line 1 whole)) (first_total (is_wrong_total b expected count) (numbered_lines total_in_line 1 whole)))
   first-of-all small = splits [] whole [] 1 small (λ place low. refl)

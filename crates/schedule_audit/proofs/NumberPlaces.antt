@@ -5,27 +5,27 @@ use Rattle.std.proofs.lemmas.List.{get_or-set_same, get_or-set_other}
 use Rattle.std.proofs.lemmas.Nat.{same_from_place, mul-add-lt}
 use Rattle.greedy_rules.specs.declared.flows.Flow.{Flow}
 use Rattle.greedy_rules.specs.Flows.{same_flow}
-use Rattle.schedule_audit.specs.FlowNumbers.{Numbers, is_between, number_of}
+use Rattle.schedule_audit.specs.FlowNumbers.{Numbers, is_numbered, flow_number_of}
 
 abbrev table : ℕ → List ℕ → Numbers
 table endpoints cells = record { endpoints = endpoints; cells = cells }
 
-pub between : (endpoints : ℕ) (flow : Flow) → flow.src < endpoints → flow.dst < endpoints → is_between endpoints flow ≡ true
+pub between : (endpoints : ℕ) (flow : Flow) → flow.src < endpoints → flow.dst < endpoints → is_numbered endpoints flow ≡ true
 between endpoints flow src dst = and_from (nat_lt flow.src endpoints) (nat_lt flow.dst endpoints) (lt-ltb _ _ src) (lt-ltb _ _ dst)
 
-outside : (numbers : Numbers) (flow : Flow) → is_between numbers.endpoints flow ≡ false → number_of numbers flow ≡ 0
-outside numbers flow out = cond-false (is_between numbers.endpoints flow) (get_or numbers.cells (flow.src * numbers.endpoints + flow.dst) 0) 0 out
+outside : (numbers : Numbers) (flow : Flow) → is_numbered numbers.endpoints flow ≡ false → flow_number_of numbers flow ≡ 0
+outside numbers flow out = cond-false (is_numbered numbers.endpoints flow) (get_or numbers.cells (flow.src * numbers.endpoints + flow.dst) 0) 0 out
 
-inside : (numbers : Numbers) (flow : Flow) → is_between numbers.endpoints flow ≡ true → number_of numbers flow ≡ get_or numbers.cells (flow.src * numbers.endpoints + flow.dst) 0
-inside numbers flow is = cond-true (is_between numbers.endpoints flow) (get_or numbers.cells (flow.src * numbers.endpoints + flow.dst) 0) 0 is
+inside : (numbers : Numbers) (flow : Flow) → is_numbered numbers.endpoints flow ≡ true → flow_number_of numbers flow ≡ get_or numbers.cells (flow.src * numbers.endpoints + flow.dst) 0
+inside numbers flow is = cond-true (is_numbered numbers.endpoints flow) (get_or numbers.cells (flow.src * numbers.endpoints + flow.dst) 0) 0 is
 
 -- the cell of a flow
-pub number-at : (endpoints : ℕ) (cells : List ℕ) (flow : Flow) → flow.src < endpoints → flow.dst < endpoints → number_of (table endpoints cells) flow ≡ get_or cells (flow.src * endpoints + flow.dst) 0
+pub number-at : (endpoints : ℕ) (cells : List ℕ) (flow : Flow) → flow.src < endpoints → flow.dst < endpoints → flow_number_of (table endpoints cells) flow ≡ get_or cells (flow.src * endpoints + flow.dst) 0
 number-at endpoints cells flow src dst = inside (table endpoints cells) flow (between endpoints flow src dst)
 
 -- one number is written
 pub number-set : (endpoints : ℕ) (cells : List ℕ) (flow : Flow) (number : ℕ) (other : Flow) → length cells ≡ endpoints * endpoints → flow.src < endpoints → flow.dst < endpoints
-    → number_of (table endpoints (set cells (flow.src * endpoints + flow.dst) number)) other ≡ cond (same_flow flow other) number (number_of (table endpoints cells) other)
+    → flow_number_of (table endpoints (set cells (flow.src * endpoints + flow.dst) number)) other ≡ cond (same_flow flow other) number (flow_number_of (table endpoints cells) other)
 number-set endpoints cells flow number other sized in_src in_dst = elim (cases_Bool (same_flow flow other)) [
   | inl here ↦
       let parts = and_parts (flow.src == other.src) (flow.dst == other.dst) here in
@@ -37,16 +37,16 @@ number-set endpoints cells flow number other sized in_src in_dst = elim (cases_B
       inside (table endpoints (set cells (flow.src * endpoints + flow.dst) number)) other is
       ∙ (ap (λ (n : ℕ). get_or (set cells (flow.src * endpoints + flow.dst) number) n 0) place
       ∙ (get_or-set_same cells (flow.src * endpoints + flow.dst) number 0 (omega (arith, sized, mul-add-lt flow.src endpoints flow.dst endpoints in_src in_dst))
-      ∙ sym (cond-true (same_flow flow other) number (number_of (table endpoints cells) other) here)))
+      ∙ sym (cond-true (same_flow flow other) number (flow_number_of (table endpoints cells) other) here)))
   | inr apart ↦
-      kept apart ∙ sym (cond-false (same_flow flow other) number (number_of (table endpoints cells) other) apart)
+      kept apart ∙ sym (cond-false (same_flow flow other) number (flow_number_of (table endpoints cells) other) apart)
 ]
   where
     differ : same_flow flow other ≡ false → (other.src ≡ flow.src) × (other.dst ≡ flow.dst) → ⊥
     differ apart same = false≢true (sym apart ∙ and_from (flow.src == other.src) (flow.dst == other.dst) (eq-eqb flow.src other.src (sym same.0)) (eq-eqb flow.dst other.dst (sym same.1)))
 
-    kept : same_flow flow other ≡ false → number_of (table endpoints (set cells (flow.src * endpoints + flow.dst) number)) other ≡ number_of (table endpoints cells) other
-    kept apart = elim (cases_Bool (is_between endpoints other)) [
+    kept : same_flow flow other ≡ false → flow_number_of (table endpoints (set cells (flow.src * endpoints + flow.dst) number)) other ≡ flow_number_of (table endpoints cells) other
+    kept apart = elim (cases_Bool (is_numbered endpoints other)) [
       | inl is ↦
           let in_d : other.dst < endpoints = ltb-true other.dst endpoints (and_parts (nat_lt other.src endpoints) (nat_lt other.dst endpoints) is).1 in
           inside (table endpoints (set cells (flow.src * endpoints + flow.dst) number)) other is

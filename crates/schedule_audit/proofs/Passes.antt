@@ -3,11 +3,11 @@ use Rattle.std.proofs.Common.{◌≡◌, ◌+◌, nat_le, ◌||◌, ℕ, List, [
 use Rattle.std.specs.List.{cons_option}
 use Rattle.std.proofs.lemmas.Bool.{cond-true, cond-false}
 use Rattle.report_text.specs.declared.line.Line.{Line}
-use Rattle.schedule_audit.specs.Reading.{AreLines, BeginsWith}
+use Rattle.schedule_audit.specs.Reading.{ReadsLines, ReadsLine}
 use Rattle.schedule_audit.specs.Lines.{Recorded, recorded_by, rounds_by, records, ends, reaches}
 use Rattle.schedule_audit.specs.Misplaced.{is_any, has_end, cannot_stand, is_misplaced}
 use Rattle.schedule_audit.specs.BadLines.{first_from, or_else, after_last, first_misplaced}
-use Rattle.schedule_audit.specs.Standing.{Sums, Stands}
+use Rattle.schedule_audit.specs.Standing.{Sums, SumsStand}
 use Rattle.schedule_audit.proofs.FirstLines.{comes_first, empty_text}
 
 -- ---- one line and the others
@@ -49,19 +49,19 @@ misplaced-is endpoints whole before None = either (has_end before)
 pub record Reached (endpoints : ℕ) (lines : List (Option Line)) (rest : List ℕ) (number : ℕ) (ended : Bool) (last : Option Recorded) (sums : Sums) : Type 0 where
   pub before : List (Option Line)
   pub after : List (Option Line)
-  pub are : AreLines rest after
+  pub are : ReadsLines rest after
   pub same : first_from (is_misplaced endpoints lines) 1 [] lines ≡ first_from (is_misplaced endpoints lines) number before after
-  pub stands : Stands last sums (records before)
+  pub stands : SumsStand last sums (records before)
   pub ended_is : ended ≡ has_end before
   pub has : has_end lines ≡ (has_end before || has_end after)
   pub count : number + length after ≡ length lines + 1
 
-unfoldable pub at_first : (endpoints : ℕ) (lines : List (Option Line)) (text : List ℕ) (last : Option Recorded) (sums : Sums) → AreLines text lines → Stands last sums [] → Reached endpoints lines text 1 false last sums
+unfoldable pub at_first : (endpoints : ℕ) (lines : List (Option Line)) (text : List ℕ) (last : Option Recorded) (sums : Sums) → ReadsLines text lines → SumsStand last sums [] → Reached endpoints lines text 1 false last sums
 at_first endpoints lines text last sums are stands = record { before = []; after = lines; are = are; same = refl; stands = stands; ended_is = refl; has = refl; count = omega arith }
 
 module _ (endpoints : ℕ) (lines : List (Option Line)) (rest later : List ℕ) (number : ℕ) (ended : Bool) (last : Option Recorded) (sums : Sums) (line : Option Line)
-    (reached : Reached endpoints lines rest number ended last sums) (begins : BeginsWith rest line later) where
-  first : (after : List (Option Line)) × (reached.after ≡ line ∷ after) × AreLines later after
+    (reached : Reached endpoints lines rest number ended last sums) (begins : ReadsLine rest line later) where
+  first : (after : List (Option Line)) × (reached.after ≡ line ∷ after) × ReadsLines later after
   first = comes_first rest later line reached.after begins reached.are
 
   from : first_from (is_misplaced endpoints lines) 1 [] lines ≡ cond (is_misplaced endpoints lines reached.before line) (Some number) (first_from (is_misplaced endpoints lines) (number + 1) (line ∷ reached.before) first.0)
@@ -79,7 +79,7 @@ module _ (endpoints : ℕ) (lines : List (Option Line)) (rest later : List ℕ) 
   found_here going bad =
       is_found (misplaced-is endpoints lines reached.before line ∙ (ap (λ b. b || cannot_stand endpoints lines reached.before line) (sym reached.ended_is ∙ going) ∙ bad))
 
-  pub one_more : (next : ℕ) (new_last : Option Recorded) (new : Sums) → next ≡ number + 1 → ended ≡ false → cannot_stand endpoints lines reached.before line ≡ false → Stands new_last new (records (line ∷ reached.before))
+  pub one_more : (next : ℕ) (new_last : Option Recorded) (new : Sums) → next ≡ number + 1 → ended ≡ false → cannot_stand endpoints lines reached.before line ≡ false → SumsStand new_last new (records (line ∷ reached.before))
       → (more : Reached endpoints lines later next (has_end (line ∷ [])) new_last new) × (reached.after ≡ line ∷ more.after)
   one_more next new_last new is going good stands =
       let fine : is_misplaced endpoints lines reached.before line ≡ false =
@@ -110,7 +110,7 @@ module _ (endpoints : ℕ) (lines : List (Option Line)) (rest later : List ℕ) 
 
 module _ (endpoints : ℕ) (lines : List (Option Line)) (rest : List ℕ) (number : ℕ) (ended : Bool) (last : Option Recorded) (sums : Sums) (reached : Reached endpoints lines rest number ended last sums) (empty : rest ≡ []) where
   nothing : reached.after ≡ []
-  nothing = empty_text reached.after (subst (λ xs. AreLines xs reached.after) empty reached.are)
+  nothing = empty_text reached.after (subst (λ xs. ReadsLines xs reached.after) empty reached.are)
 
   none_found : first_misplaced endpoints lines ≡ after_last lines
   none_found = ap (λ o. or_else o (after_last lines)) (reached.same ∙ ap (λ xs. first_from (is_misplaced endpoints lines) number reached.before xs) nothing)

@@ -3,13 +3,14 @@ use Rattle.std.proofs.Common.{◌≡◌, ◌≢◌, ◌<◌, ◌≤◌, ◌+◌,
 use Rattle.std.specs.List.{list_any}
 use Rattle.std.proofs.lemmas.Bool.{cond-true, cond-false, false≢true}
 use Rattle.std.proofs.lemmas.List.Elements.{All-nil, All-cons, All-head, All-tail}
+use Rattle.list_facts.proofs.Lists.{drop_whole}
 use Rattle.clos_topology.specs.Network.{Network}
 use Rattle.schedule_audit.specs.declared.path_lines.PathLines.{PathLines}
 use Rattle.schedule_audit.specs.Lines.{Place, Path}
 use Rattle.schedule_audit.specs.Numbered.{Numbered}
 use Rattle.schedule_audit.specs.Wrong.{same_place, share_a_link, has_wrong_core}
 use Rattle.schedule_audit.specs.BadLines.{or_else}
-use Rattle.schedule_audit.specs.Marks.{AreUpTo, AreMarked}
+use Rattle.schedule_audit.specs.Marks.{AreUpTo, PathsAreMarked}
 use Rattle.schedule_audit.specs.Judged.{is_off, first_path, PathsStand}
 use Rattle.schedule_audit.proofs.Shown.{place-true}
 
@@ -29,16 +30,10 @@ off-marked place path same = ap (λ (p : Place). record { place = p; core = path
 
 -- ---- steps
 
-drop-here : {X : Type 0} (n : ℕ) (xs : List X) (d : X) → n < length xs → drop n xs ≡ get_or xs n d ∷ drop (suc n) xs
+pub drop-here : {X : Type 0} (n : ℕ) (xs : List X) (d : X) → n < length xs → drop n xs ≡ get_or xs n d ∷ drop (suc n) xs
 drop-here n [] d within = absurd (omega arith)
 drop-here zero (x ∷ xs) d within = refl
 drop-here (suc n) (x ∷ xs) d within = drop-here n xs d (omega arith)
-
-drop-beyond : {X : Type 0} (n : ℕ) (xs : List X) → length xs ≤ n → drop n xs ≡ []
-drop-beyond zero [] le = refl
-drop-beyond (suc n) [] le = refl
-drop-beyond zero (x ∷ xs) le = absurd (omega arith)
-drop-beyond (suc n) (x ∷ xs) le = drop-beyond n xs (omega arith)
 
 module _ (net : Network) (visited : List Place) (place : Place) (old new : PathLines) (stands : PathsStand net visited old) (same : new.lines ≡ old.lines) where
   all_new : (later : List Place) → first_path net ((visited ++ place ∷ []) ++ later) [] new.lines.items ≡ or_else old.bad (first_path net (place ∷ later) stands.before (drop old.next old.lines.items))
@@ -76,7 +71,7 @@ module _ (net : Network) (visited : List Place) (place : Place) (old new : PathL
   -- all lines were judged before
   pub stays-done : length old.lines.items ≤ old.next → new.bad ≡ old.bad → new.next ≡ old.next → new.links ≡ old.links → PathsStand net (visited ++ place ∷ []) new
   stays-done done kept at links =
-      let past : drop old.next old.lines.items ≡ [] = drop-beyond old.next old.lines.items done in
+      let past : drop old.next old.lines.items ≡ [] = drop_whole old.next old.lines.items done in
       let past' : drop new.next new.lines.items ≡ [] = ap (λ v. drop new.next v.items) same ∙ (ap (λ (n : ℕ). drop n old.lines.items) at ∙ past) in
       record {
         before = stands.before;
@@ -84,7 +79,7 @@ module _ (net : Network) (visited : List Place) (place : Place) (old new : PathL
             ∙ (ap (λ ps. or_else old.bad (first_path net (place ∷ later) stands.before ps)) past
             ∙ (ap (λ o. or_else o None) (sym kept) ∙ ap (λ ps. or_else new.bad (first_path net later stands.before ps)) (sym past')));
         upto = upto_old;
-        marked = λ none. subst (λ l. AreMarked net l stands.before) (sym links) (stands.marked (sym kept ∙ none));
+        marked = λ none. subst (λ l. PathsAreMarked net l stands.before) (sym links) (stands.marked (sym kept ∙ none));
       }
 
   module _ (line : Numbered Path) (none : old.bad ≡ None) (here : drop old.next old.lines.items ≡ line ∷ drop (suc old.next) old.lines.items) where
@@ -107,7 +102,7 @@ module _ (net : Network) (visited : List Place) (place : Place) (old new : PathL
         some-is-not never = absurd (cc)
 
     -- the next line is right
-    pub goes-right : is_off net place stands.before line.said ≡ false → same_place place line.said.place ≡ true → new.bad ≡ old.bad → new.next ≡ old.next + 1 → AreMarked net new.links (line.said ∷ stands.before)
+    pub goes-right : is_off net place stands.before line.said ≡ false → same_place place line.said.place ≡ true → new.bad ≡ old.bad → new.next ≡ old.next + 1 → PathsAreMarked net new.links (line.said ∷ stands.before)
         → PathsStand net (visited ++ place ∷ []) new
     goes-right right there kept at marked =
         let behind : drop (suc old.next) old.lines.items ≡ drop new.next new.lines.items =
@@ -126,9 +121,6 @@ module _ (net : Network) (visited : List Place) (place : Place) (old new : PathL
         the_next : new.next ≡ old.next + 1 → suc old.next ≡ new.next
         the_next is = omega (arith, is)
 
-pub line-here : {X : Type 0} (n : ℕ) (xs : List X) (d : X) → n < length xs → drop n xs ≡ get_or xs n d ∷ drop (suc n) xs
-line-here n xs d within = drop-here n xs d within
-
 pub off-same : (net : Network) (place : Place) (before : List Path) (path : Path) → is_off net place before path ≡ false → same_place place path.place ≡ true
 off-same net place before path right = by (same_place place path.place) refl
   where
@@ -136,21 +128,10 @@ off-same net place before path right = by (same_place place path.place) refl
     by true is = is
     by false is = let bad : true ≡ false = sym (off-elsewhere net place before path is) ∙ right in absurd (cc)
 
-pub is-none : (o : Option ℕ) → is_some o ≡ false → o ≡ None
-is-none None is = refl
-is-none (Some n) is = absurd (false≢true (sym is))
-
 pub is-not-none : (o : Option ℕ) → is_some o ≡ true → o ≢ None
 is-not-none o is none = false≢true (sym (ap (λ x. is_some x) none) ∙ is)
 
-pub not-not : (b : Bool) → not (not b) ≡ b
-not-not true = refl
-not-not false = refl
-
 -- ---- where no more places come
-
-pub past-end : {X : Type 0} (n : ℕ) (xs : List X) → length xs ≤ n → drop n xs ≡ []
-past-end n xs le = drop-beyond n xs le
 
 at-end : (net : Network) (visited : List Place) (lines : PathLines) (stands : PathsStand net visited lines)
     → first_path net visited [] lines.lines.items ≡ or_else lines.bad (first_path net [] stands.before (drop lines.next lines.lines.items))

@@ -25,7 +25,7 @@ get-at (y ∷ front) x rest = get-at front x rest
 place-refl : (p : Place) → same_place p p ≡ true
 place-refl p = and_from (p.slot == p.slot) (same_flow p.flow p.flow) (eq-eqb p.slot p.slot refl) (same_flow-refl p.flow)
 
-abbrev NoShare : Network → Path → Path → Type 0
+abbrev pub NoShare : Network → Path → Path → Type 0
 NoShare net p q = share_a_link net q p ≡ false
 
 pub good_paths : (net : Network) (expected : Expected) (front : List Place) (before ps : List Path) → expected.places ≡ front ++ map (λ p. p.place) ps → length front ≡ length before
@@ -47,7 +47,7 @@ good_paths net expected front before (p ∷ ps) places long cores apart cross =
           (All-weaker (λ q. All (NoShare net q) (p ∷ ps)) (λ q. All (NoShare net q) ps) (λ q all. All-tail (NoShare net q) p ps all) before cross)),
     )
 
-abbrev Once : Place → Place → Type 0
+abbrev pub Once : Place → Place → Type 0
 Once s t = s.slot ≡ t.slot → s.flow.src ≢ t.flow.src
 
 differ : (s t : Place) → Once s t → ((s.slot == t.slot) && (s.flow.src == t.flow.src)) ≡ false

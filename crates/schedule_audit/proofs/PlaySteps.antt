@@ -2,6 +2,7 @@
 use Rattle.std.proofs.Common.{◌≡◌, ◌≤◌, ◌+◌, ◌*◌, ◌==◌, not, ℕ, zero, suc, List, [], ◌∷◌, ◌++◌, map, length, drop, All, refl, sym, ap, ◌∙◌, subst, arith, append_assoc, append-nil, length-append}
 use Rattle.std.proofs.lemmas.List.{length-map, length-drop}
 use Rattle.std.proofs.lemmas.List.Elements.{All-nil, All-cons, All-weaker}
+use Rattle.list_facts.proofs.Lists.{drop-none}
 use Rattle.greedy_rules.specs.declared.flows.Flow.{Flow}
 use Rattle.greedy_rules.specs.declared.flows.Entry.{Entry}
 use Rattle.greedy_rules.specs.declared.flows.Item.{Item}
@@ -21,9 +22,9 @@ use Rattle.clos_topology.specs.Network.{Network, endpoints_of}
 use Rattle.schedule_audit.specs.declared.rounds.Rounds.{Rounds}
 use Rattle.schedule_audit.specs.declared.judges.Judges.{Judges}
 use Rattle.schedule_audit.specs.Lines.{Recorded}
-use Rattle.schedule_audit.specs.FlowNumbers.{number_of}
+use Rattle.schedule_audit.specs.FlowNumbers.{flow_number_of}
 use Rattle.schedule_audit.specs.Texts.{record_of, records_of}
-use Rattle.schedule_audit.specs.Wrong.{places_from}
+use Rattle.schedule_audit.specs.Wrong.{slot_places_from}
 use Rattle.schedule_audit.specs.Judged.{AreBefore}
 use Rattle.schedule_audit.specs.Walked.{JudgesStand}
 use Rattle.schedule_audit.specs.Entered.{Enters, AreSized}
@@ -45,10 +46,6 @@ among-front endpoints limits earlier (x ∷ front) later are =
 drop-all : {X : Type 0} (xs ys : List X) → drop (length xs) (xs ++ ys) ≡ ys
 drop-all [] ys = refl
 drop-all (x ∷ xs) ys = drop-all xs ys
-
-drop-none : {X : Type 0} (n : ℕ) → drop {A = X} n [] ≡ []
-drop-none zero = refl
-drop-none (suc n) = refl
 
 drop-more : {X : Type 0} (m n : ℕ) (xs : List X) → drop (m + n) xs ≡ drop n (drop m xs)
 drop-more zero n xs = ap (λ k. drop k xs) (plain n)
@@ -90,7 +87,7 @@ module _ (net : Network) (b : ℕ) (front : List DemandBatch) (batch : DemandBat
   begins k todo long is = record {
     records = is ∙ (stands.todo ∙ ap (λ n. map (record_of n) batch.entries ++ records_of (n + 1) later) long);
     rises = here.rises;
-    opens = All-weaker (λ (e : Entry). e.opens ≡ not (is_recorded front e.flow)) (λ (e : Entry). e.opens ≡ (number_of rounds.ledger.seen e.flow == 0)) (λ e opens. opens ∙ sym (stands.ledger.seen e.flow)) batch.entries here.opens;
+    opens = All-weaker (λ (e : Entry). e.opens ≡ not (is_recorded front e.flow)) (λ (e : Entry). e.opens ≡ (flow_number_of rounds.ledger.seen e.flow == 0)) (λ e opens. opens ∙ sym (stands.ledger.seen e.flow)) batch.entries here.opens;
   }
 
   -- ---- what a batch asks of the list
@@ -107,10 +104,10 @@ module _ (net : Network) (b : ℕ) (front : List DemandBatch) (batch : DemandBat
   schedule-long : EveryBatchHasItsSlots → length (schedule b front) ≡ length front * b
   schedule-long counts = counts b 0 [] front
 
-  pub visited-before : EverySlotIsInRange → EveryBatchHasItsSlots → N ≤ 256 → (first : ℕ) → first ≡ length front * b + 1 → AreBefore (first * 65536) (places_from 1 (schedule b front))
+  pub visited-before : EverySlotIsInRange → EveryBatchHasItsSlots → N ≤ 256 → (first : ℕ) → first ≡ length front * b + 1 → AreBefore (first * 65536) (slot_places_from 1 (schedule b front))
   visited-before ranged counts few first is =
       let at : 1 + length (schedule b front) ≡ first = (let long = schedule-long counts in omega (arith, long, is)) in
-      subst (λ n. AreBefore (n * 65536) (places_from 1 (schedule b front))) at (places-before N 1 (schedule b front) (omega (arith, few)) (so_far ranged))
+      subst (λ n. AreBefore (n * 65536) (slot_places_from 1 (schedule b front))) at (places-before N 1 (schedule b front) (omega (arith, few)) (so_far ranged))
 
   -- ---- what the batch comes to
 
@@ -135,13 +132,13 @@ module _ (net : Network) (b : ℕ) (front : List DemandBatch) (batch : DemandBat
   schedule-more fronts = (fronts b front (batch ∷ [])).0 ∙ ap (λ xs. schedule b front ++ xs) (append-nil (slots_then b (length front) batch (rest b front)))
 
   pub places-more : FrontsAreFronts → EveryBatchHasItsSlots → (first : ℕ) (given : DemandBatch) (slots : List (List Flow)) → given ≡ batch → first ≡ length front * b + 1
-      → slots ≡ batch_slots (is_barred given.limits) first rounds.demand.b (after_batch given.entries rounds.demand.items) → places_from 1 (schedule b front) ++ places_from first slots ≡ places_from 1 (schedule b (front ++ batch ∷ []))
+      → slots ≡ batch_slots (is_barred given.limits) first rounds.demand.b (after_batch given.entries rounds.demand.items) → slot_places_from 1 (schedule b front) ++ slot_places_from first slots ≡ slot_places_from 1 (schedule b (front ++ batch ∷ []))
   places-more fronts counts first given slots is at so =
       let long = schedule-long counts in
       let next : first ≡ 1 + length (schedule b front) = omega (arith, at, long) in
-      ap (λ m. places_from 1 (schedule b front) ++ places_from m slots) next
-      ∙ (ap (λ xs. places_from 1 (schedule b front) ++ places_from (1 + length (schedule b front)) xs) (slots-now first given slots is at so)
-      ∙ (sym (places-append 1 (schedule b front) (slots_then b (length front) batch (rest b front))) ∙ ap (λ xs. places_from 1 xs) (sym (schedule-more fronts))))
+      ap (λ m. slot_places_from 1 (schedule b front) ++ slot_places_from m slots) next
+      ∙ (ap (λ xs. slot_places_from 1 (schedule b front) ++ slot_places_from (1 + length (schedule b front)) xs) (slots-now first given slots is at so)
+      ∙ (sym (places-append 1 (schedule b front) (slots_then b (length front) batch (rest b front))) ∙ ap (λ xs. slot_places_from 1 xs) (sym (schedule-more fronts))))
 
   list-now : FrontsAreFronts → (first : ℕ) (given : DemandBatch) (items : List Item) → given ≡ batch → first ≡ length front * b + 1
       → items ≡ list_after_slots (is_barred given.limits) first rounds.demand.b (after_batch given.entries rounds.demand.items) → items ≡ rest b (front ++ batch ∷ [])
@@ -166,11 +163,11 @@ module _ (net : Network) (b : ℕ) (front : List DemandBatch) (batch : DemandBat
       more : (k : ℕ) → (k * b + 1) + b ≡ (k + 1) * b + 1
       more k = omega arith
 
-  pub counted-so-far : EverySlotIsInRange → (judges : Judges) → JudgesStand (places_from 1 (schedule b front)) judges → (flow : Flow) → number_of judges.slots flow ≡ slots_of flow (schedule b front)
+  pub counted-so-far : EverySlotIsInRange → (judges : Judges) → JudgesStand (slot_places_from 1 (schedule b front)) judges → (flow : Flow) → flow_number_of judges.slots flow ≡ slots_of flow (schedule b front)
   counted-so-far ranged judges judged flow = judged.slots flow ∙ counted-places N 1 flow (schedule b front) (so_far ranged)
 
   -- the rounds, with this one
-  pub played-more : FrontsAreFronts → EveryBatchHasItsSlots → EverySlotIsInRange → EveryBatchLeavesAList → LaterBatchesMayBeApplied → (judges : Judges) → JudgesStand (places_from 1 (schedule b front)) judges
+  pub played-more : FrontsAreFronts → EveryBatchHasItsSlots → EverySlotIsInRange → EveryBatchLeavesAList → LaterBatchesMayBeApplied → (judges : Judges) → JudgesStand (slot_places_from 1 (schedule b front)) judges
       → (given : DemandBatch) (first : ℕ) (new : Rounds) → given ≡ batch → first ≡ length front * b + 1 → new.records ≡ rounds.records → new.next ≡ rounds.next + length given.entries → Enters given.entries judges.slots rounds.ledger new.ledger → AreSized rounds.ledger.seen.endpoints new.ledger
       → new.demand.items ≡ list_after_slots (is_barred given.limits) first rounds.demand.b (after_batch given.entries rounds.demand.items) → new.demand.b ≡ rounds.demand.b
       → new.demand.endpoints ≡ rounds.demand.endpoints → RoundsStand net b (front ++ batch ∷ []) later new

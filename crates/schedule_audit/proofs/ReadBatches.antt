@@ -16,7 +16,7 @@ use Rattle.greedy_rules.specs.Matching.{AreAmong}
 use Rattle.greedy_rules.specs.Recorded.{IsRecordedAfter, AreRecordedAfter, AreRecorded}
 use Rattle.greedy_rules.proofs.Facts.{same_flow-true, flow_below-trans}
 use Rattle.clos_topology.specs.Network.{Network, endpoints_of}
-use Rattle.schedule_audit.specs.Lines.{Recorded, has_record, reaches, records, rounds_of}
+use Rattle.schedule_audit.specs.Lines.{Recorded, has_record, reaches, records, rounds_in_lines}
 use Rattle.schedule_audit.specs.Misplaced.{most_added, is_above, added_since, has_wrong_ends, says_nothing, clears_none, adds_too_much, is_bad_record, is_bad_end, is_misplaced_line, is_misplaced, has_end}
 use Rattle.schedule_audit.specs.Wrong.{batches_of_records}
 use Rattle.schedule_audit.specs.Laws.{GoodRecords}
@@ -29,6 +29,7 @@ use Rattle.schedule_audit.proofs.Shown.{or_else-none, all_good, ended}
 use Rattle.schedule_audit.specs.Texts.{record_of, records_of}
 use Rattle.schedule_audit.proofs.Batches.{batches_again}
 use Rattle.schedule_audit.proofs.Records.{Before, start, more, done, none_before}
+use Rattle.schedule_audit.proofs.EntrySteps.{Rises}
 
 -- ---- entries of a batch
 
@@ -48,9 +49,6 @@ some-here (x ∷ es) e flow here = elim (cases_Bool (same_flow x.flow flow)) [
 
 abbrev Below : Flow → Entry → Type 0
 Below flow e = flow_below e.flow flow ≡ true
-
-abbrev Rises : Entry → Entry → Type 0
-Rises x y = IsTrue (flow_below x.flow y.flow)
 
 -- one entry more
 pushed : (P : Entry → Type 0) (es : List Entry) (e : Entry) → All P es → P e → All P (es ++ e ∷ [])
@@ -306,7 +304,7 @@ module _ (endpoints : ℕ) (whole : List (Option Line)) where
       ((or_parts (has_end before) (is_misplaced_line endpoints whole before l) all.0).1, record_lines (Some l ∷ before) lines all.1)
   record_lines before (Some l ∷ lines) all = record_lines (Some l ∷ before) lines all.1
 
-  end_line : (before lines : List (Option Line)) → AllStand before lines → has_end lines ≡ true → is_bad_end (records whole) (rounds_of lines) ≡ false
+  end_line : (before lines : List (Option Line)) → AllStand before lines → has_end lines ≡ true → is_bad_end (records whole) (rounds_in_lines lines) ≡ false
   end_line before [] all some = absurd (false≢true some)
   end_line before (None ∷ lines) all some = end_line (None ∷ before) lines all.1 some
   end_line before (Some (line.End rounds) ∷ lines) all some = (or_parts (has_end before) (is_bad_end (records whole) rounds) all.0).1
@@ -315,7 +313,7 @@ module _ (endpoints : ℕ) (whole : List (Option Line)) where
 pub no_misplaced_line_is_recorded : NoMisplacedLineIsRecorded
 no_misplaced_line_is_recorded net lines none =
     let endpoints = endpoints_of net in
-    let rounds = rounds_of lines in
+    let rounds = rounds_in_lines lines in
     let one = or_else-none (first_from (is_misplaced endpoints lines) 1 [] lines) (after_last lines) none in
     let all = all_good (is_misplaced endpoints lines) 1 [] lines one.0 in
     let last = end_line endpoints lines [] lines all (ended lines one.1) in
@@ -326,16 +324,16 @@ no_misplaced_line_is_recorded net lines none =
 
 pub record ReadOff (net : Network) (lines : List (Option Line)) : Type 0 where
   pub batches : List DemandBatch
-  pub many : length batches ≡ rounds_of lines
-  pub few : rounds_of lines ≤ 100000
+  pub many : length batches ≡ rounds_in_lines lines
+  pub few : rounds_in_lines lines ≤ 100000
   pub are : AreRecorded (endpoints_of net) (record { hosts = net.hosts; cores = net.cores }) batches
   pub is : records_of 0 batches ≡ records lines
-  pub same : batches_of_records net (rounds_of lines) (records lines) ≡ batches
+  pub same : batches_of_records net (rounds_in_lines lines) (records lines) ≡ batches
 
 pub read_off : (net : Network) (lines : List (Option Line)) → first_misplaced (endpoints_of net) lines ≡ None → ReadOff net lines
 read_off net lines none =
     let endpoints = endpoints_of net in
-    let rounds = rounds_of lines in
+    let rounds = rounds_in_lines lines in
     let limits : Limits = record { hosts = net.hosts; cores = net.cores } in
     let one = or_else-none (first_from (is_misplaced endpoints lines) 1 [] lines) (after_last lines) none in
     let stand = all_good (is_misplaced endpoints lines) 1 [] lines one.0 in

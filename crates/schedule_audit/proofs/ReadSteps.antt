@@ -5,14 +5,14 @@ use Rattle.std.proofs.lemmas.List.{take_more}
 use Rattle.greedy_rules.specs.declared.flows.Entry.{Entry}
 use Rattle.greedy_rules.specs.Batches.{DemandBatch, IsAboveLast}
 use Rattle.schedule_audit.specs.Lines.{Recorded}
-use Rattle.schedule_audit.specs.FlowNumbers.{Numbers, number_of}
+use Rattle.schedule_audit.specs.FlowNumbers.{Numbers, flow_number_of}
 use Rattle.schedule_audit.specs.Texts.{record_of, records_of}
 use Rattle.schedule_audit.specs.Played.{BeginWith}
 use Rattle.schedule_audit.proofs.EntrySteps.{above_entry}
 
 -- the entry that a record makes
 abbrev pub made_of : Numbers → Recorded → Entry
-made_of seen r = record { flow = r.flow; opens = number_of seen r.flow == 0; clear = r.clear; add = r.add }
+made_of seen r = record { flow = r.flow; opens = flow_number_of seen r.flow == 0; clear = r.clear; add = r.add }
 
 at-entry : (k : ℕ) (entries : List Entry) (rest : List Recorded) (at : ℕ) (d : Recorded) (e : Entry) → at < length entries → get_or (map (record_of k) entries ++ rest) at d ≡ record_of k (get_or entries at e)
 at-entry k [] rest at d e within = absurd (omega arith)

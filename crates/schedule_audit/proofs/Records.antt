@@ -13,8 +13,9 @@ use Rattle.greedy_rules.specs.Flows.{same_flow, flow_below}
 use Rattle.greedy_rules.specs.Batches.{DemandBatch, IsBatch, entry_of}
 use Rattle.greedy_rules.specs.Demands.{need_with}
 use Rattle.greedy_rules.specs.Balance.{is_recorded}
-use Rattle.greedy_rules.specs.Recorded.{demand_through, demand_of, IsRecordedAfter, AreRecordedAfter}
+use Rattle.greedy_rules.specs.Recorded.{demand_of, IsRecordedAfter, AreRecordedAfter}
 use Rattle.greedy_rules.proofs.Facts.{same_flow-true, same_flow-refl, flow_below-not_same}
+use Rattle.greedy_rules.proofs.RecordedLemmas.{demand_more}
 use Rattle.list_facts.proofs.Pairs.{AllPairs-head, AllPairs-tail}
 use Rattle.schedule_audit.specs.Lines.{Recorded, has_record}
 use Rattle.schedule_audit.specs.Misplaced.{most_added, is_above, added_since, is_bad_record, is_bad_end}
@@ -97,10 +98,6 @@ more k front es before e below b = record {
   next = λ r later. or_left (nat_lt k r.batch) ((k == r.batch) && flow_below e.flow r.flow) (lt-ltb k r.batch later);
 }
 
-demand-push : (front : List DemandBatch) (batch : DemandBatch) (flow : Flow) (need : ℕ) → demand_through (front ++ batch ∷ []) flow need ≡ need_with (entry_of batch.entries flow) (demand_through front flow need)
-demand-push [] batch flow need = refl
-demand-push (x ∷ front) batch flow need = demand-push front batch flow (need_with (entry_of x.entries flow) need)
-
 pub done : (k : ℕ) (front : List DemandBatch) (batch : DemandBatch) (before : List Recorded) → Before k front batch.entries before → Before (k + 1) (front ++ batch ∷ []) [] before
 done k front batch before b = record {
   had = λ flow yes.
@@ -112,14 +109,14 @@ done k front batch before b = record {
         ]
       ];
   mine = λ flow never. absurd (false≢true never);
-  added = λ flow. b.added flow ∙ sym (demand-push front batch flow 0);
+  added = λ flow. b.added flow ∙ sym (demand_more front batch flow 0);
   above = λ r at all. b.next r (omega arith);
   next = λ r later. b.next r (omega arith);
 }
 
 -- ---- each record is good
 
-pairs_before : (es : List Entry) (e : Entry) (rest : List Entry) → IsBatch (es ++ e ∷ rest) → All (λ x. flow_below x.flow e.flow ≡ true) es
+pub pairs_before : (es : List Entry) (e : Entry) (rest : List Entry) → IsBatch (es ++ e ∷ rest) → All (λ x. flow_below x.flow e.flow ≡ true) es
 pairs_before [] e rest pairs = All-nil (λ (x : Entry). flow_below x.flow e.flow ≡ true)
 pairs_before (x ∷ es) e rest pairs =
     let R : Entry → Entry → Type 0 = λ a b. IsTrue (flow_below a.flow b.flow) in

@@ -22,11 +22,11 @@ use Rattle.greedy_rules.specs.Balance.{is_recorded, added_by, clears, NoneClears
 use Rattle.greedy_rules.proofs.Facts.{same_flow-true, same_flow-refl, flow_below-not_same}
 use Rattle.schedule_audit.specs.declared.ledger.Ledger.{Ledger}
 use Rattle.schedule_audit.specs.Lines.{Recorded, Place}
-use Rattle.schedule_audit.specs.FlowNumbers.{Numbers, number_of}
-use Rattle.schedule_audit.specs.Wrong.{places_from, added_in_all}
+use Rattle.schedule_audit.specs.FlowNumbers.{Numbers, flow_number_of}
+use Rattle.schedule_audit.specs.Wrong.{slot_places_from, added_in_all}
 use Rattle.schedule_audit.specs.Judged.{order_of, AreBefore}
 use Rattle.schedule_audit.specs.Walked.{in_slot}
-use Rattle.schedule_audit.specs.Counts.{ClearsAt, OpensFrom}
+use Rattle.schedule_audit.specs.Counts.{FlowClearsAt, FlowOpensFrom}
 use Rattle.schedule_audit.specs.Texts.{record_of, records_of}
 use Rattle.schedule_audit.specs.Entered.{Enters, IsCleared, LedgerStands}
 use Rattle.schedule_audit.proofs.Batches.{records_of-append}
@@ -34,11 +34,11 @@ use Rattle.schedule_audit.proofs.WalkSteps.{count-append, rest-before, both-befo
 
 -- ---- places of slots
 
-pub places-append : (number : ℕ) (xs ys : List (List Flow)) → places_from number (xs ++ ys) ≡ places_from number xs ++ places_from (number + length xs) ys
-places-append number [] ys = ap (λ n. places_from n ys) (omega arith)
+pub places-append : (number : ℕ) (xs ys : List (List Flow)) → slot_places_from number (xs ++ ys) ≡ slot_places_from number xs ++ slot_places_from (number + length xs) ys
+places-append number [] ys = ap (λ n. slot_places_from n ys) (omega arith)
 places-append number (x ∷ xs) ys =
-    ap (λ ps. in_slot number x ++ ps) (places-append (number + 1) xs ys ∙ ap (λ n. places_from (number + 1) xs ++ places_from n ys) (omega arith))
-    ∙ sym (append_assoc (in_slot number x) (places_from (number + 1) xs) (places_from (number + length (x ∷ xs)) ys))
+    ap (λ ps. in_slot number x ++ ps) (places-append (number + 1) xs ys ∙ ap (λ n. slot_places_from (number + 1) xs ++ slot_places_from n ys) (omega arith))
+    ∙ sym (append_assoc (in_slot number x) (slot_places_from (number + 1) xs) (slot_places_from (number + length (x ∷ xs)) ys))
 
 slot-before : (endpoints number : ℕ) (slot : List Flow) → endpoints ≤ 65536 → All (λ f. (f.src < endpoints) × (f.dst < endpoints)) slot → AreBefore ((number + 1) * 65536) (in_slot number slot)
 slot-before endpoints number [] few all = All-nil (λ (p : Place). order_of p < (number + 1) * 65536)
@@ -48,12 +48,12 @@ slot-before endpoints number (f ∷ slot) few all =
     let low = here.0 in
     All-cons (λ (p : Place). order_of p < (number + 1) * 65536) (record { slot = number; flow = f }) (in_slot number slot) (omega (arith, few, low)) (slot-before endpoints number slot few (All-tail P f slot all))
 
-pub places-before : (endpoints number : ℕ) (slots : List (List Flow)) → endpoints ≤ 65536 → All (IsSlotOf endpoints) slots → AreBefore ((number + length slots) * 65536) (places_from number slots)
+pub places-before : (endpoints number : ℕ) (slots : List (List Flow)) → endpoints ≤ 65536 → All (IsSlotOf endpoints) slots → AreBefore ((number + length slots) * 65536) (slot_places_from number slots)
 places-before endpoints number [] few all = All-nil (λ (p : Place). order_of p < (number + 0) * 65536)
 places-before endpoints number (slot ∷ slots) few all =
-    both-before ((number + length (slot ∷ slots)) * 65536) (in_slot number slot) (places_from (number + 1) slots)
+    both-before ((number + length (slot ∷ slots)) * 65536) (in_slot number slot) (slot_places_from (number + 1) slots)
     (rest-before ((number + 1) * 65536) ((number + length (slot ∷ slots)) * 65536) (in_slot number slot) (omega arith) (slot-before endpoints number slot few (All-head (IsSlotOf endpoints) slot slots all).in_range))
-    (rest-before (((number + 1) + length slots) * 65536) ((number + length (slot ∷ slots)) * 65536) (places_from (number + 1) slots) (omega arith) (places-before endpoints (number + 1) slots few (All-tail (IsSlotOf endpoints) slot slots all)))
+    (rest-before (((number + 1) + length slots) * 65536) ((number + length (slot ∷ slots)) * 65536) (slot_places_from (number + 1) slots) (omega arith) (places-before endpoints (number + 1) slots few (All-tail (IsSlotOf endpoints) slot slots all)))
 
 taken : {X : Type 0} (xs : List X) (n : ℕ) → n ≤ length xs → length (take n xs) ≡ n
 taken xs zero le = refl
@@ -62,15 +62,15 @@ taken (x ∷ xs) (suc n) le = ap suc (taken xs n (omega arith))
 
 -- the slots so far, and one more
 pub slots-step : (number offset : ℕ) (visited : List Place) (slots : List (List Flow)) (slot : List Flow) → offset < length slots → slot ≡ slice_index_or slots offset []
-    → (visited ++ places_from number (take offset slots)) ++ in_slot (number + offset) slot ≡ visited ++ places_from number (take (offset + 1) slots)
+    → (visited ++ slot_places_from number (take offset slots)) ++ in_slot (number + offset) slot ≡ visited ++ slot_places_from number (take (offset + 1) slots)
 slots-step number offset visited slots slot within is =
     let long : number + length (take offset slots) ≡ number + offset = ap (λ n. number + n) (taken slots offset (omega (arith, within))) in
-    append_assoc visited (places_from number (take offset slots)) (in_slot (number + offset) slot)
+    append_assoc visited (slot_places_from number (take offset slots)) (in_slot (number + offset) slot)
     ∙ ap (λ ps. visited ++ ps)
-    (ap (λ ps. places_from number (take offset slots) ++ ps) (sym (append-nil (in_slot (number + offset) slot)))
-    ∙ (ap (λ n. places_from number (take offset slots) ++ places_from n (slot ∷ [])) (sym long)
+    (ap (λ ps. slot_places_from number (take offset slots) ++ ps) (sym (append-nil (in_slot (number + offset) slot)))
+    ∙ (ap (λ n. slot_places_from number (take offset slots) ++ slot_places_from n (slot ∷ [])) (sym long)
     ∙ (sym (places-append number (take offset slots) (slot ∷ []))
-    ∙ ap (λ ss. places_from number ss) (ap (λ s. take offset slots ++ s ∷ []) is ∙ sym (take_more slots offset [] within)))))
+    ∙ ap (λ ss. slot_places_from number ss) (ap (λ s. take offset slots ++ s ∷ []) is ∙ sym (take_more slots offset [] within)))))
 
 all-taken : {X : Type 0} (P : X → Type 0) (n : ℕ) (xs : List X) → All P xs → All P (take n xs)
 all-taken P zero xs all = All-nil P
@@ -78,11 +78,11 @@ all-taken P (suc n) [] all = All-nil P
 all-taken P (suc n) (x ∷ xs) all = All-cons P x (take n xs) (All-head P x xs all) (all-taken P n xs (All-tail P x xs all))
 
 pub slots-before : (endpoints number offset : ℕ) (visited : List Place) (slots : List (List Flow)) → endpoints ≤ 65536 → offset ≤ length slots → All (IsSlotOf endpoints) slots → AreBefore (number * 65536) visited
-    → AreBefore ((number + offset) * 65536) (visited ++ places_from number (take offset slots))
+    → AreBefore ((number + offset) * 65536) (visited ++ slot_places_from number (take offset slots))
 slots-before endpoints number offset visited slots few within all before =
     let long = taken slots offset within in
-    both-before ((number + offset) * 65536) visited (places_from number (take offset slots)) (rest-before (number * 65536) ((number + offset) * 65536) visited (omega arith) before)
-    (rest-before ((number + length (take offset slots)) * 65536) ((number + offset) * 65536) (places_from number (take offset slots)) (omega (arith, long))
+    both-before ((number + offset) * 65536) visited (slot_places_from number (take offset slots)) (rest-before (number * 65536) ((number + offset) * 65536) visited (omega arith) before)
+    (rest-before ((number + length (take offset slots)) * 65536) ((number + offset) * 65536) (slot_places_from number (take offset slots)) (omega (arith, long))
     (places-before endpoints number (take offset slots) few (all-taken (IsSlotOf endpoints) offset slots all)))
 
 -- ---- how often a flow stands in slots
@@ -114,11 +114,11 @@ in-one number flow (g ∷ slot) rising =
           step ∙ (omega (arith, cond-false {A = ℕ} (same_flow g flow) 1 0 other, rest) ∙ sym (ap (λ b. cond (b || has_flow slot flow) 1 0) other))
     ]
 
-pub counted-places : (endpoints number : ℕ) (flow : Flow) (slots : List (List Flow)) → All (IsSlotOf endpoints) slots → count_by (here_of flow) (places_from number slots) ≡ slots_of flow slots
+pub counted-places : (endpoints number : ℕ) (flow : Flow) (slots : List (List Flow)) → All (IsSlotOf endpoints) slots → count_by (here_of flow) (slot_places_from number slots) ≡ slots_of flow slots
 counted-places endpoints number flow [] all = refl
 counted-places endpoints number flow (slot ∷ slots) all =
-    count-append flow (in_slot number slot) (places_from (number + 1) slots)
-    ∙ (ap (λ n. n + count_by (here_of flow) (places_from (number + 1) slots)) (in-one number flow slot (All-head (IsSlotOf endpoints) slot slots all).rising)
+    count-append flow (in_slot number slot) (slot_places_from (number + 1) slots)
+    ∙ (ap (λ n. n + count_by (here_of flow) (slot_places_from (number + 1) slots)) (in-one number flow slot (All-head (IsSlotOf endpoints) slot slots all).rising)
     ∙ (ap (λ n. cond (has_flow slot flow) 1 0 + n) (counted-places endpoints (number + 1) flow slots (All-tail (IsSlotOf endpoints) slot slots all))
     ∙ sym (sum_by-cons (λ (s : List Flow). cond (has_flow s flow) 1 0) slot slots)))
 
@@ -136,7 +136,7 @@ seen-more false false n old is before = ap (λ m. m == 0) is ∙ before
 added-append : (flow : Flow) (rs qs : List Recorded) → added_in_all flow (rs ++ qs) ≡ added_in_all flow rs + added_in_all flow qs
 added-append flow rs qs = sum_by-append (λ (r : Recorded). cond (same_flow r.flow flow) r.add 0) rs qs
 
-none-added : (k : ℕ) (e : Entry) (es : List Entry) → All (λ x. IsTrue (flow_below e.flow x.flow)) es → sum_by (λ (r : Recorded). cond (same_flow r.flow e.flow) r.add 0) (map (record_of k) es) ≡ 0
+pub none-added : (k : ℕ) (e : Entry) (es : List Entry) → All (λ x. IsTrue (flow_below e.flow x.flow)) es → sum_by (λ (r : Recorded). cond (same_flow r.flow e.flow) r.add 0) (map (record_of k) es) ≡ 0
 none-added k e [] all = refl
 none-added k e (x ∷ es) all =
     let P : Entry → Type 0 = λ y. IsTrue (flow_below e.flow y.flow) in
@@ -148,7 +148,7 @@ none-added k e (x ∷ es) all =
     sum_by-cons (λ (r : Recorded). cond (same_flow r.flow e.flow) r.add 0) (record_of k x) (map (record_of k) es)
     ∙ omega (arith, cond-false {A = ℕ} (same_flow x.flow e.flow) x.add 0 other, none-added k e es (All-tail P x es all))
 
-added-one : (k : ℕ) (es : List Entry) (flow : Flow) → IsBatch es → added_in_all flow (map (record_of k) es) ≡ added_by (entry_of es flow)
+pub added-one : (k : ℕ) (es : List Entry) (flow : Flow) → IsBatch es → added_in_all flow (map (record_of k) es) ≡ added_by (entry_of es flow)
 added-one k [] flow rises = refl
 added-one k (e ∷ es) flow rises =
     let R : Entry → Entry → Type 0 = λ x y. IsTrue (flow_below x.flow y.flow) in
@@ -168,7 +168,7 @@ added-one k (e ∷ es) flow rises =
     ]
 
 -- the last clear, and one batch more
-clears-last : (flow : Flow) (front : List DemandBatch) (batch : DemandBatch) → clears (entry_of batch.entries flow) ≡ true → ClearsAt flow (length front) (front ++ batch ∷ [])
+clears-last : (flow : Flow) (front : List DemandBatch) (batch : DemandBatch) → clears (entry_of batch.entries flow) ≡ true → FlowClearsAt flow (length front) (front ++ batch ∷ [])
 clears-last flow [] batch is = (is, All-nil (λ (x : DemandBatch). clears (entry_of x.entries flow) ≡ false))
 clears-last flow (x ∷ front) batch is = clears-last flow front batch is
 
@@ -176,40 +176,40 @@ none-more : (flow : Flow) (front : List DemandBatch) (batch : DemandBatch) → c
 none-more flow front batch is none =
     let P : DemandBatch → Type 0 = λ x. clears (entry_of x.entries flow) ≡ false in All-append P front (batch ∷ []) none (All-cons P batch [] is (All-nil P))
 
-clears-still : (flow : Flow) (place : ℕ) (front : List DemandBatch) (batch : DemandBatch) → clears (entry_of batch.entries flow) ≡ false → ClearsAt flow place front → ClearsAt flow place (front ++ batch ∷ [])
+clears-still : (flow : Flow) (place : ℕ) (front : List DemandBatch) (batch : DemandBatch) → clears (entry_of batch.entries flow) ≡ false → FlowClearsAt flow place front → FlowClearsAt flow place (front ++ batch ∷ [])
 clears-still flow place [] batch is at = absurd at
 clears-still flow zero (x ∷ front) batch is at = (at.0, none-more flow front batch is at.1)
 clears-still flow (suc place) (x ∷ front) batch is at = clears-still flow place front batch is at
 
-opens-still : (flow : Flow) (place : ℕ) (front : List DemandBatch) (batch : DemandBatch) → clears (entry_of batch.entries flow) ≡ false → OpensFrom flow place front → OpensFrom flow place (front ++ batch ∷ [])
+opens-still : (flow : Flow) (place : ℕ) (front : List DemandBatch) (batch : DemandBatch) → clears (entry_of batch.entries flow) ≡ false → FlowOpensFrom flow place front → FlowOpensFrom flow place (front ++ batch ∷ [])
 opens-still flow zero front batch is from = none-more flow front batch is from
 opens-still flow (suc place) [] batch is from = absurd from
 opens-still flow (suc place) (x ∷ front) batch is from = (from.0, opens-still flow place front batch is from.1)
 
-clears-within : (flow : Flow) (place : ℕ) (front : List DemandBatch) → ClearsAt flow place front → place ≤ length front
+clears-within : (flow : Flow) (place : ℕ) (front : List DemandBatch) → FlowClearsAt flow place front → place ≤ length front
 clears-within flow place [] at = absurd at
 clears-within flow zero (x ∷ front) at = omega arith
 clears-within flow (suc place) (x ∷ front) at = let w = clears-within flow place front at in omega (arith, w)
 
-opens-within : (flow : Flow) (place : ℕ) (front : List DemandBatch) → OpensFrom flow place front → place ≤ length front
+opens-within : (flow : Flow) (place : ℕ) (front : List DemandBatch) → FlowOpensFrom flow place front → place ≤ length front
 opens-within flow zero front from = omega arith
 opens-within flow (suc place) [] from = absurd from
 opens-within flow (suc place) (x ∷ front) from = let w = opens-within flow place front from.1 in omega (arith, w)
 
-place-within : (flow : Flow) (place : ℕ) (front : List DemandBatch) → ClearsAt flow place front ⊎ OpensFrom flow place front → place ≤ length front
+place-within : (flow : Flow) (place : ℕ) (front : List DemandBatch) → FlowClearsAt flow place front ⊎ FlowOpensFrom flow place front → place ≤ length front
 place-within flow place front (inl at) = clears-within flow place front at
 place-within flow place front (inr from) = opens-within flow place front from
 
-still : (flow : Flow) (place : ℕ) (front : List DemandBatch) (batch : DemandBatch) → clears (entry_of batch.entries flow) ≡ false → ClearsAt flow place front ⊎ OpensFrom flow place front
-    → ClearsAt flow place (front ++ batch ∷ []) ⊎ OpensFrom flow place (front ++ batch ∷ [])
+still : (flow : Flow) (place : ℕ) (front : List DemandBatch) (batch : DemandBatch) → clears (entry_of batch.entries flow) ≡ false → FlowClearsAt flow place front ⊎ FlowOpensFrom flow place front
+    → FlowClearsAt flow place (front ++ batch ∷ []) ⊎ FlowOpensFrom flow place (front ++ batch ∷ [])
 still flow place front batch is (inl at) = inl (clears-still flow place front batch is at)
 still flow place front batch is (inr from) = inr (opens-still flow place front batch is from)
 
 -- a batch was entered where each flow had its slots so far
 pub ledger-more : (b : ℕ) (front : List DemandBatch) (batch : DemandBatch) (slots : Numbers) (old new : Ledger) → FrontsAreFronts → EveryBatchHasItsSlots → IsBatch batch.entries
-    → ((flow : Flow) → number_of slots flow ≡ slots_of flow (schedule b front)) → LedgerStands b front old → Enters batch.entries slots old new → LedgerStands b (front ++ batch ∷ []) new
+    → ((flow : Flow) → flow_number_of slots flow ≡ slots_of flow (schedule b front)) → LedgerStands b front old → Enters batch.entries slots old new → LedgerStands b (front ++ batch ∷ []) new
 ledger-more b front batch slots old new fronts counts rises counted stands enters = record {
-  seen = λ flow. seen-more (is_some (entry_of batch.entries flow)) (is_recorded front flow) (number_of new.seen flow) (number_of old.seen flow) (enters.seen flow) (stands.seen flow) ∙ ap not (sym (recorded-more front batch flow));
+  seen = λ flow. seen-more (is_some (entry_of batch.entries flow)) (is_recorded front flow) (flow_number_of new.seen flow) (flow_number_of old.seen flow) (enters.seen flow) (stands.seen flow) ∙ ap not (sym (recorded-more front batch flow));
   added = λ flow.
       enters.added flow
       ∙ (ap (λ n. n + added_by (entry_of batch.entries flow)) (stands.added flow)
@@ -223,11 +223,11 @@ ledger-more b front batch slots old new fronts counts rises counted stands enter
     short : take (length front * b) (schedule b (front ++ batch ∷ [])) ≡ schedule b front
     short = (fronts b front (batch ∷ [])).2
 
-    by : (flow : Flow) → (clears (entry_of batch.entries flow) ≡ true) ⊎ (clears (entry_of batch.entries flow) ≡ false) → IsCleared b (front ++ batch ∷ []) flow (number_of new.cleared flow)
+    by : (flow : Flow) → (clears (entry_of batch.entries flow) ≡ true) ⊎ (clears (entry_of batch.entries flow) ≡ false) → IsCleared b (front ++ batch ∷ []) flow (flow_number_of new.cleared flow)
     by flow (inl is) = (
       length front,
       inl (clears-last flow front batch is),
-      enters.cleared flow ∙ (cond-true (clears (entry_of batch.entries flow)) (number_of slots flow) (number_of old.cleared flow) is ∙ (counted flow ∙ ap (λ ss. slots_of flow ss) (sym short))),
+      enters.cleared flow ∙ (cond-true (clears (entry_of batch.entries flow)) (flow_number_of slots flow) (flow_number_of old.cleared flow) is ∙ (counted flow ∙ ap (λ ss. slots_of flow ss) (sym short))),
     )
     by flow (inr is) =
         let before = stands.cleared flow in
@@ -236,7 +236,7 @@ ledger-more b front batch slots old new fronts counts rises counted stands enter
           place,
           still flow place front batch is before.1,
           enters.cleared flow
-              ∙ (cond-false (clears (entry_of batch.entries flow)) (number_of slots flow) (number_of old.cleared flow) is
+              ∙ (cond-false (clears (entry_of batch.entries flow)) (flow_number_of slots flow) (flow_number_of old.cleared flow) is
               ∙ (before.2 ∙ ap (λ ss. slots_of flow ss) (sym (front-take place low)))),
         )
       where

@@ -5,44 +5,29 @@ use Rattle.std.specs.List.{list_any}
 use Rattle.std.proofs.lemmas.Bool.{eq-eqb, eqb-true, or_parts, leb-false, and_parts, and_from, not-false}
 use Rattle.std.proofs.lemmas.List.Elements.{All-head, All-tail}
 use Rattle.std.proofs.lemmas.Nat.{same_from_place}
+use Rattle.list_facts.proofs.Bools.{or-none}
 use Rattle.greedy_rules.specs.Limits.{rack_of}
+use Rattle.greedy_rules.proofs.WalkLemmas.{or_both}
 use Rattle.clos_topology.specs.Network.{Network}
 use Rattle.clos_topology.specs.Links.{Link, up, rise, fall, down}
 use Rattle.schedule_audit.specs.Lines.{Path}
 use Rattle.schedule_audit.specs.Wrong.{same_link, share_a_link, has_wrong_core}
 use Rattle.schedule_audit.specs.declared.links.Links.{Links}
-use Rattle.schedule_audit.specs.Marks.{up_of, down_of, rise_of, fall_of, is_place, takes, AreUpTo, AreMarked}
+use Rattle.schedule_audit.specs.Marks.{up_link, down_link, rise_of, fall_of, is_place, takes_link, AreUpTo, PathsAreMarked}
+use Rattle.schedule_audit.proofs.FirstWrong.{same-truth}
 
 -- ---- truth values
 
-same-truth : (a b : Bool) → (a ≡ true → b ≡ true) → (b ≡ true → a ≡ true) → a ≡ b
-same-truth true b there back = sym (there refl)
-same-truth false true there back = back refl
-same-truth false false there back = refl
-
 eq-sym : (a b : ℕ) → (a == b) ≡ (b == a)
 eq-sym a b = same-truth (a == b) (b == a) (λ is. eq-eqb b a (sym (eqb-true a b is))) (λ is. eq-eqb a b (sym (eqb-true b a is)))
-
-or-false : (a : Bool) → (a || false) ≡ a
-or-false true = refl
-or-false false = refl
 
 spread : (x a b : Bool) → (x && (a || b)) ≡ ((x && a) || (x && b))
 spread true a b = refl
 spread false a b = refl
 
-mix : (a b c d : Bool) → ((a || b) || (c || d)) ≡ ((a || c) || (b || d))
-mix true b c d = refl
-mix false b true d = swap b d
-  where
-    swap : (x y : Bool) → (x || true) ≡ true
-    swap true y = refl
-    swap false y = refl
-mix false b false d = refl
-
 any-or : {X : Type 0} (f g : X → Bool) (xs : List X) → list_any (λ x. f x || g x) xs ≡ (list_any f xs || list_any g xs)
 any-or f g [] = refl
-any-or f g (x ∷ xs) = ap (λ (b : Bool). (f x || g x) || b) (any-or f g xs) ∙ mix (f x) (g x) (list_any f xs) (list_any g xs)
+any-or f g (x ∷ xs) = ap (λ (b : Bool). (f x || g x) || b) (any-or f g xs) ∙ or_both (f x) (g x) (list_any f xs) (list_any g xs)
 
 any-same : {X : Type 0} (f g : X → Bool) (xs : List X) → All (λ x. f x ≡ g x) xs → list_any f xs ≡ list_any g xs
 any-same f g [] same = refl
@@ -55,20 +40,20 @@ abbrev links_when : Bool → ℕ → ℕ → ℕ → ℕ → ℕ → List Link
 links_when b s d r q core = up s ∷ (cond b [] (rise r core ∷ fall core q ∷ []) ++ down d ∷ [])
 
 up-in : (b : Bool) (x s d r q core : ℕ) → list_any (same_link (up x)) (links_when b s d r q core) ≡ (x == s)
-up-in true x s d r q core = or-false (x == s)
-up-in false x s d r q core = or-false (x == s)
+up-in true x s d r q core = or-none (x == s)
+up-in false x s d r q core = or-none (x == s)
 
 down-in : (b : Bool) (x s d r q core : ℕ) → list_any (same_link (down x)) (links_when b s d r q core) ≡ (x == d)
-down-in true x s d r q core = or-false (x == d)
-down-in false x s d r q core = or-false (x == d)
+down-in true x s d r q core = or-none (x == d)
+down-in false x s d r q core = or-none (x == d)
 
 rise-in : (b : Bool) (x n s d r q core : ℕ) → list_any (same_link (rise x n)) (links_when b s d r q core) ≡ (not b && ((x == r) && (n == core)))
 rise-in true x n s d r q core = refl
-rise-in false x n s d r q core = or-false ((x == r) && (n == core))
+rise-in false x n s d r q core = or-none ((x == r) && (n == core))
 
 fall-in : (b : Bool) (x n s d r q core : ℕ) → list_any (same_link (fall n x)) (links_when b s d r q core) ≡ (not b && ((n == core) && (x == q)))
 fall-in true x n s d r q core = refl
-fall-in false x n s d r q core = or-false ((n == core) && (x == q))
+fall-in false x n s d r q core = or-none ((n == core) && (x == q))
 
 module _ (net : Network) where
   abbrev stays : Path → Bool
@@ -82,10 +67,10 @@ module _ (net : Network) where
 
   -- ---- one path against another that has its right core
 
-  up-meets : (p q : Path) → meets q (up p.place.flow.src) ≡ is_place (up_of q) p.place.flow.src
+  up-meets : (p q : Path) → meets q (up p.place.flow.src) ≡ is_place (up_link q) p.place.flow.src
   up-meets p q = up-in (stays q) p.place.flow.src q.place.flow.src q.place.flow.dst _ _ (unwrap_or q.core 0) ∙ eq-sym p.place.flow.src q.place.flow.src
 
-  down-meets : (p q : Path) → meets q (down p.place.flow.dst) ≡ is_place (down_of q) p.place.flow.dst
+  down-meets : (p q : Path) → meets q (down p.place.flow.dst) ≡ is_place (down_link q) p.place.flow.dst
   down-meets p q = down-in (stays q) p.place.flow.dst q.place.flow.src q.place.flow.dst _ _ (unwrap_or q.core 0) ∙ eq-sym p.place.flow.dst q.place.flow.dst
 
   place-same : (r x c n : ℕ) → c < net.cores → n < net.cores → (r * net.cores + c == x * net.cores + n) ≡ ((x == r) && (n == c))
@@ -140,16 +125,16 @@ module _ (net : Network) where
           ∙ sym (place-same (rack_of net.hosts q.place.flow.dst) (rack_of net.hosts p.place.flow.dst) c core leaves.1 within))
 
   abbrev up_taken : Path → Path → Bool
-  up_taken p q = takes up_of p.place.slot p.place.flow.src q
+  up_taken p q = takes_link up_link p.place.slot p.place.flow.src q
 
   abbrev down_taken : Path → Path → Bool
-  down_taken p q = takes down_of p.place.slot p.place.flow.dst q
+  down_taken p q = takes_link down_link p.place.slot p.place.flow.dst q
 
   abbrev rise_taken : Path → ℕ → Path → Bool
-  rise_taken p core q = takes (rise_of net) p.place.slot (rack_of net.hosts p.place.flow.src * net.cores + core) q
+  rise_taken p core q = takes_link (rise_of net) p.place.slot (rack_of net.hosts p.place.flow.src * net.cores + core) q
 
   abbrev fall_taken : Path → ℕ → Path → Bool
-  fall_taken p core q = takes (fall_of net) p.place.slot (rack_of net.hosts p.place.flow.dst * net.cores + core) q
+  fall_taken p core q = takes_link (fall_of net) p.place.slot (rack_of net.hosts p.place.flow.dst * net.cores + core) q
 
   -- ---- a path that stays in its rack, and one that leaves it
 
@@ -160,25 +145,25 @@ module _ (net : Network) where
   stay-shares p q stay =
       ap (λ (b : Bool). (p.place.slot == q.place.slot) && list_any (meets q) (links_when b p.place.flow.src p.place.flow.dst (rack_of net.hosts p.place.flow.src) (rack_of net.hosts p.place.flow.dst) (unwrap_or p.core 0))) stay
       ∙ (ap (λ (b : Bool). b && (meets q (up p.place.flow.src) || (meets q (down p.place.flow.dst) || false))) (eq-sym p.place.slot q.place.slot)
-      ∙ (ap (λ (b : Bool). (q.place.slot == p.place.slot) && (meets q (up p.place.flow.src) || b)) (or-false (meets q (down p.place.flow.dst)))
+      ∙ (ap (λ (b : Bool). (q.place.slot == p.place.slot) && (meets q (up p.place.flow.src) || b)) (or-none (meets q (down p.place.flow.dst)))
       ∙ (ap (λ (b : Bool). (q.place.slot == p.place.slot) && (b || meets q (down p.place.flow.dst))) (up-meets p q)
-      ∙ (ap (λ (b : Bool). (q.place.slot == p.place.slot) && (is_place (up_of q) p.place.flow.src || b)) (down-meets p q)
-      ∙ spread (q.place.slot == p.place.slot) (is_place (up_of q) p.place.flow.src) (is_place (down_of q) p.place.flow.dst)))))
+      ∙ (ap (λ (b : Bool). (q.place.slot == p.place.slot) && (is_place (up_link q) p.place.flow.src || b)) (down-meets p q)
+      ∙ spread (q.place.slot == p.place.slot) (is_place (up_link q) p.place.flow.src) (is_place (down_link q) p.place.flow.dst)))))
 
   leave-shares : (p q : Path) (core : ℕ) → stays p ≡ false → p.core ≡ Some core → core < net.cores → has_wrong_core net q.place.flow q.core ≡ false
       → share_a_link net p q ≡ (up_taken p q || (rise_taken p core q || (fall_taken p core q || down_taken p q)))
   leave-shares p q core leave some within right =
       let x = q.place.slot == p.place.slot in
-      let a = is_place (up_of q) p.place.flow.src in
+      let a = is_place (up_link q) p.place.flow.src in
       let r = is_place (rise_of net q) (rack_of net.hosts p.place.flow.src * net.cores + core) in
       let f = is_place (fall_of net q) (rack_of net.hosts p.place.flow.dst * net.cores + core) in
-      let d = is_place (down_of q) p.place.flow.dst in
+      let d = is_place (down_link q) p.place.flow.dst in
       let lower = rack_of net.hosts p.place.flow.src in
       let upper = rack_of net.hosts p.place.flow.dst in
       ap (λ (b : Bool). (p.place.slot == q.place.slot) && list_any (meets q) (links_when b p.place.flow.src p.place.flow.dst lower upper (unwrap_or p.core 0))) leave
       ∙ (ap (λ (o : Option ℕ). (p.place.slot == q.place.slot) && list_any (meets q) (links_when false p.place.flow.src p.place.flow.dst lower upper (unwrap_or o 0))) some
       ∙ (ap (λ (b : Bool). b && (meets q (up p.place.flow.src) || (meets q (rise lower core) || (meets q (fall core upper) || (meets q (down p.place.flow.dst) || false))))) (eq-sym p.place.slot q.place.slot)
-      ∙ (ap (λ (b : Bool). x && (meets q (up p.place.flow.src) || (meets q (rise lower core) || (meets q (fall core upper) || b)))) (or-false (meets q (down p.place.flow.dst)))
+      ∙ (ap (λ (b : Bool). x && (meets q (up p.place.flow.src) || (meets q (rise lower core) || (meets q (fall core upper) || b)))) (or-none (meets q (down p.place.flow.dst)))
       ∙ (ap (λ (b : Bool). x && (b || (meets q (rise lower core) || (meets q (fall core upper) || meets q (down p.place.flow.dst))))) (up-meets p q)
       ∙ (ap (λ (b : Bool). x && (a || (b || (meets q (fall core upper) || meets q (down p.place.flow.dst))))) (rise-meets p q core within right)
       ∙ (ap (λ (b : Bool). x && (a || (r || (b || meets q (down p.place.flow.dst))))) (fall-meets p q core within right)
@@ -226,7 +211,7 @@ module _ (net : Network) where
   both-free false b = refl
 
   pub leave-free : (marks : Links) (p : Path) (core : ℕ) (before : List Path) (u d r f : Bool) → p.core ≡ Some core → has_wrong_core net p.place.flow p.core ≡ false → 0 < p.place.slot → AreUpTo p.place.slot before
-      → AreMarked net marks before → u ≡ not (get_or marks.up.items p.place.flow.src 0 == p.place.slot) → d ≡ not (get_or marks.down.items p.place.flow.dst 0 == p.place.slot)
+      → PathsAreMarked net marks before → u ≡ not (get_or marks.up.items p.place.flow.src 0 == p.place.slot) → d ≡ not (get_or marks.down.items p.place.flow.dst 0 == p.place.slot)
       → r ≡ not (get_or marks.rise.items (rack_of net.hosts p.place.flow.src * net.cores + core) 0 == p.place.slot) → f ≡ not (get_or marks.fall.items (rack_of net.hosts p.place.flow.dst * net.cores + core) 0 == p.place.slot)
       → (((u && d) && r) && f) ≡ not (list_any (share_a_link net p) before)
   leave-free marks p core before u d r f some right late upto marked u_is d_is r_is f_is =
@@ -244,7 +229,7 @@ module _ (net : Network) where
       ∙ ap not (sym (leave-any p core before leaves.0 some leaves.1 marked.cores))))))
 
   pub stay-free : (marks : Links) (p : Path) (before : List Path) (u d : Bool) → p.core ≡ None → has_wrong_core net p.place.flow p.core ≡ false → 0 < p.place.slot → AreUpTo p.place.slot before
-      → AreMarked net marks before → u ≡ not (get_or marks.up.items p.place.flow.src 0 == p.place.slot) → d ≡ not (get_or marks.down.items p.place.flow.dst 0 == p.place.slot)
+      → PathsAreMarked net marks before → u ≡ not (get_or marks.up.items p.place.flow.src 0 == p.place.slot) → d ≡ not (get_or marks.down.items p.place.flow.dst 0 == p.place.slot)
       → (u && d) ≡ not (list_any (share_a_link net p) before)
   stay-free marks p before u d none right late upto marked u_is d_is =
       let slot = p.place.slot in

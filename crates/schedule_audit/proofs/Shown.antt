@@ -19,6 +19,7 @@ use Rattle.schedule_audit.specs.BadLines.{first_from, or_else, after_last, first
 use Rattle.schedule_audit.specs.Laws.{GoodPaths}
 use Rattle.schedule_audit.specs.Shown.{NoBadLineIsItsSchedule}
 use Rattle.schedule_audit.proofs.Walk.{AllGood}
+use Rattle.schedule_audit.proofs.Places.{NoShare}
 
 -- ---- walks that find nothing
 
@@ -97,9 +98,6 @@ with_cores net expected before (p ∷ ps) good =
 none-of : (f : Path → Bool) (xs : List Path) → list_any f xs ≡ false → All (λ x. f x ≡ false) xs
 none-of f [] none = All-nil (λ (x : Path). f x ≡ false)
 none-of f (x ∷ xs) none = let parts = or_parts (f x) (list_any f xs) none in All-cons (λ (y : Path). f y ≡ false) x xs parts.0 (none-of f xs parts.1)
-
-abbrev NoShare : Network → Path → Path → Type 0
-NoShare net p q = share_a_link net q p ≡ false
 
 -- no path shares a link with those before it
 after_all : (net : Network) (expected : Expected) (p : Path) (before ps : List Path) → GoodPaths net expected before ps → ((q : Path) → list_any (share_a_link net q) before ≡ false → NoShare net p q) → All (NoShare net p) ps

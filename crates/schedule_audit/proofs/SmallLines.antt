@@ -4,7 +4,7 @@ use Rattle.std.specs.List.{AllZip}
 use Rattle.report_text.specs.declared.line.Line.{Line}
 use Rattle.report_text.specs.declared.line.Line.TheVariants as line
 use Rattle.report_text.specs.Lines.{IsLine}
-use Rattle.schedule_audit.specs.Reading.{Reads, unformed_line, AreLines}
+use Rattle.schedule_audit.specs.Reading.{Reads, unformed_line, ReadsLines}
 use Rattle.schedule_audit.specs.Judging.{IsSmall, AreSmall}
 
 one-small : (l : Line) → IsLine l → IsSmall (Some l)
@@ -22,5 +22,5 @@ formed-small (piece ∷ pieces) [] rest read = absurd read
 formed-small (piece ∷ pieces) (None ∷ formed) rest read = (tt, formed-small pieces formed rest read.1)
 formed-small (piece ∷ pieces) (Some l ∷ formed) rest read = (one-small l read.0.0, formed-small pieces formed rest read.1)
 
-pub small-lines : (bytes : List ℕ) (lines : List (Option Line)) → AreLines bytes lines → AreSmall lines
+pub small-lines : (bytes : List ℕ) (lines : List (Option Line)) → ReadsLines bytes lines → AreSmall lines
 small-lines bytes lines (pieces, rest, formed, cut, read, is) = subst AreSmall (sym is) (formed-small pieces formed rest read)

@@ -4,11 +4,12 @@ use Rattle.std.proofs.lemmas.Bool.{cases_Bool, cond-true, cond-false, or_from, o
 use Rattle.greedy_rules.specs.declared.flows.Flow.{Flow}
 use Rattle.greedy_rules.specs.Flows.{same_flow}
 use Rattle.greedy_rules.proofs.Facts.{same_flow-refl, same_flow-true}
-use Rattle.schedule_audit.specs.Lines.{Recorded, flow_of, has_record}
+use Rattle.greedy_rules.specs.Cells.{flow_of}
+use Rattle.schedule_audit.specs.Lines.{Recorded, has_record}
 use Rattle.schedule_audit.specs.Misplaced.{is_above, has_wrong_ends, says_nothing, clears_none, adds_too_much, added_since, is_bad_record, most_added}
-use Rattle.schedule_audit.specs.Standing.{Sums, Stands, sum_of, last_of, is_above_last, sum_through, sum_with}
+use Rattle.schedule_audit.specs.Standing.{Sums, SumsStand, sum_of, last_record, is_above_last, sum_through, sum_with}
 
-pub above-last : (earlier : List Recorded) (r : Recorded) → is_above_last (last_of earlier) r ≡ is_above earlier r
+pub above-last : (earlier : List Recorded) (r : Recorded) → is_above_last (last_record earlier) r ≡ is_above earlier r
 above-last [] r = refl
 above-last (last ∷ earlier) r = refl
 
@@ -89,7 +90,7 @@ below-ends endpoints flow right =
     let dst = or_parts (nat_le endpoints flow.dst) (flow.src == flow.dst) parts.1 in
     leb-false endpoints flow.dst dst.0
 
-pub before-is : (last : Option Recorded) (sums : Sums) (earlier : List Recorded) (r : Recorded) (before : Option ℕ) → Stands last sums earlier → has_wrong_ends sums.endpoints r.flow ≡ false → before ≡ sum_of sums r.flow.src r.flow.dst
+pub before-is : (last : Option Recorded) (sums : Sums) (earlier : List Recorded) (r : Recorded) (before : Option ℕ) → SumsStand last sums earlier → has_wrong_ends sums.endpoints r.flow ≡ false → before ≡ sum_of sums r.flow.src r.flow.dst
     → before ≡ sum_through earlier r.flow
 before-is last sums earlier r before stands right is = is ∙ stands.each r.flow.src r.flow.dst (below-ends sums.endpoints r.flow right)
 
@@ -99,9 +100,9 @@ clears-none earlier r before is = ap (λ b. r.clear && not b) (ap (λ o. is_some
 pub adds-too-much : (earlier : List Recorded) (r : Recorded) (before : Option ℕ) (sum : ℕ) → before ≡ sum_through earlier r.flow → sum ≡ sum_with before r → nat_lt most_added sum ≡ adds_too_much earlier r
 adds-too-much earlier r before sum is summed = ap (λ n. nat_lt most_added n) (summed ∙ (ap (λ o. sum_with o r) is ∙ sym (added-with earlier r)))
 
-pub stands-more : (last : Option Recorded) (sums new : Sums) (earlier : List Recorded) (r : Recorded) (before : Option ℕ) (sum : ℕ) → Stands last sums earlier → before ≡ sum_through earlier r.flow → sum ≡ sum_with before r
+pub stands-more : (last : Option Recorded) (sums new : Sums) (earlier : List Recorded) (r : Recorded) (before : Option ℕ) (sum : ℕ) → SumsStand last sums earlier → before ≡ sum_through earlier r.flow → sum ≡ sum_with before r
     → new.endpoints ≡ sums.endpoints
-    → ((s d : ℕ) → d < sums.endpoints → sum_of new s d ≡ cond ((r.flow.src == s) && (r.flow.dst == d)) (Some sum) (sum_of sums s d)) → Stands (Some r) new (r ∷ earlier)
+    → ((s d : ℕ) → d < sums.endpoints → sum_of new s d ≡ cond ((r.flow.src == s) && (r.flow.dst == d)) (Some sum) (sum_of sums s d)) → SumsStand (Some r) new (r ∷ earlier)
 stands-more last sums new earlier r before sum stands is summed ends set = record { last_one = refl; each = each }
   where
     each : (src dst : ℕ) → dst < new.endpoints → sum_of new src dst ≡ sum_through (r ∷ earlier) (flow_of src dst)

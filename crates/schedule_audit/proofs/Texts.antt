@@ -3,7 +3,7 @@ use Rattle.std.proofs.Common.{◌≡◌, ℕ, List, [], length, refl, sym, ap, �
 use Rattle.std.proofs.lemmas.List.{length-map}
 use Rattle.greedy_rules.specs.Batches.{DemandBatch}
 use Rattle.clos_topology.specs.Network.{endpoints_of}
-use Rattle.schedule_audit.specs.Lines.{Recorded, Place, Path, paths, sends}
+use Rattle.schedule_audit.specs.Lines.{Recorded, Place, Path, paths, sends_in_lines}
 use Rattle.schedule_audit.specs.Misplaced.{is_bad_end}
 use Rattle.schedule_audit.specs.Wrong.{Expected, expected_of_batches, batches_of_records}
 use Rattle.schedule_audit.specs.Laws.{read, GoodRecords, GoodPaths, GoodSends, AreGoodLines, expected_of_text}
@@ -27,6 +27,6 @@ a_text_of_batches net b batches body is =
       last = ap (λ (rs : List Recorded). is_bad_end rs n) is.records ∙ good_end batches is.some_round is.most_rounds;
       paths = subst (λ (t : Expected). GoodPaths net t [] ps) (sym same) (good_paths net expected [] [] ps (sym is.places) refl is.cores is.apart (λ k d within. absurd (omega arith)));
       count = sym (length-map ps (λ (p : Path). p.place)) ∙ (ap (λ (xs : List Place). length xs) is.places ∙ ap (λ (t : Expected). length t.places) (sym same));
-      sends = subst (λ (t : Expected). GoodSends t [] (sends (read body))) (sym same) (good_sends expected [] (sends (read body)) is.scheduled is.once (λ k d within. absurd (omega arith)));
+      sends = subst (λ (t : Expected). GoodSends t [] (sends_in_lines (read body))) (sym same) (good_sends expected [] (sends_in_lines (read body)) is.scheduled is.once (λ k d within. absurd (omega arith)));
       lines = subst (λ (t : Expected). AreGoodLines b t body) (sym same) is.lines;
     })

@@ -7,14 +7,16 @@ use Rattle.std.proofs.lemmas.List.{take_more}
 use Rattle.std.proofs.lemmas.List.Sums.{sum_by-append, sum_by-cons}
 use Rattle.greedy_rules.proofs.Facts.{same_flow-true}
 use Rattle.std.proofs.lemmas.List.Elements.{All-nil, All-cons, All-append, All-head, All-tail, All-weaker}
+use Rattle.list_facts.proofs.Lists.{all_back, All-front}
 use Rattle.greedy_rules.specs.declared.flows.Flow.{Flow}
 use Rattle.greedy_rules.specs.Flows.{same_flow}
 use Rattle.greedy_rules.specs.SlotTable.{flows_from}
+use Rattle.greedy_rules.proofs.RowLemmas.{flows_from-append}
 use Rattle.schedule_audit.specs.declared.judges.Judges.{Judges}
 use Rattle.schedule_audit.specs.Lines.{Place}
-use Rattle.schedule_audit.specs.FlowNumbers.{Numbers, number_of}
+use Rattle.schedule_audit.specs.FlowNumbers.{Numbers, flow_number_of}
 use Rattle.schedule_audit.specs.Judged.{order_of, AreBefore}
-use Rattle.schedule_audit.specs.Walked.{in_slot, JudgesStand, StandApart, IsSameText, AreBetween}
+use Rattle.schedule_audit.specs.Walked.{in_slot, JudgesStand, StandApart, IsSameText, FlowsAreBetween}
 
 -- ---- orders
 
@@ -57,15 +59,15 @@ count-one place flow is = sum_by-cons (λ (p : Place). cond (same_flow p.flow fl
 count-none : (place : Place) (flow : Flow) → same_flow place.flow flow ≡ false → count_by (λ (p : Place). same_flow p.flow flow) (place ∷ []) ≡ 0
 count-none place flow is = sum_by-cons (λ (p : Place). cond (same_flow p.flow flow) 1 0) place [] ∙ ap (λ b. cond b 1 0 + 0) is
 
-pub counted : (old new : Numbers) (visited : List Place) (place : Place) → ((flow : Flow) → number_of old flow ≡ count_by (λ p. same_flow p.flow flow) visited)
-    → ((other : Flow) → number_of new other ≡ cond (same_flow place.flow other) (number_of old place.flow + 1) (number_of old other)) → (flow : Flow) → number_of new flow ≡ count_by (λ p. same_flow p.flow flow) (visited ++ place ∷ [])
+pub counted : (old new : Numbers) (visited : List Place) (place : Place) → ((flow : Flow) → flow_number_of old flow ≡ count_by (λ p. same_flow p.flow flow) visited)
+    → ((other : Flow) → flow_number_of new other ≡ cond (same_flow place.flow other) (flow_number_of old place.flow + 1) (flow_number_of old other)) → (flow : Flow) → flow_number_of new flow ≡ count_by (λ p. same_flow p.flow flow) (visited ++ place ∷ [])
 counted old new visited place are set flow = elim (cases_Bool (same_flow place.flow flow)) [
   | inl is ↦
-      set flow ∙ (cond-true (same_flow place.flow flow) (number_of old place.flow + 1) (number_of old flow) is
-      ∙ (ap (λ n. n + 1) (ap (λ f. number_of old f) (same_flow-true place.flow flow is) ∙ are flow)
+      set flow ∙ (cond-true (same_flow place.flow flow) (flow_number_of old place.flow + 1) (flow_number_of old flow) is
+      ∙ (ap (λ n. n + 1) (ap (λ f. flow_number_of old f) (same_flow-true place.flow flow is) ∙ are flow)
       ∙ sym (count-append flow visited (place ∷ []) ∙ ap (λ n. count_by (λ p. same_flow p.flow flow) visited + n) (count-one place flow is))))
   | inr other ↦
-      set flow ∙ (cond-false (same_flow place.flow flow) (number_of old place.flow + 1) (number_of old flow) other
+      set flow ∙ (cond-false (same_flow place.flow flow) (flow_number_of old place.flow + 1) (flow_number_of old flow) other
       ∙ (are flow ∙ sym (count-append flow visited (place ∷ []) ∙ (ap (λ n. count_by (λ p. same_flow p.flow flow) visited + n) (count-none place flow other) ∙ omega arith))))
 ]
 
@@ -88,11 +90,6 @@ seldom-more visited place some seldom before flow slot all = elim (cases_Bool (s
 ]
 
 -- ---- rows
-
-pub flows-append : (src : ℕ) (xs ys : List (Option ℕ)) → flows_from src (xs ++ ys) ≡ flows_from src xs ++ flows_from (src + length xs) ys
-flows-append src [] ys = ap (λ n. flows_from n ys) (omega arith)
-flows-append src (None ∷ xs) ys = flows-append (src + 1) xs ys ∙ ap (λ n. flows_from (src + 1) xs ++ flows_from n ys) (omega arith)
-flows-append src (Some dst ∷ xs) ys = ap (λ fs. record { src = src; dst = dst } ∷ fs) (flows-append (src + 1) xs ys ∙ ap (λ n. flows_from (src + 1) xs ++ flows_from n ys) (omega arith))
 
 pub map-append : (slot : ℕ) (fs gs : List Flow) → in_slot slot (fs ++ gs) ≡ in_slot slot fs ++ in_slot slot gs
 map-append slot [] gs = refl
@@ -117,7 +114,7 @@ row-step slot src visited row to within is =
     (sym (map-append slot (flows_from 0 (take src row)) (flows_from src (to ∷ [])))
     ∙ ap (λ fs. in_slot slot fs)
     (ap (λ n. flows_from 0 (take src row) ++ flows_from n (to ∷ [])) (sym (taken))
-    ∙ (sym (flows-append 0 (take src row) (to ∷ [])) ∙ ap (λ xs. flows_from 0 xs) (ap (λ x. take src row ++ x ∷ []) is ∙ sym (take_more row src to within)))))
+    ∙ (sym (flows_from-append 0 (take src row) (to ∷ [])) ∙ ap (λ xs. flows_from 0 xs) (ap (λ x. take src row ++ x ∷ []) is ∙ sym (take_more row src to within)))))
   where
     taken : 0 + length (take src row) ≡ src
     taken = let len = length-take-of row src in omega (arith, len, within)
@@ -128,7 +125,7 @@ row-step slot src visited row to within is =
         length-take-of (x ∷ xs) (suc n) le = ap suc (length-take-of xs n (omega arith))
 
 -- a flow's slots fit 32 bits, and all of them 64
-pub few-slots : (held visited : List Place) (judges : Judges) (place : Place) → 0 < place.slot → place.slot < 2 ^ 32 → place.flow.src < 65536 → AreBefore (order_of place) visited → StandApart held visited judges → (length visited + 1 < 2 ^ 64) × (number_of judges.slots place.flow + 1 < 2 ^ 32)
+pub few-slots : (held visited : List Place) (judges : Judges) (place : Place) → 0 < place.slot → place.slot < 2 ^ 32 → place.flow.src < 65536 → AreBefore (order_of place) visited → StandApart held visited judges → (length visited + 1 < 2 ^ 64) × (flow_number_of judges.slots place.flow + 1 < 2 ^ 32)
 few-slots held visited judges place some slot src before stands =
     let few = stands.few (order_of place) before in
     let seldom = stands.seldom place.flow place.slot before in
@@ -136,28 +133,20 @@ few-slots held visited judges place some slot src before stands =
 
 -- ---- the flows of a row's cells
 
-all-behind : {X : Type 0} (P : X → Type 0) (xs ys : List X) → All P (xs ++ ys) → All P ys
-all-behind P [] ys all = all
-all-behind P (x ∷ xs) ys all = all-behind P xs ys (All-tail P x (xs ++ ys) all)
-
-all-front : {X : Type 0} (P : X → Type 0) (xs ys : List X) → All P (xs ++ ys) → All P xs
-all-front P [] ys all = All-nil P
-all-front P (x ∷ xs) ys all = All-cons P x xs (All-head P x (xs ++ ys) all) (all-front P xs ys (All-tail P x (xs ++ ys) all))
-
 split-row : (row : List (Option ℕ)) (src : ℕ) (to : Option ℕ) → src < length row → to ≡ slice_index_or row src to → (row ≡ take src row ++ (to ∷ drop (suc src) row)) × (length (take src row) ≡ src)
 split-row [] src to within is = absurd (omega arith)
 split-row (x ∷ row) zero to within is = (ap (λ y. y ∷ row) (sym is), refl)
 split-row (x ∷ row) (suc src) to within is = let rest = split-row row src to (omega arith) is in (ap (λ xs. x ∷ xs) rest.0, ap suc rest.1)
 
-pub cell-between : (endpoints src : ℕ) (row : List (Option ℕ)) (to : Option ℕ) → src < length row → to ≡ slice_index_or row src to → AreBetween endpoints (flows_from 0 row) → AreBetween endpoints (flows_from src (to ∷ []))
+pub cell-between : (endpoints src : ℕ) (row : List (Option ℕ)) (to : Option ℕ) → src < length row → to ≡ slice_index_or row src to → FlowsAreBetween endpoints (flows_from 0 row) → FlowsAreBetween endpoints (flows_from src (to ∷ []))
 cell-between endpoints src row to within is all =
     let P : Flow → Type 0 = λ f. (f.src < endpoints) × (f.dst < endpoints) in
     let parts = split-row row src to within is in
-    let one = all-behind P (flows_from 0 (take src row)) (flows_from (0 + length (take src row)) (to ∷ drop (suc src) row))
-    (subst (λ fs. All P fs) (ap (λ xs. flows_from 0 xs) parts.0 ∙ flows-append 0 (take src row) (to ∷ drop (suc src) row)) all) in
+    let one = all_back P (flows_from 0 (take src row)) (flows_from (0 + length (take src row)) (to ∷ drop (suc src) row))
+    (subst (λ fs. All P fs) (ap (λ xs. flows_from 0 xs) parts.0 ∙ flows_from-append 0 (take src row) (to ∷ drop (suc src) row)) all) in
     let at : 0 + length (take src row) ≡ src = omega (arith, parts.1) in
-    all-front P (flows_from src (to ∷ [])) (flows_from (src + 1) (drop (suc src) row))
-    (subst (λ fs. All P fs) (ap (λ n. flows_from n (to ∷ drop (suc src) row)) at ∙ flows-append src (to ∷ []) (drop (suc src) row)) one)
+    All-front P (flows_from src (to ∷ [])) (flows_from (src + 1) (drop (suc src) row))
+    (subst (λ fs. All P fs) (ap (λ n. flows_from n (to ∷ drop (suc src) row)) at ∙ flows_from-append src (to ∷ []) (drop (suc src) row)) one)
 
 pub nothing-yet : (visited : List Place) (judges : Judges) → JudgesStand visited judges → JudgesStand (visited ++ []) judges
 nothing-yet visited judges stands = subst (λ ps. JudgesStand ps judges) (sym (append-nil visited)) stands

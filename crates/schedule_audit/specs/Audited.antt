@@ -6,7 +6,7 @@ use Rattle.greedy_rules.specs.Schedule.{schedule, slot_at, need_before}
 use Rattle.greedy_rules.specs.Recorded.{AreRecorded, IsRecordedSlot}
 use Rattle.schedule_audit.specs.declared.auditor.AuditRefused.{AuditRefused}
 use Rattle.schedule_audit.specs.declared.auditor.AuditRefused.TheVariants.{Bad, Memory}
-use Rattle.schedule_audit.specs.Lines.{records, rounds_of}
+use Rattle.schedule_audit.specs.Lines.{records, rounds_in_lines}
 use Rattle.schedule_audit.specs.Wrong.{batches_of_records}
 use Rattle.schedule_audit.specs.BadLines.{first_bad_line}
 use Rattle.schedule_audit.specs.Shown.{ShowsItsSchedule}
@@ -20,7 +20,7 @@ IsVerdict net b lines (Err Memory) = Unit {0}
 -- the `batch` lines are recorded batches, the `slot` lines their schedule, and each slot a matching that no waiting demand could
 -- join, within the limits of the racks, on paths that share no link
 pub record ShowsACleanSchedule (net : Network) (b : ℕ) (lines : List (Option Line)) : Type 0 where
-  pub recorded : AreRecorded (endpoints_of net) (record { hosts = net.hosts; cores = net.cores }) (batches_of_records net (rounds_of lines) (records lines))
+  pub recorded : AreRecorded (endpoints_of net) (record { hosts = net.hosts; cores = net.cores }) (batches_of_records net (rounds_in_lines lines) (records lines))
   pub shown : ShowsItsSchedule net b lines
-  pub slots : (number : ℕ) → 0 < number → number ≤ length (schedule b (batches_of_records net (rounds_of lines) (records lines)))
-      → IsRecordedSlot (endpoints_of net) (record { hosts = net.hosts; cores = net.cores }) (need_before b (batches_of_records net (rounds_of lines) (records lines)) number) (slot_at (schedule b (batches_of_records net (rounds_of lines) (records lines))) number)
+  pub slots : (number : ℕ) → 0 < number → number ≤ length (schedule b (batches_of_records net (rounds_in_lines lines) (records lines)))
+      → IsRecordedSlot (endpoints_of net) (record { hosts = net.hosts; cores = net.cores }) (need_before b (batches_of_records net (rounds_in_lines lines) (records lines)) number) (slot_at (schedule b (batches_of_records net (rounds_in_lines lines) (records lines))) number)

@@ -11,20 +11,20 @@ use Rattle.schedule_audit.specs.Wrong.{expected_of_batches, allocated_since}
 use Rattle.schedule_audit.specs.Texts.{records_of}
 
 -- the batch with this place clears the flow, and no later one does
-abbrev pub ClearsAt : Flow → ℕ → List DemandBatch → Type 0
-ClearsAt flow place [] = ⊥
-ClearsAt flow zero (batch ∷ batches) = (clears (entry_of batch.entries flow) ≡ true) × NoneClears flow batches
-ClearsAt flow (suc place) (batch ∷ batches) = ClearsAt flow place batches
+abbrev pub FlowClearsAt : Flow → ℕ → List DemandBatch → Type 0
+FlowClearsAt flow place [] = ⊥
+FlowClearsAt flow zero (batch ∷ batches) = (clears (entry_of batch.entries flow) ≡ true) × NoneClears flow batches
+FlowClearsAt flow (suc place) (batch ∷ batches) = FlowClearsAt flow place batches
 
 -- no batch before this place has the flow, and none clears it
-abbrev pub OpensFrom : Flow → ℕ → List DemandBatch → Type 0
-OpensFrom flow zero batches = NoneClears flow batches
-OpensFrom flow (suc place) [] = ⊥
-OpensFrom flow (suc place) (batch ∷ batches) = (entry_of batch.entries flow ≡ None) × OpensFrom flow place batches
+abbrev pub FlowOpensFrom : Flow → ℕ → List DemandBatch → Type 0
+FlowOpensFrom flow zero batches = NoneClears flow batches
+FlowOpensFrom flow (suc place) [] = ⊥
+FlowOpensFrom flow (suc place) (batch ∷ batches) = (entry_of batch.entries flow ≡ None) × FlowOpensFrom flow place batches
 
 -- then the slots since the flow's last clear are those from that batch on
-abbrev pub CountsBeginAtTheLastClear : Type 0
-CountsBeginAtTheLastClear =
+abbrev pub SlotsBeginAtTheLastClear : Type 0
+SlotsBeginAtTheLastClear =
     (endpoints b : ℕ) (limits : Limits) (batches : List DemandBatch) (flow : Flow) (place : ℕ) → AreRecorded endpoints limits batches
-    → ClearsAt flow place batches ⊎ OpensFrom flow place batches
+    → FlowClearsAt flow place batches ⊎ FlowOpensFrom flow place batches
     → allocated_since b (expected_of_batches b (records_of 0 batches) batches) flow ≡ slots_of flow (drop (place * b) (schedule b batches))

@@ -16,16 +16,16 @@ one_rack = record { racks = 1; hosts = 4; cores = 1 }
 abbrev front : List Line
 front = line.Batch 0 0 1 false 1 ∷ line.Batch 0 0 2 false 1 ∷ line.Batch 0 3 1 false 1 ∷ line.Slot 1 0 1 None ∷ line.Slot 2 0 2 None ∷ []
 
-abbrev back : List Line
-back = line.Flow 0 1 1 1 0 ∷ line.Flow 0 2 1 1 0 ∷ line.Flow 3 1 1 1 0 ∷ line.End 1 ∷ []
+abbrev lines_back : List Line
+lines_back = line.Flow 0 1 1 1 0 ∷ line.Flow 0 2 1 1 0 ∷ line.Flow 3 1 1 1 0 ∷ line.End 1 ∷ []
 
 unfoldable pub audit_of_a_plan : Option ℕ
 unfolding most_added
-audit_of_a_plan = first_bad_line one_rack 2 (all_read (front ++ line.Slot 2 3 1 None ∷ back))
+audit_of_a_plan = first_bad_line one_rack 2 (all_read (front ++ line.Slot 2 3 1 None ∷ lines_back))
 
 unfoldable pub audit_without_a_slot : Option ℕ
 unfolding most_added
-audit_without_a_slot = first_bad_line one_rack 2 (all_read (front ++ back))
+audit_without_a_slot = first_bad_line one_rack 2 (all_read (front ++ lines_back))
 
 -- three racks of two hosts and two cores: the first two packets both leave rack 0 by core 0
 unfoldable pub audit_of_a_shared_link : Option ℕ

@@ -6,9 +6,9 @@ pub record Numbers : Type 0 where
   pub endpoints : ℕ
   pub cells : List ℕ
 
-abbrev pub is_between : ℕ → Flow → Bool
-is_between endpoints flow = nat_lt flow.src endpoints && nat_lt flow.dst endpoints
+abbrev pub is_numbered : ℕ → Flow → Bool
+is_numbered endpoints flow = nat_lt flow.src endpoints && nat_lt flow.dst endpoints
 
 -- 0 for any other flow
-abbrev pub number_of : Numbers → Flow → ℕ
-number_of numbers flow = if is_between numbers.endpoints flow then slice_index numbers.cells (flow.src * numbers.endpoints + flow.dst) else 0
+abbrev pub flow_number_of : Numbers → Flow → ℕ
+flow_number_of numbers flow = if is_numbered numbers.endpoints flow then slice_index numbers.cells (flow.src * numbers.endpoints + flow.dst) else 0

@@ -8,7 +8,7 @@ use Rattle.schedule_audit.specs.Lines.{Place, Path}
 use Rattle.schedule_audit.specs.Numbered.{Numbered}
 use Rattle.schedule_audit.specs.Wrong.{same_place, share_a_link, has_wrong_core}
 use Rattle.schedule_audit.specs.BadLines.{or_else}
-use Rattle.schedule_audit.specs.Marks.{AreUpTo, AreMarked}
+use Rattle.schedule_audit.specs.Marks.{AreUpTo, PathsAreMarked}
 
 -- ---- slots
 
@@ -27,7 +27,7 @@ pub record PathsStand (net : Network) (visited : List Place) (lines : PathLines)
   pub before : List Path
   pub goes_on : (later : List Place) → first_path net (visited ++ later) [] lines.lines.items ≡ or_else lines.bad (first_path net later before (drop lines.next lines.lines.items))
   pub upto : (slot : ℕ) → All (λ place. place.slot ≤ slot) visited → AreUpTo slot before
-  pub marked : lines.bad ≡ None → AreMarked net lines.links before
+  pub marked : lines.bad ≡ None → PathsAreMarked net lines.links before
 
 -- ---- sends
 

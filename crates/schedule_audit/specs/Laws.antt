@@ -1,10 +1,11 @@
 -- When a text has no bad line (this project's own profile).
 use Rattle.std.specs.Prelude.{◌≡◌, ℕ, false, List, [], ◌∷◌, ◌++◌, map, length, Option, Some, None}
+use Rattle.greedy_rules.specs.Cells.{flow_of}
 use Rattle.clos_topology.specs.Network.{Network, endpoints_of}
 use Rattle.report_text.specs.declared.line.Line.{Line}
 use Rattle.report_text.specs.declared.line.Line.TheVariants as line
 use Rattle.schedule_audit.specs.Lines as Lines
-use Rattle.schedule_audit.specs.Lines.{Recorded, Place, Path, flow_of}
+use Rattle.schedule_audit.specs.Lines.{Recorded, Place, Path}
 use Rattle.schedule_audit.specs.Misplaced.{is_bad_record, is_bad_end}
 use Rattle.schedule_audit.specs.Wrong.{Expected, expected_of_batches, batches_of_records, is_bad_path, is_bad_send, is_bad_flow, is_bad_count}
 use Rattle.schedule_audit.specs.BadLines.{first_bad_line}
@@ -13,8 +14,8 @@ use Rattle.schedule_audit.specs.BadLines.{first_bad_line}
 abbrev pub read : List Line → List (Option Line)
 read body = map (λ l. Some l) body
 
-abbrev pub ended : List Line → ℕ → List (Option Line)
-ended body rounds = read body ++ Some (line.End rounds) ∷ []
+abbrev pub ended_lines : List Line → ℕ → List (Option Line)
+ended_lines body rounds = read body ++ Some (line.End rounds) ∷ []
 
 -- a line of a run before its `end` line
 abbrev pub IsInner : Line → Type 0
@@ -62,8 +63,8 @@ pub record IsGoodText (net : Network) (b : ℕ) (body : List Line) (rounds : ℕ
   pub last : is_bad_end (Lines.records (read body)) rounds ≡ false
   pub paths : GoodPaths net (expected_of_text net b body rounds) [] (Lines.paths (read body))
   pub count : length (Lines.paths (read body)) ≡ length (expected_of_text net b body rounds).places
-  pub sends : GoodSends (expected_of_text net b body rounds) [] (Lines.sends (read body))
+  pub sends : GoodSends (expected_of_text net b body rounds) [] (Lines.sends_in_lines (read body))
   pub lines : AreGoodLines b (expected_of_text net b body rounds) body
 
 abbrev pub AGoodTextHasNoBadLine : Type 0
-AGoodTextHasNoBadLine = (net : Network) (b : ℕ) (body : List Line) (rounds : ℕ) → IsGoodText net b body rounds → first_bad_line net b (ended body rounds) ≡ None
+AGoodTextHasNoBadLine = (net : Network) (b : ℕ) (body : List Line) (rounds : ℕ) → IsGoodText net b body rounds → first_bad_line net b (ended_lines body rounds) ≡ None

@@ -3,14 +3,12 @@ use Rattle.std.specs.Prelude.{nat_le, ℕ, Bool, List, [], ◌∷◌, map, Optio
 use Rattle.std.specs.List.{list_any}
 use Rattle.greedy_rules.specs.declared.flows.Flow.{Flow}
 use Rattle.greedy_rules.specs.Flows.{same_flow}
+use Rattle.greedy_rules.specs.Cells.{flow_of}
 use Rattle.report_text.specs.declared.line.Line.{Line}
 use Rattle.report_text.specs.declared.line.Line.TheVariants as line
 pub use Rattle.schedule_audit.specs.declared.recorded.Recorded.{Recorded}
 pub use Rattle.schedule_audit.specs.declared.packets.Place.{Place}
 pub use Rattle.schedule_audit.specs.declared.packets.Path.{Path}
-
-abbrev pub flow_of : ℕ → ℕ → Flow
-flow_of src dst = record { src = src; dst = dst }
 
 abbrev pub recorded_by : Option Line → Option Recorded
 recorded_by (Some (line.Batch batch src dst clear add)) = Some (record { batch = batch; flow = flow_of src dst; clear = clear; add = add })
@@ -20,9 +18,9 @@ abbrev pub path_of : Option Line → Option Path
 path_of (Some (line.Slot slot src dst core)) = Some (record { place = record { slot = slot; flow = flow_of src dst }; core = core })
 path_of _ = None
 
-abbrev pub sent_by : Option Line → Option Place
-sent_by (Some (line.Sent slot src dst)) = Some (record { slot = slot; flow = flow_of src dst })
-sent_by _ = None
+abbrev pub sent_by_line : Option Line → Option Place
+sent_by_line (Some (line.Sent slot src dst)) = Some (record { slot = slot; flow = flow_of src dst })
+sent_by_line _ = None
 
 abbrev pub rounds_by : Option Line → Option ℕ
 rounds_by (Some (line.End rounds)) = Some rounds
@@ -37,8 +35,8 @@ paths lines = filter_map path_of lines
 abbrev pub places : List (Option Line) → List Place
 places lines = map (λ path. path.place) (paths lines)
 
-abbrev pub sends : List (Option Line) → List Place
-sends lines = filter_map sent_by lines
+abbrev pub sends_in_lines : List (Option Line) → List Place
+sends_in_lines lines = filter_map sent_by_line lines
 
 abbrev pub ends : List (Option Line) → List ℕ
 ends lines = filter_map rounds_by lines
@@ -48,8 +46,8 @@ abbrev pub first_or_0 : List ℕ → ℕ
 first_or_0 [] = 0
 first_or_0 (n ∷ ns) = n
 
-abbrev pub rounds_of : List (Option Line) → ℕ
-rounds_of lines = first_or_0 (ends lines)
+abbrev pub rounds_in_lines : List (Option Line) → ℕ
+rounds_in_lines lines = first_or_0 (ends lines)
 
 abbrev pub has_record : Flow → List Recorded → Bool
 has_record flow rs = list_any (λ r. same_flow r.flow flow) rs

@@ -7,12 +7,12 @@ use Rattle.schedule_audit.specs.declared.links.Links.{Links}
 use Rattle.schedule_audit.specs.Lines.{Path}
 use Rattle.schedule_audit.specs.Wrong.{has_wrong_core}
 
--- the place of the link of one kind that a path takes, if it takes one
-abbrev pub up_of : Path → Option ℕ
-up_of path = Some path.place.flow.src
+-- the place of the link of one kind that a path takes_link, if it takes_link one
+abbrev pub up_link : Path → Option ℕ
+up_link path = Some path.place.flow.src
 
-abbrev pub down_of : Path → Option ℕ
-down_of path = Some path.place.flow.dst
+abbrev pub down_link : Path → Option ℕ
+down_link path = Some path.place.flow.dst
 
 abbrev pub link_at : Network → ℕ → Option ℕ → Option ℕ
 link_at net endpoint None = None
@@ -28,9 +28,9 @@ abbrev pub is_place : Option ℕ → ℕ → Bool
 is_place None place = false
 is_place (Some there) place = there == place
 
--- one of these takes this link in this slot
-abbrev pub takes : (Path → Option ℕ) → ℕ → ℕ → Path → Bool
-takes place_of slot place path = (path.place.slot == slot) && is_place (place_of path) place
+-- one of these takes_link this link in this slot
+abbrev pub takes_link : (Path → Option ℕ) → ℕ → ℕ → Path → Bool
+takes_link place_of slot place path = (path.place.slot == slot) && is_place (place_of path) place
 
 -- no path is of a later slot
 abbrev pub AreUpTo : ℕ → List Path → Type 0
@@ -39,18 +39,18 @@ AreUpTo slot before = All (λ path. path.place.slot ≤ slot) before
 -- the marks of one kind of links tell which of them are taken in the last slot, or in one to come
 abbrev pub AreMarks : (Path → Option ℕ) → List ℕ → List Path → Type 0
 AreMarks place_of marks before =
-    (slot place : ℕ) → 0 < slot → AreUpTo slot before → (slice_index marks place == slot) ≡ list_any (takes place_of slot place) before
+    (slot place : ℕ) → 0 < slot → AreUpTo slot before → (slice_index marks place == slot) ≡ list_any (takes_link place_of slot place) before
 
 -- the paths so far have their cores
-pub record AreMarked (net : Network) (links : Links) (before : List Path) : Type 0 where
-  pub up : AreMarks up_of links.up.items before
-  pub down : AreMarks down_of links.down.items before
+pub record PathsAreMarked (net : Network) (links : Links) (before : List Path) : Type 0 where
+  pub up : AreMarks up_link links.up.items before
+  pub down : AreMarks down_link links.down.items before
   pub rise : AreMarks (rise_of net) links.rise.items before
   pub fall : AreMarks (fall_of net) links.fall.items before
   pub cores : All (λ path. has_wrong_core net path.place.flow path.core ≡ false) before
 
 -- the rack of each endpoint
-pub record AreRacks (net : Network) (racks : List ℕ) : Type 0 where
+pub record AreRacksOfNet (net : Network) (racks : List ℕ) : Type 0 where
   pub count : length racks ≡ endpoints_of net
   pub each : (endpoint : ℕ) → endpoint < endpoints_of net → (slice_index racks endpoint ≡ rack_of net.hosts endpoint) × (slice_index racks endpoint < net.racks)
 
@@ -60,4 +60,4 @@ pub record HaveMarks (net : Network) (links : Links) : Type 0 where
   pub down : length links.down.items ≡ endpoints_of net
   pub rise : length links.rise.items ≡ net.racks * net.cores
   pub fall : length links.fall.items ≡ net.racks * net.cores
-  pub racks : AreRacks net links.racks.items
+  pub racks : AreRacksOfNet net links.racks.items

@@ -2,9 +2,10 @@
 use Rattle.std.specs.Prelude.{ℕ, ◌+◌, Bool, true, false, not, ◌==◌, ◌&&◌, ◌||◌, nat_lt, nat_le, List, [], ◌∷◌, Option, Some, None, if◌then◌else◌}
 use Rattle.greedy_rules.specs.declared.flows.Flow.{Flow}
 use Rattle.greedy_rules.specs.Flows.{same_flow, flow_below}
+use Rattle.greedy_rules.specs.Cells.{flow_of}
 use Rattle.report_text.specs.declared.line.Line.{Line}
 use Rattle.report_text.specs.declared.line.Line.TheVariants as line
-use Rattle.schedule_audit.specs.Lines.{Recorded, flow_of, records, ends, has_record, reaches}
+use Rattle.schedule_audit.specs.Lines.{Recorded, records, ends, has_record, reaches}
 
 -- the most that a flow's entries add since its last clear: 200,000,000 for what is asked for, and one for each of the 64 slots of
 -- each of 100,000 rounds

@@ -8,6 +8,6 @@ abbrev pub at_line : {X : Type 0} → ℕ → X → Numbered X
 at_line number said = record { line = number; said = said }
 
 -- from the line of this number on
-abbrev pub numbered : {X : Type 0} → (Option Line → Option X) → ℕ → List (Option Line) → List (Numbered X)
-numbered says number [] = []
-numbered says number (l ∷ lines) = cons_option (option_map (at_line number) (says l)) (numbered says (number + 1) lines)
+abbrev pub numbered_lines : {X : Type 0} → (Option Line → Option X) → ℕ → List (Option Line) → List (Numbered X)
+numbered_lines says number [] = []
+numbered_lines says number (l ∷ lines) = cons_option (option_map (at_line number) (says l)) (numbered_lines says (number + 1) lines)

@@ -9,9 +9,9 @@ use Rattle.clos_topology.specs.Network.{Network, endpoints_of}
 use Rattle.schedule_audit.specs.declared.rounds.Rounds.{Rounds}
 use Rattle.schedule_audit.specs.declared.judges.Judges.{Judges}
 use Rattle.schedule_audit.specs.Lines.{Recorded}
-use Rattle.schedule_audit.specs.FlowNumbers.{Numbers, number_of}
+use Rattle.schedule_audit.specs.FlowNumbers.{Numbers, flow_number_of}
 use Rattle.schedule_audit.specs.Texts.{record_of, records_of}
-use Rattle.schedule_audit.specs.Wrong.{places_from}
+use Rattle.schedule_audit.specs.Wrong.{slot_places_from}
 use Rattle.schedule_audit.specs.Entered.{AreSized, LedgerStands}
 use Rattle.schedule_audit.specs.Walked.{JudgesStand}
 
@@ -19,7 +19,7 @@ use Rattle.schedule_audit.specs.Walked.{JudgesStand}
 pub record BeginWith (k : ℕ) (seen : Numbers) (entries : List Entry) (later : List DemandBatch) (todo : List Recorded) : Type 0 where
   pub records : todo ≡ map (record_of k) entries ++ records_of (k + 1) later
   pub rises : IsBatch entries
-  pub opens : All (λ entry. entry.opens ≡ (number_of seen entry.flow == 0)) entries
+  pub opens : All (λ entry. entry.opens ≡ (flow_number_of seen entry.flow == 0)) entries
 
 -- these batches went by, and those are still to come
 pub record RoundsStand (net : Network) (b : ℕ) (front later : List DemandBatch) (rounds : Rounds) : Type 0 where
@@ -34,7 +34,7 @@ pub record RoundsStand (net : Network) (b : ℕ) (front later : List DemandBatch
   pub endpoints : rounds.demand.endpoints ≡ endpoints_of net
 
 -- and their schedule
-pub record ArePlayed (net : Network) (b : ℕ) (front later : List DemandBatch) (rounds : Rounds) (judges : Judges) : Type 0 where
+pub record AuditIsPlayed (net : Network) (b : ℕ) (front later : List DemandBatch) (rounds : Rounds) (judges : Judges) : Type 0 where
   pub net_is : judges.net ≡ net
   pub played : RoundsStand net b front later rounds
-  pub judged : JudgesStand (places_from 1 (schedule b front)) judges
+  pub judged : JudgesStand (slot_places_from 1 (schedule b front)) judges

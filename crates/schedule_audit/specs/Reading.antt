@@ -22,12 +22,12 @@ unformed_line [] = []
 unformed_line (byte ∷ bytes) = None ∷ []
 
 -- the lines of a text
-abbrev pub AreLines : List ℕ → List (Option Line) → Type 0
-AreLines bytes lines =
+abbrev pub ReadsLines : List ℕ → List (Option Line) → Type 0
+ReadsLines bytes lines =
     (pieces : List (List ℕ)) × (rest : List ℕ) × (formed : List (Option Line)) × IsCut bytes pieces rest × AllZip Reads pieces formed × (lines ≡ formed ++ unformed_line rest)
 
 -- the first line up to a line feed, and the bytes behind that; or a rest without a line feed
-abbrev pub BeginsWith : List ℕ → Option Line → List ℕ → Type 0
-BeginsWith bytes line later =
+abbrev pub ReadsLine : List ℕ → Option Line → List ℕ → Type 0
+ReadsLine bytes line later =
     ((piece : List ℕ) × (bytes ≡ piece ++ 10 ∷ later) × All (λ byte. byte ≢ 10) piece × Reads piece line)
     ⊎ ((bytes ≢ []) × All (λ byte. byte ≢ 10) bytes × (line ≡ None) × (later ≡ []))

@@ -2,7 +2,8 @@
 use Rattle.std.specs.Prelude.{◌≡◌, ◌<◌, ℕ, zero, suc, ◌+◌, ◌*◌, Bool, true, List, [], ◌∷◌, Option, Some, None, if◌then◌else◌}
 use Rattle.std.specs.List.{slice_index_or}
 use Rattle.greedy_rules.specs.declared.flows.Flow.{Flow}
-use Rattle.schedule_audit.specs.Lines.{Recorded, flow_of, has_record}
+use Rattle.greedy_rules.specs.Cells.{flow_of}
+use Rattle.schedule_audit.specs.Lines.{Recorded, has_record}
 use Rattle.schedule_audit.specs.Misplaced.{record_below, added_since}
 
 -- a cell of the table: one more than its sum, or 0 for none
@@ -19,9 +20,9 @@ abbrev pub sum_of : Sums → ℕ → ℕ → Option ℕ
 sum_of sums src dst = slice_index_or sums.cells (src * sums.endpoints + dst) None
 
 -- the last record
-abbrev pub last_of : List Recorded → Option Recorded
-last_of [] = None
-last_of (r ∷ earlier) = Some r
+abbrev pub last_record : List Recorded → Option Recorded
+last_record [] = None
+last_record (r ∷ earlier) = Some r
 
 abbrev pub is_above_last : Option Recorded → Recorded → Bool
 is_above_last None r = true
@@ -36,6 +37,6 @@ sum_with None r = r.add
 sum_with (Some before) r = if r.clear then r.add else r.add + before
 
 -- the last of these records, and the sum of each flow
-pub record Stands (last : Option Recorded) (sums : Sums) (earlier : List Recorded) : Type 0 where
-  pub last_one : last ≡ last_of earlier
+pub record SumsStand (last : Option Recorded) (sums : Sums) (earlier : List Recorded) : Type 0 where
+  pub last_one : last ≡ last_record earlier
   pub each : (src dst : ℕ) → dst < sums.endpoints → sum_of sums src dst ≡ sum_through earlier (flow_of src dst)

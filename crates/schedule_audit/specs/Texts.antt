@@ -12,9 +12,9 @@ use Rattle.report_text.specs.declared.line.Line.{Line}
 use Rattle.schedule_audit.specs.Lines as Lines
 use Rattle.schedule_audit.specs.Lines.{Recorded, Place, Path}
 use Rattle.schedule_audit.specs.Misplaced.{most_added}
-use Rattle.schedule_audit.specs.Wrong.{places_from, expected_of_batches, has_wrong_core, share_a_link, same_place}
+use Rattle.schedule_audit.specs.Wrong.{slot_places_from, expected_of_batches, has_wrong_core, share_a_link, same_place}
 use Rattle.schedule_audit.specs.BadLines.{first_bad_line}
-use Rattle.schedule_audit.specs.Laws.{read, ended, AreInner, AreGoodLines}
+use Rattle.schedule_audit.specs.Laws.{read, ended_lines, AreInner, AreGoodLines}
 
 -- what the entries of batches record, the first of which is batch k
 abbrev pub record_of : ℕ → Entry → Recorded
@@ -42,12 +42,12 @@ pub record IsTextOf (net : Network) (b : ℕ) (batches : List DemandBatch) (body
   pub say : All (λ batch. All Says batch.entries) batches
   pub few : FewAfter [] batches
   pub records : Lines.records (read body) ≡ records_of 0 batches
-  pub places : Lines.places (read body) ≡ places_from 1 (schedule b batches)
+  pub places : Lines.places (read body) ≡ slot_places_from 1 (schedule b batches)
   pub cores : All (λ (p : Path). has_wrong_core net p.place.flow p.core ≡ false) (Lines.paths (read body))
   pub apart : AllPairs (λ (p q : Path). share_a_link net q p ≡ false) (Lines.paths (read body))
-  pub scheduled : All (λ (s : Place). list_any (same_place s) (places_from 1 (schedule b batches)) ≡ true) (Lines.sends (read body))
-  pub once : AllPairs (λ (s t : Place). s.slot ≡ t.slot → s.flow.src ≢ t.flow.src) (Lines.sends (read body))
+  pub scheduled : All (λ (s : Place). list_any (same_place s) (slot_places_from 1 (schedule b batches)) ≡ true) (Lines.sends_in_lines (read body))
+  pub once : AllPairs (λ (s t : Place). s.slot ≡ t.slot → s.flow.src ≢ t.flow.src) (Lines.sends_in_lines (read body))
   pub lines : AreGoodLines b (expected_of_batches b (records_of 0 batches) batches) body
 
 abbrev pub ATextOfBatchesHasNoBadLine : Type 0
-ATextOfBatchesHasNoBadLine = (net : Network) (b : ℕ) (batches : List DemandBatch) (body : List Line) → IsTextOf net b batches body → first_bad_line net b (ended body (length batches)) ≡ None
+ATextOfBatchesHasNoBadLine = (net : Network) (b : ℕ) (batches : List DemandBatch) (body : List Line) → IsTextOf net b batches body → first_bad_line net b (ended_lines body (length batches)) ≡ None

@@ -1,18 +1,18 @@
 -- What the lines say that sum a text up (this project's own profile).
 use Rattle.std.specs.Prelude.{ℕ, Bool, nat_lt, List, [], ◌∷◌, length, Option, Some, None, if◌then◌else◌}
+use Rattle.greedy_rules.specs.Cells.{flow_of}
 use Rattle.report_text.specs.declared.line.Line.{Line}
 use Rattle.report_text.specs.declared.line.Line.TheVariants as line
 pub use Rattle.schedule_audit.specs.declared.totals.Total.{Total}
 use Rattle.schedule_audit.specs.declared.totals.Total.TheVariants as total
-use Rattle.schedule_audit.specs.Lines.{flow_of}
 use Rattle.schedule_audit.specs.Numbered.{Numbered}
 use Rattle.schedule_audit.specs.Wrong.{Expected, is_bad_flow, is_bad_count}
 
-abbrev pub total_of : Option Line → Option Total
-total_of (Some (line.Flow src dst demanded allocated pending)) = Some (total.Flow (flow_of src dst) demanded allocated pending)
-total_of (Some (line.Count src dst demanded acknowledged flight pending lost sent missed)) = Some (total.Count (flow_of src dst) demanded acknowledged flight pending lost)
-total_of (Some (line.End rounds)) = Some total.End
-total_of _ = None
+abbrev pub total_in_line : Option Line → Option Total
+total_in_line (Some (line.Flow src dst demanded allocated pending)) = Some (total.Flow (flow_of src dst) demanded allocated pending)
+total_in_line (Some (line.Count src dst demanded acknowledged flight pending lost sent missed)) = Some (total.Count (flow_of src dst) demanded acknowledged flight pending lost)
+total_in_line (Some (line.End rounds)) = Some total.End
+total_in_line _ = None
 
 -- where the text has this many `slot` lines
 abbrev pub is_wrong_total : ℕ → Expected → ℕ → Total → Bool

@@ -5,7 +5,7 @@ use Rattle.greedy_rules.specs.Flows.{same_flow}
 use Rattle.clos_topology.specs.Network.{endpoints_of}
 use Rattle.schedule_audit.specs.declared.judges.Judges.{Judges}
 use Rattle.schedule_audit.specs.Lines.{Place}
-use Rattle.schedule_audit.specs.FlowNumbers.{number_of}
+use Rattle.schedule_audit.specs.FlowNumbers.{flow_number_of}
 use Rattle.schedule_audit.specs.Marks.{HaveMarks}
 use Rattle.schedule_audit.specs.Judged.{PathsStand, SendsStand, AreBefore}
 
@@ -18,7 +18,7 @@ pub record StandApart (held counted : List Place) (judges : Judges) : Type 0 whe
   pub paths : PathsStand judges.net held judges.paths
   pub marks : HaveMarks judges.net judges.paths.links
   pub sends : SendsStand held judges.sends
-  pub slots : (flow : Flow) → number_of judges.slots flow ≡ count_by (λ place. same_flow place.flow flow) counted
+  pub slots : (flow : Flow) → flow_number_of judges.slots flow ≡ count_by (λ place. same_flow place.flow flow) counted
   pub sizes : endpoints_of judges.net ≤ 256
   pub between : judges.slots.endpoints ≡ endpoints_of judges.net
   pub count : judges.places ≡ length counted
@@ -36,5 +36,5 @@ pub record IsSameText (old new : Judges) : Type 0 where
   pub sends : new.sends.lines ≡ old.sends.lines
 
 -- these flows are between so many endpoints
-abbrev pub AreBetween : ℕ → List Flow → Type 0
-AreBetween endpoints flows = All (λ flow. (flow.src < endpoints) × (flow.dst < endpoints)) flows
+abbrev pub FlowsAreBetween : ℕ → List Flow → Type 0
+FlowsAreBetween endpoints flows = All (λ flow. (flow.src < endpoints) × (flow.dst < endpoints)) flows

@@ -10,11 +10,12 @@ use Rattle.greedy_rules.specs.Demands.{item_of, need_in}
 use Rattle.greedy_rules.specs.Limits.{rack_of}
 use Rattle.greedy_rules.specs.Allocation.{slots_of}
 use Rattle.greedy_rules.specs.Schedule.{schedule, rest}
+use Rattle.greedy_rules.specs.Cells.{flow_of}
 use Rattle.clos_topology.specs.Network.{Network}
 use Rattle.clos_topology.specs.Links.{Link, up, rise, fall, down, links}
 use Rattle.report_text.specs.declared.line.Line.{Line}
 use Rattle.report_text.specs.declared.line.Line.TheVariants as line
-use Rattle.schedule_audit.specs.Lines.{Recorded, Place, Path, flow_of, records, paths, sends, rounds_of}
+use Rattle.schedule_audit.specs.Lines.{Recorded, Place, Path, records, paths, sends_in_lines, rounds_in_lines}
 
 -- ---- the schedule of the lines
 
@@ -35,9 +36,9 @@ abbrev pub batches_of_records : Network → ℕ → List Recorded → List Deman
 batches_of_records net rounds all = map (batch_of_records net all) (range_with_len 0 rounds)
 
 -- slots with their numbers, by slot and source
-abbrev pub places_from : ℕ → List (List Flow) → List Place
-places_from number [] = []
-places_from number (slot ∷ slots) = map (λ flow. record { slot = number; flow = flow }) slot ++ places_from (number + 1) slots
+abbrev pub slot_places_from : ℕ → List (List Flow) → List Place
+slot_places_from number [] = []
+slot_places_from number (slot ∷ slots) = map (λ flow. record { slot = number; flow = flow }) slot ++ slot_places_from (number + 1) slots
 
 -- what a text with these lines is held against
 pub record Expected : Type 0 where
@@ -47,12 +48,12 @@ pub record Expected : Type 0 where
   pub places : List Place
 
 abbrev pub expected_of_batches : ℕ → List Recorded → List DemandBatch → Expected
-expected_of_batches b all batches = record { all = all; slots = schedule b batches; left = rest b batches; places = places_from 1 (schedule b batches) }
+expected_of_batches b all batches = record { all = all; slots = schedule b batches; left = rest b batches; places = slot_places_from 1 (schedule b batches) }
 
 abbrev pub expected_of : Network → ℕ → List (Option Line) → Expected
-expected_of net b lines = expected_of_batches b (records lines) (batches_of_records net (rounds_of lines) (records lines))
+expected_of net b lines = expected_of_batches b (records lines) (batches_of_records net (rounds_in_lines lines) (records lines))
 
--- ---- slots and sends
+-- ---- slots and sends_in_lines
 
 abbrev pub same_place : Place → Place → Bool
 same_place one other = (one.slot == other.slot) && same_flow one.flow other.flow
@@ -118,7 +119,7 @@ is_bad_count b expected flow demanded acknowledged flight pending lost =
 abbrev pub is_wrong : Network → ℕ → Expected → List (Option Line) → List (Option Line) → Option Line → Bool
 is_wrong net b expected whole before (Some (line.Slot slot src dst core)) =
     is_bad_path net expected (paths before) (record { place = record { slot = slot; flow = flow_of src dst }; core = core })
-is_wrong net b expected whole before (Some (line.Sent slot src dst)) = is_bad_send expected (sends before) (record { slot = slot; flow = flow_of src dst })
+is_wrong net b expected whole before (Some (line.Sent slot src dst)) = is_bad_send expected (sends_in_lines before) (record { slot = slot; flow = flow_of src dst })
 is_wrong net b expected whole before (Some (line.Flow src dst demanded allocated pending)) = is_bad_flow expected (flow_of src dst) demanded allocated pending
 is_wrong net b expected whole before (Some (line.Count src dst demanded acknowledged flight pending lost sent missed)) =
     is_bad_count b expected (flow_of src dst) demanded acknowledged flight pending lost

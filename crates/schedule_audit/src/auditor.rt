@@ -2,7 +2,7 @@
 ghost use Rattle.std.specs.Prelude.{◌≡◌, ◌≢◌, ◌≤◌, ◌<◌, List, length, Option, None, IfOk};
 ghost use Rattle.clos_topology.specs.Network.{endpoints_of};
 ghost use Rattle.report_text.specs.declared.line.Line.{Line};
-ghost use Rattle.schedule_audit.specs.Reading.{AreLines};
+ghost use Rattle.schedule_audit.specs.Reading.{ReadsLines};
 ghost use Rattle.schedule_audit.specs.Collecting.{Collects};
 ghost use Rattle.schedule_audit.specs.BadLines.{first_misplaced, first_wrong};
 ghost use Rattle.schedule_audit.specs.Judging.{AreSmall};
@@ -72,8 +72,8 @@ fn first_wrong(
 pub fn audit(alloc: Global, bytes: &[u8], net: Net, b: u8) -> Result<u32, AuditRefused>
     requires bytes { length bytes.now ≤ 67108864 }
     requires b { b ≤ 64 }
-    ensures verdict { (lines : List (Option Line)) × AreLines bytes.now lines × IsVerdict net b lines result }
-    ensures shows { IfOk result (λ _. (lines : List (Option Line)) × AreLines bytes.now lines × ShowsACleanSchedule net b lines) }
+    ensures verdict { (lines : List (Option Line)) × ReadsLines bytes.now lines × IsVerdict net b lines result }
+    ensures shows { IfOk result (λ _. (lines : List (Option Line)) × ReadsLines bytes.now lines × ShowsACleanSchedule net b lines) }
 {
     no_misplaced_line_is_recorded();
     let Ok(scanned) = scan_text(alloc, bytes, &net) else {

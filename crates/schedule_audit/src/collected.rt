@@ -2,10 +2,10 @@
 ghost use Rattle.std.specs.Prelude.{◌≡◌, ◌<◌, ◌≤◌, ◌+◌, List, [], ◌∷◌, ◌++◌, length, Option, IfOk, OnOk, Some, None};
 ghost use Rattle.std.specs.List.{cons_option};
 ghost use Rattle.report_text.specs.declared.line.Line.{Line};
-ghost use Rattle.schedule_audit.specs.Lines.{records, path_of, sent_by, ends, first_or_0};
-ghost use Rattle.schedule_audit.specs.Totals.{total_of};
-ghost use Rattle.schedule_audit.specs.Numbered.{numbered};
-ghost use Rattle.schedule_audit.specs.Collecting.{CollectsUpTo, Adds};
+ghost use Rattle.schedule_audit.specs.Lines.{records, path_of, sent_by_line, ends, first_or_0};
+ghost use Rattle.schedule_audit.specs.Totals.{total_in_line};
+ghost use Rattle.schedule_audit.specs.Numbered.{numbered_lines};
+ghost use Rattle.schedule_audit.specs.Collecting.{CollectsUpTo, AddsLine};
 
 use crate::packets::{Numbered, Path, Place};
 use crate::recorded::Recorded;
@@ -45,7 +45,7 @@ impl Collected {
     /// Takes the next line.
     pub(crate) fn take(&mut self, line: Option<Line>) -> Result<(), NoMemory>
         requires { self.old.lines + 1 < 4294967296 }
-        ensures { OnOk result (Adds line self.old self.new) }
+        ensures { OnOk result (AddsLine line self.old self.new) }
     {
         self.lines += 1;
         let number = self.lines;

@@ -25,18 +25,18 @@ pub(crate) struct Demand {
 
 impl Model for Demand {
     ghost use Rattle.std.specs.Prelude.{◌≡◌, ◌<◌, ◌≤◌, ◌+◌, ◌-◌, ◌*◌, ◌^◌, length};
-    ghost use Rattle.slot_batches.specs.Stands.{endpoints_of, batch_size_of, slots_of};
+    ghost use Rattle.slot_batches.specs.Stands.{stage_endpoints, batch_size_of, stage_slots};
     ghost use Rattle.schedule_audit.specs.Demanded.{Demanded};
 
     ghost Value = { Demanded };
 
-    ghost view = { λ d. record { endpoints = endpoints_of d.stage; b = batch_size_of d.stage; items = d.list.items; slots = slots_of d.stage } };
+    ghost view = { λ d. record { endpoints = stage_endpoints d.stage; b = batch_size_of d.stage; items = d.list.items; slots = stage_slots d.stage } };
 
-    ghost invariant = { λ d. (endpoints_of d.stage ≤ 256)
+    ghost invariant = { λ d. (stage_endpoints d.stage ≤ 256)
         × (d.stage.nodes ≡ 0)
-        × (length d.spare ≡ endpoints_of d.stage * (endpoints_of d.stage - 1))
-        × (endpoints_of d.stage * (endpoints_of d.stage - 1) ≤ length d.list.items + d.list.spare)
-        × (endpoints_of d.stage * (endpoints_of d.stage - 1) ≤ length d.left.items + d.left.spare) };
+        × (length d.spare ≡ stage_endpoints d.stage * (stage_endpoints d.stage - 1))
+        × (stage_endpoints d.stage * (stage_endpoints d.stage - 1) ≤ length d.list.items + d.list.spare)
+        × (stage_endpoints d.stage * (stage_endpoints d.stage - 1) ≤ length d.left.items + d.left.spare) };
 }
 
 impl Demand {

@@ -2,7 +2,7 @@
 ghost use Rattle.std.specs.Prelude.{◌≡◌, ◌<◌, ℕ, IfOk, List, true, nat_lt, length};
 ghost use Rattle.greedy_rules.specs.declared.flows.Flow.{Flow};
 ghost use Rattle.greedy_rules.specs.Demands.{HasEachFlowOnce, AreBelow, item_of, need_in};
-ghost use Rattle.schedule_audit.specs.FlowNumbers.{number_of};
+ghost use Rattle.schedule_audit.specs.FlowNumbers.{flow_number_of};
 ghost use Rattle.schedule_audit.specs.Wrong.{Expected, is_bad_flow, is_bad_count};
 ghost use Rattle.schedule_audit.specs.Totals.{is_wrong_total, first_total};
 ghost use Rattle.schedule_audit.specs.Summed.{AreFigures};
@@ -34,7 +34,7 @@ pub(crate) fn needs_of(
 ) -> Result<FlowNumbers, NoMemory>
     requires once { HasEachFlowOnce list.now.items }
     requires below { AreBelow endpoints list.now.items }
-    ensures { IfOk result (λ left. (flow : Flow) → number_of left flow ≡ need_in (item_of list.now.items flow)) }
+    ensures { IfOk result (λ left. (flow : Flow) → flow_number_of left flow ≡ need_in (item_of list.now.items flow)) }
 {
     let mut left = FlowNumbers::open(alloc, endpoints)?;
     for at in 0..list.len() {

@@ -1,7 +1,7 @@
 ghost use Rattle.std.specs.Prelude.{◌≡◌, ◌<◌, ◌+◌, ◌^◌, ℕ, IfOk, if◌then◌else◌};
 ghost use Rattle.greedy_rules.specs.declared.flows.Flow.{Flow};
 ghost use Rattle.greedy_rules.specs.Flows.{same_flow};
-ghost use Rattle.schedule_audit.specs.FlowNumbers.{number_of};
+ghost use Rattle.schedule_audit.specs.FlowNumbers.{flow_number_of};
 
 use greedy_rules::Flow;
 use no_memory::NoMemory;
@@ -28,7 +28,7 @@ impl Model for FlowCounts {
 
 impl FlowCounts {
     pub(crate) fn open(alloc: Global, endpoints: u16) -> Result<FlowCounts, NoMemory>
-        ensures zero { IfOk result (λ counts. (flow : Flow) → number_of counts flow ≡ 0) }
+        ensures zero { IfOk result (λ counts. (flow : Flow) → flow_number_of counts flow ≡ 0) }
         ensures endpoints { IfOk result (λ counts. counts.endpoints ≡ endpoints) }
     {
         let pairs = endpoints as usize * endpoints as usize;
@@ -39,7 +39,7 @@ impl FlowCounts {
     }
 
     pub(crate) fn get(&self, flow: Flow) -> u64
-        ensures { result ≡ number_of self.now flow }
+        ensures { result ≡ flow_number_of self.now flow }
     {
         if flow.src >= self.endpoints || flow.dst >= self.endpoints {
             return 0;
@@ -51,8 +51,8 @@ impl FlowCounts {
     pub(crate) fn count(&mut self, flow: Flow)
         requires src { flow.src < self.old.endpoints }
         requires dst { flow.dst < self.old.endpoints }
-        requires few { number_of self.old flow + 1 < 2 ^ 32 }
-        ensures numbers { (other : Flow) → number_of self.new other ≡ (if same_flow flow other then number_of self.old flow + 1 else number_of self.old other) }
+        requires few { flow_number_of self.old flow + 1 < 2 ^ 32 }
+        ensures numbers { (other : Flow) → flow_number_of self.new other ≡ (if same_flow flow other then flow_number_of self.old flow + 1 else flow_number_of self.old other) }
         ensures endpoints { self.new.endpoints ≡ self.old.endpoints }
     {
         let place = flow.src as usize * self.endpoints as usize + flow.dst as usize;

@@ -1,5 +1,5 @@
 //! Laws of audits.
-ghost use Rattle.schedule_audit.specs.Counts.{CountsBeginAtTheLastClear};
+ghost use Rattle.schedule_audit.specs.Counts.{SlotsBeginAtTheLastClear};
 ghost use Rattle.schedule_audit.specs.Examples.{WorkedAudits};
 ghost use Rattle.schedule_audit.specs.Laws.{AGoodTextHasNoBadLine};
 ghost use Rattle.schedule_audit.specs.ReadLaws.{EachTextHasOneReading, EachTextIsRead};
@@ -41,7 +41,7 @@ pub fn no_misplaced_line_is_recorded()
 /// The slots of a flow since its last clear are those from the batch on that cleared it last, or from any batch on before
 /// which no batch has the flow.
 pub fn counts_begin_at_the_last_clear()
-    ensures { CountsBeginAtTheLastClear }
+    ensures { SlotsBeginAtTheLastClear }
 {
     schedules_go_on();
     every_slots_flows_are_of_entries();

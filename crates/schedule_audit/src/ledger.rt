@@ -3,7 +3,7 @@ ghost use Rattle.std.specs.Prelude.{◌≡◌, ◌<◌, ◌≤◌, ◌+◌, ◌^
 ghost use Rattle.greedy_rules.specs.declared.flows.Flow.{Flow};
 ghost use Rattle.greedy_rules.specs.Flows.{same_flow};
 ghost use Rattle.greedy_rules.specs.Matching.{AreAmong};
-ghost use Rattle.schedule_audit.specs.FlowNumbers.{number_of};
+ghost use Rattle.schedule_audit.specs.FlowNumbers.{flow_number_of};
 ghost use Rattle.schedule_audit.specs.Entered.{Enters, AreSized, LedgerStands};
 
 use crate::flow_counts::FlowCounts;
@@ -38,10 +38,10 @@ impl Ledger {
         requires seen { entry.flow.src < self.old.seen.endpoints }
         requires sized { AreSized self.old.seen.endpoints self.old }
         requires dst { entry.flow.dst < self.old.seen.endpoints }
-        requires few { number_of self.old.added entry.flow + entry.add < 2 ^ 64 }
-        ensures seen { (other : Flow) → number_of self.new.seen other ≡ (if same_flow entry.flow other then 1 else number_of self.old.seen other) }
-        ensures added { (other : Flow) → number_of self.new.added other ≡ (if same_flow entry.flow other then number_of self.old.added entry.flow + entry.add else number_of self.old.added other) }
-        ensures cleared { (other : Flow) → number_of self.new.cleared other ≡ (if entry.clear && same_flow entry.flow other then number_of slots.now entry.flow else number_of self.old.cleared other) }
+        requires few { flow_number_of self.old.added entry.flow + entry.add < 2 ^ 64 }
+        ensures seen { (other : Flow) → flow_number_of self.new.seen other ≡ (if same_flow entry.flow other then 1 else flow_number_of self.old.seen other) }
+        ensures added { (other : Flow) → flow_number_of self.new.added other ≡ (if same_flow entry.flow other then flow_number_of self.old.added entry.flow + entry.add else flow_number_of self.old.added other) }
+        ensures cleared { (other : Flow) → flow_number_of self.new.cleared other ≡ (if entry.clear && same_flow entry.flow other then flow_number_of slots.now entry.flow else flow_number_of self.old.cleared other) }
         ensures sized { AreSized self.old.seen.endpoints self.new }
         ensures small { entry.add ≤ 4294967295 }
     {
@@ -57,7 +57,7 @@ impl Ledger {
     pub(crate) fn enter(&mut self, batch: &Batch, slots: &FlowCounts)
         requires in_range { AreAmong self.old.seen.endpoints batch.now.entries }
         requires sized { AreSized self.old.seen.endpoints self.old }
-        requires few { (flow : Flow) → number_of self.old.added flow < 2 ^ 63 }
+        requires few { (flow : Flow) → flow_number_of self.old.added flow < 2 ^ 63 }
         ensures enters { Enters batch.now.entries slots.now self.old self.new }
         ensures sized { AreSized self.old.seen.endpoints self.new }
     {

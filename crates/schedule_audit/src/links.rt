@@ -5,7 +5,7 @@ ghost use Rattle.greedy_rules.specs.Limits.{rack_of};
 ghost use Rattle.clos_topology.specs.Network.{endpoints_of};
 ghost use Rattle.schedule_audit.specs.Lines.{Path};
 ghost use Rattle.schedule_audit.specs.Wrong.{has_wrong_core, share_a_link};
-ghost use Rattle.schedule_audit.specs.Marks.{AreUpTo, AreRacks, AreMarked, HaveMarks};
+ghost use Rattle.schedule_audit.specs.Marks.{AreUpTo, AreRacksOfNet, PathsAreMarked, HaveMarks};
 
 use crate::packets::{Path, Place};
 use clos_topology::Net;
@@ -37,7 +37,7 @@ fn take(marks: &mut Vec<u32>, at: usize, slot: u32) -> bool
 
 /// The rack of each endpoint of a network, so that none is divided for.
 fn racks_of(alloc: Global, net: &Net) -> Result<Vec<u16>, NoMemory>
-    ensures { IfOk result (λ racks. AreRacks net.now racks.items) }
+    ensures { IfOk result (λ racks. AreRacksOfNet net.now racks.items) }
 {
     let endpoints = net.endpoints();
     let mut racks = vec![in alloc; 0; endpoints as usize]?;
@@ -50,7 +50,7 @@ fn racks_of(alloc: Global, net: &Net) -> Result<Vec<u16>, NoMemory>
 impl Links {
     /// All links of a network; none is taken.
     pub(crate) fn open(alloc: Global, net: &Net) -> Result<Links, NoMemory>
-        ensures none { IfOk result (λ links. AreMarked net.now links []) }
+        ensures none { IfOk result (λ links. PathsAreMarked net.now links []) }
         ensures marks { IfOk result (HaveMarks net.now) }
     {
         let endpoints = net.endpoints() as usize;
@@ -97,8 +97,8 @@ impl Links {
         requires dst { path.place.flow.dst < endpoints_of net.now }
         requires slot { 0 < path.place.slot }
         requires core { has_wrong_core net.now path.place.flow path.core ≡ false }
-        ensures free { (before : List Path) → AreUpTo path.place.slot before → AreMarked net.now self.old before → result ≡ not (list_any (share_a_link net.now path) before) }
-        ensures taken { (before : List Path) → AreUpTo path.place.slot before → AreMarked net.now self.old before → AreMarked net.now self.new (path ∷ before) }
+        ensures free { (before : List Path) → AreUpTo path.place.slot before → PathsAreMarked net.now self.old before → result ≡ not (list_any (share_a_link net.now path) before) }
+        ensures taken { (before : List Path) → AreUpTo path.place.slot before → PathsAreMarked net.now self.old before → PathsAreMarked net.now self.new (path ∷ before) }
         ensures marks { HaveMarks net.now self.new }
     {
         let Place { slot, flow } = path.place;

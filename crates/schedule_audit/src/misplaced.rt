@@ -1,10 +1,10 @@
 //! Whether a line of a text is misplaced.
 ghost use Rattle.std.specs.Prelude.{◌≡◌, List, [], ◌∷◌, ◌++◌, Option, false};
 ghost use Rattle.report_text.specs.declared.line.Line.{Line};
-ghost use Rattle.schedule_audit.specs.Reading.{AreLines};
+ghost use Rattle.schedule_audit.specs.Reading.{ReadsLines};
 ghost use Rattle.schedule_audit.specs.Lines.{records, reaches};
 ghost use Rattle.schedule_audit.specs.Misplaced.{is_bad_end, has_end, cannot_stand};
-ghost use Rattle.schedule_audit.specs.Standing.{Stands};
+ghost use Rattle.schedule_audit.specs.Standing.{SumsStand};
 
 use crate::recorded::Recorded;
 use crate::standing::Standing;
@@ -32,7 +32,7 @@ fn reaches(line: Option<Line>, batch: u32) -> bool
 
 /// Whether a text has a `batch` line of this batch or a later one.
 fn has_batch_from(text: &[u8], batch: u32) -> bool
-    ensures { (lines : List (Option Line)) → AreLines text.now lines → result ≡ reaches batch (records lines) }
+    ensures { (lines : List (Option Line)) → ReadsLines text.now lines → result ≡ reaches batch (records lines) }
 {
     let mut rest = text;
     while !rest.is_empty() {
@@ -54,7 +54,7 @@ fn has_record_from(recorded: &[Recorded], batch: u32) -> bool
 
 /// Whether an `end` line has too few or too many rounds for its text, of which these records stand before it and this text behind.
 fn is_bad_end(recorded: &[Recorded], later: &[u8], rounds: u32) -> bool
-    ensures { (after : List (Option Line)) → AreLines later.now after → result ≡ is_bad_end (recorded.now ++ records after) rounds }
+    ensures { (after : List (Option Line)) → ReadsLines later.now after → result ≡ is_bad_end (recorded.now ++ records after) rounds }
 {
     rounds < 1
         || rounds > MOST_ROUNDS
@@ -69,9 +69,9 @@ pub(crate) fn misplaces(
     later: &[u8],
     line: Option<Line>,
 ) -> bool
-    ensures judged { (whole before after : List (Option Line)) → AreLines later.now after → records whole ≡ recorded.now ++ records (line ∷ after) → Stands standing.old.last standing.old.sums (records before) →
+    ensures judged { (whole before after : List (Option Line)) → ReadsLines later.now after → records whole ≡ recorded.now ++ records (line ∷ after) → SumsStand standing.old.last standing.old.sums (records before) →
         result ≡ cannot_stand standing.old.sums.endpoints whole before line }
-    ensures stands { (before : List (Option Line)) → Stands standing.old.last standing.old.sums (records before) → result ≡ false → Stands standing.new.last standing.new.sums (records (line ∷ before)) }
+    ensures stands { (before : List (Option Line)) → SumsStand standing.old.last standing.old.sums (records before) → result ≡ false → SumsStand standing.new.last standing.new.sums (records (line ∷ before)) }
     ensures endpoints { standing.new.sums.endpoints ≡ standing.old.sums.endpoints }
 {
     match line {

@@ -3,9 +3,9 @@ ghost use Rattle.std.specs.Prelude.{◌≡◌, ◌<◌, ◌≤◌, ◌+◌, ◌*
 ghost use Rattle.clos_topology.specs.Network.{endpoints_of};
 ghost use Rattle.greedy_rules.specs.SlotTable.{flows_from};
 ghost use Rattle.schedule_audit.specs.Lines.{Place};
-ghost use Rattle.schedule_audit.specs.Wrong.{places_from};
+ghost use Rattle.schedule_audit.specs.Wrong.{slot_places_from};
 ghost use Rattle.schedule_audit.specs.Judged.{AreBefore};
-ghost use Rattle.schedule_audit.specs.Walked.{in_slot, JudgesStand, StandApart, IsSameText, AreBetween};
+ghost use Rattle.schedule_audit.specs.Walked.{in_slot, JudgesStand, StandApart, IsSameText, FlowsAreBetween};
 
 use crate::judges::Judges;
 use crate::packets::Place;
@@ -14,7 +14,7 @@ use greedy_rules::{Flow, SlotTable};
 /// Holds the text against the packet of a source in a slot, if it sends one.
 fn hold_cell(judges: &mut Judges, slot: u32, src: u16, to: Option<u16>)
     requires slot { 0 < slot }
-    requires flows { AreBetween (endpoints_of judges.old.net) (flows_from src (to ∷ [])) }
+    requires flows { FlowsAreBetween (endpoints_of judges.old.net) (flows_from src (to ∷ [])) }
     requires stands { (held : List Place) × (counted : List Place) × AreBefore (slot * 65536 + src) held × StandApart held counted judges.old }
     ensures stands { (held : List Place) → (counted : List Place) → AreBefore (slot * 65536 + src) held → StandApart held counted judges.old → StandApart (held ++ in_slot slot (flows_from src (to ∷ []))) counted judges.new }
     ensures text { IsSameText judges.old judges.new }
@@ -29,7 +29,7 @@ fn hold_cell(judges: &mut Judges, slot: u32, src: u16, to: Option<u16>)
 fn hold_row(judges: &mut Judges, slot: u32, row: &[Option<u16>], endpoints: u16)
     requires slot { 0 < slot }
     requires row { length row.now ≡ endpoints }
-    requires flows { AreBetween (endpoints_of judges.old.net) (flows_from 0 row.now) }
+    requires flows { FlowsAreBetween (endpoints_of judges.old.net) (flows_from 0 row.now) }
     requires stands { (held : List Place) × (counted : List Place) × AreBefore (slot * 65536) held × StandApart held counted judges.old }
     ensures stands { (held : List Place) → (counted : List Place) → AreBefore (slot * 65536) held → StandApart held counted judges.old → StandApart (held ++ in_slot slot (flows_from 0 row.now)) counted judges.new }
     ensures text { IsSameText judges.old judges.new }
@@ -42,7 +42,7 @@ fn hold_row(judges: &mut Judges, slot: u32, row: &[Option<u16>], endpoints: u16)
 /// Counts the packet of a source in a slot, if it sends one.
 fn count_cell(judges: &mut Judges, slot: u32, src: u16, to: Option<u16>)
     requires slot { 0 < slot }
-    requires flows { AreBetween (endpoints_of judges.old.net) (flows_from src (to ∷ [])) }
+    requires flows { FlowsAreBetween (endpoints_of judges.old.net) (flows_from src (to ∷ [])) }
     requires stands { (held : List Place) × (counted : List Place) × AreBefore (slot * 65536 + src) counted × StandApart held counted judges.old }
     ensures stands { (held : List Place) → (counted : List Place) → AreBefore (slot * 65536 + src) counted → StandApart held counted judges.old → StandApart held (counted ++ in_slot slot (flows_from src (to ∷ []))) judges.new }
     ensures text { IsSameText judges.old judges.new }
@@ -57,7 +57,7 @@ fn count_cell(judges: &mut Judges, slot: u32, src: u16, to: Option<u16>)
 fn count_row(judges: &mut Judges, slot: u32, row: &[Option<u16>], endpoints: u16)
     requires slot { 0 < slot }
     requires row { length row.now ≡ endpoints }
-    requires flows { AreBetween (endpoints_of judges.old.net) (flows_from 0 row.now) }
+    requires flows { FlowsAreBetween (endpoints_of judges.old.net) (flows_from 0 row.now) }
     requires stands { (held : List Place) × (counted : List Place) × AreBefore (slot * 65536) counted × StandApart held counted judges.old }
     ensures stands { (held : List Place) → (counted : List Place) → AreBefore (slot * 65536) counted → StandApart held counted judges.old → StandApart held (counted ++ in_slot slot (flows_from 0 row.now)) judges.new }
     ensures text { IsSameText judges.old judges.new }
@@ -71,7 +71,7 @@ fn count_row(judges: &mut Judges, slot: u32, row: &[Option<u16>], endpoints: u16
 fn walk_row(judges: &mut Judges, slot: u32, row: &[Option<u16>], endpoints: u16)
     requires slot { 0 < slot }
     requires row { length row.now ≡ endpoints }
-    requires flows { AreBetween (endpoints_of judges.old.net) (flows_from 0 row.now) }
+    requires flows { FlowsAreBetween (endpoints_of judges.old.net) (flows_from 0 row.now) }
     requires stands { (visited : List Place) × AreBefore (slot * 65536) visited × JudgesStand visited judges.old }
     ensures stands { (visited : List Place) → AreBefore (slot * 65536) visited → JudgesStand visited judges.old → JudgesStand (visited ++ in_slot slot (flows_from 0 row.now)) judges.new }
     ensures text { IsSameText judges.old judges.new }
@@ -87,7 +87,7 @@ pub(crate) fn walk(judges: &mut Judges, table: &SlotTable, first_slot: u32, b: u
     requires slots { length table.now.slots ≡ b }
     requires endpoints { table.now.endpoints ≡ endpoints_of judges.old.net }
     requires stands { (visited : List Place) × AreBefore (first_slot * 65536) visited × JudgesStand visited judges.old }
-    ensures stands { (visited : List Place) → AreBefore (first_slot * 65536) visited → JudgesStand visited judges.old → JudgesStand (visited ++ places_from first_slot table.now.slots) judges.new }
+    ensures stands { (visited : List Place) → AreBefore (first_slot * 65536) visited → JudgesStand visited judges.old → JudgesStand (visited ++ slot_places_from first_slot table.now.slots) judges.new }
     ensures text { IsSameText judges.old judges.new }
 {
     let _slots = table.slots();

@@ -2,7 +2,7 @@
 ghost use Rattle.std.specs.Prelude.{◌≡◌, ◌<◌, ◌≤◌, ◌++◌, ◌∷◌, [], List, IfOk, All, false};
 ghost use Rattle.clos_topology.specs.Network.{endpoints_of};
 ghost use Rattle.schedule_audit.specs.Lines.{Place, Path};
-ghost use Rattle.schedule_audit.specs.Marks.{AreUpTo, AreMarked, HaveMarks};
+ghost use Rattle.schedule_audit.specs.Marks.{AreUpTo, PathsAreMarked, HaveMarks};
 ghost use Rattle.schedule_audit.specs.Judged.{is_off, first_path, PathsStand};
 
 use crate::links::Links;
@@ -27,8 +27,8 @@ fn is_off(links: &mut Links, net: &Net, place: Place, path: Path) -> bool
     requires src { place.flow.src < endpoints_of net.now }
     requires dst { place.flow.dst < endpoints_of net.now }
     requires slot { 0 < place.slot }
-    ensures off { (before : List Path) → AreUpTo place.slot before → AreMarked net.now links.old before → result ≡ is_off net.now place before path }
-    ensures marked { (before : List Path) → AreUpTo place.slot before → AreMarked net.now links.old before → result ≡ false → AreMarked net.now links.new (path ∷ before) }
+    ensures off { (before : List Path) → AreUpTo place.slot before → PathsAreMarked net.now links.old before → result ≡ is_off net.now place before path }
+    ensures marked { (before : List Path) → AreUpTo place.slot before → PathsAreMarked net.now links.old before → result ≡ false → PathsAreMarked net.now links.new (path ∷ before) }
     ensures marks { HaveMarks net.now links.new }
 {
     if !same_place(place, path.place) {

@@ -6,7 +6,7 @@ ghost use Rattle.greedy_rules.specs.Batches.{DemandBatch};
 ghost use Rattle.greedy_rules.specs.Limits.{AreLimits};
 ghost use Rattle.greedy_rules.specs.Recorded.{AreRecorded};
 ghost use Rattle.schedule_audit.specs.Texts.{records_of};
-ghost use Rattle.schedule_audit.specs.Played.{BeginWith, RoundsStand, ArePlayed};
+ghost use Rattle.schedule_audit.specs.Played.{BeginWith, RoundsStand, AuditIsPlayed};
 ghost use Rattle.schedule_audit.specs.Walked.{IsSameText};
 
 use crate::demand::Demand;
@@ -89,8 +89,8 @@ impl Rounds {
     ) -> Result<(), NoMemory>
         requires numbers { round * b + b + 1 ≤ 2 ^ 32 }
         requires few { round < 2 ^ 30 }
-        requires played { (front : List DemandBatch) × (batch : DemandBatch) × (later : List DemandBatch) × (length front ≡ round) × ArePlayed judges.old.net b front (batch ∷ later) self.old judges.old }
-        ensures played { OnOk result ((front : List DemandBatch) → (batch : DemandBatch) → (later : List DemandBatch) → length front ≡ round → ArePlayed judges.old.net b front (batch ∷ later) self.old judges.old → ArePlayed judges.old.net b (front ++ batch ∷ []) later self.new judges.new) }
+        requires played { (front : List DemandBatch) × (batch : DemandBatch) × (later : List DemandBatch) × (length front ≡ round) × AuditIsPlayed judges.old.net b front (batch ∷ later) self.old judges.old }
+        ensures played { OnOk result ((front : List DemandBatch) → (batch : DemandBatch) → (later : List DemandBatch) → length front ≡ round → AuditIsPlayed judges.old.net b front (batch ∷ later) self.old judges.old → AuditIsPlayed judges.old.net b (front ++ batch ∷ []) later self.new judges.new) }
         ensures text { OnOk result (IsSameText judges.old judges.new) }
     {
         recorded_batches_may_be_applied();

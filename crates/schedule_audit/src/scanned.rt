@@ -2,7 +2,7 @@
 ghost use Rattle.std.specs.Prelude.{◌≡◌, ◌<◌, List, length, Option, None, IfOk};
 ghost use Rattle.clos_topology.specs.Network.{endpoints_of};
 ghost use Rattle.report_text.specs.declared.line.Line.{Line};
-ghost use Rattle.schedule_audit.specs.Reading.{AreLines};
+ghost use Rattle.schedule_audit.specs.Reading.{ReadsLines};
 ghost use Rattle.schedule_audit.specs.BadLines.{first_misplaced};
 ghost use Rattle.schedule_audit.specs.Collecting.{Collects};
 
@@ -25,9 +25,9 @@ pub(crate) struct Scanned {
 /// Reads a text of a network's endpoints.
 pub(crate) fn scan_text(alloc: Global, text: &[u8], net: &Net) -> Result<Scanned, NoMemory>
     requires { length text.now < 4294967295 }
-    ensures misplaced { IfOk result (λ scanned. (lines : List (Option Line)) → AreLines text.now lines → scanned.misplaced ≡ first_misplaced (endpoints_of net.now) lines) }
-    ensures collected { IfOk result (λ scanned. scanned.misplaced ≡ None → (lines : List (Option Line)) → AreLines text.now lines → Collects lines scanned.collected) }
-    ensures lines { IfOk result (λ scanned. (lines : List (Option Line)) × AreLines text.now lines) }
+    ensures misplaced { IfOk result (λ scanned. (lines : List (Option Line)) → ReadsLines text.now lines → scanned.misplaced ≡ first_misplaced (endpoints_of net.now) lines) }
+    ensures collected { IfOk result (λ scanned. scanned.misplaced ≡ None → (lines : List (Option Line)) → ReadsLines text.now lines → Collects lines scanned.collected) }
+    ensures lines { IfOk result (λ scanned. (lines : List (Option Line)) × ReadsLines text.now lines) }
 {
     let mut standing = Standing::open(alloc, net.endpoints())?;
     let mut collected = Collected::new(alloc);

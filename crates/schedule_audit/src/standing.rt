@@ -2,7 +2,7 @@
 ghost use Rattle.std.specs.Prelude.{◌≡◌, List, [], ◌∷◌, IfOk, true, not};
 ghost use Rattle.schedule_audit.specs.declared.recorded.Recorded.{Recorded};
 ghost use Rattle.schedule_audit.specs.Misplaced.{is_bad_record};
-ghost use Rattle.schedule_audit.specs.Standing.{Stands};
+ghost use Rattle.schedule_audit.specs.Standing.{SumsStand};
 
 use crate::recorded::{Recorded, clears_none, has_wrong_ends, is_above, says_nothing, sum_with};
 use crate::sums::FlowSums;
@@ -23,7 +23,7 @@ pub(crate) struct Standing {
 impl Standing {
     /// No record so far.
     pub(crate) fn open(alloc: Global, endpoints: u16) -> Result<Standing, NoMemory>
-        ensures none { IfOk result (λ standing. Stands standing.last standing.sums []) }
+        ensures none { IfOk result (λ standing. SumsStand standing.last standing.sums []) }
         ensures endpoints { IfOk result (λ standing. standing.sums.endpoints ≡ endpoints) }
     {
         Ok(Standing {
@@ -34,8 +34,8 @@ impl Standing {
 
     /// Takes a record. False where it cannot stand after those so far, and then nothing is taken.
     pub(crate) fn take(&mut self, next: Recorded) -> bool
-        ensures good { (earlier : List Recorded) → Stands self.old.last self.old.sums earlier → result ≡ not (is_bad_record self.old.sums.endpoints earlier next) }
-        ensures taken { (earlier : List Recorded) → Stands self.old.last self.old.sums earlier → result ≡ true → Stands self.new.last self.new.sums (next ∷ earlier) }
+        ensures good { (earlier : List Recorded) → SumsStand self.old.last self.old.sums earlier → result ≡ not (is_bad_record self.old.sums.endpoints earlier next) }
+        ensures taken { (earlier : List Recorded) → SumsStand self.old.last self.old.sums earlier → result ≡ true → SumsStand self.new.last self.new.sums (next ∷ earlier) }
         ensures endpoints { self.new.sums.endpoints ≡ self.old.sums.endpoints }
     {
         if !is_above(self.last, next)

@@ -1,7 +1,7 @@
 //! The lines of a text.
 ghost use Rattle.std.specs.Prelude.{◌≡◌, ◌≢◌, ◌<◌, ◌≤◌, ℕ, List, [], length, slice_index, Option};
 ghost use Rattle.report_text.specs.declared.line.Line.{Line};
-ghost use Rattle.schedule_audit.specs.Reading.{Reads, AreLines, BeginsWith};
+ghost use Rattle.schedule_audit.specs.Reading.{Reads, ReadsLines, ReadsLine};
 
 use crate::front::front_line;
 use report_text::{Line, read_line};
@@ -28,7 +28,7 @@ fn spelled_line(bytes: &[u8]) -> Option<Line>
 #[inline(always)]
 pub(crate) fn first_line(text: &[u8]) -> (Option<Line>, &[u8])
     requires { text.now ≢ [] }
-    ensures { BeginsWith text.now result.0 result.1.now }
+    ensures { ReadsLine text.now result.0 result.1.now }
 {
     if let Some((line, rest)) = front_line(text) {
         return (Some(line), rest);
@@ -43,7 +43,7 @@ pub(crate) fn first_line(text: &[u8]) -> (Option<Line>, &[u8])
 /// How many lines a text has; a rest without a line feed is one.
 pub fn count_lines(text: &[u8]) -> u32
     requires { length text.now < 4294967296 }
-    ensures { (lines : List (Option Line)) × AreLines text.now lines × (result ≡ length lines) }
+    ensures { (lines : List (Option Line)) × ReadsLines text.now lines × (result ≡ length lines) }
 {
     let mut rest = text;
     let mut count = 0;

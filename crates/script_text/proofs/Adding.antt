@@ -4,11 +4,12 @@ use Rattle.std.specs.List.{cons_option}
 use Rattle.std.proofs.lemmas.Bool.{cases_Bool, cases_eq, cond-true, cond-false, or_parts, ne_eqb, leb-false, false≢true, and_from}
 use Rattle.std.proofs.lemmas.List.Folds.{list_any-append}
 use Rattle.std.proofs.lemmas.List.Sums.{sum_by-append, sum_by-cons}
+use Rattle.list_facts.proofs.Bools.{or-none}
 use Rattle.takeover_history.specs.declared.event.Event.{Event}
 use Rattle.script_text.specs.Rows.{event_of}
-use Rattle.script_text.specs.Earlier.{pair_in, pair_of, is_end, is_ended, events_of, slots_of}
+use Rattle.script_text.specs.Earlier.{pair_in, pair_of, is_end, is_ended, events_in_rows, script_row_slots}
 use Rattle.script_text.specs.Faults.{is_pair}
-use Rattle.script_text.specs.Standing.{pair_kept, StandsFor, has_order_fault, IsAllowed, Adds}
+use Rattle.script_text.specs.Standing.{pair_kept, ScriptStandsFor, has_order_fault, IsAllowedRow, AddsRow}
 use Rattle.script_text.specs.declared.row.Row.{Row}
 use Rattle.script_text.specs.declared.row.Row.TheVariants as row
 use Rattle.script_text.specs.declared.rows.Rows.{Rows}
@@ -17,13 +18,9 @@ cons_option-append : (o : Option Event) (xs ys : List Event) → cons_option o (
 cons_option-append None xs ys = refl
 cons_option-append (Some e) xs ys = refl
 
-pub events-append : (xs ys : List Row) → events_of (xs ++ ys) ≡ events_of xs ++ events_of ys
+pub events-append : (xs ys : List Row) → events_in_rows (xs ++ ys) ≡ events_in_rows xs ++ events_in_rows ys
 events-append [] ys = refl
-events-append (x ∷ xs) ys = ap (cons_option (event_of x)) (events-append xs ys) ∙ cons_option-append (event_of x) (events_of xs) (events_of ys)
-
-or_none : (b : Bool) → (b || false) ≡ b
-or_none true = refl
-or_none false = refl
+events-append (x ∷ xs) ys = ap (cons_option (event_of x)) (events-append xs ys) ∙ cons_option-append (event_of x) (events_in_rows xs) (events_in_rows ys)
 
 no_pair : (this : Row) → is_pair this ≡ false → pair_in this ≡ pair_of []
 no_pair (row.Pair endpoints b span) other = absurd (false≢true (sym other))
@@ -46,7 +43,7 @@ pair-first [] this none = refl
 pair-first (x ∷ before) this none = absurd (omega arith)
 
 -- a row is a pair, an end or an event
-one_of : (this : Row) → (is_pair this ≡ true) ⊎ ((is_end this ≡ true) ⊎ ((length (events_of (this ∷ [])) ≡ 1) × (is_some (event_of this) ≡ true)))
+one_of : (this : Row) → (is_pair this ≡ true) ⊎ ((is_end this ≡ true) ⊎ ((length (events_in_rows (this ∷ [])) ≡ 1) × (is_some (event_of this) ≡ true)))
 one_of (row.Pair endpoints b span) = inl refl
 one_of (row.Ask src dst slots) = inr (inr (refl, refl))
 one_of (row.Request node) = inr (inr (refl, refl))
@@ -82,14 +79,14 @@ in_order old this none =
     let inner = or_parts (is_pair this && not (old.count == 0)) old.ended outer.0 in
     record { first = first_of (is_pair this) old.count inner.0; going = inner.1; room = room_of (is_some (event_of this)) (length old.events.items) outer.1 }
 
-fewer : (this : Row) → length (events_of (this ∷ [])) ≤ 1
+fewer : (this : Row) → length (events_in_rows (this ∷ [])) ≤ 1
 fewer this = go (event_of this)
   where
     go : (o : Option Event) → length (cons_option o []) ≤ 1
     go None = omega arith
     go (Some e) = omega arith
 
-no_event : (this : Row) → is_some (event_of this) ≡ false → length (events_of (this ∷ [])) ≡ 0
+no_event : (this : Row) → is_some (event_of this) ≡ false → length (events_in_rows (this ∷ [])) ≡ 0
 no_event this = go (event_of this)
   where
     go : (o : Option Event) → is_some o ≡ false → length (cons_option o []) ≡ 0
@@ -100,10 +97,10 @@ one_more : (b : Bool) → cond {A = ℕ} b 1 0 ≤ 1
 one_more true = omega arith
 one_more false = omega arith
 
-pub stands-more : (before : List Row) (old new : Rows) (this : Row) → StandsFor before old → IsAllowed old this → Adds old new this → StandsFor (before ++ this ∷ []) new
+pub stands-more : (before : List Row) (old new : Rows) (this : Row) → ScriptStandsFor before old → IsAllowedRow old this → AddsRow old new this → ScriptStandsFor (before ++ this ∷ []) new
 stands-more before old new this s allowed a =
     let o = in_order old this allowed.order in
-    let events : length new.events.items ≡ length old.events.items + length (events_of (this ∷ [])) = ap (λ (xs : List Event). length xs) a.events_are ∙ length-append old.events.items (events_of (this ∷ [])) in
+    let events : length new.events.items ≡ length old.events.items + length (events_in_rows (this ∷ [])) = ap (λ (xs : List Event). length xs) a.events_are ∙ length-append old.events.items (events_in_rows (this ∷ [])) in
     let ended : new.ended ≡ is_end this = a.ended_is ∙ ap (λ (b : Bool). b || is_end this) o.going in
     let was : ◌≡◌ {A = ℕ} (cond old.ended 1 0) 0 = cond-false old.ended 1 0 o.going in
     record {
@@ -113,13 +110,13 @@ stands-more before old new this s allowed a =
         | inr other ↦ cond-false (is_pair this) (pair_in this) (pair_kept old) other ∙ (s.pair ∙ sym (pair-same before this other))
       ];
       few = a.few;
-      ended_is = a.ended_is ∙ (ap (λ (b : Bool). b || is_end this) s.ended_is ∙ (ap (λ (b : Bool). is_ended before || b) (sym (or_none (is_end this))) ∙ sym (list_any-append is_end before (this ∷ []))));
-      events_are = a.events_are ∙ (ap (λ (xs : List Event). xs ++ events_of (this ∷ [])) s.events_are ∙ sym (events-append before (this ∷ [])));
+      ended_is = a.ended_is ∙ (ap (λ (b : Bool). b || is_end this) s.ended_is ∙ (ap (λ (b : Bool). is_ended before || b) (sym (or-none (is_end this))) ∙ sym (list_any-append is_end before (this ∷ []))));
+      events_are = a.events_are ∙ (ap (λ (xs : List Event). xs ++ events_in_rows (this ∷ [])) s.events_are ∙ sym (events-append before (this ∷ [])));
       many = a.many;
       totals_are = λ src dst in_src in_dst.
           a.totals_are src dst in_src in_dst
-          ∙ (ap (λ (n : ℕ). n + slots_of src dst this) (s.totals_are src dst in_src in_dst)
-          ∙ omega (arith, sum_by-append (slots_of src dst) before (this ∷ []), sum_by-cons (slots_of src dst) this []));
+          ∙ (ap (λ (n : ℕ). n + script_row_slots src dst this) (s.totals_are src dst in_src in_dst)
+          ∙ omega (arith, sum_by-append (script_row_slots src dst) before (this ∷ []), sum_by-cons (script_row_slots src dst) this []));
       most = elim (cases_Bool (is_some (event_of this))) [
         | inl some ↦ omega (arith, o.room some, events, fewer this)
         | inr none ↦ omega (arith, s.most, events, no_event this none)

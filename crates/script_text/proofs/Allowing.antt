@@ -2,21 +2,22 @@
 use Rattle.std.proofs.Common.{◌≡◌, ◌==◌, ◌&&◌, not, ℕ, List, [], ◌∷◌, length, cond, codes, Bool, true, false, Option, Some, None, Result, Ok, Err, refl, sym, ap, ◌∙◌, subst}
 use Rattle.std.specs.Str.{bytes_eq}
 use Rattle.std.proofs.lemmas.Bool.{cond-true, true≢false}
+use Rattle.list_facts.proofs.Bools.{not_true}
 use Rattle.trace_text.specs.Fields.{Record, field}
 use Rattle.trace_text.specs.declared.fault.Fault.{Fault}
 use Rattle.trace_text.specs.declared.fault.Fault.TheVariants as fault
-use Rattle.script_text.specs.Rows.{kind_of, fields_in, is_readable, row_of}
+use Rattle.script_text.specs.Rows.{script_kind_of, fields_in, is_readable_row, script_row_of}
 use Rattle.script_text.specs.Earlier.{pair_of}
-use Rattle.script_text.specs.Faults.{is_in_range, is_self_flow, is_pair, is_first, is_out_of_order, asks_too_much, checked, read_kind, read_named, read_row}
+use Rattle.script_text.specs.Faults.{is_row_in_range, asks_for_itself, is_pair, is_first_row, is_row_out_of_order, asks_too_much, checked_script_row, read_script_kind, read_script_named, read_script_row}
 use Rattle.script_text.specs.declared.kind.Kind.{Kind}
 use Rattle.script_text.specs.declared.kind.Kind.TheVariants as kind
 use Rattle.script_text.specs.declared.row.Row.{Row}
 
 pub record Allowed (before : List Row) (this : Row) : Type 0 where
-  pub leads : is_first before ≡ true → is_pair this ≡ true
-  pub range : is_in_range (pair_of before).endpoints this ≡ true
-  pub apart : is_self_flow this ≡ false
-  pub order : is_out_of_order before this ≡ false
+  pub leads : is_first_row before ≡ true → is_pair this ≡ true
+  pub range : is_row_in_range (pair_of before).endpoints this ≡ true
+  pub apart : asks_for_itself this ≡ false
+  pub order : is_row_out_of_order before this ≡ false
   pub sum : asks_too_much before this ≡ false
 
 -- where a row came out, no fault was told
@@ -28,33 +29,29 @@ abbrev row_in : Row → Result Row Fault → Row
 row_in other (Ok row) = row
 row_in other (Err why) = other
 
-holds : (b : Bool) → not b ≡ false → b ≡ true
-holds true is = refl
-holds false is = absurd (true≢false is)
-
 record Checked (before : List Row) (row this : Row) : Type 0 where
   same : row ≡ this
-  range : is_in_range (pair_of before).endpoints row ≡ true
-  apart : is_self_flow row ≡ false
-  order : is_out_of_order before row ≡ false
+  range : is_row_in_range (pair_of before).endpoints row ≡ true
+  apart : asks_for_itself row ≡ false
+  order : is_row_out_of_order before row ≡ false
   sum : asks_too_much before row ≡ false
 
-checked-ok : (before : List Row) (row this : Row) → checked before row ≡ Ok this → Checked before row this
-unfolding checked
+checked-ok : (before : List Row) (row this : Row) → checked_script_row before row ≡ Ok this → Checked before row this
+unfolding checked_script_row
 checked-ok before row this is =
-    let range = ok_if (not (is_in_range (pair_of before).endpoints row)) fault.Range _ this is in
-    let apart = ok_if (is_self_flow row) fault.SelfFlow _ this range.1 in
-    let order = ok_if (is_out_of_order before row) fault.Order _ this apart.1 in
+    let range = ok_if (not (is_row_in_range (pair_of before).endpoints row)) fault.Range _ this is in
+    let apart = ok_if (asks_for_itself row) fault.SelfFlow _ this range.1 in
+    let order = ok_if (is_row_out_of_order before row) fault.Order _ this apart.1 in
     let sum = ok_if (asks_too_much before row) fault.Sum (Ok row) this order.1 in
-    record { same = ap (row_in row) sum.1; range = holds (is_in_range (pair_of before).endpoints row) range.0; apart = apart.0; order = order.0; sum = sum.0 }
+    record { same = ap (row_in row) sum.1; range = not_true (is_row_in_range (pair_of before).endpoints row) range.0; apart = apart.0; order = order.0; sum = sum.0 }
 
-kind-ok : (before : List Row) (fields : Record) (k : Kind) (this : Row) → read_kind before fields k ≡ Ok this → checked before (row_of k fields) ≡ Ok this
-unfolding read_kind
+kind-ok : (before : List Row) (fields : Record) (k : Kind) (this : Row) → read_script_kind before fields k ≡ Ok this → checked_script_row before (script_row_of k fields) ≡ Ok this
+unfolding read_script_kind
 kind-ok before fields k this is =
     let count = ok_if (not (length fields == fields_in k)) fault.Fields _ this is in
-    (ok_if (not (is_readable k fields)) fault.Number _ this count.1).1
+    (ok_if (not (is_readable_row k fields)) fault.Number _ this count.1).1
 
-named-ok : (before : List Row) (fields : Record) (o : Option Kind) (this : Row) → read_named before fields o ≡ Ok this → (k : Kind) × (o ≡ Some k) × (read_kind before fields k ≡ Ok this)
+named-ok : (before : List Row) (fields : Record) (o : Option Kind) (this : Row) → read_script_named before fields o ≡ Ok this → (k : Kind) × (o ≡ Some k) × (read_script_kind before fields k ≡ Ok this)
 named-ok before fields None this is = absurd cc
 named-ok before fields (Some k) this is = (k, refl, is)
 
@@ -63,24 +60,24 @@ kind_in other None = other
 kind_in other (Some k) = k
 
 first_is_pair : (first named : Bool) → (first && not named) ≡ false → first ≡ true → named ≡ true
-first_is_pair true named none is = holds named none
+first_is_pair true named none is = not_true named none
 first_is_pair false named none is = absurd (true≢false (sym is))
 
-pub allowed : (before : List Row) (fields : Record) (this : Row) → read_row before fields ≡ Ok this → Allowed before this
-unfolding read_row
+pub allowed : (before : List Row) (fields : Record) (this : Row) → read_script_row before fields ≡ Ok this → Allowed before this
+unfolding read_script_row
 allowed before fields this is =
     let name = field fields 0 in
-    let first = ok_if (is_first before && not (bytes_eq name (codes "pair"))) fault.NoNet (read_named before fields (kind_of name)) this is in
-    let named = named-ok before fields (kind_of name) this first.1 in
+    let first = ok_if (is_first_row before && not (bytes_eq name (codes "pair"))) fault.NoNet (read_script_named before fields (script_kind_of name)) this is in
+    let named = named-ok before fields (script_kind_of name) this first.1 in
     let k : Kind = named.0 in
-    let c = checked-ok before (row_of k fields) this (kind-ok before fields k this named.2) in
+    let c = checked-ok before (script_row_of k fields) this (kind-ok before fields k this named.2) in
     record {
       leads = λ leading.
-          let pair : kind_of name ≡ Some kind.Pair = cond-true (bytes_eq name (codes "pair")) (Some kind.Pair) _ (first_is_pair (is_first before) (bytes_eq name (codes "pair")) first.0 leading) in
+          let pair : script_kind_of name ≡ Some kind.Pair = cond-true (bytes_eq name (codes "pair")) (Some kind.Pair) _ (first_is_pair (is_first_row before) (bytes_eq name (codes "pair")) first.0 leading) in
           let its : k ≡ kind.Pair = ap (kind_in k) (sym named.1 ∙ pair) in
-          subst (λ (r : Row). is_pair r ≡ true) c.same (ap (λ (x : Kind). is_pair (row_of x fields)) its);
-      range = subst (λ (r : Row). is_in_range (pair_of before).endpoints r ≡ true) c.same c.range;
-      apart = subst (λ (r : Row). is_self_flow r ≡ false) c.same c.apart;
-      order = subst (λ (r : Row). is_out_of_order before r ≡ false) c.same c.order;
+          subst (λ (r : Row). is_pair r ≡ true) c.same (ap (λ (x : Kind). is_pair (script_row_of x fields)) its);
+      range = subst (λ (r : Row). is_row_in_range (pair_of before).endpoints r ≡ true) c.same c.range;
+      apart = subst (λ (r : Row). asks_for_itself r ≡ false) c.same c.apart;
+      order = subst (λ (r : Row). is_row_out_of_order before r ≡ false) c.same c.order;
       sum = subst (λ (r : Row). asks_too_much before r ≡ false) c.same c.sum;
     }

@@ -1,5 +1,5 @@
 ghost use Rattle.std.specs.Prelude.{◌≡◌};
-ghost use Rattle.script_text.specs.Rows.{kind_of, fields_in};
+ghost use Rattle.script_text.specs.Rows.{script_kind_of, fields_in};
 
 /// What the first field of a row names.
 #[derive(Clone, Copy, Debug, PartialEq, Eq)]
@@ -18,7 +18,7 @@ pub(crate) enum Kind {
 
 impl Kind {
     pub(crate) fn of(name: &[u8]) -> Option<Kind>
-        ensures { result ≡ kind_of name.now }
+        ensures { result ≡ script_kind_of name.now }
     {
         if name == b"pair".as_slice() {
             Some(Kind::Pair)

@@ -1,6 +1,6 @@
 ghost use Rattle.std.specs.Prelude.{◌≡◌, Ok, IfOk, IfErr};
-ghost use Rattle.script_text.specs.Script.{script_of, IsFaultOf, IsScript};
-ghost use Rattle.script_text.specs.Standing.{Stands, Finishes};
+ghost use Rattle.script_text.specs.Script.{script_of, IsScriptFaultOf, IsScript};
+ghost use Rattle.script_text.specs.Standing.{RowsStand, ScriptFinishes};
 
 use crate::Script;
 use crate::rows::Rows;
@@ -14,7 +14,7 @@ use trace_text::{CsvRecords, Fault, TraceRefused, without_mark};
 pub fn read_script(alloc: Global, bytes: &[u8]) -> Result<Script, TraceRefused>
     ensures accepted { IfOk result (λ script. script_of bytes.now ≡ Ok script) }
     ensures happens { IfOk result IsScript }
-    ensures refused { IfErr result (IsFaultOf (script_of bytes.now)) }
+    ensures refused { IfErr result (IsScriptFaultOf (script_of bytes.now)) }
 {
     asks_are_counted();
     let mut records = CsvRecords::open(alloc, without_mark(bytes))?;
@@ -28,8 +28,8 @@ pub fn read_script(alloc: Global, bytes: &[u8]) -> Result<Script, TraceRefused>
 
 /// What stands after the last row.
 fn finish(rows: Rows) -> Result<Script, TraceRefused>
-    requires { Stands rows }
-    ensures { Finishes rows result }
+    requires { RowsStand rows }
+    ensures { ScriptFinishes rows result }
 {
     if rows.count == 0 {
         return Err(TraceRefused::Row {

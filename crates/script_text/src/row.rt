@@ -1,6 +1,6 @@
 ghost use Rattle.std.specs.Prelude.{◌≡◌, true, false, MatchOption};
 ghost use Rattle.csv.specs.Records.{fields_of};
-ghost use Rattle.script_text.specs.Rows.{is_readable, row_of};
+ghost use Rattle.script_text.specs.Rows.{is_readable_row, script_row_of};
 ghost use Rattle.script_text.specs.declared.kind.Kind.TheVariants as kind;
 
 use crate::kind::Kind;
@@ -25,7 +25,7 @@ pub(crate) enum Row {
 impl Row {
     /// The row of a kind with these fields; None where one is no number.
     pub(crate) fn of(kind: Kind, fields: &ByteRecord) -> Option<Row>
-        ensures { MatchOption result (is_readable kind (fields_of fields.now) ≡ false) (λ row. (is_readable kind (fields_of fields.now) ≡ true) × (row ≡ row_of kind (fields_of fields.now))) }
+        ensures { MatchOption result (is_readable_row kind (fields_of fields.now) ≡ false) (λ row. (is_readable_row kind (fields_of fields.now) ≡ true) × (row ≡ script_row_of kind (fields_of fields.now))) }
     {
         match kind {
             Kind::Pair => Row::pair(fields),
@@ -59,7 +59,7 @@ impl Row {
     }
 
     fn pair(fields: &ByteRecord) -> Option<Row>
-        ensures { MatchOption result (is_readable kind.Pair (fields_of fields.now) ≡ false) (λ row. (is_readable kind.Pair (fields_of fields.now) ≡ true) × (row ≡ row_of kind.Pair (fields_of fields.now))) }
+        ensures { MatchOption result (is_readable_row kind.Pair (fields_of fields.now) ≡ false) (λ row. (is_readable_row kind.Pair (fields_of fields.now) ≡ true) × (row ≡ script_row_of kind.Pair (fields_of fields.now))) }
     {
         let endpoints = number_at(fields, 1)?;
         let b = number_at(fields, 2)?;
@@ -68,7 +68,7 @@ impl Row {
     }
 
     fn ask(fields: &ByteRecord) -> Option<Row>
-        ensures { MatchOption result (is_readable kind.Ask (fields_of fields.now) ≡ false) (λ row. (is_readable kind.Ask (fields_of fields.now) ≡ true) × (row ≡ row_of kind.Ask (fields_of fields.now))) }
+        ensures { MatchOption result (is_readable_row kind.Ask (fields_of fields.now) ≡ false) (λ row. (is_readable_row kind.Ask (fields_of fields.now) ≡ true) × (row ≡ script_row_of kind.Ask (fields_of fields.now))) }
     {
         let src = number_at(fields, 1)?;
         let dst = number_at(fields, 2)?;

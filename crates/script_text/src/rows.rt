@@ -1,10 +1,10 @@
 ghost use Rattle.std.specs.Prelude.{◌≡◌, ◌+◌, ◌*◌, ◌<◌, ◌≤◌, ◌==◌, ◌&&◌, ◌||◌, not, nat_le, nat_lt, is_some, true, List, [], ◌∷◌, ◌++◌, length, slice_index, ◌^◌, ℕ, if◌then◌else◌, IfNone, IfOk, OnOk};
 ghost use Rattle.csv.specs.Records.{fields_of};
 ghost use Rattle.script_text.specs.Rows.{event_of};
-ghost use Rattle.script_text.specs.Faults.{is_in_range, is_self_flow, is_pair, checked, read_row};
-ghost use Rattle.script_text.specs.Earlier.{pair_in, is_end, slots_of};
+ghost use Rattle.script_text.specs.Faults.{is_row_in_range, asks_for_itself, is_pair, checked_script_row, read_script_row};
+ghost use Rattle.script_text.specs.Earlier.{pair_in, is_end, script_row_slots};
 ghost use Rattle.trace_text.specs.Faults.{is_between};
-ghost use Rattle.script_text.specs.Standing.{StandsFor, Stands, has_order_fault, has_sum_fault, row_unless, as_rows, pair_kept, Adds, IsAllowed, TakesRow};
+ghost use Rattle.script_text.specs.Standing.{ScriptStandsFor, RowsStand, has_order_fault, has_sum_fault, script_row_unless, as_script_row, pair_kept, AddsRow, IsAllowedRow, TakesScriptRow};
 ghost use Rattle.script_text.specs.declared.row.Row.{Row as RowType};
 ghost use Rattle.trace_text.specs.declared.fault.TraceRefused.TheVariants as refused;
 
@@ -37,7 +37,7 @@ pub(crate) struct Rows {
 
 impl Rows {
     pub(crate) fn open(alloc: Global) -> Result<Rows, NoMemory>
-        ensures { IfOk result (StandsFor []) }
+        ensures { IfOk result (ScriptStandsFor []) }
     {
         Ok(Rows {
             count: 0,
@@ -52,8 +52,8 @@ impl Rows {
 
     /// Takes the next row, or tells its number and fault.
     pub(crate) fn take(&mut self, fields: &ByteRecord) -> Result<(), TraceRefused>
-        requires { Stands self.old }
-        ensures { (before : List RowType) → StandsFor before self.old → TakesRow before (fields_of fields.now) self.new result }
+        requires { RowsStand self.old }
+        ensures { (before : List RowType) → ScriptStandsFor before self.old → TakesScriptRow before (fields_of fields.now) self.new result }
     {
         match self.judge(fields) {
             Ok(row) => Ok(self.push(row)?),
@@ -65,11 +65,11 @@ impl Rows {
     }
 
     /// The row with these fields, or its fault.
-    #[tactic(auto, unfolding(crate::specs::Faults::read_row, crate::specs::Faults::read_kind))]
+    #[tactic(auto, unfolding(crate::specs::Faults::read_script_row, crate::specs::Faults::read_script_kind))]
     fn judge(&self, fields: &ByteRecord) -> Result<Row, Fault>
-        requires { Stands self.now }
-        ensures row { (before : List RowType) → StandsFor before self.now → read_row before (fields_of fields.now) ≡ as_rows result }
-        ensures allowed { IfOk result (IsAllowed self.now) }
+        requires { RowsStand self.now }
+        ensures row { (before : List RowType) → ScriptStandsFor before self.now → read_script_row before (fields_of fields.now) ≡ as_script_row result }
+        ensures allowed { IfOk result (IsAllowedRow self.now) }
     {
         let name = field(fields, 0);
         if self.count == 0 && name != b"pair".as_slice() {
@@ -91,11 +91,11 @@ impl Rows {
     }
 
     /// What is wrong with a row that could be read.
-    #[tactic(auto, unfolding(crate::specs::Faults::checked))]
+    #[tactic(auto, unfolding(crate::specs::Faults::checked_script_row))]
     fn fault_of(&self, row: Row) -> Option<Fault>
-        requires { Stands self.now }
-        ensures fault { (before : List RowType) → StandsFor before self.now → checked before row ≡ row_unless row result }
-        ensures allowed { IfNone result (IsAllowed self.now row) }
+        requires { RowsStand self.now }
+        ensures fault { (before : List RowType) → ScriptStandsFor before self.now → checked_script_row before row ≡ script_row_unless row result }
+        ensures allowed { IfNone result (IsAllowedRow self.now row) }
     {
         if !is_in_range(self.endpoints, row) {
             return Some(Fault::Range);
@@ -123,7 +123,7 @@ impl Rows {
 
     /// Whether the asks of the row's flow are too much together.
     fn asks_too_much(&self, row: Row) -> bool
-        requires range { is_in_range self.now.endpoints row ≡ true }
+        requires range { is_row_in_range self.now.endpoints row ≡ true }
         requires few { self.now.endpoints ≤ 64 }
         requires totals { length self.now.totals.items ≡ 4096 }
         ensures { result ≡ has_sum_fault self.now row }
@@ -139,9 +139,9 @@ impl Rows {
 
     /// Takes a row without fault.
     fn push(&mut self, row: Row) -> Result<(), NoMemory>
-        requires allowed { IsAllowed self.old row }
+        requires allowed { IsAllowedRow self.old row }
         requires room { self.old.count + 1 < 4294967296 }
-        ensures { OnOk result (Adds self.old self.new row) }
+        ensures { OnOk result (AddsRow self.old self.new row) }
     {
         self.note(row);
         self.count += 1;
@@ -153,14 +153,14 @@ impl Rows {
 
     /// Notes the pair, the end and the asks of a row.
     fn note(&mut self, row: Row)
-        requires allowed { IsAllowed self.old row }
+        requires allowed { IsAllowedRow self.old row }
         ensures pair { pair_kept self.new ≡ (if is_pair row then pair_in row else pair_kept self.old) }
         ensures ended { self.new.ended ≡ (self.old.ended || is_end row) }
-        ensures totals { (s d : ℕ) → s < 64 → d < 64 → slice_index self.new.totals.items (s * 64 + d) ≡ slice_index self.old.totals.items (s * 64 + d) + slots_of s d row }
+        ensures totals { (s d : ℕ) → s < 64 → d < 64 → slice_index self.new.totals.items (s * 64 + d) ≡ slice_index self.old.totals.items (s * 64 + d) + script_row_slots s d row }
         ensures many { length self.new.totals.items ≡ 4096 }
         ensures count { self.new.count ≡ self.old.count }
         ensures events { self.new.events.items ≡ self.old.events.items }
-        ensures range { is_in_range self.new.endpoints row ≡ true }
+        ensures range { is_row_in_range self.new.endpoints row ≡ true }
         ensures few { self.new.endpoints ≤ 64 }
     {
         match row {
@@ -197,7 +197,7 @@ fn add(totals: &mut [u32], src: u32, dst: u32, slots: u32)
 
 /// The event that a row tells, if it does.
 fn event_of(endpoints: u16, row: Row) -> Option<Event>
-    requires range { is_in_range endpoints row ≡ true }
+    requires range { is_row_in_range endpoints row ≡ true }
     requires few { endpoints ≤ 64 }
     ensures { result ≡ event_of row }
 {
@@ -229,7 +229,7 @@ fn event_of(endpoints: u16, row: Row) -> Option<Event>
 
 /// Whether each number is in its range, at so many endpoints.
 fn is_in_range(endpoints: u16, row: Row) -> bool
-    ensures { result ≡ is_in_range endpoints row }
+    ensures { result ≡ is_row_in_range endpoints row }
 {
     let endpoints = u32::from(endpoints);
     match row {
@@ -257,7 +257,7 @@ fn is_between(low: u32, high: u32, n: u32) -> bool
 
 /// Whether an endpoint asks for itself.
 fn is_self_flow(row: Row) -> bool
-    ensures { result ≡ is_self_flow row }
+    ensures { result ≡ asks_for_itself row }
 {
     match row {
         Row::Ask { src, dst, .. } => src == dst,

@@ -11,10 +11,10 @@ use Rattle.greedy_rules.specs.Demands.{is_listed}
 use Rattle.greedy_rules.specs.declared.limits.Limits.{Limits}
 use Rattle.greedy_rules.specs.Limits.{rack_of, is_outward, leaves, enters, leaving, entering, lacks_core, is_barred}
 use Rattle.std.specs.List.{count_by}
-use Rattle.std.proofs.lemmas.Bool.Decides.{nat_tests}
 use Rattle.std.proofs.lemmas.List.Sums.{sum_by-cons}
 use Rattle.greedy_rules.specs.Walk.{turn}
 use Rattle.greedy_rules.proofs.Facts.{same_flow-true}
+use Rattle.greedy_rules.proofs.BarLemmas.{still_full}
 use Rattle.slot_batches.specs.Feeding.{was_served}
 use Rattle.slot_batches.specs.FlowByFlow.{slots_with, slots_after}
 use Rattle.slot_batches.specs.Woven.{stays}
@@ -48,9 +48,6 @@ count_of_filter p q (flow ∷ slot) =
     let whole : count_by p (flow ∷ slot) ≡ one flow + count_by p slot = sum_by-cons one flow slot in
     let kept : count_by p (flow ∷ filter q slot) ≡ one flow + count_by p (filter q slot) = sum_by-cons one flow (filter q slot) in
     cond_both (q flow) (flow ∷ filter q slot) (filter q slot) (λ xs. count_by p xs ≤ count_by p (flow ∷ slot)) (λ _. omega (arith, rest, whole, kept)) (λ _. omega (arith, rest, whole))
-
-still_full : (m n cores : ℕ) → m ≤ n → not (nat_lt m cores) ≡ true → not (nat_lt n cores) ≡ true
-still_full m n cores more full = grind (arith, nat_tests)
 
 -- what some flows of a slot bar, all of them bar
 abbrev pub BarsAsItGrows : Bar → Type 0

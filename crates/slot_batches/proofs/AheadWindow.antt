@@ -1,5 +1,5 @@
 -- A window in which each item that is set aside is barred by those ahead of it.
-use Rattle.std.proofs.Common.{length, take, drop, ◌≡◌, ◌≢◌, ◌<◌, ◌≤◌, ◌+◌, ◌⊎◌, ℕ, zero, suc, List, [], ◌∷◌, ◌++◌, get_or, map, replicate, Bool, true, false, not, ◌&&◌, None, All, refl, sym, ap, ◌∙◌, subst, arith, inl, inr}
+use Rattle.std.proofs.Common.{length, take, drop, ◌≡◌, ◌≢◌, ◌<◌, ◌≤◌, ◌+◌, ◌⊎◌, ℕ, List, [], ◌∷◌, ◌++◌, get_or, map, replicate, Bool, true, false, not, ◌&&◌, None, All, refl, sym, ap, ◌∙◌, subst, arith, inl, inr}
 use Rattle.std.specs.Option.{is_some}
 use Rattle.std.proofs.lemmas.Bool.{cases_Bool, and_right, or_left, or_right, or_cases, and_parts, ltb-true, ltb-false, ne_eqb, false_from_ne_true, both_ways}
 use Rattle.std.proofs.lemmas.List.{append-nil}
@@ -13,10 +13,11 @@ use Rattle.greedy_rules.specs.Batches.{DemandBatch, entry_of}
 use Rattle.greedy_rules.specs.Slot.{Bar, has_flow}
 use Rattle.greedy_rules.specs.Limits.{is_barred}
 use Rattle.greedy_rules.specs.Demands.{is_listed, with_batch, opened, after_batch}
-use Rattle.greedy_rules.specs.Allocation.{after_slot, batch_slots, list_through}
+use Rattle.greedy_rules.specs.Allocation.{list_through}
 use Rattle.greedy_rules.specs.Schedule.{first_slot, slots_then, list_then, schedule_from}
 use Rattle.greedy_rules.specs.Recorded.{Applies, MayBeApplied}
 use Rattle.greedy_rules.proofs.Facts.{same_flow-true, listed-after_batch, listed-after_slots}
+use Rattle.greedy_rules.proofs.ScheduleLemmas.{length-batch_slots}
 use Rattle.list_facts.proofs.StableSort.{All-sort_by}
 use Rattle.slot_batches.specs.FlowByFlow.{slots_after}
 use Rattle.slot_batches.specs.Feeding.{was_served}
@@ -26,9 +27,10 @@ use Rattle.slot_batches.specs.Beyond.{StayOut, AreBeyondReach, is_in}
 use Rattle.slot_batches.proofs.TurnSteps.{slots_after-append}
 use Rattle.slot_batches.proofs.WeaveLemmas.{applied_to_both, more_behind_both, IsGoneFrom}
 use Rattle.slot_batches.specs.Beyond.{seen_with, HaveRivals, AreBarredByThoseAhead, ItemsBarredByThoseAheadMayBeSetAside, AreBarredInSlots, ItemsBarredInSlotsMayBeSetAside}
-use Rattle.slot_batches.proofs.FrontWindow.{last_of, stood_in, each_stood, none_stood, through_slots, Was, opened_was}
+use Rattle.slot_batches.proofs.FrontWindow.{stood_in, each_stood, none_stood, through_slots, Was, opened_was}
 use Rattle.slot_batches.proofs.Ahead.{IsBehind, limits_bar_as_it_grows, kept_out_by_rivals}
 use Rattle.slot_batches.proofs.SetAside.{new_ones, parts_are, front, back, each_is_listed, slots_between, parts_of_batch, AreWoven, NoEntry, step, step_applies, opened_apart, next_first, woven_at_first, items_beyond_reach_may_be_set_aside}
+use Rattle.slot_batches.proofs.NextList.{last_of}
 
 -- the flows seen once the list was walked
 abbrev seen_after : (Item → Bool) → (Flow → Bool) → List Item → Flow → Bool
@@ -187,10 +189,6 @@ items_barred_by_those_ahead_may_be_set_aside endpoints b first aside list batche
     items_beyond_reach_may_be_set_aside endpoints b first aside list batches before may no_entries
     (ahead_window aside start list endpoints b first batches [] rest list (omega arith) before no_entries are (each_is_listed list) was may reach)
 
-length-slots : (bar : Bar) (number count : ℕ) (list : List Item) → length (batch_slots bar number count list) ≡ count
-length-slots bar number zero list = refl
-length-slots bar number (suc count) list = ap suc (length-slots bar (number + 1) count (after_slot bar number list))
-
 take_front : {X : Type 0} (xs ys : List X) (n : ℕ) → length xs ≡ n → take n (xs ++ ys) ≡ xs
 take_front {X = X} xs ys n is = subst (λ (k : ℕ). take k (xs ++ ys) ≡ xs) is (go xs)
   where
@@ -211,7 +209,7 @@ barred_in_slots b k aside list earlier rest [] barred = tt
 barred_in_slots b k aside list earlier rest (batch ∷ batches) barred =
     let here : List (List Flow) = slots_then b k batch rest in
     let later : List (List Flow) = schedule_from b (k + 1) (list_then b k batch rest) batches in
-    let size : length here ≡ b = length-slots (is_barred batch.limits) (first_slot b k) b (after_batch batch.entries rest) in
+    let size : length here ≡ b = length-batch_slots (is_barred batch.limits) (first_slot b k) b (after_batch batch.entries rest) in
     let front_is : take b (here ++ later) ≡ here = take_front here later b size in
     let back_is : drop b (here ++ later) ≡ later = drop_front here later b size in (
       subst (λ (s : List (List Flow)). HaveRivals (is_barred batch.limits) aside list earlier s (λ flow. false) list) front_is barred.0,

@@ -8,7 +8,7 @@ use Rattle.std.proofs.lemmas.List.Elements.{All-nil, All-more, All-append}
 use Rattle.std.proofs.lemmas.Bool.Decides.{nat_tests}
 use Rattle.greedy_rules.specs.declared.flows.Item.{Item}
 use Rattle.endpoint_bitmaps.specs.Slots.{has_slot, count_below}
-use Rattle.endpoint_bitmaps.specs.FreeSlots.{FreeSlots, may_send, may_receive, is_between, has_links, is_common}
+use Rattle.endpoint_bitmaps.specs.FreeSlots.{FreeSlots, is_free_to_send, may_receive, is_between_racks, has_links, is_common}
 use Rattle.endpoint_bitmaps.proofs.Facts.{has_slot-none}
 use Rattle.slot_batches.specs.Rests.{TakesNone}
 
@@ -23,12 +23,12 @@ four_none a b d e none =
     (two.0, two.1, three.1, all.1)
 
 -- an item whose ends share no slot takes none
-shares_none : (maps : FreeSlots) (item : Item) (place : ℕ) → (may_send maps item.flow.src place && may_receive maps item.flow.dst place) ≡ false
+shares_none : (maps : FreeSlots) (item : Item) (place : ℕ) → (is_free_to_send maps item.flow.src place && may_receive maps item.flow.dst place) ≡ false
     → (is_common maps item.flow.src item.flow.dst place && nat_lt (count_below (is_common maps item.flow.src item.flow.dst) place) item.need) ≡ false
 shares_none maps item place none =
     and_left (is_common maps item.flow.src item.flow.dst place) (nat_lt (count_below (is_common maps item.flow.src item.flow.dst) place) item.need)
-    (and_left (may_send maps item.flow.src place && may_receive maps item.flow.dst place)
-    (not (is_between maps item.flow.src item.flow.dst) || has_links maps item.flow.src item.flow.dst place) none)
+    (and_left (is_free_to_send maps item.flow.src place && may_receive maps item.flow.dst place)
+    (not (is_between_racks maps item.flow.src item.flow.dst) || has_links maps item.flow.src item.flow.dst place) none)
 
 -- nor does one without a need
 pub needs_none : (maps : FreeSlots) (item : Item) → item.need ≡ 0 → TakesNone maps item
@@ -36,7 +36,7 @@ needs_none maps item idle = λ place.
     and_right (is_common maps item.flow.src item.flow.dst place) (nat_lt (count_below (is_common maps item.flow.src item.flow.dst) place) item.need)
     (le-ltb (count_below (is_common maps item.flow.src item.flow.dst) place) item.need (omega (arith, idle)))
 
-pub takes_none : (maps : FreeSlots) (item : Item) (shared : ℕ) → ((slot : ℕ) → has_slot shared slot ≡ (may_send maps item.flow.src slot && may_receive maps item.flow.dst slot))
+pub takes_none : (maps : FreeSlots) (item : Item) (shared : ℕ) → ((slot : ℕ) → has_slot shared slot ≡ (is_free_to_send maps item.flow.src slot && may_receive maps item.flow.dst slot))
     → min shared item.need ≡ 0 → TakesNone maps item
 takes_none maps item shared is none = λ place. elim (cases_eq item.need 0) [
   | inl idle ↦ needs_none maps item idle place

@@ -1,23 +1,20 @@
 -- A list before a batch may be fed, item by item.
-use Rattle.std.proofs.Common.{◌-◌, take, drop, get_or, length, ◌+◌, ◌∷◌, sym, ◌∙◌, subst, ◌≡◌, ◌≢◌, ◌<◌, ℕ, List, [], ◌++◌, true, false, All, ap}
-use Rattle.std.proofs.lemmas.Bool.{not-true, or_parts}
+use Rattle.std.proofs.Common.{◌-◌, take, drop, get_or, length, ◌+◌, ◌∷◌, sym, ◌∙◌, subst, ◌≡◌, ◌<◌, ℕ, List, [], ◌++◌, All, ap}
+use Rattle.std.proofs.lemmas.Bool.{not-true}
 use Rattle.std.proofs.Math.Seq.{take-add}
 use Rattle.std.proofs.lemmas.List.{take_more, take_rest, append_assoc, take-append-drop}
-use Rattle.std.proofs.lemmas.List.Elements.{All-nil, All-cons}
-use Rattle.greedy_rules.specs.declared.flows.Flow.{Flow}
-use Rattle.greedy_rules.specs.Flows.{same_flow}
 use Rattle.list_facts.proofs.StableSort.{Floor, Rises, rises_from}
-use Rattle.greedy_rules.proofs.Facts.{same_flow-refl, InRange}
+use Rattle.list_facts.proofs.Lists.{All-front}
+use Rattle.greedy_rules.proofs.Facts.{InRange}
 use Rattle.greedy_rules.specs.declared.flows.Item.{Item}
 use Rattle.greedy_rules.specs.declared.flows.Entry.{Entry}
 use Rattle.greedy_rules.specs.Demands.{OpensNewFlows, is_listed}
+use Rattle.greedy_rules.proofs.OnceLemmas.{Other, not_listed}
 use Rattle.slot_batches.specs.Feeding.{IsInOrder}
 use Rattle.slot_batches.specs.ArrayStands.{OpensOthers, MayBeFed, ListsMayBeFed}
 use Rattle.slot_batches.proofs.ListOrder.{in_order_from}
-use Rattle.slot_batches.proofs.StageLemmas.{Other, All-front, AllPairs-front}
-
-abbrev last_of : Item → ℕ
-last_of item = item.last
+use Rattle.slot_batches.proofs.StageLemmas.{AllPairs-front}
+use Rattle.slot_batches.proofs.NextList.{last_of}
 
 floor-front : (n : ℕ) (xs ys : List Item) → Floor last_of n (xs ++ ys) → Floor last_of n xs
 floor-front n [] ys floor = tt
@@ -29,14 +26,6 @@ rises-front (x ∷ xs) ys rises = (floor-front x.last xs ys rises.0, rises-front
 
 pub in_order-front : (xs ys : List Item) → IsInOrder (xs ++ ys) → IsInOrder xs
 in_order-front xs ys up = in_order_from last_of xs (rises-front xs ys (rises_from last_of (xs ++ ys) up))
-
--- a flow that a list has not is no item's
-not_listed : (list : List Item) (flow : Flow) → is_listed list flow ≡ false → All (λ item. item.flow ≢ flow) list
-not_listed [] flow none = All-nil (λ item. item.flow ≢ flow)
-not_listed (item ∷ list) flow none =
-    let parts = or_parts (same_flow item.flow flow) (is_listed list flow) none in
-    let differs : item.flow ≢ flow = λ e. let hit : same_flow item.flow flow ≡ true = ap (λ (f : Flow). same_flow item.flow f) (sym e) ∙ same_flow-refl item.flow in cc in
-    All-cons (λ x. x.flow ≢ flow) item list differs (not_listed list flow parts.1)
 
 -- a flow that opens is no item's
 pub others_open : (batch : List Entry) (list : List Item) → OpensNewFlows batch list → All (OpensOthers batch) list

@@ -10,7 +10,7 @@ use Rattle.slot_batches.specs.FlowByFlow.{items_after}
 use Rattle.slot_batches.specs.Feeding.{unserved, newly_served}
 use Rattle.slot_batches.specs.Progress.{StandsAfter}
 use Rattle.slot_batches.specs.Filled.{HasTakenUp}
-use Rattle.slot_batches.specs.Parts.{fill_of, HasRoom}
+use Rattle.slot_batches.specs.Parts.{fill_of, FillingHasRoom}
 use Rattle.slot_batches.specs.declared.filling.Filling.{Filling}
 use Rattle.slot_batches.proofs.TurnFacts.{length-items_after}
 use Rattle.std.proofs.lemmas.Bool.{cases_Bool, cond-true, cond-false}
@@ -49,7 +49,7 @@ module _ (bar : Bar) where
       )
 
 -- all that was taken up has room among what waits
-pub fits_waiting : (taken : List Item) (filling : Filling) → HasRoom filling → HasTakenUp taken (fill_of filling) → vec_len filling.waiting + vec_len filling.served ≤ vec_capacity filling.waiting
+pub fits_waiting : (taken : List Item) (filling : Filling) → FillingHasRoom filling → HasTakenUp taken (fill_of filling) → vec_len filling.waiting + vec_len filling.served ≤ vec_capacity filling.waiting
 fits_waiting taken filling room is =
     omega (
       arith,

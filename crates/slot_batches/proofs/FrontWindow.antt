@@ -28,9 +28,7 @@ use Rattle.slot_batches.proofs.TurnSteps.{slots_after-append}
 use Rattle.slot_batches.proofs.WeaveLemmas.{applied_to_both, more_behind_both, IsGoneFrom}
 use Rattle.slot_batches.proofs.Front.{IsNotIn, Behind, IsSettled, kept_out_of_part}
 use Rattle.slot_batches.proofs.SetAside.{new_ones, parts_are, front, back, each_is_listed, slots_between, parts_of_batch, AreWoven, NoEntry, step, step_applies, opened_apart, next_first, woven_at_first, items_beyond_reach_may_be_set_aside}
-
-abbrev pub last_of : Item → ℕ
-last_of item = item.last
+use Rattle.slot_batches.proofs.NextList.{last_of}
 
 -- when a flow of a list was last served, 0 where it is not listed
 abbrev pub stood_in : List Item → Flow → ℕ

@@ -14,7 +14,7 @@ use Rattle.greedy_rules.specs.Batches.{entry_of}
 use Rattle.greedy_rules.specs.Demands.{with_batch, need_with}
 use Rattle.greedy_rules.proofs.Facts.{same_flow-true}
 use Rattle.endpoint_bitmaps.specs.Slots.{has_slot}
-use Rattle.slot_batches.specs.Marks.{source_place, destination_place, mark_bit, has_bit, is_marked, AreMarked}
+use Rattle.slot_batches.specs.Marks.{source_place, destination_place, mark_bit, has_bit, is_flow_marked, AreMarked}
 
 module _ (words : List ℕ) (at bit word : ℕ) (within : at < length words) (is : word ≡ get_or words at word) (place : bit < 64) where
   abbrev marked : List ℕ
@@ -55,7 +55,7 @@ has_bit-inside : (words : List ℕ) (at bit : ℕ) → at < length words → has
 has_bit-inside words at bit within = ap (λ (b : Bool). not b || has_slot (get_or words at 0) bit) (lt-ltb at (length words) within)
 
 pub none_in_common : (words : List ℕ) (flow : Flow) → source_place flow < length words → destination_place flow < length words
-    → bit_and (get_or words (source_place flow) 0) (get_or words (destination_place flow) 0) ≡ 0 → is_marked words flow ≡ false
+    → bit_and (get_or words (source_place flow) 0) (get_or words (destination_place flow) 0) ≡ 0 → is_flow_marked words flow ≡ false
 none_in_common words flow source destination none =
     let a : ℕ = get_or words (source_place flow) 0 in
     let b : ℕ = get_or words (destination_place flow) 0 in
@@ -65,15 +65,15 @@ none_in_common words flow source destination none =
     ∙ no_common_bit (bit_at a k) (bit_at b k) (sym (bit_at_and a b k) ∙ (ap (λ (n : ℕ). bit_at n k) none ∙ bit_at-zero k)))
 
 -- a flow without a mark has no entry
-pub not_marked : (entries : List Entry) (words : List ℕ) (flow : Flow) → AreMarked entries words → is_marked words flow ≡ false → entry_of entries flow ≡ None
+pub not_marked : (entries : List Entry) (words : List ℕ) (flow : Flow) → AreMarked entries words → is_flow_marked words flow ≡ false → entry_of entries flow ≡ None
 not_marked [] words flow all none = refl
 not_marked (entry ∷ entries) words flow all none =
-    let Marked : Entry → Type 0 = λ e. is_marked words e.flow ≡ true in
+    let Marked : Entry → Type 0 = λ e. is_flow_marked words e.flow ≡ true in
     let differs : same_flow entry.flow flow ≡ false =
-    false_from_ne_true _ (λ same. both_ways (is_marked words flow) none (ap (is_marked words) (sym (same_flow-true entry.flow flow same)) ∙ All-head Marked entry entries all)) in
+    false_from_ne_true _ (λ same. both_ways (is_flow_marked words flow) none (ap (is_flow_marked words) (sym (same_flow-true entry.flow flow same)) ∙ All-head Marked entry entries all)) in
     cond-false (same_flow entry.flow flow) (Some entry) (find (λ e. same_flow e.flow flow) entries) differs
     ∙ not_marked entries words flow (All-tail Marked entry entries all) none
 
 -- so its item stays as it is
-pub not_marked_item : (entries : List Entry) (words : List ℕ) (item : Item) → AreMarked entries words → is_marked words item.flow ≡ false → item ≡ with_batch entries item
+pub not_marked_item : (entries : List Entry) (words : List ℕ) (item : Item) → AreMarked entries words → is_flow_marked words item.flow ≡ false → item ≡ with_batch entries item
 not_marked_item entries words item marked none = ap (λ (e : Option Entry). record item { need = need_with e item.need }) (sym (not_marked entries words item.flow marked none))

@@ -1,23 +1,21 @@
 -- How many items are settled, and how many nodes a stage has for them.
 use Rattle.std.proofs.Common.{◌≡◌, ◌<◌, ◌≤◌, ◌+◌, ◌-◌, ◌*◌, ◌⊎◌, ℕ, zero, suc, List, [], ◌∷◌, ◌++◌, length, take, min, map, filter, Bool, true, false, cond, nat_lt, ◌&&◌, ◌||◌, Some, None, refl, ap, ◌∙◌, subst, arith, inl, inr}
-use Rattle.std.proofs.lemmas.Bool.{cond_both, ltb-true}
+use Rattle.std.proofs.lemmas.Bool.{ltb-true}
 use Rattle.std.proofs.lemmas.List.{length-append, length-map, length-drop, length-take}
 use Rattle.std.proofs.lemmas.Nat.{mul-le}
+use Rattle.list_facts.proofs.Lists.{filter-few}
 use Rattle.greedy_rules.specs.declared.flows.Item.{Item}
 use Rattle.greedy_rules.specs.declared.flows.Entry.{Entry}
 use Rattle.greedy_rules.specs.Batches.{DemandBatch}
 use Rattle.greedy_rules.specs.Limits.{is_barred}
 use Rattle.greedy_rules.specs.Demands.{opened, after_batch, HasEachFlowOnce, AreBelow}
 use Rattle.greedy_rules.proofs.Facts.{once-opened, few}
+use Rattle.greedy_rules.proofs.NeedLemmas.{opening_item}
 use Rattle.slot_batches.specs.Settled.{counts_as_fed, has_no_slot, next_list, settled}
 use Rattle.slot_batches.specs.Pieces.{Part, piece_at, waiting_items, has_piece, next_piece}
 use Rattle.slot_batches.specs.ArrayStands.{ArrayState, ArrayStands, MayBeFed, array_endpoints, array_first, array_size}
 use Rattle.slot_batches.proofs.NextList.{length-after_slots, length-after_batch}
 use Rattle.slot_batches.specs.Stands.{nodes_left}
-
-filter-few : {X : Type 0} (p : X → Bool) (xs : List X) → length (filter p xs) ≤ length xs
-filter-few p [] = omega arith
-filter-few p (x ∷ xs) = cond_both (p x) (x ∷ filter p xs) (filter p xs) (λ l. length l ≤ length (x ∷ xs)) (λ _. omega (arith, filter-few p xs)) (λ _. omega (arith, filter-few p xs))
 
 pub settled-all : (batch : DemandBatch) (number b : ℕ) (fed : List Item) → length (settled batch number b fed true) ≡ length fed + length (opened batch.entries)
 settled-all batch number b fed = length-after_slots (is_barred batch.limits) number b (after_batch batch.entries fed) ∙ length-after_batch batch.entries fed
@@ -98,20 +96,17 @@ length-one : (f : Entry → Item) (is : Bool) (entry : Entry) (entries : List En
 length-one f true entry entries = omega arith
 length-one f false entry entries = omega arith
 
-abbrev item_of : Entry → Item
-item_of entry = record { flow = entry.flow; need = entry.add; last = 0 }
-
 pub opened_front : (n : ℕ) (batch : List Entry) → length (opened (take n batch)) ≤ length (opened batch)
 opened_front zero batch = omega arith
 opened_front (suc n) [] = omega arith
 opened_front (suc n) (entry ∷ batch) =
-    let less : length (opened (take (suc n) (entry ∷ batch))) ≡ cond entry.opens 1 0 + length (opened (take n batch)) = length-one item_of entry.opens entry (filter (λ (e : Entry). e.opens) (take n batch)) in
-    let all : length (opened (entry ∷ batch)) ≡ cond entry.opens 1 0 + length (opened batch) = length-one item_of entry.opens entry (filter (λ (e : Entry). e.opens) batch) in
+    let less : length (opened (take (suc n) (entry ∷ batch))) ≡ cond entry.opens 1 0 + length (opened (take n batch)) = length-one opening_item entry.opens entry (filter (λ (e : Entry). e.opens) (take n batch)) in
+    let all : length (opened (entry ∷ batch)) ≡ cond entry.opens 1 0 + length (opened batch) = length-one opening_item entry.opens entry (filter (λ (e : Entry). e.opens) batch) in
     omega (arith, less, all, opened_front n batch)
 
 pub opened_few : (batch : List Entry) → length (opened batch) ≤ length batch
 opened_few batch =
-    let same : length (opened batch) ≡ length (filter (λ (e : Entry). e.opens) batch) = length-map (filter (λ (e : Entry). e.opens) batch) item_of in
+    let same : length (opened batch) ≡ length (filter (λ (e : Entry). e.opens) batch) = length-map (filter (λ (e : Entry). e.opens) batch) opening_item in
     omega (arith, same, filter-few (λ (e : Entry). e.opens) batch)
 
 -- the nodes are enough for what waits, whether it is to be given yet or not

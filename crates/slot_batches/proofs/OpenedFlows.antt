@@ -9,9 +9,7 @@ use Rattle.greedy_rules.specs.Demands.{with_batch, opened, after_batch}
 use Rattle.list_facts.proofs.StableSort.{Floor, Rises, rises_from}
 use Rattle.slot_batches.specs.Feeding.{was_served, has_served, taken_up, IsInOrder}
 use Rattle.slot_batches.proofs.ListOrder.{Ceiling, insert_by-front, insert_by-past, sort_by-rises, in_order-sort_by}
-
-abbrev last_of : Item → ℕ
-last_of item = item.last
+use Rattle.slot_batches.proofs.NextList.{last_of}
 
 -- the flows that open were never served
 unserved-opened : (n : ℕ) (batch : List Entry) → 0 < n → Ceiling last_of n (opened batch)

@@ -5,6 +5,7 @@ use Rattle.std.specs.List.{range_with_len}
 use Rattle.std.proofs.lemmas.Bool.{or_left, cond-true, cases_Bool, cases_lt, lt-ltb, le-ltb, ltb-true, and_right, and_parts, both_ways}
 use Rattle.std.proofs.lemmas.Bool.Decides.{nat_tests}
 use Rattle.std.proofs.lemmas.List.{length-drop, length-take}
+use Rattle.list_facts.proofs.Lists.{get_within}
 use Rattle.greedy_rules.specs.declared.flows.Item.{Item}
 use Rattle.greedy_rules.specs.Batches.{DemandBatch}
 use Rattle.slot_batches.specs.Pieces.{Part, piece_count, piece_at, waiting_items, has_piece, next_piece, EndedListsGiveTheirPieces}
@@ -134,11 +135,6 @@ get_past : {X : Type 0} (f : ℕ → X) (a n place : ℕ) → n ≤ place → sl
 get_past f a zero place past = refl
 get_past f a (suc n) zero past = absurd (omega arith)
 get_past f a (suc n) (suc place) past = get_past f (a + 1) n place (omega arith)
-
-get_within : {X : Type 0} (f : ℕ → X) (a n place : ℕ) → place < n → slice_get (map f (range_with_len a n)) place ≡ Some (f (a + place))
-get_within f a zero place below = absurd (omega arith)
-get_within f a (suc n) zero below = ap (λ (k : ℕ). Some (f k)) (omega arith)
-get_within f a (suc n) (suc place) below = get_within f (a + 1) n place (omega arith) ∙ ap (λ (k : ℕ). Some (f k)) (omega arith)
 
 more_left : (n given : ℕ) → 64 < n - 64 * given → nat_lt given ((n - 1) / 64 + 1) ≡ true
 more_left n given many = lt-ltb given ((n - 1) / 64 + 1) (omega (arith, many))

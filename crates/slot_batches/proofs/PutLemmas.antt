@@ -3,12 +3,13 @@ use Rattle.std.proofs.Common.{◌≡◌, ◌≢◌, ◌<◌, ◌-◌, ◌^◌, �
 use Rattle.std.specs.Int.{trailing_zeros}
 use Rattle.std.proofs.lemmas.Bool.{and_right, and_parts, not-true, eq-eqb, ne_eqb, both_ways, cases_lt}
 use Rattle.std.proofs.lemmas.Nat.Bits.{bit_at-trailing_zeros}
+use Rattle.list_facts.proofs.Bools.{none_yet, and_true}
 use Rattle.greedy_rules.specs.declared.flows.Flow.{Flow}
 use Rattle.greedy_rules.specs.Slot.{slot_with}
 use Rattle.greedy_rules.specs.Schedule.{slot_in}
 use Rattle.greedy_rules.specs.SlotTable.{destination_of}
 use Rattle.endpoint_bitmaps.specs.Slots.{has_slot}
-use Rattle.endpoint_bitmaps.proofs.Facts.{has_slot-none, and_true, lowest_is, without_lowest}
+use Rattle.endpoint_bitmaps.proofs.Facts.{has_slot-none, lowest_is, without_lowest}
 use Rattle.slot_batches.specs.FreePlaces.{HasAdded}
 use Rattle.slot_batches.specs.Filled.{IsGreatest}
 use Rattle.slot_batches.proofs.Added.{added-none, added-one, added-same, added-not_yet}
@@ -19,13 +20,9 @@ pub record IsPutting (flow : Flow) (places rest : ℕ) (old new : List (List Flo
   pub part : (place : ℕ) → has_slot rest place ≡ true → has_slot places place ≡ true
   pub above : (place later : ℕ) → has_slot rest place ≡ true → place < later → has_slot rest later ≡ has_slot places later
 
-none_before : (b : Bool) → (b && not b) ≡ false
-none_before true = refl
-none_before false = refl
-
 pub putting_starts : (flow : Flow) (places : ℕ) (slots : List (List Flow)) → IsPutting flow places places slots slots
 putting_starts flow places slots = record {
-  added = added-none flow (λ place. has_slot places place && not (has_slot places place)) slots (λ place. none_before (has_slot places place));
+  added = added-none flow (λ place. has_slot places place && not (has_slot places place)) slots (λ place. none_yet (has_slot places place));
   part = λ place is. is;
   above = λ place later is after. refl;
 }

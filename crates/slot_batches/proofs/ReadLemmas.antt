@@ -1,13 +1,12 @@
 -- An element read from a list: what is true of all is true of it, and the front with it.
-use Rattle.std.proofs.Common.{◌≡◌, ◌<◌, ◌≤◌, ◌+◌, ℕ, zero, suc, List, [], ◌∷◌, ◌++◌, length, filter, take, drop, Bool, true, false, ◌||◌, Some, All, sym, ap, ◌∙◌, subst, arith, inl, inr, get_or}
+use Rattle.std.proofs.Common.{◌≡◌, ◌<◌, ◌+◌, ℕ, zero, suc, List, [], ◌∷◌, ◌++◌, length, take, drop, Bool, true, false, ◌||◌, Some, All, sym, ap, ◌∙◌, subst, arith, inl, inr, get_or}
 use Rattle.std.specs.Prelude.{slice_get}
 use Rattle.std.specs.List.{list_any}
 use Rattle.std.proofs.lemmas.Bool.{cases_Bool}
-use Rattle.std.proofs.lemmas.List.{take-append-drop, length-map}
-use Rattle.std.proofs.lemmas.List.Sums.{length-filter, count_by-le-length}
+use Rattle.std.proofs.lemmas.List.{take-append-drop}
 use Rattle.greedy_rules.specs.declared.flows.Item.{Item}
 use Rattle.greedy_rules.specs.declared.flows.Entry.{Entry}
-use Rattle.greedy_rules.specs.Demands.{AreBelow, OpensNewFlows, opened}
+use Rattle.greedy_rules.specs.Demands.{AreBelow, OpensNewFlows}
 use Rattle.slot_batches.specs.NextList.{IsListBefore}
 use Rattle.slot_batches.specs.ArrayStands.{MayBeFed}
 use Rattle.slot_batches.proofs.FedLemmas.{lists_may_be_fed}
@@ -56,16 +55,6 @@ may_feed_next batch endpoints number endpoints' number' at list item before in_r
     subst (λ (n : ℕ). MayBeFed batch n number' front) (sym endpoints_are)
     (subst (λ (n : ℕ). MayBeFed batch endpoints n front) (sym number_is)
     (lists_may_be_fed batch endpoints number front rest (subst (IsListBefore number) whole before) (subst (AreBelow endpoints) whole in_range) (subst (OpensNewFlows batch) whole opens)))
-
-pub opened_few : (batch : List Entry) → length (opened batch) ≤ length batch
-opened_few batch =
-    let to_item : Entry → Item = λ e. record { flow = e.flow; need = e.add; last = 0 } in
-    omega (
-      arith,
-      length-map (filter (λ (e : Entry). e.opens) batch) to_item,
-      length-filter (λ (e : Entry). e.opens) batch,
-      count_by-le-length (λ (e : Entry). e.opens) batch,
-    )
 
 -- the empty list is one before every slot
 pub empty_before : (number : ℕ) → IsListBefore number []

@@ -16,10 +16,10 @@ use Rattle.slot_batches.specs.FlowByFlow.{slots_with, item_after}
 use Rattle.slot_batches.specs.FreePlaces.{is_chosen}
 use Rattle.slot_batches.specs.Feeding.{was_served, has_served, taken_up}
 use Rattle.slot_batches.specs.Filled.{Fill, HasTakenUp, MayBeTakenUp}
-use Rattle.slot_batches.specs.Rests.{TakesNone, Rests}
+use Rattle.slot_batches.specs.Rests.{TakesNone, ItemRests}
 use Rattle.slot_batches.specs.ArrayStands.{HasBeenFed, MayBeFed}
 use Rattle.slot_batches.specs.declared.filling.Filling.{Filling}
-use Rattle.slot_batches.specs.Parts.{fill_of, HasRoom}
+use Rattle.slot_batches.specs.Parts.{fill_of, FillingHasRoom}
 use Rattle.slot_batches.proofs.FilledLemmas.{lengths_after}
 use Rattle.slot_batches.proofs.Added.{added-none, added-unique}
 use Rattle.slot_batches.proofs.FreePlaces.{takes_lowest_free}
@@ -27,10 +27,6 @@ use Rattle.slot_batches.proofs.FreeMaps.{lowest_common_is_chosen}
 use Rattle.slot_batches.proofs.ProgressLemmas.{stands_with_waiting}
 use Rattle.slot_batches.proofs.StageLemmas.{may_front, may_so_far, open_now, feed_one, unopened_then}
 use Rattle.slot_batches.proofs.TakeUpLemmas.{last_of_all}
-
-pub all_back : {X : Type 0} (P : X → Type 0) (xs ys : List X) → All P (xs ++ ys) → All P ys
-all_back P [] ys all = all
-all_back P (x ∷ xs) ys all = all_back P xs ys (All-tail P x (xs ++ ys) all)
 
 -- the parts once these items wait as well
 abbrev pub kept : Fill → List Item → Fill
@@ -73,7 +69,7 @@ keep_all taken (item ∷ items) fill is may none =
     (ap (λ (xs : List Item). record fill { waiting = xs }) (append_assoc fill.waiting (item ∷ []) items)) rest)
 
 -- there is room for them
-pub room_to_keep : (taken items : List Item) (f : Filling) → HasRoom f → HasTakenUp taken (fill_of f) → MayBeTakenUp f.endpoints f.first_slot (taken ++ items)
+pub room_to_keep : (taken items : List Item) (f : Filling) → FillingHasRoom f → HasTakenUp taken (fill_of f) → MayBeTakenUp f.endpoints f.first_slot (taken ++ items)
     → vec_len f.waiting + length items ≤ vec_capacity f.waiting
 room_to_keep taken items f room is may =
     let waits = lengths_after (is_barred f.maps.limits) f.first_slot f.b taken f.slots.slots f.waiting.items f.served.items is.stands in
@@ -126,28 +122,28 @@ run_taken_up entries fed (item ∷ run) unopened left rest =
       on.1 ∙ ap (λ (xs : List Item). cond (has_served xs) 0 (length entries)) same,
     )
 
-abbrev first_two : (entries : List Entry) (unopened : ℕ) (maps : FreeSlots) (item : Item) → Rests entries unopened maps item
+abbrev first_two : (entries : List Entry) (unopened : ℕ) (maps : FreeSlots) (item : Item) → ItemRests entries unopened maps item
     → (entry_of entries item.flow ≡ None) × ((was_served item && not (unopened == 0)) ≡ false)
 first_two entries unopened maps item rests = (rests.no_entry, rests.none_opens)
 
 -- a run of items that wait as they are may be kept
 pub may_keep : (batch : DemandBatch) (fed run : List Item) (fill : Fill) (unopened : ℕ) → HasBeenFed batch fed fill unopened
-    → MayBeFed batch.entries fill.endpoints fill.first_slot (fed ++ run) → All (Rests batch.entries unopened fill.maps) run
+    → MayBeFed batch.entries fill.endpoints fill.first_slot (fed ++ run) → All (ItemRests batch.entries unopened fill.maps) run
     → MayBeTakenUp fill.endpoints fill.first_slot (taken_up batch.entries fed false ++ run)
 may_keep batch fed run fill unopened so_far may rests =
     let both : Item → Type 0 = λ item. (entry_of batch.entries item.flow ≡ None) × ((was_served item && not (unopened == 0)) ≡ false) in
     subst (MayBeTakenUp fill.endpoints fill.first_slot)
-    (run_taken_up batch.entries fed run unopened so_far.unopened_is (All-weaker (Rests batch.entries unopened fill.maps) both (first_two batch.entries unopened fill.maps) run rests)).0
+    (run_taken_up batch.entries fed run unopened so_far.unopened_is (All-weaker (ItemRests batch.entries unopened fill.maps) both (first_two batch.entries unopened fill.maps) run rests)).0
     (may_so_far batch.entries fill.endpoints fill.first_slot (fed ++ run) so_far.positive so_far.rising so_far.opening may)
 
 -- and then it has been fed
 pub fed_run : (batch : DemandBatch) (fed run : List Item) (old new : Fill) (unopened : ℕ) → HasBeenFed batch fed old unopened
-    → MayBeFed batch.entries old.endpoints old.first_slot (fed ++ run) → All (Rests batch.entries unopened old.maps) run
+    → MayBeFed batch.entries old.endpoints old.first_slot (fed ++ run) → All (ItemRests batch.entries unopened old.maps) run
     → HasTakenUp (taken_up batch.entries fed false ++ run) new → new.maps.limits ≡ old.maps.limits → new.endpoints ≡ old.endpoints → new.first_slot ≡ old.first_slot
     → HasBeenFed batch (fed ++ run) new unopened
 fed_run batch fed run old new unopened so_far may rests taken limits_are endpoints_are first_is =
     let both : Item → Type 0 = λ item. (entry_of batch.entries item.flow ≡ None) × ((was_served item && not (unopened == 0)) ≡ false) in
-    let on = run_taken_up batch.entries fed run unopened so_far.unopened_is (All-weaker (Rests batch.entries unopened old.maps) both (first_two batch.entries unopened old.maps) run rests) in
+    let on = run_taken_up batch.entries fed run unopened so_far.unopened_is (All-weaker (ItemRests batch.entries unopened old.maps) both (first_two batch.entries unopened old.maps) run rests) in
     record {
       positive = omega (arith, so_far.positive, first_is);
       small = omega (arith, so_far.small, endpoints_are);

@@ -17,8 +17,10 @@ use Rattle.greedy_rules.specs.Allocation.{batch_slots, list_after_slots}
 use Rattle.greedy_rules.specs.Schedule.{first_slot, slots_then, list_then, schedule_from, rest_from}
 use Rattle.greedy_rules.specs.Recorded.{Applies, MayBeApplied}
 use Rattle.greedy_rules.proofs.Facts.{same_flow-true, same_flow-refl, InRange, All-opened, once-after_batch, listed-after_batch, listed-after_slots}
+use Rattle.greedy_rules.proofs.OnceLemmas.{Other}
 use Rattle.list_facts.proofs.Pairs.{AllPairs-cons, AllPairs-head, AllPairs-tail}
 use Rattle.list_facts.proofs.StableSort.{Floor, Rises, rises_from, All-sort_by}
+use Rattle.list_facts.proofs.Lists.{filter_none, filter_all, All-front}
 use Rattle.slot_batches.specs.FlowByFlow.{slots_after, items_after}
 use Rattle.slot_batches.specs.Feeding.{was_served, unserved, newly_served}
 use Rattle.slot_batches.specs.NextList.{IsListBefore}
@@ -27,18 +29,11 @@ use Rattle.slot_batches.specs.Beyond.{first_part, second_part, StayOut, AreBeyon
 use Rattle.slot_batches.proofs.ListOrder.{in_order_from}
 use Rattle.slot_batches.proofs.OpenedFlows.{all_served, after_batch_parts, in_order-after_batch}
 use Rattle.slot_batches.proofs.SortedRuns.{two_runs}
-use Rattle.slot_batches.proofs.ServedSlots.{filter_twice, filter_none, filter_all}
+use Rattle.slot_batches.proofs.ServedSlots.{filter_twice}
 use Rattle.slot_batches.proofs.SlotExchange.{slot_by_slot}
 use Rattle.slot_batches.proofs.TurnSteps.{slots_after-append, items_after-append}
-use Rattle.slot_batches.proofs.NextList.{every_batch_leaves_a_list}
-use Rattle.slot_batches.proofs.StageLemmas.{All-front}
+use Rattle.slot_batches.proofs.NextList.{every_batch_leaves_a_list, last_of}
 use Rattle.slot_batches.proofs.WeaveLemmas.{IsGoneFrom, Weaves, Asides, Others, All-unserved, no_entry_is, weave_is, All-rest, listed_in_rest, weaves_picked, applied_to_both, more_behind_both, idle_are_kept_out, same_slots, same_served, unserved_of_both}
-
-abbrev last_of : Item → ℕ
-last_of item = item.last
-
-abbrev Other : Item → Item → Type 0
-Other i j = i.flow ≢ j.flow
 
 pub All-back : (P : Item → Type 0) (xs ys : List Item) → All P (xs ++ ys) → All P ys
 All-back P [] ys all = all

@@ -12,21 +12,23 @@ use Rattle.greedy_rules.specs.Flows.{same_flow}
 use Rattle.greedy_rules.specs.Limits.{is_barred}
 use Rattle.greedy_rules.specs.Demands.{HasEachFlowOnce, is_listed, by_last, with_batch, opened, after_batch}
 use Rattle.greedy_rules.specs.Allocation.{list_after_slots}
-use Rattle.greedy_rules.proofs.Facts.{same_flow-true, same_flow-refl, once-map, once-opened, once-sort_by}
+use Rattle.greedy_rules.proofs.Facts.{same_flow-true, once-map, once-opened, once-sort_by}
+use Rattle.greedy_rules.proofs.OnceLemmas.{Other}
 use Rattle.list_facts.proofs.Pairs.{AllPairs-append, AllPairs-head, AllPairs-tail}
 use Rattle.list_facts.proofs.StableSort.{All-sort_by}
+use Rattle.list_facts.proofs.Lists.{All-front, all_back}
 use Rattle.slot_batches.specs.FlowByFlow.{slots_after, items_after}
 use Rattle.slot_batches.specs.Feeding.{IsInOrder, was_served, has_served, taken_up, unserved, newly_served}
 use Rattle.slot_batches.specs.Settled.{counts_as_fed, settled_of, settled, SettledItemsCountAsFed}
 use Rattle.slot_batches.specs.ArrayStands.{OpensOthers}
 use Rattle.slot_batches.proofs.OpenedFlows.{taken_up_all, taken_up_rest, in_order-after_batch}
-use Rattle.slot_batches.proofs.StageLemmas.{Other, All-front, AllPairs-front, opens_others}
+use Rattle.slot_batches.proofs.StageLemmas.{AllPairs-front, opens_others}
 use Rattle.slot_batches.proofs.FedLemmas.{others_open, in_order-front}
-use Rattle.slot_batches.proofs.RestLemmas.{all_back}
 use Rattle.slot_batches.proofs.SlotExchange.{slot_by_slot}
 use Rattle.slot_batches.proofs.SortedRuns.{two_runs}
 use Rattle.slot_batches.proofs.TurnFacts.{All-items_after}
 use Rattle.slot_batches.proofs.TurnSteps.{items_after-append}
+use Rattle.slot_batches.proofs.SetAside.{each_is_listed}
 
 -- ---- filters
 
@@ -91,16 +93,6 @@ listed-taken batch (item ∷ fed) flow = elim (cases_Bool (was_served item)) [
     moved true b c = refl
     moved false b c = refl
 
-each_listed : (xs : List Item) → All (λ x. is_listed xs x.flow ≡ true) xs
-each_listed [] = All-nil (λ x. is_listed [] x.flow ≡ true)
-each_listed (x ∷ xs) =
-    All-cons (λ y. is_listed (x ∷ xs) y.flow ≡ true) x xs (ap (λ (b : Bool). b || is_listed xs x.flow) (same_flow-refl x.flow))
-    (All-weaker (λ y. is_listed xs y.flow ≡ true) (λ y. is_listed (x ∷ xs) y.flow ≡ true) (λ y is. ap (λ (b : Bool). same_flow x.flow y.flow || b) is ∙ or_true (same_flow x.flow y.flow)) xs (each_listed xs))
-  where
-    or_true : (a : Bool) → (a || true) ≡ true
-    or_true true = refl
-    or_true false = refl
-
 -- where each flow stands once, none of the later ones is listed before
 none_listed : (xs ys : List Item) → HasEachFlowOnce (xs ++ ys) → All (λ y. is_listed xs y.flow ≡ false) ys
 none_listed [] ys once = λ k d within. refl
@@ -159,7 +151,7 @@ module _ (bar : Bar) (batch : List Entry) (number b : ℕ) (fed rest : List Item
 
   fed_in : filter passes (unserved number front) ≡ unserved number front
   fed_in =
-      let listed : All (λ item. counts_as_fed batch fed item.flow ≡ true) taken = All-weaker (λ x. is_listed taken x.flow ≡ true) (λ x. counts_as_fed batch fed x.flow ≡ true) (λ x is. sym (listed-taken batch fed x.flow) ∙ is) taken (each_listed taken) in
+      let listed : All (λ item. counts_as_fed batch fed item.flow ≡ true) taken = All-weaker (λ x. is_listed taken x.flow ≡ true) (λ x. counts_as_fed batch fed x.flow ≡ true) (λ x is. sym (listed-taken batch fed x.flow) ∙ is) taken (each_is_listed taken) in
       let all = All-items_after bar (λ flow. counts_as_fed batch fed flow ≡ true) number taken empty listed in
       filter_all passes (unserved number front)
       (All-passing (λ item. nat_lt item.last number) (λ x. passes x ≡ true) front (λ k d within is. both (counts_as_fed batch fed _) (nat_lt _ number) (all k d within) is))

@@ -12,6 +12,7 @@ use Rattle.list_facts.proofs.StableSort.{Floor, Rises, floor_lower, rises_from, 
 use Rattle.slot_batches.specs.FlowByFlow.{slots_with, item_after, items_after}
 use Rattle.slot_batches.specs.Feeding.{IsInOrder, unserved, newly_served, IsServedWithin}
 use Rattle.slot_batches.proofs.ListOrder.{Ceiling, ceiling_from, floor_from_all, insert_by-past, insert_by-within, sort_by-rises}
+use Rattle.slot_batches.proofs.NextList.{last_of}
 
 module _ {X : Type 0} (number : X → ℕ) (n : ℕ) where
   -- the elements whose numbers are below n, and the others
@@ -52,9 +53,6 @@ module _ {X : Type 0} (number : X → ℕ) (n : ℕ) where
             ∙ (insert_by-past number x (sort_by number (lows xs)) (sort_by number (highs xs)) (sorted_lows (number x) xs above)
             ∙ ap parts (sym high))
       ]
-
-abbrev last_of : Item → ℕ
-last_of item = item.last
 
 module _ (bar : Bar) where
   -- an item is as it was, or was served in one of the slots

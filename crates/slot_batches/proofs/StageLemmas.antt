@@ -3,14 +3,16 @@ use Rattle.std.proofs.Common.{◌≡◌, ◌≢◌, ◌<◌, ◌≤◌, ◌+◌,
 use Rattle.std.specs.Prelude.{slice_get}
 use Rattle.std.proofs.lemmas.Bool.{cases_Bool, cond-true, cond-false, and_right}
 use Rattle.std.proofs.lemmas.List.{append_assoc, take-append-drop, take-take, take_all}
-use Rattle.std.proofs.lemmas.List.Elements.{All-nil, All-cons, All-head, All-tail, All-append, All-map, All-weaker}
+use Rattle.std.proofs.lemmas.List.Elements.{All-append, All-map, All-weaker}
 use Rattle.greedy_rules.specs.declared.flows.Item.{Item}
 use Rattle.greedy_rules.specs.declared.flows.Entry.{Entry}
 use Rattle.greedy_rules.specs.declared.limits.Limits.{Limits}
 use Rattle.greedy_rules.specs.Batches.{IsBatch}
 use Rattle.greedy_rules.specs.Demands.{AreBelow, with_batch, opened, after_batch}
 use Rattle.list_facts.proofs.Pairs.{AllPairs-append, AllPairs-nil, AllPairs-cons, AllPairs-head, AllPairs-tail}
+use Rattle.list_facts.proofs.Lists.{All-front}
 use Rattle.greedy_rules.proofs.Facts.{opened-append, opened_more, InRange, All-opened, once-sort_by, once-map, once-opened, below-after_batch}
+use Rattle.greedy_rules.proofs.OnceLemmas.{Other}
 use Rattle.slot_batches.specs.Feeding.{was_served, has_served, taken_up}
 use Rattle.slot_batches.specs.declared.filling.Filling.{Filling}
 use Rattle.slot_batches.specs.Filled.{MayBeTakenUp}
@@ -19,17 +21,10 @@ use Rattle.slot_batches.specs.ArrayStands.{OpensOthers, MayBeFed}
 use Rattle.slot_batches.proofs.NextList.{lasts-after_batch}
 use Rattle.slot_batches.proofs.OpenedFlows.{taken_up_all, taken_up_more, taken_up_end, taken_up_plainly, has_served_more}
 
-pub All-front : {X : Type 0} (P : X → Type 0) (xs ys : List X) → All P (xs ++ ys) → All P xs
-All-front P [] ys all = All-nil P
-All-front P (x ∷ xs) ys all = All-cons P x xs (All-head P x (xs ++ ys) all) (All-front P xs ys (All-tail P x (xs ++ ys) all))
-
 pub AllPairs-front : {X : Type 0} (R : X → X → Type 0) (xs ys : List X) → AllPairs R (xs ++ ys) → AllPairs R xs
 AllPairs-front R [] ys pairs = AllPairs-nil R
 AllPairs-front R (x ∷ xs) ys pairs =
     AllPairs-cons R x xs (All-front (R x) xs ys (AllPairs-head R x (xs ++ ys) pairs)) (AllPairs-front R xs ys (AllPairs-tail R x (xs ++ ys) pairs))
-
-abbrev pub Other : Item → Item → Type 0
-Other i j = i.flow ≢ j.flow
 
 -- the front of what may be taken up
 pub may_front : (endpoints number : ℕ) (xs ys : List Item) → MayBeTakenUp endpoints number (xs ++ ys) → MayBeTakenUp endpoints number xs

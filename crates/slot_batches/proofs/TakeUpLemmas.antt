@@ -22,7 +22,7 @@ use Rattle.slot_batches.specs.FlowByFlow.{slots_with, item_after, slots_after, i
 use Rattle.slot_batches.specs.FreePlaces.{is_free, is_chosen, HasAdded}
 use Rattle.slot_batches.specs.Progress.{StandsAfter}
 use Rattle.slot_batches.specs.Filled.{HasTakenUp, MayBeTakenUp, IsGreatest}
-use Rattle.slot_batches.specs.Parts.{fill_of, HasRoom}
+use Rattle.slot_batches.specs.Parts.{fill_of, FillingHasRoom}
 use Rattle.slot_batches.proofs.Added.{added-none, added-same, added-unique}
 use Rattle.slot_batches.proofs.FreePlaces.{takes_lowest_free, item_after-served, chosen_within}
 use Rattle.slot_batches.proofs.FreeMaps.{common_is_free, lowest_common_is_chosen, shows_added, chosen_no_destination}
@@ -51,7 +51,7 @@ fits_served limits endpoints number b taken slots waiting served stands may =
       served_fit bar endpoints number b taken may.below in_range,
     )
 
-module _ (taken : List Item) (f : Filling) (item : Item) (room : HasRoom f) (is : HasTakenUp taken (fill_of f)) (may : MayBeTakenUp f.endpoints f.first_slot (taken ++ item ∷ [])) where
+module _ (taken : List Item) (f : Filling) (item : Item) (room : FillingHasRoom f) (is : HasTakenUp taken (fill_of f)) (may : MayBeTakenUp f.endpoints f.first_slot (taken ++ item ∷ [])) where
   abbrev bar : Bar
   bar = is_barred f.maps.limits
 

@@ -8,7 +8,7 @@ use Rattle.greedy_rules.specs.Limits.{leaving, entering}
 use Rattle.greedy_rules.specs.Schedule.{slot_in}
 use Rattle.slot_batches.specs.FlowByFlow.{slots_with, item_after}
 use Rattle.endpoint_bitmaps.specs.Slots.{count_below, is_among_lowest}
-use Rattle.endpoint_bitmaps.specs.FreeSlots.{FreeSlots, may_send, may_receive, leaving_in, entering_in}
+use Rattle.endpoint_bitmaps.specs.FreeSlots.{FreeSlots, is_free_to_send, may_receive, leaving_in, entering_in}
 
 -- the source sends in the slot
 abbrev pub has_source : ℕ → List Flow → Bool
@@ -46,7 +46,7 @@ EachItemTakesItsLowestFreePlaces = (bar : Bar) (number : ℕ) (item : Item) (slo
 -- the maps say at which places of the slots an endpoint does not send, and at which it does not receive; and how many flows
 -- leave a rack for others there, and come into it from others
 pub record ShowsFree (endpoints : ℕ) (maps : FreeSlots) (slots : List (List Flow)) : Type 0 where
-  pub senders : (src place : ℕ) → src < endpoints → may_send maps src place ≡ (nat_lt place (length slots) && not (has_source src (slot_in slots place)))
+  pub senders : (src place : ℕ) → src < endpoints → is_free_to_send maps src place ≡ (nat_lt place (length slots) && not (has_source src (slot_in slots place)))
   pub receivers : (dst place : ℕ) → dst < endpoints → may_receive maps dst place ≡ (nat_lt place (length slots) && not (has_destination dst (slot_in slots place)))
   pub leaving_is : (rack place : ℕ) → place < length slots → leaving_in maps rack place ≡ leaving maps.limits.hosts rack (slot_in slots place)
   pub entering_is : (rack place : ℕ) → place < length slots → entering_in maps rack place ≡ entering maps.limits.hosts rack (slot_in slots place)

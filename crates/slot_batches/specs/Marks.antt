@@ -21,12 +21,12 @@ abbrev pub has_bit : List ℕ → ℕ → ℕ → Bool
 has_bit words place bit = not (nat_lt place (length words)) || has_slot (slice_index_or words place 0) bit
 
 -- a flow past the words counts as marked
-abbrev pub is_marked : List ℕ → Flow → Bool
-is_marked words flow = has_bit words (source_place flow) (mark_bit flow) && has_bit words (destination_place flow) (mark_bit flow)
+abbrev pub is_flow_marked : List ℕ → Flow → Bool
+is_flow_marked words flow = has_bit words (source_place flow) (mark_bit flow) && has_bit words (destination_place flow) (mark_bit flow)
 
 -- the flow of each entry has its mark
 abbrev pub AreMarked : List Entry → List ℕ → Type 0
-AreMarked entries words = All (λ entry. is_marked words entry.flow ≡ true) entries
+AreMarked entries words = All (λ entry. is_flow_marked words entry.flow ≡ true) entries
 
 -- in the marks of a window each flow has a bit of its own, in one of four words of its source
 abbrev pub own_place : Flow → ℕ

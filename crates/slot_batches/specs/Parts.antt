@@ -16,7 +16,7 @@ fill_of filling = record {
 }
 
 -- there is room for every batch of its size
-pub record HasRoom (filling : Filling) : Type 0 where
+pub record FillingHasRoom (filling : Filling) : Type 0 where
   pub few_endpoints : filling.endpoints ≤ 256
   pub few_slots : filling.b ≤ 64
   pub maps : filling.maps.endpoints ≡ filling.endpoints
@@ -27,7 +27,7 @@ pub record HasRoom (filling : Filling) : Type 0 where
 
 -- and two words of marks for each of 256 endpoints
 pub record IsWhole (filling : Filling) (marks : List ℕ) : Type 0 where
-  pub room : HasRoom filling
+  pub room : FillingHasRoom filling
   pub words : length marks ≡ 512
 
 pub record IsSameBatch (limits : Limits) (endpoints b first_slot : ℕ) (filling : Filling) : Type 0 where

@@ -16,7 +16,7 @@ abbrev pub opens_before : ℕ → Item → Bool
 opens_before unopened item = was_served item && not (unopened == 0)
 
 -- nor has it an entry, and no flow opens before it
-pub record Rests (entries : List Entry) (unopened : ℕ) (maps : FreeSlots) (item : Item) : Type 0 where
+pub record ItemRests (entries : List Entry) (unopened : ℕ) (maps : FreeSlots) (item : Item) : Type 0 where
   pub no_entry : entry_of entries item.flow ≡ None
   pub none_opens : opens_before unopened item ≡ false
   pub takes_none : TakesNone maps item

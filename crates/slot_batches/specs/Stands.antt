@@ -14,8 +14,8 @@ pub record StageState : Type 0 where
   pub nodes : ℕ
 
 -- what a stage works on: its endpoints, how many slots a batch has, the number of the first, and the slots as they stand
-abbrev pub endpoints_of : StageState → ℕ
-endpoints_of stage = array_endpoints stage.arrays
+abbrev pub stage_endpoints : StageState → ℕ
+stage_endpoints stage = array_endpoints stage.arrays
 
 abbrev pub batch_size_of : StageState → ℕ
 batch_size_of stage = array_size stage.arrays
@@ -24,11 +24,11 @@ abbrev pub first_slot_of : StageState → ℕ
 first_slot_of stage = array_first stage.arrays
 
 -- the number that its pieces bear
-abbrev pub number_of : StageState → ℕ
-number_of stage = array_number stage.arrays
+abbrev pub stage_number : StageState → ℕ
+stage_number stage = array_number stage.arrays
 
-abbrev pub slots_of : StageState → List (List Flow)
-slots_of stage = array_slots stage.arrays
+abbrev pub stage_slots : StageState → List (List Flow)
+stage_slots stage = array_slots stage.arrays
 
 -- how much it has still to give: falls with each piece
 abbrev pub left_to_give : StageState → ℕ

@@ -7,7 +7,7 @@ ghost use Rattle.greedy_rules.specs.Limits.{AreLimits};
 ghost use Rattle.slot_batches.specs.FreePlaces.{HasAdded};
 ghost use Rattle.slot_batches.specs.Filled.{HasTakenUp, MayBeTakenUp, IsGreatest};
 ghost use Rattle.slot_batches.specs.Rests.{TakesNone};
-ghost use Rattle.slot_batches.specs.Parts.{fill_of, HasRoom, IsSameBatch};
+ghost use Rattle.slot_batches.specs.Parts.{fill_of, FillingHasRoom, IsSameBatch};
 
 use crate::served::append_served;
 use endpoint_bitmaps::FreeMaps;
@@ -32,7 +32,7 @@ impl Filling {
     pub(crate) fn open(alloc: Global, endpoints: u16, b: u8) -> Result<Filling, NoMemory>
         requires endpoints { endpoints ≤ 256 }
         requires b { b ≤ 64 }
-        ensures room { IfOk result HasRoom }
+        ensures room { IfOk result FillingHasRoom }
         ensures endpoints { IfOk result (λ filling. filling.endpoints ≡ endpoints) }
         ensures b { IfOk result (λ filling. filling.b ≡ b) }
     {
@@ -51,10 +51,10 @@ impl Filling {
 
     /// Begins a batch: all its slots are empty, and these limits hold in each.
     pub(crate) fn begin(&mut self, first_slot: u32, limits: Limits)
-        requires room { HasRoom self.old }
+        requires room { FillingHasRoom self.old }
         requires limits { AreLimits limits }
         requires numbers { first_slot + self.old.b ≤ 2 ^ 32 }
-        ensures room { HasRoom self.new }
+        ensures room { FillingHasRoom self.new }
         ensures same { IsSameBatch limits self.old.endpoints self.old.b first_slot self.new }
         ensures empty { HasTakenUp [] (fill_of self.new) }
     {
@@ -67,9 +67,9 @@ impl Filling {
 
     /// Lets the item take the lowest slots that are free for it, as many as it needs.
     pub(crate) fn take_up(&mut self, item: Item)
-        requires room { HasRoom self.old }
+        requires room { FillingHasRoom self.old }
         requires may { (taken : List Item) × HasTakenUp taken (fill_of self.old) × MayBeTakenUp self.old.endpoints self.old.first_slot (taken ++ item ∷ []) }
-        ensures room { HasRoom self.new }
+        ensures room { FillingHasRoom self.new }
         ensures same { IsSameBatch self.old.maps.limits self.old.endpoints self.old.b self.old.first_slot self.new }
         ensures taken_up { (taken : List Item) →
             HasTakenUp taken (fill_of self.old) →
@@ -101,10 +101,10 @@ impl Filling {
 
     /// Lets items wait that take no slot.
     pub(crate) fn keep(&mut self, items: &[Item])
-        requires room { HasRoom self.old }
+        requires room { FillingHasRoom self.old }
         requires may { (taken : List Item) × HasTakenUp taken (fill_of self.old) × MayBeTakenUp self.old.endpoints self.old.first_slot (taken ++ items.now) }
         requires none { All (TakesNone self.old.maps) items.now }
-        ensures room { HasRoom self.new }
+        ensures room { FillingHasRoom self.new }
         ensures same { IsSameBatch self.old.maps.limits self.old.endpoints self.old.b self.old.first_slot self.new }
         ensures waiting { self.new.waiting.items ≡ self.old.waiting.items ++ items.now }
         ensures taken_up { (taken : List Item) →
@@ -117,9 +117,9 @@ impl Filling {
 
     /// Ends the batch: what was served follows what waits, by the last slots.
     pub(crate) fn end(&mut self)
-        requires room { HasRoom self.old }
+        requires room { FillingHasRoom self.old }
         requires taken_up { (taken : List Item) × HasTakenUp taken (fill_of self.old) }
-        ensures room { HasRoom self.new }
+        ensures room { FillingHasRoom self.new }
         ensures same { IsSameBatch self.old.maps.limits self.old.endpoints self.old.b self.old.first_slot self.new }
         ensures slots { self.new.slots ≡ self.old.slots }
         ensures list { self.new.waiting.items ≡ self.old.waiting.items ++ by_last self.old.served.items }

@@ -1,6 +1,6 @@
 ghost use Rattle.std.specs.Prelude.{◌≡◌, ◌<◌, ◌==◌, ◌&&◌, ◌||◌, ℕ, length, true, false};
 ghost use Rattle.greedy_rules.specs.declared.flows.Flow.{Flow};
-ghost use Rattle.slot_batches.specs.Marks.{source_place, destination_place, mark_bit, has_bit as has_bit_in, is_marked as is_marked_in, AreMarked};
+ghost use Rattle.slot_batches.specs.Marks.{source_place, destination_place, mark_bit, has_bit as has_bit_in, is_flow_marked as is_marked_in, AreMarked};
 
 use greedy_rules::{Batch, Flow};
 

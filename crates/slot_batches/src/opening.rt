@@ -4,7 +4,7 @@ ghost use Rattle.greedy_rules.specs.Demands.{need_with, with_batch, opened};
 ghost use Rattle.slot_batches.specs.Marks.{AreMarked};
 ghost use Rattle.slot_batches.specs.Feeding.{taken_up};
 ghost use Rattle.slot_batches.specs.Filled.{HasTakenUp, MayBeTakenUp};
-ghost use Rattle.slot_batches.specs.Parts.{fill_of, HasRoom, IsSameBatch};
+ghost use Rattle.slot_batches.specs.Parts.{fill_of, FillingHasRoom, IsSameBatch};
 ghost use Rattle.slot_batches.specs.ArrayStands.{HasBeenFed};
 
 use crate::filling::Filling;
@@ -36,9 +36,9 @@ pub fn with_entry(item: Item, batch: &Batch, marks: &[u64]) -> Item
 
 /// Takes up the entry's flow, if it opens.
 fn open_flow(filling: &mut Filling, entry: Entry)
-    requires room { HasRoom filling.old }
+    requires room { FillingHasRoom filling.old }
     requires may { (taken : List Item) × HasTakenUp taken (fill_of filling.old) × MayBeTakenUp filling.old.endpoints filling.old.first_slot (taken ++ opened (entry ∷ [])) }
-    ensures room { HasRoom filling.new }
+    ensures room { FillingHasRoom filling.new }
     ensures same { IsSameBatch filling.old.maps.limits filling.old.endpoints filling.old.b filling.old.first_slot filling.new }
     ensures taken_up { (taken : List Item) →
         HasTakenUp taken (fill_of filling.old) →
@@ -57,9 +57,9 @@ fn open_flow(filling: &mut Filling, entry: Entry)
 /// Takes up the flows that open by the first so many entries of the batch.
 pub(crate) fn open_flows(filling: &mut Filling, batch: &Batch, entries: usize)
     requires entries { entries ≤ length batch.now.entries }
-    requires room { HasRoom filling.old }
+    requires room { FillingHasRoom filling.old }
     requires may { (taken : List Item) × HasTakenUp taken (fill_of filling.old) × MayBeTakenUp filling.old.endpoints filling.old.first_slot (taken ++ opened (take entries batch.now.entries)) }
-    ensures room { HasRoom filling.new }
+    ensures room { FillingHasRoom filling.new }
     ensures same { IsSameBatch filling.old.maps.limits filling.old.endpoints filling.old.b filling.old.first_slot filling.new }
     ensures taken_up { (taken : List Item) →
         HasTakenUp taken (fill_of filling.old) →
@@ -73,9 +73,9 @@ pub(crate) fn open_flows(filling: &mut Filling, batch: &Batch, entries: usize)
 
 /// Takes up the flows that open, where they are due and were not yet taken up.
 pub(crate) fn open_due(filling: &mut Filling, unopened: &mut usize, batch: &Batch, due: bool)
-    requires room { HasRoom filling.old }
+    requires room { FillingHasRoom filling.old }
     requires fed { (fed : List Item) × HasBeenFed batch.now fed (fill_of filling.old) unopened.old }
-    ensures room { HasRoom filling.new }
+    ensures room { FillingHasRoom filling.new }
     ensures same { IsSameBatch filling.old.maps.limits filling.old.endpoints filling.old.b filling.old.first_slot filling.new }
     ensures unopened { unopened.new ≡ (if due then 0 else unopened.old) }
     ensures taken_up { (fed : List Item) →

@@ -4,7 +4,7 @@ ghost use Rattle.greedy_rules.specs.Batches.{entry_of};
 ghost use Rattle.greedy_rules.specs.Demands.{AreBelow};
 ghost use Rattle.slot_batches.specs.Marks.{AreMarked};
 ghost use Rattle.slot_batches.specs.Parts.{IsWhole};
-ghost use Rattle.slot_batches.specs.Rests.{opens_before, Rests, TakesNone};
+ghost use Rattle.slot_batches.specs.Rests.{opens_before, ItemRests, TakesNone};
 
 use crate::filling::Filling;
 use crate::marks::{common_marks, is_marked};
@@ -21,7 +21,7 @@ fn opens_first(unopened: usize, item: &Item) -> bool
 fn rests(filling: &Filling, marks: &[u64], unopened: usize, item: &Item) -> bool
     requires src { item.now.flow.src < filling.now.maps.endpoints }
     requires dst { item.now.flow.dst < filling.now.maps.endpoints }
-    ensures { (entries : List Entry) → AreMarked entries marks.now → result ≡ true → Rests entries unopened filling.now.maps item.now }
+    ensures { (entries : List Entry) → AreMarked entries marks.now → result ≡ true → ItemRests entries unopened filling.now.maps item.now }
 {
     if is_marked(marks, item.flow) {
         return false;
@@ -85,7 +85,7 @@ fn four_rest(filling: &Filling, marks: &[u64], unopened: usize, four: &[Item]) -
     requires whole { IsWhole filling.now marks.now }
     requires below { AreBelow filling.now.maps.endpoints four.now }
     requires four { length four.now ≡ 4 }
-    ensures { (entries : List Entry) → AreMarked entries marks.now → result ≡ true → All (Rests entries unopened filling.now.maps) four.now }
+    ensures { (entries : List Entry) → AreMarked entries marks.now → result ≡ true → All (ItemRests entries unopened filling.now.maps) four.now }
 {
     if !four_take_none(filling, four) {
         return false;
@@ -98,7 +98,7 @@ fn resting_fours(filling: &Filling, marks: &[u64], unopened: usize, items: &[Ite
     requires whole { IsWhole filling.now marks.now }
     requires below { AreBelow filling.now.maps.endpoints items.now }
     ensures within { result ≤ length items.now }
-    ensures rest { (entries : List Entry) → AreMarked entries marks.now → All (Rests entries unopened filling.now.maps) (take result items.now) }
+    ensures rest { (entries : List Entry) → AreMarked entries marks.now → All (ItemRests entries unopened filling.now.maps) (take result items.now) }
 {
     let mut at = 0;
     while items.len() - at >= 4 && four_rest(filling, marks, unopened, &items[at..at + 4]) {
@@ -111,7 +111,7 @@ fn resting_fours(filling: &Filling, marks: &[u64], unopened: usize, items: &[Ite
 fn resting_ones(filling: &Filling, marks: &[u64], unopened: usize, items: &[Item]) -> usize
     requires { AreBelow filling.now.maps.endpoints items.now }
     ensures within { result ≤ length items.now }
-    ensures rest { (entries : List Entry) → AreMarked entries marks.now → All (Rests entries unopened filling.now.maps) (take result items.now) }
+    ensures rest { (entries : List Entry) → AreMarked entries marks.now → All (ItemRests entries unopened filling.now.maps) (take result items.now) }
 {
     for (at, item) in items.iter().enumerate() {
         if !rests(filling, marks, unopened, item) {
@@ -126,7 +126,7 @@ fn resting_front(filling: &Filling, marks: &[u64], unopened: usize, items: &[Ite
     requires whole { IsWhole filling.now marks.now }
     requires below { AreBelow filling.now.maps.endpoints items.now }
     ensures within { result ≤ length items.now }
-    ensures rest { (entries : List Entry) → AreMarked entries marks.now → All (Rests entries unopened filling.now.maps) (take result items.now) }
+    ensures rest { (entries : List Entry) → AreMarked entries marks.now → All (ItemRests entries unopened filling.now.maps) (take result items.now) }
 {
     let mut at = 0;
     while at < items.len() {
@@ -143,7 +143,7 @@ fn resting_front(filling: &Filling, marks: &[u64], unopened: usize, items: &[Ite
 
 /// Whether every item waits as it is, whichever it be: no endpoint may send any more, and the batch has no entry.
 fn all_rest(filling: &Filling, unopened: usize, batch: &Batch) -> bool
-    ensures { result ≡ true → (item : Item) → Rests batch.now.entries unopened filling.now.maps item }
+    ensures { result ≡ true → (item : Item) → ItemRests batch.now.entries unopened filling.now.maps item }
 {
     unopened == 0 && batch.is_empty() && filling.maps.none_may_send()
 }
@@ -159,7 +159,7 @@ pub(crate) fn resting(
     requires whole { IsWhole filling.now marks.now }
     requires below { AreBelow filling.now.maps.endpoints items.now }
     ensures within { result ≤ length items.now }
-    ensures rest { AreMarked batch.now.entries marks.now → All (Rests batch.now.entries unopened filling.now.maps) (take result items.now) }
+    ensures rest { AreMarked batch.now.entries marks.now → All (ItemRests batch.now.entries unopened filling.now.maps) (take result items.now) }
 {
     if all_rest(filling, unopened, batch) {
         return items.len();

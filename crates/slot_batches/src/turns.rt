@@ -2,7 +2,7 @@ ghost use Rattle.std.specs.Prelude.{◌≡◌, ◌<◌, ◌≤◌, ◌+◌, ◌-
 ghost use Rattle.greedy_rules.specs.Demands.{AreBelow};
 ghost use Rattle.greedy_rules.specs.Limits.{AreLimits};
 ghost use Rattle.slot_batches.specs.Filled.{HasTakenUp, MayBeTakenUp};
-ghost use Rattle.slot_batches.specs.Parts.{fill_of, HasRoom, IsSameBatch};
+ghost use Rattle.slot_batches.specs.Parts.{fill_of, FillingHasRoom, IsSameBatch};
 ghost use Rattle.slot_batches.specs.Rests.{TakesNone};
 
 use crate::filling::Filling;
@@ -20,13 +20,13 @@ pub struct Turns {
 
 impl Model for Turns {
     ghost use Rattle.slot_batches.specs.Filled.{Fill};
-    ghost use Rattle.slot_batches.specs.Parts.{fill_of, HasRoom};
+    ghost use Rattle.slot_batches.specs.Parts.{fill_of, FillingHasRoom};
 
     ghost Value = { Fill };
 
     ghost view = { λ t. fill_of t.filling };
 
-    ghost invariant = { λ t. HasRoom t.filling };
+    ghost invariant = { λ t. FillingHasRoom t.filling };
 }
 
 impl Turns {
@@ -106,10 +106,10 @@ fn idle_front(filling: &Filling, items: &[Item]) -> usize
 
 /// Lets the items take their slots, one after the other.
 fn take_all(filling: &mut Filling, items: &[Item])
-    requires room { HasRoom filling.old }
+    requires room { FillingHasRoom filling.old }
     requires begun { HasTakenUp [] (fill_of filling.old) }
     requires may { MayBeTakenUp filling.old.endpoints filling.old.first_slot items.now }
-    ensures room { HasRoom filling.new }
+    ensures room { FillingHasRoom filling.new }
     ensures same { IsSameBatch filling.old.maps.limits filling.old.endpoints filling.old.b filling.old.first_slot filling.new }
     ensures taken_up { HasTakenUp items.now (fill_of filling.new) }
 {

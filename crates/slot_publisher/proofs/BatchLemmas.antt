@@ -1,8 +1,8 @@
 -- The lists of a batch, slot after slot: an endpoint's list grows by what the endpoint sends in a slot, and the others stay.
-use Rattle.std.proofs.Common.{◌≡◌, ◌≢◌, ◌<◌, ◌≤◌, ◌+◌, ◌-◌, ◌*◌, ◌++◌, ◌==◌, ℕ, zero, suc, List, [], ◌∷◌, length, get_or, set, take, drop, find, true, false, Option, Some, None, IfSome, refl, sym, ap, ◌∙◌, mul-le-mul_right, arith, inl, inr}
+use Rattle.std.proofs.Common.{◌≡◌, ◌≢◌, ◌<◌, ◌≤◌, ◌+◌, ◌-◌, ◌*◌, ◌++◌, ℕ, List, [], length, get_or, set, take, drop, Option, None, IfSome, refl, sym, ap, ◌∙◌, mul-le-mul_right, arith, inl, inr}
 use Rattle.std.specs.Option.{option_map, unwrap_or}
 use Rattle.std.specs.List.{cons_option}
-use Rattle.std.proofs.lemmas.Bool.{cases_order, cond-true, cond-false, eq-eqb, ne_eqb}
+use Rattle.std.proofs.lemmas.Bool.{cases_order}
 use Rattle.std.proofs.lemmas.Nat.{row_fits}
 use Rattle.std.proofs.lemmas.List.{get_or-set_same, get_or-set_other, get_or-take, get_or-drop, take-take, drop-take, drop-drop}
 use Rattle.std.proofs.lemmas.Slice.{take-put_mid_below, between-put_mid}
@@ -11,38 +11,19 @@ use Rattle.fcp_framing.specs.declared.packet.Told.{Told}
 use Rattle.greedy_rules.specs.declared.flows.Flow.{Flow}
 use Rattle.greedy_rules.specs.Schedule.{slot_in}
 use Rattle.greedy_rules.specs.SlotTable.{Slots, flows_from, destination_of}
+use Rattle.greedy_rules.proofs.RowLemmas.{destination-at}
 use Rattle.path_workers.specs.CoreTable.{CoreSlots, core_of}
 use Rattle.slot_publisher.specs.Window.{NamesCores}
-use Rattle.slot_publisher.specs.Places.{Hop, told_of, count_at, hops_from, ListTells, ListsTell, ListsArePut}
+use Rattle.slot_publisher.specs.Places.{Hop, told_of_offsets, count_at, hops_from, ListTells, ListsTell, ListsArePut}
 use Rattle.slot_publisher.proofs.PacketLemmas.{named_byte}
 use Rattle.slot_publisher.proofs.ToldLemmas.{told_more, slot_told}
 use Rattle.slot_publisher.proofs.PlaceLemmas.{list_here, list_kept}
 
 -- ---- a row of destinations
 
-none_before : (k src : ℕ) (cells : List (Option ℕ)) → src < k → destination_of (flows_from k cells) src ≡ None
-none_before k src [] low = refl
-none_before k src (None ∷ cells) low = none_before (k + 1) src cells (omega arith)
-none_before k src (Some dst ∷ cells) low =
-    let other : (k == src) ≡ false = ne_eqb _ _ (λ e. omega arith) in
-    ap (option_map (λ (flow : Flow). flow.dst)) (cond-false (k == src) (Some (record { src = k; dst = dst })) (find (λ flow. flow.src == src) (flows_from (k + 1) cells)) other)
-    ∙ none_before (k + 1) src cells (omega arith)
-
-place_from : (k i src : ℕ) (cells : List (Option ℕ)) → src ≡ k + i → destination_of (flows_from k cells) src ≡ get_or cells i None
-place_from k i src [] is = refl
-place_from k zero src (None ∷ cells) is = none_before (k + 1) src cells (omega arith)
-place_from k (suc i) src (None ∷ cells) is = place_from (k + 1) i src cells (omega arith)
-place_from k zero src (Some dst ∷ cells) is =
-    let here : (k == src) ≡ true = eq-eqb _ _ (omega arith) in
-    ap (option_map (λ (flow : Flow). flow.dst)) (cond-true (k == src) (Some (record { src = k; dst = dst })) (find (λ flow. flow.src == src) (flows_from (k + 1) cells)) here)
-place_from k (suc i) src (Some dst ∷ cells) is =
-    let other : (k == src) ≡ false = ne_eqb _ _ (λ e. omega arith) in
-    ap (option_map (λ (flow : Flow). flow.dst)) (cond-false (k == src) (Some (record { src = k; dst = dst })) (find (λ flow. flow.src == src) (flows_from (k + 1) cells)) other)
-    ∙ place_from (k + 1) i src cells (omega arith)
-
 -- what stands at a source's place of a row is the source's destination
 pub place_is : (at : ℕ) (cells : List (Option ℕ)) (slot : List Flow) → flows_from 0 cells ≡ slot → get_or cells at None ≡ destination_of slot at
-place_is at cells slot is = sym (place_from 0 at at cells (omega arith)) ∙ ap (λ (flows : List Flow). destination_of flows at) is
+place_is at cells slot is = sym (destination-at 0 at at cells (omega arith)) ∙ ap (λ (flows : List Flow). destination_of flows at) is
 
 -- ---- one slot more
 
@@ -58,13 +39,13 @@ tells_more slots cores from b offset at k c byte to counts told list size whole 
     let hops : ℕ → Option Hop = hops_from slots cores from at in
     let dst : Option ℕ = destination_of (slot_in slots.slots slot) at in
     let more : Option ℕ → List Told = λ d. cons_option (option_map (λ (n : ℕ). record { offset = offset; core = byte; dst = n }) d) [] in
-    let before : take count (take k (drop (at * b) told)) ≡ told_of hops offset = take-take count k (drop (at * b) told) (omega (arith, tells.0, below, size)) ∙ tells.1 in (
+    let before : take count (take k (drop (at * b) told)) ≡ told_of_offsets hops offset = take-take count k (drop (at * b) told) (omega (arith, tells.0, below, size)) ∙ tells.1 in (
       omega (arith, get_or-set_same counts at c 0 counted, one, tells.0),
       list_here b at k c counts told list size whole (omega (arith, one, tells.0, below)) counted within
           ∙ (written
           ∙ (ap (λ (old : List Told). old ++ more to) before
-          ∙ (ap (λ (d : Option ℕ). told_of hops offset ++ more d) goes
-          ∙ (ap (λ (new : List Told). told_of hops offset ++ new) (slot_told offset byte (core_of cores slot at) dst (named_byte slots.slots cores slot at byte dst inside named refl byte_is))
+          ∙ (ap (λ (d : Option ℕ). told_of_offsets hops offset ++ more d) goes
+          ∙ (ap (λ (new : List Told). told_of_offsets hops offset ++ new) (slot_told offset byte (core_of cores slot at) dst (named_byte slots.slots cores slot at byte dst inside named refl byte_is))
           ∙ sym (told_more hops offset (offset + 1) refl))))),
     )
 
@@ -137,7 +118,7 @@ batch_is_put slots cores b batch from n e size k l counts new_counts told new_to
                 ∙ (ap (λ (m : ℕ). take (count_at new_counts at) (drop (m * b) after_told)) list_is
                 ∙ (list_inside b n e size l at (count_at new_counts at) told new_told size_is whole within l_is inside told_now.0
                 ∙ (told_now.1
-                ∙ ap (λ (s : ℕ). told_of (hops_from slots cores s at) b) (from_is ∙ ap (λ (s : ℕ). s * b) (sym here))))),
+                ∙ ap (λ (s : ℕ). told_of_offsets (hops_from slots cores s at) b) (from_is ∙ ap (λ (s : ℕ). s * b) (sym here))))),
           )
       | inr (inl before) ↦
           let below : list < n = omega (arith, n_is, row_fits other endpoints batch endpoints before (omega arith)) in

@@ -1,5 +1,5 @@
 -- The packets of a slot, and what each source sends in it.
-use Rattle.std.proofs.Common.{◌≡◌, ◌≢◌, ◌<◌, ◌≤◌, ◌+◌, ℕ, zero, suc, List, [], ◌∷◌, ◌==◌, find, Option, Some, None, IfSome, All, AllPairs, length, refl, sym, ap, ◌∙◌, subst, arith, inl, inr}
+use Rattle.std.proofs.Common.{◌≡◌, ◌≢◌, ◌<◌, ◌≤◌, ◌+◌, ℕ, zero, suc, List, [], ◌∷◌, ◌==◌, find, Option, Some, None, IfSome, All, length, refl, sym, ap, ◌∙◌, subst, arith, inl, inr}
 use Rattle.std.specs.Option.{option_map, unwrap_or}
 use Rattle.std.specs.List.{cons_option}
 use Rattle.std.proofs.lemmas.Bool.{cond-true, cond-false, cases_eq, eq-eqb, ne_eqb}
@@ -7,6 +7,7 @@ use Rattle.std.proofs.lemmas.List.Elements.{All-nil, All-cons, All-head, All-tai
 use Rattle.greedy_rules.specs.declared.flows.Flow.{Flow}
 use Rattle.greedy_rules.specs.SlotTable.{destination_of, IsSlotOf}
 use Rattle.greedy_rules.specs.Schedule.{slot_in}
+use Rattle.greedy_rules.proofs.SlotSources.{Rises, no_source}
 use Rattle.path_workers.specs.CoreTable.{CoreSlots, core_of}
 use Rattle.list_facts.proofs.Pairs.{AllPairs-head, AllPairs-tail}
 use Rattle.slot_publisher.specs.Window.{RoutedFlow, with_cores, NamesCores}
@@ -47,15 +48,6 @@ other_source source flow slot other =
 this_source : (source : ℕ) (flow : Flow) (slot : List Flow) → flow.src ≡ source → destination_of (flow ∷ slot) source ≡ Some flow.dst
 this_source source flow slot same =
     ap (option_map (λ (f : Flow). f.dst)) (cond-true (flow.src == source) (Some flow) (find (λ f. f.src == source) slot) (eq-eqb _ _ same))
-
-no_source : (source : ℕ) (slot : List Flow) → All (λ flow. source < flow.src) slot → destination_of slot source ≡ None
-no_source source [] above = refl
-no_source source (flow ∷ slot) above =
-    let first : source < flow.src = All-head (λ f. source < f.src) flow slot above in
-    other_source source flow slot (λ same. omega arith) ∙ no_source source slot (All-tail (λ f. source < f.src) flow slot above)
-
-abbrev Rises : List Flow → Type 0
-Rises slot = AllPairs (λ f g. f.src < g.src) slot
 
 -- what each source sends gives the packets of a slot whose flows rise
 pub packets_by-slot : (core_of_source : ℕ → Option ℕ) (slot : List Flow) (cell : ℕ → Option Hop) (src n : ℕ) → Rises slot → All (λ flow. src ≤ flow.src) slot → All (λ flow. flow.src < src + n) slot

@@ -12,8 +12,9 @@ use borrow.Rule.Slice.PartMut.{put_mid}
 use Rattle.fcp_framing.specs.declared.packet.Told.{Told}
 use Rattle.greedy_rules.specs.Schedule.{slot_in}
 use Rattle.greedy_rules.specs.SlotTable.{Slots, IsSlotOf}
+use Rattle.greedy_rules.proofs.TableLemmas.{fits}
 use Rattle.path_workers.specs.CoreTable.{CoreSlots, core_of}
-use Rattle.slot_publisher.specs.Window.{Window, RoutedFlow, with_cores, slots_with_cores, NamesCores}
+use Rattle.slot_publisher.specs.Window.{PublisherWindow, RoutedFlow, with_cores, slots_with_cores, NamesCores}
 use Rattle.slot_publisher.specs.Told.{packet_sent, told_from}
 use Rattle.slot_publisher.specs.Places.{Hop, hop_of, hop_in, packet_by, packets_by, count_at, list_at, slots_of_lists, hops_from, ListsArePut, AreLists, IsToldList}
 use Rattle.slot_publisher.proofs.PacketLemmas.{packet_from-at, packets_by-slot, IsHop, hop_is}
@@ -27,9 +28,6 @@ same_list endpoints batch endpoint other at below below' same = elim (cases_orde
   | inr (inl before) ↦ absurd (omega (arith, row_fits other endpoints batch endpoints before (omega arith)))
   | inr (inr after) ↦ absurd (omega (arith, row_fits batch endpoints other endpoints after (omega arith)))
 ]
-
-fits : (b count list : ℕ) → list < count → list * b + b ≤ count * b
-fits b count list below = row_fits list b count b below (omega arith)
 
 -- a list that is written, and the others
 pub list_here : (b n k c : ℕ) (counts : List ℕ) (told list : List Told) → k ≡ b → length list ≡ b → c ≤ b → n < length counts → n * b ≤ length told
@@ -187,10 +185,10 @@ lists_fit endpoint endpoints batch count batches b below held fit =
     (omega arith, omega arith, fits b (batches * endpoints) (batch * endpoints + endpoint) (omega arith))
 
 -- an endpoint and a batch of a window are of the values that it stands for
-pub held_window : (inside now : Window) (endpoint batch : ℕ) → inside ≡ now → endpoint < now.endpoints → now.first_batch ≤ batch → batch < now.first_batch + now.count
+pub held_window : (inside now : PublisherWindow) (endpoint batch : ℕ) → inside ≡ now → endpoint < now.endpoints → now.first_batch ≤ batch → batch < now.first_batch + now.count
     → (batch - inside.first_batch < inside.count) × (endpoint < inside.endpoints)
 held_window inside now endpoint batch is below first last =
-    let begins : inside.first_batch ≡ now.first_batch = ap (λ (w : Window). w.first_batch) is in
-    let count : inside.count ≡ now.count = ap (λ (w : Window). w.count) is in
-    let endpoints : inside.endpoints ≡ now.endpoints = ap (λ (w : Window). w.endpoints) is in
+    let begins : inside.first_batch ≡ now.first_batch = ap (λ (w : PublisherWindow). w.first_batch) is in
+    let count : inside.count ≡ now.count = ap (λ (w : PublisherWindow). w.count) is in
+    let endpoints : inside.endpoints ≡ now.endpoints = ap (λ (w : PublisherWindow). w.endpoints) is in
     (omega arith, omega arith)

@@ -11,7 +11,7 @@ use Rattle.fcp_framing.specs.declared.packet.Told.{Told}
 use Rattle.fcp_framing.specs.Spelling.{IsCore}
 use Rattle.slot_publisher.specs.Window.{RoutedFlow}
 use Rattle.slot_publisher.specs.Told.{packet_sent, told_as, told_from, IsToldOf}
-use Rattle.slot_publisher.specs.Places.{Hop, packet_by, told_of, hop_in, core_named, IsToldList}
+use Rattle.slot_publisher.specs.Places.{Hop, packet_by, told_of_offsets, hop_in, core_named, IsToldList}
 use Rattle.slot_publisher.proofs.PacketLemmas.{IsHop}
 
 pub if_some : {X : Type 0} (P : X → Type 0) (o : Option X) → ((x : X) → P x) → IfSome o P
@@ -173,7 +173,7 @@ hop_back endpoints at None is = refl
 hop_back endpoints at (Some hop) is = ap (λ (core : Option ℕ). Some (record { dst = hop.dst; core = core })) (core_back hop.core is.1)
 
 -- a list says where its endpoint sends
-pub hop_in-told : (endpoints : ℕ) (hop_at : ℕ → Option Hop) (b at : ℕ) → at < b → IsHop endpoints (hop_at at) → hop_in (told_of hop_at b) at ≡ hop_at at
+pub hop_in-told : (endpoints : ℕ) (hop_at : ℕ → Option Hop) (b at : ℕ) → at < b → IsHop endpoints (hop_at at) → hop_in (told_of_offsets hop_at b) at ≡ hop_at at
 hop_in-told endpoints hop_at b at below is =
     ap (option_map (λ (one : Told). record { dst = one.dst; core = core_named one.core })) (told_found at 0 b hop_at (omega arith) (omega arith)) ∙ hop_back endpoints at (hop_at at) is
 
@@ -188,12 +188,12 @@ named_told : (endpoints at : ℕ) (cell : Option Hop) → IsHop endpoints cell
 named_told endpoints at None is = tt
 named_told endpoints at (Some hop) is = (is.0, core_told hop.core is.1)
 
-pub told_list : (endpoints : ℕ) (hop_at : ℕ → Option Hop) (b : ℕ) → ((offset : ℕ) → offset < b → IsHop endpoints (hop_at offset)) → IsToldList endpoints b (told_of hop_at b)
+pub told_list : (endpoints : ℕ) (hop_at : ℕ → Option Hop) (b : ℕ) → ((offset : ℕ) → offset < b → IsHop endpoints (hop_at offset)) → IsToldList endpoints b (told_of_offsets hop_at b)
 told_list endpoints hop_at b hops =
     let sent : ℕ → Option RoutedFlow = λ k. option_map (packet_by 0) (hop_at k) in
     let Names : Told → Type 0 = λ one. (one.dst < endpoints) × IsCore one.core in
     record {
-      is = ap (told_from 0) (map_range sent (λ k. option_map (packet_by 0) (hop_in (told_of hop_at b) k)) 0 b (λ k low high.
+      is = ap (told_from 0) (map_range sent (λ k. option_map (packet_by 0) (hop_in (told_of_offsets hop_at b) k)) 0 b (λ k low high.
           let below : k < b = omega arith in
           ap (option_map (packet_by 0)) (sym (hop_in-told endpoints hop_at b k below (hops k below)))));
       names = told_each Names 0 (map sent (range_with_len 0 b)) (λ k inside.
@@ -209,10 +209,10 @@ told_offsets b endpoint slots size =
     if_some (λ _. 0 + k < b) (get_or (map (packet_sent endpoint) slots) k None) (λ _. omega (arith, length-map slots (packet_sent endpoint))))
 
 -- what is told of one slot more
-pub told_more : (hop_at : ℕ → Option Hop) (b next : ℕ) → next ≡ b + 1 → told_of hop_at next ≡ told_of hop_at b ++ told_from b (option_map (packet_by 0) (hop_at b) ∷ [])
+pub told_more : (hop_at : ℕ → Option Hop) (b next : ℕ) → next ≡ b + 1 → told_of_offsets hop_at next ≡ told_of_offsets hop_at b ++ told_from b (option_map (packet_by 0) (hop_at b) ∷ [])
 told_more hop_at b next is =
     let sent : ℕ → Option RoutedFlow = λ k. option_map (packet_by 0) (hop_at k) in
-    ap (told_of hop_at) is
+    ap (told_of_offsets hop_at) is
     ∙ (ap (told_from 0) (map-range_with_len_more sent 0 b b (omega arith))
     ∙ told_from-append 0 b (map sent (range_with_len 0 b)) (sent b ∷ []) (omega (arith, length-map-range_with_len sent 0 b)))
 

@@ -27,8 +27,8 @@ abbrev pub packets_by : (ℕ → Option Hop) → ℕ → ℕ → List RoutedFlow
 packets_by hop_of_source src sources = filter_map (λ source. option_map (packet_by source) (hop_of_source source)) (range_with_len src sources)
 
 -- what is told of an endpoint that sends so in slots of these offsets
-abbrev pub told_of : (ℕ → Option Hop) → ℕ → List Told
-told_of hop_at b = told_from 0 (map (λ offset. option_map (packet_by 0) (hop_at offset)) (range_with_len 0 b))
+abbrev pub told_of_offsets : (ℕ → Option Hop) → ℕ → List Told
+told_of_offsets hop_at b = told_from 0 (map (λ offset. option_map (packet_by 0) (hop_at offset)) (range_with_len 0 b))
 
 -- ---- what is told in a list
 
@@ -42,7 +42,7 @@ hop_in told offset = option_map (λ one. record { dst = one.dst; core = core_nam
 
 -- the list is what is told of the slots that it says, of at most b
 pub record IsToldList (endpoints b : ℕ) (told : List Told) : Type 0 where
-  pub is : told ≡ told_of (hop_in told) b
+  pub is : told ≡ told_of_offsets (hop_in told) b
   pub names : All (λ one. (one.dst < endpoints) × IsCore one.core) told
 
 -- ---- lists of at most b, one behind the other
@@ -72,7 +72,7 @@ hops_from slots cores from endpoint offset = hop_of (core_of cores (from + offse
 -- of the lists of a batch from this slot on, that of the endpoint tells what the tables say of the first n slots
 abbrev pub ListTells : Slots → CoreSlots → ℕ → ℕ → ℕ → List ℕ → List Told → ℕ → Type 0
 ListTells slots cores from b n counts told endpoint =
-    (count_at counts endpoint ≤ n) × (list_at b counts told endpoint ≡ told_of (hops_from slots cores from endpoint) n)
+    (count_at counts endpoint ≤ n) × (list_at b counts told endpoint ≡ told_of_offsets (hops_from slots cores from endpoint) n)
 
 -- and so does each of them
 abbrev pub ListsTell : Slots → CoreSlots → ℕ → ℕ → ℕ → List ℕ → List Told → Type 0
@@ -84,4 +84,4 @@ abbrev pub ListsArePut : Slots → CoreSlots → ℕ → ℕ → List ℕ → Li
 ListsArePut slots cores b n counts told =
     (batch endpoint : ℕ) → endpoint < slots.endpoints → batch * slots.endpoints + endpoint < n →
     (count_at counts (batch * slots.endpoints + endpoint) ≤ b)
-    × (list_at b counts told (batch * slots.endpoints + endpoint) ≡ told_of (hops_from slots cores (batch * b) endpoint) b)
+    × (list_at b counts told (batch * slots.endpoints + endpoint) ≡ told_of_offsets (hops_from slots cores (batch * b) endpoint) b)

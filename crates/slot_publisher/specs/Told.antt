@@ -4,7 +4,7 @@ use Rattle.std.specs.Prelude.{◌≡◌, ◌≢◌, ◌<◌, ◌≤◌, ℕ, ◌
 use Rattle.std.specs.List.Sorted.{IsStrictlyIncreasing}
 use Rattle.fcp_framing.specs.declared.packet.Told.{Told}
 use Rattle.fcp_framing.specs.Spelling.{IsCore}
-use Rattle.slot_publisher.specs.Window.{RoutedFlow, Window, slots_of_batch}
+use Rattle.slot_publisher.specs.Window.{RoutedFlow, PublisherWindow, slots_of_batch}
 
 -- the packet that the endpoint sends in a slot, if it sends one
 abbrev pub packet_sent : ℕ → List RoutedFlow → Option RoutedFlow
@@ -19,7 +19,7 @@ told_from offset [] = []
 told_from offset (None ∷ packets) = told_from (offset + 1) packets
 told_from offset (Some packet ∷ packets) = told_as offset packet ∷ told_from (offset + 1) packets
 
-abbrev pub slots_told : Window → ℕ → ℕ → List Told
+abbrev pub slots_told : PublisherWindow → ℕ → ℕ → List Told
 slots_told window endpoint batch = told_from 0 (map (packet_sent endpoint) (slots_of_batch window batch))
 
 -- in the slot at its offset, the endpoint sends just what it says
@@ -27,7 +27,7 @@ abbrev pub IsToldOf : List (List RoutedFlow) → ℕ → Told → Type 0
 IsToldOf slots endpoint told = option_map (told_as told.offset) (packet_sent endpoint (slice_index_or slots told.offset [])) ≡ Some told
 
 -- what an endpoint is told of a batch that is held: exactly its slots of the batch
-pub record AreToldOf (window : Window) (endpoint batch : ℕ) (list : List Told) : Type 0 where
+pub record AreToldOf (window : PublisherWindow) (endpoint batch : ℕ) (list : List Told) : Type 0 where
   -- its packets of the batch, slot after slot
   pub told : list ≡ slots_told window endpoint batch
   -- at most so many as a batch may have slots

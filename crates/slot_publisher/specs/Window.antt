@@ -12,7 +12,7 @@ pub record RoutedFlow : Type 0 where
   pub core : Option ℕ
 
 -- so many batches of b slots are held, from the first one on, and there is room for `batches`; the packets of a slot rise by source
-pub record Window : Type 0 where
+pub record PublisherWindow : Type 0 where
   pub endpoints : ℕ
   pub batches : ℕ
   pub b : ℕ
@@ -33,11 +33,11 @@ abbrev pub NamesCores : List (List Flow) → CoreSlots → Type 0
 NamesCores slots cores = (at : ℕ) → at < length slots → All (λ flow. IfSome (core_of cores at flow.src) (λ core. core < 64)) (slot_in slots at)
 
 -- the slots of a batch of the window
-abbrev pub slots_of_batch : Window → ℕ → List (List RoutedFlow)
+abbrev pub slots_of_batch : PublisherWindow → ℕ → List (List RoutedFlow)
 slots_of_batch window batch = take window.b (drop ((batch - window.first_batch) * window.b) window.slots)
 
 -- a window that holds these slots with their cores, from this batch on, in place of what it held
-pub record HoldsSlots (old : Window) (number : ℕ) (flows : List (List Flow)) (cores : CoreSlots) (new : Window) : Type 0 where
+pub record HoldsSlots (old : PublisherWindow) (number : ℕ) (flows : List (List Flow)) (cores : CoreSlots) (new : PublisherWindow) : Type 0 where
   -- it serves as before
   pub endpoints : new.endpoints ≡ old.endpoints
   pub batches : new.batches ≡ old.batches

@@ -43,10 +43,10 @@ pub struct Publisher {
 impl Model for Publisher {
     ghost use Rattle.std.specs.Prelude.{◌≡◌, ◌<◌, ◌≤◌, ◌*◌};
     ghost use Rattle.std.specs.Box.{boxed_slice_items, boxed_slice_len};
-    ghost use Rattle.slot_publisher.specs.Window.{Window};
+    ghost use Rattle.slot_publisher.specs.Window.{PublisherWindow};
     ghost use Rattle.slot_publisher.specs.Places.{slots_of_lists, AreLists};
 
-    ghost Value = { Window };
+    ghost Value = { PublisherWindow };
 
     ghost view = { λ p. record {
       endpoints = p.endpoints;

@@ -5,7 +5,7 @@ use Rattle.std.proofs.lemmas.Bool.{cases_eq, cond-true, cond-false, cond_both, e
 use Rattle.std.proofs.lemmas.Option.{slice_get_past}
 use Rattle.takeover_history.specs.declared.lease.Holder.{Holder}
 use Rattle.takeover_history.specs.declared.lease.Lease.{Lease}
-use Rattle.takeover_history.specs.Events.{Setting, Granted, Log}
+use Rattle.takeover_history.specs.Events.{PairSetting, Granted, Log}
 use Rattle.takeover_history.specs.Leases.{sent_messages, request_at, grant_at, leases, same_holder, changes, lease_for}
 use Rattle.takeover_core.specs.declared.keeper.Keeper.{Keeper}
 use Rattle.takeover_core.specs.declared.keeper.Message.{Message}
@@ -24,7 +24,7 @@ pushed-other (y ∷ ys) x zero other = refl
 pushed-other (y ∷ ys) x (suc m) other = pushed-other ys x m (λ e. other (ap suc e))
 
 -- the lease that the keeper grants
-pub lease-is : (setting : Setting) (keeper : Keeper) (log : Log) (holder : Holder) (lease : Lease)
+pub lease-is : (setting : PairSetting) (keeper : Keeper) (log : Log) (holder : Holder) (lease : Lease)
     → IsKeeper setting.span keeper (sent_messages log) (request_at log) (grant_at log) (leases log)
     → lease ≡ record { holder = holder; generation = cond (is_holder keeper.holder holder) 0 1 + keeper.generation; first = keeper.next }
     → lease ≡ lease_for setting log holder

@@ -12,18 +12,19 @@ use Rattle.greedy_rules.specs.Schedule.{first_slot}
 use Rattle.takeover_history.specs.declared.lease.Lease.{Lease}
 use Rattle.takeover_history.specs.declared.event.Refusal.{Refusal}
 use Rattle.takeover_history.specs.declared.event.Refusal.TheVariants.{NoMessage, OldBoot, OldLease, Stale}
-use Rattle.takeover_history.specs.Events.{Setting, Issue, Fact, Took, Told, Published, Crashed, Refused, Log}
+use Rattle.takeover_history.specs.Events.{PairSetting, BatchIssue, Fact, Took, Told, Published, Crashed, Refused, Log}
 use Rattle.takeover_history.specs.declared.event.Event.{Event}
 use Rattle.takeover_history.specs.declared.event.Event.TheVariants.{Take}
 use Rattle.takeover_history.specs.Leases.{boot_of, grant_at, lease_of, used_of, begins_above}
-use Rattle.takeover_history.specs.Endpoints.{asked, generation_of, base_of, recorded, total_of}
-use Rattle.takeover_history.specs.Batches.{batches_of, list_by, list_of, published, flow_of}
-use Rattle.takeover_history.specs.Steps.{taken, told, done, log_of}
+use Rattle.takeover_history.specs.Endpoints.{asked_of_flow, generation_of, base_of, recorded_of_flow, total_of}
+use Rattle.takeover_history.specs.Batches.{published_batches, list_by, list_of, published}
+use Rattle.takeover_history.specs.Steps.{taken_fact, told_fact, done, log_of}
 use Rattle.takeover_history.specs.Laws.{AGenerationBeginsAnew}
 use Rattle.greedy_rules.specs.Demands.{Demands}
-use Rattle.takeover_core.specs.Cells.{Cells, cell}
+use Rattle.greedy_rules.specs.Cells.{flow_of}
+use Rattle.takeover_core.specs.Cells.{CellsContent, cell}
 use Rattle.takeover_core.specs.declared.node.Node.{Node}
-use Rattle.takeover_core.specs.Node.{begins_below, refusal_of, IsOfNewGeneration}
+use Rattle.takeover_core.specs.Node.{begins_below, lease_refusal_of, IsOfNewGeneration}
 use Rattle.takeover_core.specs.Standing.{KeepsGeneration, IsNode, IsNodeOf}
 
 -- a node of which nothing changed
@@ -50,24 +51,24 @@ same_node endpoints b node boot boot' lease lease' used used' totals totals' don
   before = λ held is. subst (λ (u : ℕ). All (λ item. item.last < first_slot b (held.first + u)) node.list.items) (sym useds) (n.before held (sym leases ∙ is));
 }
 
-pub other_took : (setting : Setting) (log : Log) (number : ℕ) (node : Node) (lease : Lease) → lease.holder.node ≢ number → IsNodeOf setting log number node → IsNodeOf setting (Took lease ∷ log) number node
+pub other_took : (setting : PairSetting) (log : Log) (number : ℕ) (node : Node) (lease : Lease) → lease.holder.node ≢ number → IsNodeOf setting log number node → IsNodeOf setting (Took lease ∷ log) number node
 other_took setting log number node lease other n =
     same_node setting.endpoints setting.b node (boot_of log number) (boot_of log number) (lease_of log number) (lease_of (Took lease ∷ log) number) (used_of log number) (used_of (Took lease ∷ log) number)
-    (λ k. recorded setting k log) (λ k. recorded setting k log) (λ k. published setting k log) (λ k. published setting k log) (λ k. list_of setting k log) (λ k. list_of setting k log) n refl
+    (λ k. recorded_of_flow setting k log) (λ k. recorded_of_flow setting k log) (λ k. published setting k log) (λ k. published setting k log) (λ k. list_of setting k log) (λ k. list_of setting k log) n refl
     (cond-false (lease.holder.node == number) (Some lease) (lease_of log number) (ne_eqb lease.holder.node number other))
     (cond-false (lease.holder.node == number) 0 (used_of log number) (ne_eqb lease.holder.node number other))
     (λ held is. (λ flow. refl, λ flow. refl, refl))
 
-pub other_crashed : (setting : Setting) (log : Log) (number : ℕ) (node : Node) (gone : ℕ) → gone ≢ number → IsNodeOf setting log number node → IsNodeOf setting (Crashed gone ∷ log) number node
+pub other_crashed : (setting : PairSetting) (log : Log) (number : ℕ) (node : Node) (gone : ℕ) → gone ≢ number → IsNodeOf setting log number node → IsNodeOf setting (Crashed gone ∷ log) number node
 other_crashed setting log number node gone other n =
     same_node setting.endpoints setting.b node (boot_of log number) (boot_of (Crashed gone ∷ log) number) (lease_of log number) (lease_of (Crashed gone ∷ log) number) (used_of log number) (used_of (Crashed gone ∷ log) number)
-    (λ k. recorded setting k log) (λ k. recorded setting k log) (λ k. published setting k log) (λ k. published setting k log) (λ k. list_of setting k log) (λ k. list_of setting k log) n
+    (λ k. recorded_of_flow setting k log) (λ k. recorded_of_flow setting k log) (λ k. published setting k log) (λ k. published setting k log) (λ k. list_of setting k log) (λ k. list_of setting k log) n
     (ap (λ (n : ℕ). n + boot_of log number) (cond-false (gone == number) 1 0 (ne_eqb gone number other)) ∙ omega arith)
     (cond-false (gone == number) None (lease_of log number) (ne_eqb gone number other))
     (cond-false (gone == number) 0 (used_of log number) (ne_eqb gone number other))
     (λ held is. (λ flow. refl, λ flow. refl, refl))
 
-pub own_crashed : (setting : Setting) (log : Log) (number : ℕ) (node now : Node) → now.boot ≡ node.boot + 1 → now.lease ≡ None → now.used ≡ 0 → now.told ≡ node.told → now.published ≡ node.published → now.list ≡ node.list
+pub own_crashed : (setting : PairSetting) (log : Log) (number : ℕ) (node now : Node) → now.boot ≡ node.boot + 1 → now.lease ≡ None → now.used ≡ 0 → now.told ≡ node.told → now.published ≡ node.published → now.list ≡ node.list
     → IsNodeOf setting log number node → IsNodeOf setting (Crashed number ∷ log) number now
 own_crashed setting log number node now boots leases useds tolds pubs lists n =
     let here = eq-eqb number number refl in
@@ -83,35 +84,35 @@ own_crashed setting log number node now boots leases useds tolds pubs lists n =
       before = λ held is. let no : None ≡ Some held = sym none ∙ is in absurd (cc);
     }
 
-pub other_told : (setting : Setting) (log : Log) (number : ℕ) (node : Node) (src generation : ℕ) → ((held : Lease) → lease_of log number ≡ Some held → held.generation ≢ generation)
+pub other_told : (setting : PairSetting) (log : Log) (number : ℕ) (node : Node) (src generation : ℕ) → ((held : Lease) → lease_of log number ≡ Some held → held.generation ≢ generation)
     → IsNodeOf setting log number node → IsNodeOf setting (Told src generation ∷ log) number node
 other_told setting log number node src generation other n =
     same_node setting.endpoints setting.b node (boot_of log number) (boot_of log number) (lease_of log number) (lease_of log number) (used_of log number) (used_of log number)
-    (λ k. recorded setting k log) (λ k. recorded setting k (Told src generation ∷ log)) (λ k. published setting k log) (λ k. published setting k log) (λ k. list_of setting k log) (λ k. list_of setting k log) n refl refl refl
+    (λ k. recorded_of_flow setting k log) (λ k. recorded_of_flow setting k (Told src generation ∷ log)) (λ k. published setting k log) (λ k. published setting k log) (λ k. list_of setting k log) (λ k. list_of setting k log) n refl refl refl
     (λ held is. (
-      λ flow. cond-false ((generation == held.generation) && (src == flow.src)) (total_of setting (Told src generation ∷ log) flow) (recorded setting held.generation log flow)
+      λ flow. cond-false ((generation == held.generation) && (src == flow.src)) (total_of setting (Told src generation ∷ log) flow) (recorded_of_flow setting held.generation log flow)
           (and_left (generation == held.generation) (src == flow.src) (ne_eqb generation held.generation (λ e. other held is (sym e)))),
       λ flow. refl,
       refl,
     ))
 
-pub other_published : (setting : Setting) (log : Log) (number : ℕ) (node : Node) (issue : Issue) → issue.lease.holder.node ≢ number → ((held : Lease) → lease_of log number ≡ Some held → held.generation ≢ issue.lease.generation)
+pub other_published : (setting : PairSetting) (log : Log) (number : ℕ) (node : Node) (issue : BatchIssue) → issue.lease.holder.node ≢ number → ((held : Lease) → lease_of log number ≡ Some held → held.generation ≢ issue.lease.generation)
     → IsNodeOf setting log number node → IsNodeOf setting (Published issue ∷ log) number node
 other_published setting log number node issue apart other n =
     same_node setting.endpoints setting.b node (boot_of log number) (boot_of log number) (lease_of log number) (lease_of log number) (used_of log number) (used_of (Published issue ∷ log) number)
-    (λ k. recorded setting k log) (λ k. recorded setting k log) (λ k. published setting k log) (λ k. published setting k (Published issue ∷ log)) (λ k. list_of setting k log) (λ k. list_of setting k (Published issue ∷ log)) n refl refl
+    (λ k. recorded_of_flow setting k log) (λ k. recorded_of_flow setting k log) (λ k. published setting k log) (λ k. published setting k (Published issue ∷ log)) (λ k. list_of setting k log) (λ k. list_of setting k (Published issue ∷ log)) n refl refl
     (ap (λ (n : ℕ). n + used_of log number) (cond-false (issue.lease.holder.node == number) 1 0 (ne_eqb issue.lease.holder.node number apart)) ∙ omega arith)
     (λ held is.
     let test = ne_eqb issue.lease.generation held.generation (λ e. other held is (sym e)) in (
       λ flow. refl,
-      λ flow. cond-false (issue.lease.generation == held.generation) (recorded setting held.generation log flow) (published setting held.generation log flow) test,
-      ap (λ (ys : List (ℕ × DemandBatch)). list_by setting.b [] (batches_of held.generation log ++ ys)) (cond-false (issue.lease.generation == held.generation) ((issue.number, issue.batch) ∷ []) [] test)
-          ∙ ap (λ (ys : List (ℕ × DemandBatch)). list_by setting.b [] ys) (append-nil (batches_of held.generation log)),
+      λ flow. cond-false (issue.lease.generation == held.generation) (recorded_of_flow setting held.generation log flow) (published setting held.generation log flow) test,
+      ap (λ (ys : List (ℕ × DemandBatch)). list_by setting.b [] (published_batches held.generation log ++ ys)) (cond-false (issue.lease.generation == held.generation) ((issue.number, issue.batch) ∷ []) [] test)
+          ∙ ap (λ (ys : List (ℕ × DemandBatch)). list_by setting.b [] ys) (append-nil (published_batches held.generation log)),
     ))
 
 -- ---- taking a lease
 
-above_below : (span : ℕ) (setting : Setting) (last : Option Lease) (lease : Lease) → span ≡ setting.span → begins_above setting last lease ≡ not (begins_below span last lease)
+above_below : (span : ℕ) (setting : PairSetting) (last : Option Lease) (lease : Lease) → span ≡ setting.span → begins_above setting last lease ≡ not (begins_below span last lease)
 above_below span setting None lease same = refl
 above_below span setting (Some last) lease same = elim (cases_lt lease.first (last.first + span)) [
   | inl low ↦ le-ltb (last.first + setting.span) (lease.first + 1) (omega (arith, same)) ∙ ap not (sym (lt-ltb lease.first (last.first + span) low))
@@ -130,23 +131,23 @@ three true true false lease = refl
 three true false c lease = refl
 three false b c lease = refl
 
-pub taken-is : (setting : Setting) (log : Log) (number span : ℕ) (lease : Lease) → span ≡ setting.span → taken setting log number (Some lease) ≡ taking (refusal_of number (boot_of log number) (lease_of log number) lease span) lease
+pub taken-is : (setting : PairSetting) (log : Log) (number span : ℕ) (lease : Lease) → span ≡ setting.span → taken_fact setting log number (Some lease) ≡ taking (lease_refusal_of number (boot_of log number) (lease_of log number) lease span) lease
 taken-is setting log number span lease same =
     ap (λ (c : Bool). cond (lease.holder.node == number) (cond (lease.holder.boot == boot_of log number) (cond c (Took lease) (Refused OldLease)) (Refused OldBoot)) (Refused NoMessage)) (above_below span setting (lease_of log number) lease same)
     ∙ three (lease.holder.node == number) (lease.holder.boot == boot_of log number) (begins_below span (lease_of log number) lease) lease
 
 -- what a taking does, where the node answers so
-pub take-is : (setting : Setting) (log : Log) (number m span : ℕ) (node : Node) (lease : Lease) (answer : Option Refusal) → IsNodeOf setting log number node → span ≡ setting.span → grant_at log m ≡ Some lease
-    → answer ≡ refusal_of number node.boot node.lease lease span → done setting log (Take number m) ≡ taking answer lease
+pub take-is : (setting : PairSetting) (log : Log) (number m span : ℕ) (node : Node) (lease : Lease) (answer : Option Refusal) → IsNodeOf setting log number node → span ≡ setting.span → grant_at log m ≡ Some lease
+    → answer ≡ lease_refusal_of number node.boot node.lease lease span → done setting log (Take number m) ≡ taking answer lease
 take-is setting log number m span node lease answer n same grants is =
-    ap (taken setting log number) grants
+    ap (taken_fact setting log number) grants
     ∙ (taken-is setting log number span lease same
-    ∙ (ap (λ (b : ℕ). taking (refusal_of number b (lease_of log number) lease span) lease) (sym n.boot_is)
-    ∙ (ap (λ (l : Option Lease). taking (refusal_of number node.boot l lease span) lease) (sym n.lease_is)
+    ∙ (ap (λ (b : ℕ). taking (lease_refusal_of number b (lease_of log number) lease span) lease) (sym n.boot_is)
+    ∙ (ap (λ (l : Option Lease). taking (lease_refusal_of number node.boot l lease span) lease) (sym n.lease_is)
     ∙ ap (λ (o : Option Refusal). taking o lease) (sym is))))
 
 -- a node takes its own leases
-pub takes_own : (number boot span : ℕ) (last : Option Lease) (lease : Lease) → refusal_of number boot last lease span ≡ None → lease.holder.node ≡ number
+pub takes_own : (number boot span : ℕ) (last : Option Lease) (lease : Lease) → lease_refusal_of number boot last lease span ≡ None → lease.holder.node ≡ number
 takes_own number boot span last lease none = elim (cases_Bool (lease.holder.node == number)) [
   | inl own ↦ eqb-true lease.holder.node number own
   | inr other ↦
@@ -161,7 +162,7 @@ not_below span last lease is = elim (cases_lt lease.first (last.first + span)) [
 ]
 
 -- and only such as begin where the last one ends, or later
-pub takes_later : (number boot span : ℕ) (last : Option Lease) (lease : Lease) → refusal_of number boot last lease span ≡ None → begins_below span last lease ≡ false
+pub takes_later : (number boot span : ℕ) (last : Option Lease) (lease : Lease) → lease_refusal_of number boot last lease span ≡ None → begins_below span last lease ≡ false
 takes_later number boot span last lease none =
     let late : cond (begins_below span last lease) (Some OldLease) None ≡ None = elim (cases_Bool (lease.holder.node == number)) [
       | inl own ↦ elim (cases_Bool (lease.holder.boot == boot)) [
@@ -184,20 +185,20 @@ takes_later number boot span last lease none =
       | inr high ↦ high
     ]
 
-by_last : (setting : Setting) (log : Log) (number : ℕ) (node now : Node) (lease : Lease) → IsNodeOf setting log number node
+by_last : (setting : PairSetting) (log : Log) (number : ℕ) (node now : Node) (lease : Lease) → IsNodeOf setting log number node
     → ((last : Lease) → node.lease ≡ Some last → last.generation ≡ lease.generation → (now.list ≡ node.list) × (now.told ≡ node.told) × (now.published ≡ node.published))
     → (o : Option Lease) → lease_of log number ≡ o
-    → (IsOfNewGeneration (lease_of log number) lease → KeepsGeneration setting.endpoints lease.generation now (λ k. recorded setting k log) (λ k. published setting k log) (λ k. list_of setting k log))
-    → KeepsGeneration setting.endpoints lease.generation now (λ k. recorded setting k log) (λ k. published setting k log) (λ k. list_of setting k log)
+    → (IsOfNewGeneration (lease_of log number) lease → KeepsGeneration setting.endpoints lease.generation now (λ k. recorded_of_flow setting k log) (λ k. published setting k log) (λ k. list_of setting k log))
+    → KeepsGeneration setting.endpoints lease.generation now (λ k. recorded_of_flow setting k log) (λ k. published setting k log) (λ k. list_of setting k log)
 by_last setting log number node now lease n goes_on None is fresh = fresh (λ last some. let no : None ≡ Some last = sym is ∙ some in absurd (cc))
 by_last setting log number node now lease n goes_on (Some last) is fresh = elim (cases_eq last.generation lease.generation) [
   | inl same ↦
       let e = goes_on last (n.lease_is ∙ is) same in
       let k = n.keeps last is in
-      subst (λ (g : ℕ). KeepsGeneration setting.endpoints g now (λ k. recorded setting k log) (λ k. published setting k log) (λ k. list_of setting k log)) same
+      subst (λ (g : ℕ). KeepsGeneration setting.endpoints g now (λ k. recorded_of_flow setting k log) (λ k. published setting k log) (λ k. list_of setting k log)) same
       (record {
-        told = λ src dst in_src in_dst. ap (λ (t : Cells). cell t src dst) e.1 ∙ k.told src dst in_src in_dst;
-        published_is = λ src dst in_src in_dst. ap (λ (t : Cells). cell t src dst) e.2 ∙ k.published_is src dst in_src in_dst;
+        told = λ src dst in_src in_dst. ap (λ (t : CellsContent). cell t src dst) e.1 ∙ k.told src dst in_src in_dst;
+        published_is = λ src dst in_src in_dst. ap (λ (t : CellsContent). cell t src dst) e.2 ∙ k.published_is src dst in_src in_dst;
         list_is = ap (λ (l : Demands). l.items) e.0 ∙ k.list_is;
       })
   | inr other ↦ fresh (λ it some same. other (ap (λ (l : Lease). l.generation) (same_Some last it (sym is ∙ some)) ∙ same))
@@ -209,7 +210,7 @@ earlier b m n list le before =
     All-weaker (λ (item : Item). item.last < first_slot b m) (λ item. item.last < first_slot b n) (λ item is. omega (arith, is, less)) list before
 
 -- whatever the last lease was, the list was last served before the first batch of the new one
-before_lease : (setting : Setting) (log : Log) (number : ℕ) (node now : Node) (lease : Lease) → used_of log number ≤ setting.span → begins_below setting.span (lease_of log number) lease ≡ false → IsNodeOf setting log number node
+before_lease : (setting : PairSetting) (log : Log) (number : ℕ) (node now : Node) (lease : Lease) → used_of log number ≤ setting.span → begins_below setting.span (lease_of log number) lease ≡ false → IsNodeOf setting log number node
     → (IsOfNewGeneration node.lease lease → (now.list.items ≡ []) × ((src dst : ℕ) → cell now.told src dst ≡ 0) × ((src dst : ℕ) → cell now.published src dst ≡ 0))
     → ((last : Lease) → node.lease ≡ Some last → last.generation ≡ lease.generation → (now.list ≡ node.list) × (now.told ≡ node.told) × (now.published ≡ node.published))
     → (o : Option Lease) → lease_of log number ≡ o → All (λ item. item.last < first_slot setting.b (lease.first + 0)) now.list.items
@@ -228,7 +229,7 @@ before_lease setting log number node now lease few above n new goes_on (Some las
           (All-nil (λ (item : Item). item.last < first_slot setting.b (lease.first + 0)))
     ]
 
-pub own_took : (setting : Setting) (events : List Event) (number m : ℕ) (node now : Node) (lease : Lease) → AGenerationBeginsAnew → 0 < setting.span
+pub own_took : (setting : PairSetting) (events : List Event) (number m : ℕ) (node now : Node) (lease : Lease) → AGenerationBeginsAnew → 0 < setting.span
     → used_of (log_of setting events) number ≤ setting.span → begins_below setting.span (lease_of (log_of setting events) number) lease ≡ false → done setting (log_of setting events) (Take number m) ≡ Took lease → lease.holder.node ≡ number
     → now.lease ≡ Some lease → now.used ≡ 0 → now.boot ≡ node.boot → now.told.endpoints ≡ node.told.endpoints → now.published.endpoints ≡ node.published.endpoints
     → length now.list.items + now.list.spare ≡ length node.list.items + node.list.spare
@@ -239,7 +240,7 @@ own_took setting events number m node now lease anew some few above takes of_num
     let log : Log = log_of setting events in
     let here = eq-eqb lease.holder.node number of_number in
     let mine : lease_of (Took lease ∷ log) number ≡ Some lease = cond-true (lease.holder.node == number) (Some lease) (lease_of log number) here in
-    let fresh : IsOfNewGeneration (lease_of log number) lease → KeepsGeneration setting.endpoints lease.generation now (λ k. recorded setting k log) (λ k. published setting k log) (λ k. list_of setting k log) = λ other.
+    let fresh : IsOfNewGeneration (lease_of log number) lease → KeepsGeneration setting.endpoints lease.generation now (λ k. recorded_of_flow setting k log) (λ k. published setting k log) (λ k. list_of setting k log) = λ other.
     let e = new (subst (λ (o : Option Lease). IsOfNewGeneration o lease) (sym n.lease_is) other) in
     let a = anew setting events number m lease some takes (λ last is. other last (ap (λ (k : ℕ). lease_of log k) (sym of_number) ∙ is)) in
     record {
@@ -247,7 +248,7 @@ own_took setting events number m node now lease anew some few above takes of_num
       published_is = λ src dst in_src in_dst. e.2 src dst ∙ sym (a.2 (record { src = src; dst = dst }));
       list_is = e.0 ∙ sym (ap (λ (ys : List (ℕ × DemandBatch)). list_by setting.b [] ys) a.0);
     } in
-    let kept : (o : Option Lease) → lease_of log number ≡ o → KeepsGeneration setting.endpoints lease.generation now (λ k. recorded setting k log) (λ k. published setting k log) (λ k. list_of setting k log) = λ o is. by_last setting log number node now lease n goes_on o is fresh in
+    let kept : (o : Option Lease) → lease_of log number ≡ o → KeepsGeneration setting.endpoints lease.generation now (λ k. recorded_of_flow setting k log) (λ k. published setting k log) (λ k. list_of setting k log) = λ o is. by_last setting log number node now lease n goes_on o is fresh in
     record {
       boot_is = boots ∙ n.boot_is;
       lease_is = leases ∙ sym mine;
@@ -257,7 +258,7 @@ own_took setting events number m node now lease anew some few above takes of_num
       room = omega (arith, n.room, rooms);
       keeps = λ held is.
           let same : lease ≡ held = same_Some lease held (sym mine ∙ is) in
-          subst (λ (l : Lease). KeepsGeneration setting.endpoints l.generation now (λ k. recorded setting k log) (λ k. published setting k log) (λ k. list_of setting k log)) same (kept (lease_of log number) refl);
+          subst (λ (l : Lease). KeepsGeneration setting.endpoints l.generation now (λ k. recorded_of_flow setting k log) (λ k. published setting k log) (λ k. list_of setting k log)) same (kept (lease_of log number) refl);
       before = λ held is.
           let same : lease ≡ held = same_Some lease held (sym mine ∙ is) in
           let none_used = cond-true (lease.holder.node == number) 0 (used_of log number) here in
@@ -268,14 +269,14 @@ own_took setting events number m node now lease anew some few above takes of_num
 
 -- ---- telling
 
-pub told-is : (log : Log) (src : ℕ) (lease : Lease) → generation_of log src ≤ lease.generation → told log src (Some lease) ≡ Told src lease.generation
+pub told-is : (log : Log) (src : ℕ) (lease : Lease) → generation_of log src ≤ lease.generation → told_fact log src (Some lease) ≡ Told src lease.generation
 told-is log src lease le = cond-false (nat_lt lease.generation (generation_of log src)) (Refused Stale) (Told src lease.generation) (le-ltb lease.generation (generation_of log src) le)
 
-pub told-stale : (log : Log) (src : ℕ) (lease : Lease) → lease.generation < generation_of log src → told log src (Some lease) ≡ Refused Stale
+pub told-stale : (log : Log) (src : ℕ) (lease : Lease) → lease.generation < generation_of log src → told_fact log src (Some lease) ≡ Refused Stale
 told-stale log src lease lt = cond-true (nat_lt lease.generation (generation_of log src)) (Refused Stale) (Told src lease.generation) (lt-ltb lease.generation (generation_of log src) lt)
 
-pub own_told : (setting : Setting) (log : Log) (number : ℕ) (node now : Node) (lease : Lease) (src : ℕ) (asks bases : Cells) → lease_of log number ≡ Some lease
-    → ((s d : ℕ) → s < setting.endpoints → d < setting.endpoints → cell asks s d ≡ asked log (flow_of s d)) → ((s d : ℕ) → s < setting.endpoints → d < setting.endpoints → cell bases s d ≡ base_of setting (Told src lease.generation ∷ log) (flow_of s d))
+pub own_told : (setting : PairSetting) (log : Log) (number : ℕ) (node now : Node) (lease : Lease) (src : ℕ) (asks bases : CellsContent) → lease_of log number ≡ Some lease
+    → ((s d : ℕ) → s < setting.endpoints → d < setting.endpoints → cell asks s d ≡ asked_of_flow log (flow_of s d)) → ((s d : ℕ) → s < setting.endpoints → d < setting.endpoints → cell bases s d ≡ base_of setting (Told src lease.generation ∷ log) (flow_of s d))
     → ((s d : ℕ) → d < setting.endpoints → cell now.told s d ≡ cond (src == s) (cell asks s d - cell bases s d) (cell node.told s d))
     → now.told.endpoints ≡ node.told.endpoints → now.boot ≡ node.boot → now.lease ≡ node.lease → now.used ≡ node.used → now.published ≡ node.published → now.list ≡ node.list
     → IsNodeOf setting log number node → IsNodeOf setting (Told src lease.generation ∷ log) number now
@@ -284,7 +285,7 @@ own_told setting log number node now lease src asks bases of_number are_asks are
   lease_is = leases ∙ n.lease_is;
   used_is = useds ∙ n.used_is;
   told = endpoints ∙ n.told;
-  published = ap (λ (t : Cells). t.endpoints) pubs ∙ n.published;
+  published = ap (λ (t : CellsContent). t.endpoints) pubs ∙ n.published;
   room = omega (arith, n.room, ap (λ (l : Demands). length l.items + l.spare) lists);
   keeps = λ held is.
       let same : lease ≡ held = same_Some lease held (sym of_number ∙ is) in
@@ -296,10 +297,10 @@ own_told setting log number node now lease src asks bases of_number are_asks are
             let of_lease = eq-eqb lease.generation held.generation (ap (λ (l : Lease). l.generation) same) in
             tolds s d in_d
             ∙ (ap (λ (m : ℕ). cond (src == s) (m - cell bases s d) (cell node.told s d)) (are_asks s d in_s in_d)
-            ∙ (ap (λ (m : ℕ). cond (src == s) (asked log flow - m) (cell node.told s d)) (are_bases s d in_s in_d)
+            ∙ (ap (λ (m : ℕ). cond (src == s) (asked_of_flow log flow - m) (cell node.told s d)) (are_bases s d in_s in_d)
             ∙ (ap (λ (m : ℕ). cond (src == s) (total_of setting then flow) m) (k.told s d in_s in_d)
-            ∙ ap (λ (b : Bool). cond (b && (src == s)) (total_of setting then flow) (recorded setting held.generation log flow)) (sym of_lease))));
-        published_is = λ s d in_s in_d. ap (λ (t : Cells). cell t s d) pubs ∙ k.published_is s d in_s in_d;
+            ∙ ap (λ (b : Bool). cond (b && (src == s)) (total_of setting then flow) (recorded_of_flow setting held.generation log flow)) (sym of_lease))));
+        published_is = λ s d in_s in_d. ap (λ (t : CellsContent). cell t s d) pubs ∙ k.published_is s d in_s in_d;
         list_is = ap (λ (l : Demands). l.items) lists ∙ k.list_is;
       };
   before = λ held is. subst (λ (l : Demands). All (λ item. item.last < first_slot setting.b (held.first + used_of log number)) l.items) (sym lists) (n.before held is);

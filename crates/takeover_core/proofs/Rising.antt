@@ -9,7 +9,7 @@ use Rattle.greedy_rules.specs.declared.flows.Flow.{Flow}
 use Rattle.greedy_rules.specs.declared.flows.Entry.{Entry}
 use Rattle.greedy_rules.specs.Flows.{flow_below}
 use Rattle.greedy_rules.specs.Batches.{IsAboveLast}
-use Rattle.takeover_history.specs.Batches.{flow_of}
+use Rattle.greedy_rules.specs.Cells.{flow_of}
 use Rattle.takeover_core.specs.Entries.{AreBelowFlow}
 
 pub above_last : (entries : List Entry) (src dst : ℕ) → AreBelowFlow entries src dst → IsAboveLast entries (flow_of src dst)

@@ -5,7 +5,7 @@ use Rattle.takeover_history.specs.declared.event.Refusal.TheVariants.{NoMessage,
 use Rattle.greedy_rules.specs.Batches.{DemandBatch, entry_of}
 use Rattle.greedy_rules.specs.Demands.{HasEachFlowOnce, AreBelow, OpensNewFlows, need_with, opened}
 use Rattle.takeover_history.specs.declared.lease.Lease.{Lease}
-use Rattle.takeover_core.specs.Entries.{entries_of}
+use Rattle.takeover_core.specs.Entries.{entries_between}
 use Rattle.takeover_core.specs.declared.node.Node.{Node}
 
 -- the last lease, if there is one, is of another generation
@@ -18,15 +18,15 @@ begins_below span None lease = false
 begins_below span (Some last) lease = nat_lt lease.first (last.first + span)
 
 -- why the node of this number, in this boot and with this lease, does not take a lease
-abbrev pub refusal_of : ℕ → ℕ → Option Lease → Lease → ℕ → Option Refusal
-refusal_of number boot last lease span =
+abbrev pub lease_refusal_of : ℕ → ℕ → Option Lease → Lease → ℕ → Option Refusal
+lease_refusal_of number boot last lease span =
     if not (lease.holder.node == number) then Some NoMessage
     else (if not (lease.holder.boot == boot) then Some OldBoot
     else (if begins_below span last lease then Some OldLease else None))
 
 -- the batch of the totals that rose, in one rack with one core
 abbrev pub next_of : ℕ → Node → DemandBatch
-next_of endpoints node = record { entries = entries_of node.told node.published endpoints; limits = record { hosts = endpoints; cores = 1 } }
+next_of endpoints node = record { entries = entries_between node.told node.published endpoints; limits = record { hosts = endpoints; cores = 1 } }
 
 -- the batch may be applied to the list
 pub record MayPublish (endpoints : ℕ) (node : Node) : Type 0 where

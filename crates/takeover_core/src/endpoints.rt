@@ -2,7 +2,7 @@ ghost use Rattle.std.specs.Prelude.{◌≡◌, ◌<◌, ◌≤◌, ◌+◌, ◌-
 ghost use Rattle.greedy_rules.specs.Schedule.{slot_in};
 ghost use Rattle.takeover_history.specs.Endpoints.{own_sends, send_to};
 ghost use Rattle.takeover_core.specs.Cells.{cell};
-ghost use Rattle.takeover_core.specs.Sending.{sends_in, AreCounted};
+ghost use Rattle.takeover_core.specs.Sending.{sends_in, SendsAreCounted};
 
 use crate::flow_table::FlowTable;
 use endpoint_agent::Sent;
@@ -86,9 +86,9 @@ impl Endpoints {
         requires table { slots.now.endpoints ≡ self.old.counts.endpoints }
         requires numbers { first_slot + length slots.now.slots < 2 ^ 32 }
         requires few { length self.old.sent.items + length slots.now.slots < 2 ^ 32 }
-        requires counted { AreCounted self.old.counts self.old.sent.items }
+        requires counted { SendsAreCounted self.old.counts self.old.sent.items }
         ensures sent { OnOk result (sends_in self.new.sent.items ≡ sends_in self.old.sent.items ++ own_sends src first_slot slots.now.slots) }
-        ensures counted { OnOk result (AreCounted self.new.counts self.new.sent.items) }
+        ensures counted { OnOk result (SendsAreCounted self.new.counts self.new.sent.items) }
         ensures endpoints { OnOk result (self.new.counts.endpoints ≡ self.old.counts.endpoints) }
         ensures generations { OnOk result (self.new.generations.items ≡ self.old.generations.items) }
         ensures asked { OnOk result (self.new.asked ≡ self.old.asked) }
@@ -107,10 +107,10 @@ impl Endpoints {
         requires src { src < self.old.counts.endpoints }
         requires to { IfSome to (λ dst. dst < self.old.counts.endpoints) }
         requires few { length self.old.sent.items + 1 < 2 ^ 32 }
-        requires counted { AreCounted self.old.counts self.old.sent.items }
+        requires counted { SendsAreCounted self.old.counts self.old.sent.items }
         ensures sent { OnOk result (sends_in self.new.sent.items ≡ sends_in self.old.sent.items ++ send_to src slot to) }
         ensures length { OnOk result (length self.new.sent.items ≤ length self.old.sent.items + 1) }
-        ensures counted { OnOk result (AreCounted self.new.counts self.new.sent.items) }
+        ensures counted { OnOk result (SendsAreCounted self.new.counts self.new.sent.items) }
         ensures endpoints { OnOk result (self.new.counts.endpoints ≡ self.old.counts.endpoints) }
         ensures generations { OnOk result (self.new.generations.items ≡ self.old.generations.items) }
         ensures asked { OnOk result (self.new.asked ≡ self.old.asked) }

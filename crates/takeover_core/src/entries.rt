@@ -2,7 +2,7 @@ ghost use Rattle.std.specs.Prelude.{◌≡◌, ◌<◌, ◌≤◌, ◌+◌, ◌+
 ghost use Rattle.std.specs.List.{cons_option, range_with_len};
 ghost use Rattle.greedy_rules.specs.Flows.{flow_below};
 ghost use Rattle.greedy_rules.specs.Limits.{AreLimits};
-ghost use Rattle.takeover_core.specs.Entries.{entry_at, row_of, entries_of, AreBelowFlow};
+ghost use Rattle.takeover_core.specs.Entries.{entry_at, entries_row, entries_between, AreBelowFlow};
 
 use crate::flow_table::FlowTable;
 use greedy_rules::{Batch, Entry, Flow, Limits};
@@ -50,7 +50,7 @@ fn push_rises(
     requires told { told.now.endpoints ≡ endpoints }
     requires published { published.now.endpoints ≡ endpoints }
     requires above { AreBelowFlow batch.old.entries src 0 }
-    ensures entries { OnOk result (batch.new.entries ≡ batch.old.entries ++ row_of told.now published.now src endpoints) }
+    ensures entries { OnOk result (batch.new.entries ≡ batch.old.entries ++ entries_row told.now published.now src endpoints) }
     ensures above { OnOk result (AreBelowFlow batch.new.entries (src + 1) 0) }
     ensures limits { batch.new.limits ≡ batch.old.limits }
 {
@@ -71,7 +71,7 @@ pub(crate) fn batch_of(
     requires few { endpoints ≤ 64 }
     requires told { told.now.endpoints ≡ endpoints }
     requires published { published.now.endpoints ≡ endpoints }
-    ensures { IfOk result (λ batch. batch ≡ record { entries = entries_of told.now published.now endpoints; limits = record { hosts = endpoints; cores = 1 } }) }
+    ensures { IfOk result (λ batch. batch ≡ record { entries = entries_between told.now published.now endpoints; limits = record { hosts = endpoints; cores = 1 } }) }
 {
     let mut batch = Batch::with_limits(
         alloc,

@@ -14,9 +14,9 @@ pub(crate) struct FlowTable {
 
 impl Model for FlowTable {
     ghost use Rattle.std.specs.Prelude.{◌≡◌, ◌*◌, length};
-    ghost use Rattle.takeover_core.specs.Cells.{Cells};
+    ghost use Rattle.takeover_core.specs.Cells.{CellsContent};
 
-    ghost Value = { Cells };
+    ghost Value = { CellsContent };
 
     ghost view = { λ table. record { endpoints = table.endpoints; cells = table.cells.items } };
 

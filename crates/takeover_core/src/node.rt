@@ -3,8 +3,8 @@ ghost use Rattle.greedy_rules.specs.Demands.{HasEachFlowOnce, AreBelow, OpensNew
 ghost use Rattle.greedy_rules.specs.Batches.{entry_of};
 ghost use Rattle.greedy_rules.specs.Schedule.{first_slot, slots_then, list_then};
 ghost use Rattle.takeover_core.specs.Cells.{cell};
-ghost use Rattle.takeover_core.specs.Entries.{entries_of};
-ghost use Rattle.takeover_core.specs.Node.{IsOfNewGeneration, MayPublish, next_of, refusal_of};
+ghost use Rattle.takeover_core.specs.Entries.{entries_between};
+ghost use Rattle.takeover_core.specs.Node.{IsOfNewGeneration, MayPublish, next_of, lease_refusal_of};
 
 use crate::entries::batch_of;
 use crate::flow_table::FlowTable;
@@ -50,7 +50,7 @@ impl Node {
     /// Why a node of this number refuses to take the lease, if it does.
     pub(crate) fn refuses(&self, number: u16, lease: Lease, span: u16) -> Option<Refusal>
         requires { IfSome self.now.lease (λ last. last.first + span < 2 ^ 32) }
-        ensures { result ≡ refusal_of number self.now.boot self.now.lease lease span }
+        ensures { result ≡ lease_refusal_of number self.now.boot self.now.lease lease span }
     {
         if lease.holder.node != number {
             return Some(Refusal::NoMessage);

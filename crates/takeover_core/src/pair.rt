@@ -1,12 +1,12 @@
 ghost use Rattle.std.specs.Prelude.{◌≡◌, ◌≢◌, ◌<◌, ◌≤◌, ◌+◌, ◌^◌, ℕ, List, [], ◌∷◌, length, None, Some, OnOk, IfOk, slice_get};
 ghost use Rattle.takeover_history.specs.declared.event.Event.{Event as EventType};
 ghost use Rattle.takeover_history.specs.declared.event.Event.TheVariants as event;
-ghost use Rattle.takeover_history.specs.Events.{Setting};
-ghost use Rattle.takeover_history.specs.Endpoints.{asked, issues, sends, sent};
+ghost use Rattle.takeover_history.specs.Events.{PairSetting};
+ghost use Rattle.takeover_history.specs.Endpoints.{asked_of_flow, issues, sends_of_flow, sent};
 ghost use Rattle.takeover_history.specs.Steps.{log_of};
-ghost use Rattle.takeover_core.specs.Outcomes.{MayStep, Stands, Answers, Promises};
+ghost use Rattle.takeover_core.specs.Outcomes.{MayStep, PairStands, PairAnswers, Promises};
 ghost use Rattle.takeover_core.specs.Sending.{send_of};
-ghost use Rattle.takeover_core.specs.Standing.{IsSetting, StandsFor, last_batch};
+ghost use Rattle.takeover_core.specs.Standing.{IsPairSetting, PairStandsFor, last_batch};
 
 use crate::endpoints::{Endpoints, tell};
 use crate::keeper::Keeper;
@@ -47,9 +47,9 @@ impl Pair {
         lease: u16,
         events: u32,
     ) -> Result<Pair, NoMemory>
-        requires sizes { IsSetting (record { endpoints = endpoints; b = b; span = lease }) }
+        requires sizes { IsPairSetting (record { endpoints = endpoints; b = b; span = lease }) }
         requires events { events ≤ 10000 }
-        ensures { IfOk result (λ pair. StandsFor (record { endpoints = endpoints; b = b; span = lease }) pair []) }
+        ensures { IfOk result (λ pair. PairStandsFor (record { endpoints = endpoints; b = b; span = lease }) pair []) }
     {
         Ok(Pair {
             alloc,
@@ -78,8 +78,8 @@ impl Pair {
     /// Lets an event happen. A refused event changes nothing. After want of memory the pair is only to be dropped.
     pub fn step(&mut self, event: Event) -> Result<Outcome, NoMemory>
         requires { MayStep self.old event }
-        ensures answers { IfOk result (λ outcome. Answers self.old event outcome) }
-        ensures stands { OnOk result (Stands self.old self.new event) }
+        ensures answers { IfOk result (λ outcome. PairAnswers self.old event outcome) }
+        ensures stands { OnOk result (PairStands self.old self.new event) }
         ensures promised { OnOk result (Promises self.old event) }
     {
         what_is_promised();
@@ -88,8 +88,8 @@ impl Pair {
 
     fn happen(&mut self, event: Event) -> Result<Outcome, NoMemory>
         requires { MayStep self.old event }
-        ensures answers { IfOk result (λ outcome. Answers self.old event outcome) }
-        ensures stands { OnOk result (Stands self.old self.new event) }
+        ensures answers { IfOk result (λ outcome. PairAnswers self.old event outcome) }
+        ensures stands { OnOk result (PairStands self.old self.new event) }
     {
         match event {
             Event::Ask { src, dst, slots } => {
@@ -111,15 +111,15 @@ impl Pair {
 
     fn ask(&mut self, src: u16, dst: u16, slots: u32)
         requires { MayStep self.old (event.Ask src dst slots) }
-        ensures { Stands self.old self.new (event.Ask src dst slots) }
+        ensures { PairStands self.old self.new (event.Ask src dst slots) }
     {
         self.ends.ask(src, dst, slots);
     }
 
     fn request(&mut self, node: u16) -> Result<Outcome, NoMemory>
         requires { MayStep self.old (event.Request node) }
-        ensures answers { IfOk result (λ outcome. Answers self.old (event.Request node) outcome) }
-        ensures stands { OnOk result (Stands self.old self.new (event.Request node)) }
+        ensures answers { IfOk result (λ outcome. PairAnswers self.old (event.Request node) outcome) }
+        ensures stands { OnOk result (PairStands self.old self.new (event.Request node)) }
     {
         let boot = self.nodes[node as usize].boot;
         self.keeper.request(Holder { node, boot })?;
@@ -128,8 +128,8 @@ impl Pair {
 
     fn grant(&mut self, m: u32) -> Result<Outcome, NoMemory>
         requires { MayStep self.old (event.Grant m) }
-        ensures answers { IfOk result (λ outcome. Answers self.old (event.Grant m) outcome) }
-        ensures stands { OnOk result (Stands self.old self.new (event.Grant m)) }
+        ensures answers { IfOk result (λ outcome. PairAnswers self.old (event.Grant m) outcome) }
+        ensures stands { OnOk result (PairStands self.old self.new (event.Grant m)) }
     {
         running_counts_serve();
         let Some(holder) = self.keeper.sender(m) else {
@@ -149,8 +149,8 @@ impl Pair {
 
     fn take(&mut self, node: u16, m: u32) -> Outcome
         requires { MayStep self.old (event.Take node m) }
-        ensures answers { Answers self.old (event.Take node m) result }
-        ensures stands { Stands self.old self.new (event.Take node m) }
+        ensures answers { PairAnswers self.old (event.Take node m) result }
+        ensures stands { PairStands self.old self.new (event.Take node m) }
     {
         running_counts_serve();
         a_generation_begins_anew();
@@ -168,8 +168,8 @@ impl Pair {
 
     fn tell(&mut self, src: u16, node: u16) -> Outcome
         requires { MayStep self.old (event.Tell src node) }
-        ensures answers { Answers self.old (event.Tell src node) result }
-        ensures stands { Stands self.old self.new (event.Tell src node) }
+        ensures answers { PairAnswers self.old (event.Tell src node) result }
+        ensures stands { PairStands self.old self.new (event.Tell src node) }
     {
         running_counts_serve();
         let Some(lease) = self.nodes[node as usize].lease else {
@@ -190,8 +190,8 @@ impl Pair {
 
     fn publish(&mut self, node: u16) -> Result<Outcome, NoMemory>
         requires { MayStep self.old (event.Publish node) }
-        ensures answers { IfOk result (λ outcome. Answers self.old (event.Publish node) outcome) }
-        ensures stands { OnOk result (Stands self.old self.new (event.Publish node)) }
+        ensures answers { IfOk result (λ outcome. PairAnswers self.old (event.Publish node) outcome) }
+        ensures stands { OnOk result (PairStands self.old self.new (event.Publish node)) }
     {
         running_counts_serve();
         let Some(lease) = self.nodes[node as usize].lease else {
@@ -228,8 +228,8 @@ impl Pair {
 
     fn hear(&mut self, src: u16, batch: u32) -> Result<Outcome, NoMemory>
         requires { MayStep self.old (event.Hear src batch) }
-        ensures answers { IfOk result (λ outcome. Answers self.old (event.Hear src batch) outcome) }
-        ensures stands { OnOk result (Stands self.old self.new (event.Hear src batch)) }
+        ensures answers { IfOk result (λ outcome. PairAnswers self.old (event.Hear src batch) outcome) }
+        ensures stands { OnOk result (PairStands self.old self.new (event.Hear src batch)) }
     {
         running_counts_serve();
         let Some(issued) = self.published.get(batch) else {
@@ -263,7 +263,7 @@ impl Pair {
 
     fn crash(&mut self, node: u16)
         requires { MayStep self.old (event.Crash node) }
-        ensures { Stands self.old self.new (event.Crash node) }
+        ensures { PairStands self.old self.new (event.Crash node) }
     {
         running_counts_serve();
         self.nodes[node as usize].crash();
@@ -271,7 +271,7 @@ impl Pair {
 
     /// The slots of the last batch that was published, empty before the first.
     pub fn slots(&self) -> &SlotTable
-        ensures { (setting : Setting) (events : List EventType) → StandsFor setting self.now events →
+        ensures { (setting : PairSetting) (events : List EventType) → PairStandsFor setting self.now events →
             result.now ≡ (last_batch setting (issues (log_of setting events))).slots }
     {
         &self.last_published().slots
@@ -279,14 +279,14 @@ impl Pair {
 
     /// The last batch that was published, without entries before the first.
     pub fn batch(&self) -> &Batch
-        ensures { (setting : Setting) (events : List EventType) → StandsFor setting self.now events →
+        ensures { (setting : PairSetting) (events : List EventType) → PairStandsFor setting self.now events →
             result.now ≡ (last_batch setting (issues (log_of setting events))).batch }
     {
         &self.last_published().batch
     }
 
     fn last_published(&self) -> &Issued
-        ensures { (setting : Setting) (events : List EventType) → StandsFor setting self.now events →
+        ensures { (setting : PairSetting) (events : List EventType) → PairStandsFor setting self.now events →
             result.now ≡ last_batch setting (issues (log_of setting events)) }
     {
         if let Some(number) = self.last {
@@ -299,8 +299,8 @@ impl Pair {
 
     /// The send of this number, counted from 0, with its source.
     pub fn sent(&self, at: u32) -> (u16, Sent)
-        requires { (setting : Setting) × (events : List EventType) × StandsFor setting self.now events × (at < length (sent setting (log_of setting events))) }
-        ensures { (setting : Setting) (events : List EventType) → StandsFor setting self.now events →
+        requires { (setting : PairSetting) × (events : List EventType) × PairStandsFor setting self.now events × (at < length (sent setting (log_of setting events))) }
+        ensures { (setting : PairSetting) (events : List EventType) → PairStandsFor setting self.now events →
             slice_get (sent setting (log_of setting events)) at ≡ Some (send_of result) }
     {
         self.ends.sent[at as usize]
@@ -308,9 +308,9 @@ impl Pair {
 
     /// How many slots of a flow are asked for, and in how many its source sent.
     pub fn totals(&self, flow: Flow) -> (u32, u32)
-        requires { (setting : Setting) × (events : List EventType) × StandsFor setting self.now events × (flow.src < setting.endpoints) × (flow.dst < setting.endpoints) }
-        ensures { (setting : Setting) (events : List EventType) → StandsFor setting self.now events →
-            result ≡ (asked (log_of setting events) flow, sends setting (log_of setting events) flow) }
+        requires { (setting : PairSetting) × (events : List EventType) × PairStandsFor setting self.now events × (flow.src < setting.endpoints) × (flow.dst < setting.endpoints) }
+        ensures { (setting : PairSetting) (events : List EventType) → PairStandsFor setting self.now events →
+            result ≡ (asked_of_flow (log_of setting events) flow, sends_of_flow setting (log_of setting events) flow) }
     {
         (
             self.ends.asked.get(flow.src, flow.dst),

@@ -8,11 +8,11 @@ use Rattle.std.proofs.lemmas.List.{append-nil}
 use Rattle.std.proofs.lemmas.List.Elements.{All-nil, All-cons, All-head, All-tail, All-weaker, All-contains}
 use Rattle.greedy_rules.specs.declared.flows.Flow.{Flow}
 use Rattle.greedy_rules.specs.Batches.{DemandBatch}
-use Rattle.takeover_history.specs.Events.{Setting, Event, Take, Holder, Lease, Issue, Fact, Asked, Requested, Granted, Took, Told, Published, Heard, Crashed, Refused, Log}
+use Rattle.takeover_history.specs.Events.{PairSetting, Event, Take, Holder, Lease, Fact, Asked, Requested, Granted, Took, Told, Published, Heard, Crashed, Refused, Log}
 use Rattle.takeover_history.specs.Leases.{boot_of, sent_messages, grant_at, leases, lease_of}
-use Rattle.takeover_history.specs.Endpoints.{total_of, recorded}
-use Rattle.takeover_history.specs.Batches.{batches_of, published}
-use Rattle.takeover_history.specs.Steps.{done, log_of, Follows, IsLog}
+use Rattle.takeover_history.specs.Endpoints.{total_of, recorded_of_flow}
+use Rattle.takeover_history.specs.Batches.{published_batches, published}
+use Rattle.takeover_history.specs.Steps.{done, log_of, FactFollows, IsLog}
 use Rattle.takeover_history.specs.Laws.{AGenerationBeginsAnew}
 use Rattle.takeover_history.proofs.Follow.{lease-node, follows, is_log}
 use Rattle.takeover_history.proofs.Leases.{IsOwned, Leased, leased, above-last}
@@ -41,7 +41,7 @@ grant-there (Heard src issue ∷ log) message lease is = grant-there log message
 grant-there (Crashed node ∷ log) message lease is = grant-there log message lease is
 grant-there (Refused why ∷ log) message lease is = grant-there log message lease is
 
-pub taken-there : (setting : Setting) (log : Log) (node : ℕ) (lease : Lease) → IsLog setting log → lease_of log node ≡ Some lease → Contains (leases log) lease
+pub taken-there : (setting : PairSetting) (log : Log) (node : ℕ) (lease : Lease) → IsLog setting log → lease_of log node ≡ Some lease → Contains (leases log) lease
 taken-there setting [] node lease is of = absurd (cc)
 taken-there setting (Asked flow slots ∷ log) node lease is of = taken-there setting log node lease is.1 of
 taken-there setting (Requested holder ∷ log) node lease is of = taken-there setting log node lease is.1 of
@@ -65,11 +65,11 @@ abbrev Mono : Lease → Lease → Type 0
 Mono one other = one.first < other.first → one.generation ≤ other.generation
 
 -- each begins where those before it end
-abbrev AreSpaced : Setting → List Lease → Type 0
+abbrev AreSpaced : PairSetting → List Lease → Type 0
 AreSpaced setting [] = Unit {0}
 AreSpaced setting (lease ∷ before) = (lease.first ≡ setting.span * length before) × AreSpaced setting before
 
-spaced : (setting : Setting) (log : Log) → IsLog setting log → AreSpaced setting (leases log)
+spaced : (setting : PairSetting) (log : Log) → IsLog setting log → AreSpaced setting (leases log)
 spaced setting [] is = tt
 spaced setting (Asked flow slots ∷ log) is = spaced setting log is.1
 spaced setting (Requested holder ∷ log) is = spaced setting log is.1
@@ -82,14 +82,14 @@ spaced setting (Crashed node ∷ log) is = spaced setting log is.1
 spaced setting (Refused why ∷ log) is = spaced setting log is.1
 
 -- all begin at or below the end of the list
-low : (setting : Setting) (ls : List Lease) → AreSpaced setting ls → All (λ (l : Lease). l.first ≤ setting.span * length ls) ls
+low : (setting : PairSetting) (ls : List Lease) → AreSpaced setting ls → All (λ (l : Lease). l.first ≤ setting.span * length ls) ls
 low setting [] are = λ k d within. absurd (omega arith)
 low setting (lease ∷ ls) are =
     let P : Lease → Type 0 = λ l. l.first ≤ setting.span * length (lease ∷ ls) in
     All-cons P lease ls (omega (arith, are.0, mul-suc setting.span (length ls)))
     (All-weaker (λ (l : Lease). l.first ≤ setting.span * length ls) P (λ l le. omega (arith, mul-suc setting.span (length ls))) ls (low setting ls are.1))
 
-mono : (setting : Setting) (ls : List Lease) → AreSpaced setting ls → AreGranted ls → All (λ (one : Lease). All (Mono one) ls) ls
+mono : (setting : PairSetting) (ls : List Lease) → AreSpaced setting ls → AreGranted ls → All (λ (one : Lease). All (Mono one) ls) ls
 mono setting [] are grants = All-nil (λ (one : Lease). All (Mono one) [])
 mono setting (lease ∷ ls) are grants =
     let later = all_later lease ls grants in
@@ -110,7 +110,7 @@ Live log k =
     × (lease.holder.boot ≡ boot_of log lease.holder.node → (last : Lease) × (lease_of log lease.holder.node ≡ Some last) × (k ≤ last.generation))
 
 -- it is, of a lease that is taken
-live-now : (setting : Setting) (log : Log) (node : ℕ) (lease : Lease) → IsLog setting log → lease_of log node ≡ Some lease → Live log lease.generation
+live-now : (setting : PairSetting) (log : Log) (node : ℕ) (lease : Lease) → IsLog setting log → lease_of log node ≡ Some lease → Live log lease.generation
 live-now setting log node lease is of =
     let t = (leased setting log is).taken node lease of in
     let same = lease-node setting log node lease of in
@@ -120,12 +120,12 @@ live-now setting log node lease is of =
 live-granted : (log : Log) (new : Lease) (k : ℕ) → Live log k → Live (Granted new ∷ log) k
 live-granted log new k l = (l.0, there-cons new l.0 (leases log) l.1, l.2, l.3, l.4)
 
-rises : (setting : Setting) (log : Log) (new last : Lease) → IsLog setting log → 0 < setting.span → Follows setting log (Took new) → lease_of log new.holder.node ≡ Some last → last.generation ≤ new.generation
+rises : (setting : PairSetting) (log : Log) (new last : Lease) → IsLog setting log → 0 < setting.span → FactFollows setting log (Took new) → lease_of log new.holder.node ≡ Some last → last.generation ≤ new.generation
 rises setting log new last is some f of =
     two Mono (leases log) last new (mono setting (leases log) (spaced setting log is) (granted setting log is)) (taken-there setting log new.holder.node last is of) (grant-there log f.0 new f.1)
     (omega (arith, above-last setting log new last f.3 of))
 
-live-took : (setting : Setting) (log : Log) (new : Lease) (k : ℕ) → IsLog setting log → 0 < setting.span → Follows setting log (Took new) → Live log k → Live (Took new ∷ log) k
+live-took : (setting : PairSetting) (log : Log) (new : Lease) (k : ℕ) → IsLog setting log → 0 < setting.span → FactFollows setting log (Took new) → Live log k → Live (Took new ∷ log) k
 live-took setting log new k is some f l =
     let node : ℕ = l.0.holder.node in (
       l.0,
@@ -168,7 +168,7 @@ used_in k (Told src generation ∷ log) = (generation == k) || used_in k log
 used_in k (Published issue ∷ log) = (issue.lease.generation == k) || used_in k log
 used_in k (_ ∷ log) = used_in k log
 
-lives : (setting : Setting) (log : Log) (k : ℕ) → IsLog setting log → 0 < setting.span → used_in k log ≡ true → Live log k
+lives : (setting : PairSetting) (log : Log) (k : ℕ) → IsLog setting log → 0 < setting.span → used_in k log ≡ true → Live log k
 lives setting [] k is some used = absurd (false≢true used)
 lives setting (Asked flow slots ∷ log) k is some used = lives setting log k is.1 some used
 lives setting (Requested holder ∷ log) k is some used = lives setting log k is.1 some used
@@ -186,7 +186,7 @@ lives setting (Heard src issue ∷ log) k is some used = lives setting log k is.
 lives setting (Crashed gone ∷ log) k is some used = live-crashed log gone k (lives setting log k is.1 some used)
 lives setting (Refused why ∷ log) k is some used = lives setting log k is.1 some used
 
-unused : (setting : Setting) (log : Log) (k : ℕ) → used_in k log ≡ false → (batches_of k log ≡ []) × ((flow : Flow) → recorded setting k log flow ≡ 0) × ((flow : Flow) → published setting k log flow ≡ 0)
+unused : (setting : PairSetting) (log : Log) (k : ℕ) → used_in k log ≡ false → (published_batches k log ≡ []) × ((flow : Flow) → recorded_of_flow setting k log flow ≡ 0) × ((flow : Flow) → published setting k log flow ≡ 0)
 unused setting [] k none = (refl, λ flow. refl, λ flow. refl)
 unused setting (Asked of slots ∷ log) k none = let b = unused setting log k none in (b.0, b.1, b.2)
 unused setting (Requested holder ∷ log) k none = let b = unused setting log k none in (b.0, b.1, b.2)
@@ -195,13 +195,13 @@ unused setting (Took new ∷ log) k none = let b = unused setting log k none in 
 unused setting (Told src generation ∷ log) k none =
     let parts = or_parts (generation == k) (used_in k log) none in
     let b = unused setting log k parts.1 in
-    (b.0, λ flow. cond-false ((generation == k) && (src == flow.src)) (total_of setting (Told src generation ∷ log) flow) (recorded setting k log flow) (and_left (generation == k) (src == flow.src) parts.0) ∙ b.1 flow, b.2)
+    (b.0, λ flow. cond-false ((generation == k) && (src == flow.src)) (total_of setting (Told src generation ∷ log) flow) (recorded_of_flow setting k log flow) (and_left (generation == k) (src == flow.src) parts.0) ∙ b.1 flow, b.2)
 unused setting (Published issue ∷ log) k none =
     let parts = or_parts (issue.lease.generation == k) (used_in k log) none in
     let b = unused setting log k parts.1 in (
-      ap (λ (xs : List (ℕ × DemandBatch)). batches_of k log ++ xs) (cond-false (issue.lease.generation == k) ((issue.number, issue.batch) ∷ []) [] parts.0) ∙ (append-nil (batches_of k log) ∙ b.0),
+      ap (λ (xs : List (ℕ × DemandBatch)). published_batches k log ++ xs) (cond-false (issue.lease.generation == k) ((issue.number, issue.batch) ∷ []) [] parts.0) ∙ (append-nil (published_batches k log) ∙ b.0),
       b.1,
-      λ flow. cond-false (issue.lease.generation == k) (recorded setting k log flow) (published setting k log flow) parts.0 ∙ b.2 flow,
+      λ flow. cond-false (issue.lease.generation == k) (recorded_of_flow setting k log flow) (published setting k log flow) parts.0 ∙ b.2 flow,
     )
 unused setting (Heard src issue ∷ log) k none = let b = unused setting log k none in (b.0, b.1, b.2)
 unused setting (Crashed gone ∷ log) k none = let b = unused setting log k none in (b.0, b.1, b.2)
@@ -211,7 +211,7 @@ pub begins_anew : AGenerationBeginsAnew
 begins_anew setting events node message lease some takes new =
     let log : List Fact = log_of setting events in
     let is = is_log setting events in
-    let f : Follows setting log (Took lease) = subst (Follows setting log) takes (follows setting log (Take node message)) in
+    let f : FactFollows setting log (Took lease) = subst (FactFollows setting log) takes (follows setting log (Take node message)) in
     unused setting log lease.generation (false_from_ne_true (used_in lease.generation log) (λ used.
     let l = lives setting log lease.generation is some used in
     let holder : l.0.holder ≡ lease.holder = two Agree (leases log) l.0 lease (all_agree (leases log) (granted setting log is)) l.1 (grant-there log f.0 lease f.1) l.2 in

@@ -1,5 +1,5 @@
 -- Each next batch may be applied, a generation is one node's, and every number is small.
-use Rattle.std.proofs.Common.{◌≡◌, ◌≢◌, ◌<◌, ◌≤◌, ◌+◌, ◌-◌, ◌*◌, ◌==◌, nat_lt, ◌||◌, ◌&&◌, not, ℕ, zero, suc, List, [], ◌∷◌, ◌++◌, map, length, get_or, cond, find, Bool, true, false, Option, Some, None, is_some, All, IsTrue, refl, sym, ap, ◌∙◌, subst, inl, inr, arith, length-append}
+use Rattle.std.proofs.Common.{◌≡◌, ◌<◌, ◌≤◌, ◌+◌, ◌-◌, ◌*◌, ◌==◌, nat_lt, ◌||◌, ◌&&◌, not, ℕ, zero, suc, List, [], ◌∷◌, ◌++◌, map, length, get_or, cond, find, Bool, true, false, Option, Some, None, is_some, All, IsTrue, refl, sym, ap, ◌∙◌, subst, inl, inr, arith, length-append}
 use Rattle.std.specs.Prelude.{Contains}
 use Rattle.std.proofs.Math.Nat.{mul-suc, mul-le-mul_left}
 use Rattle.std.proofs.lemmas.Bool.{cases_Bool, cases_eq, cond-true, cond-false, cond_both, eq-eqb, ne_eqb, eqb-true, lt-ltb, le-ltb, or_left}
@@ -10,25 +10,26 @@ use Rattle.list_facts.proofs.StableSort.{length-sort_by}
 use Rattle.greedy_rules.specs.declared.flows.Flow.{Flow}
 use Rattle.greedy_rules.specs.declared.flows.Item.{Item}
 use Rattle.greedy_rules.specs.declared.flows.Entry.{Entry}
-use Rattle.greedy_rules.specs.Flows.{same_flow}
-use Rattle.greedy_rules.specs.Slot.{Bar, greedy_slot}
 use Rattle.greedy_rules.specs.Limits.{is_barred}
 use Rattle.greedy_rules.specs.Batches.{DemandBatch, entry_of}
-use Rattle.greedy_rules.specs.Demands.{HasEachFlowOnce, AreBelow, OpensNewFlows, is_listed, item_of, need_in, need_with, with_batch, opened, after_batch}
+use Rattle.greedy_rules.specs.Demands.{AreBelow, OpensNewFlows, is_listed, need_with, with_batch, opened, after_batch}
 use Rattle.greedy_rules.specs.SlotTable.{destination_of}
-use Rattle.greedy_rules.specs.Allocation.{served, after_slot, list_through, list_after_slots}
+use Rattle.greedy_rules.specs.Allocation.{list_through, list_after_slots}
 use Rattle.greedy_rules.specs.Schedule.{first_slot, list_then}
 use Rattle.greedy_rules.specs.Balance.{Balances, EveryBatchBalances, is_recorded}
-use Rattle.greedy_rules.proofs.Facts.{same_flow-true, same_flow-refl, All-opened}
+use Rattle.greedy_rules.proofs.Facts.{All-opened}
+use Rattle.greedy_rules.specs.Cells.{flow_of}
+use Rattle.greedy_rules.proofs.CellLemmas.{rows_here}
+use Rattle.greedy_rules.proofs.RecordedLemmas.{need_of_item}
+use Rattle.greedy_rules.proofs.ScheduleLemmas.{length-through}
 use Rattle.takeover_history.proofs.Pairs.{few}
-use Rattle.takeover_history.specs.Events.{Setting, Event, Holder, Lease, Issue, Fact, Asked, Requested, Granted, Took, Told, Published, Heard, Crashed, Refused, Log}
+use Rattle.takeover_history.specs.Events.{PairSetting, Event, Holder, Lease, BatchIssue, Fact, Asked, Requested, Granted, Took, Told, Published, Heard, Crashed, Refused, Log}
 use Rattle.takeover_history.specs.Leases.{boot_of, sent_messages, leases, same_holder, changes, lease_of, used_of}
-use Rattle.takeover_history.specs.Endpoints.{asked, generation_of, issues, issue_at, base_of, recorded, Send, send_to, own_sends, sends_at, sent, sends}
-use Rattle.takeover_history.specs.Batches.{batches_of, batches_only, list_by, list_of, published, rise, flow_of, entry_for, entries_for, limits_of, batch_for, issue_for}
-use Rattle.takeover_history.specs.Steps.{log_of, Follows, IsLog}
+use Rattle.takeover_history.specs.Endpoints.{asked_of_flow, generation_of, issues, issue_at, base_of, recorded_of_flow, Send, send_to, own_sends, sends_at, sent}
+use Rattle.takeover_history.specs.Batches.{published_batches, batches_only, list_by, list_of, published, rise, entry_for, entries_for, batch_for, issue_for}
+use Rattle.takeover_history.specs.Steps.{log_of, IsLog}
 use Rattle.takeover_history.specs.Fits.{MayBeNext, EveryNextBatchMayBeApplied, NodesHaveOwnGenerations, HasFewOf, EveryLogHasFew}
 use Rattle.takeover_history.proofs.Follow.{lease-node, find-number, is_log}
-use Rattle.takeover_history.proofs.Rows.{rows_here}
 use Rattle.takeover_history.proofs.Counts.{Counts}
 use Rattle.takeover_history.proofs.Lists.{all, entry, of, rises, adds, recorded-more, IsListOf, lists, applies}
 use Rattle.takeover_history.proofs.Totals.{Holds, holds, allocated, unheard}
@@ -40,10 +41,6 @@ use Rattle.takeover_history.proofs.Sends.{found}
 
 -- ---- how long lists are
 
-length-through : (bar : Bar) (number count : ℕ) (list : List Item) → length (list_through bar number count list) ≡ length list
-length-through bar number zero list = refl
-length-through bar number (suc count) list = length-through bar (number + 1) count (after_slot bar number list) ∙ length-map list (served number (greedy_slot bar list))
-
 length-then : (b k : ℕ) (batch : DemandBatch) (list : List Item) → length (list_then b k batch list) ≡ length list + length (opened batch.entries)
 length-then b k batch list =
     length-sort_by (λ (item : Item). item.last) (list_through (is_barred batch.limits) (first_slot b k) b (after_batch batch.entries list))
@@ -54,21 +51,8 @@ length-then b k batch list =
 
 -- ---- the next batch
 
--- in a list that has each flow once, an item's need is that of its flow
-need_of_item : (items : List Item) (at : ℕ) (d : Item) → HasEachFlowOnce items → at < length items → need_in (item_of items (get_or items at d).flow) ≡ (get_or items at d).need
-need_of_item [] at d once below = absurd (omega arith)
-need_of_item (item ∷ items) zero d once below = ap need_in (cond-true (same_flow item.flow item.flow) (Some item) (item_of items item.flow) (same_flow-refl item.flow))
-need_of_item (item ∷ items) (suc at) d once below =
-    let that : Item = get_or items at d in
-    let tail : HasEachFlowOnce items = λ i j e lt within. once (suc i) (suc j) e (omega arith) (omega arith) in
-    let apart : item.flow ≢ that.flow = once 0 (suc at) d (omega arith) below in
-    elim (cases_Bool (same_flow item.flow that.flow)) [
-      | inl same ↦ absurd (apart (same_flow-true item.flow that.flow same))
-      | inr other ↦ ap need_in (cond-false (same_flow item.flow that.flow) (Some item) (item_of items that.flow) other) ∙ need_of_item items at d tail (omega arith)
-    ]
-
 -- the entry of a flow is there where its total rose
-entry-there : (setting : Setting) (k : ℕ) (log : Log) (src dst : ℕ) → src < setting.endpoints → dst < setting.endpoints
+entry-there : (setting : PairSetting) (k : ℕ) (log : Log) (src dst : ℕ) → src < setting.endpoints → dst < setting.endpoints
     → is_some (entry_of (entries_for setting k log) (flow_of src dst)) ≡ nat_lt 0 (rise setting k log (flow_of src dst))
 entry-there setting k log src dst in_src in_dst =
     ap is_some (rows_here (entry_for setting k log) (of setting k log) 0 setting.endpoints setting.endpoints src dst (omega arith) (omega arith) in_dst)
@@ -83,34 +67,34 @@ rose zero now le = ap (λ (n : ℕ). nat_lt 0 n) (omega arith)
 rose (suc before) now le = or_left (nat_lt 0 (suc before)) (nat_lt 0 (now - suc before)) (lt-ltb 0 (suc before) (omega arith)) ∙ sym (lt-ltb 0 now (omega arith))
 
 module _ (balances : EveryBatchBalances) where
-  counts : (setting : Setting) (log : Log) (flow : Flow) → IsLog setting log → Holds setting log flow
+  counts : (setting : PairSetting) (log : Log) (flow : Flow) → IsLog setting log → Holds setting log flow
   counts setting log flow is = holds balances setting log flow is
 
-  is_new-more : (setting : Setting) (k : ℕ) (log : Log) (lease : Lease) (src dst : ℕ) → IsLog setting log → src < setting.endpoints → dst < setting.endpoints
-      → is_recorded (batches_only (batches_of k log)) (flow_of src dst) ≡ nat_lt 0 (published setting k log (flow_of src dst))
-      → is_recorded (batches_only (batches_of k (Published (issue_for setting log lease) ∷ log))) (flow_of src dst) ≡ nat_lt 0 (published setting k (Published (issue_for setting log lease) ∷ log) (flow_of src dst))
+  is_new-more : (setting : PairSetting) (k : ℕ) (log : Log) (lease : Lease) (src dst : ℕ) → IsLog setting log → src < setting.endpoints → dst < setting.endpoints
+      → is_recorded (batches_only (published_batches k log)) (flow_of src dst) ≡ nat_lt 0 (published setting k log (flow_of src dst))
+      → is_recorded (batches_only (published_batches k (Published (issue_for setting log lease) ∷ log))) (flow_of src dst) ≡ nat_lt 0 (published setting k (Published (issue_for setting log lease) ∷ log) (flow_of src dst))
   is_new-more setting k log lease src dst is in_src in_dst before =
-      let issue : Issue = issue_for setting log lease in
+      let issue : BatchIssue = issue_for setting log lease in
       let flow : Flow = flow_of src dst in
       elim (cases_eq lease.generation k) [
         | inl here ↦
             let test = eq-eqb lease.generation k here in
-            ap (λ (ys : List (ℕ × DemandBatch)). is_recorded (batches_only (batches_of k log ++ ys)) flow) (cond-true (lease.generation == k) ((issue.number, issue.batch) ∷ []) [] test)
-            ∙ (recorded-more (batches_of k log) issue.number issue.batch flow
+            ap (λ (ys : List (ℕ × DemandBatch)). is_recorded (batches_only (published_batches k log ++ ys)) flow) (cond-true (lease.generation == k) ((issue.number, issue.batch) ∷ []) [] test)
+            ∙ (recorded-more (published_batches k log) issue.number issue.batch flow
             ∙ (ap (λ (p : Bool). p || is_some (entry_of issue.batch.entries flow)) before
             ∙ (ap (λ (n : ℕ). nat_lt 0 (published setting k log flow) || is_some (entry_of (entries_for setting n log) flow)) here
             ∙ (ap (λ (p : Bool). nat_lt 0 (published setting k log flow) || p) (entry-there setting k log src dst in_src in_dst)
-            ∙ (rose (published setting k log flow) (recorded setting k log flow) ((counts setting log flow is).grows k)
-            ∙ ap (λ (n : ℕ). nat_lt 0 n) (sym (cond-true (lease.generation == k) (recorded setting k log flow) (published setting k log flow) test)))))))
+            ∙ (rose (published setting k log flow) (recorded_of_flow setting k log flow) ((counts setting log flow is).grows k)
+            ∙ ap (λ (n : ℕ). nat_lt 0 n) (sym (cond-true (lease.generation == k) (recorded_of_flow setting k log flow) (published setting k log flow) test)))))))
         | inr there ↦
             let test = ne_eqb lease.generation k there in
-            ap (λ (ys : List (ℕ × DemandBatch)). is_recorded (batches_only (batches_of k log ++ ys)) flow) (cond-false (lease.generation == k) ((issue.number, issue.batch) ∷ []) [] test)
-            ∙ (ap (λ (ys : List (ℕ × DemandBatch)). is_recorded (batches_only ys) flow) (append-nil (batches_of k log))
-            ∙ (before ∙ ap (λ (n : ℕ). nat_lt 0 n) (sym (cond-false (lease.generation == k) (recorded setting k log flow) (published setting k log flow) test))))
+            ap (λ (ys : List (ℕ × DemandBatch)). is_recorded (batches_only (published_batches k log ++ ys)) flow) (cond-false (lease.generation == k) ((issue.number, issue.batch) ∷ []) [] test)
+            ∙ (ap (λ (ys : List (ℕ × DemandBatch)). is_recorded (batches_only ys) flow) (append-nil (published_batches k log))
+            ∙ (before ∙ ap (λ (n : ℕ). nat_lt 0 n) (sym (cond-false (lease.generation == k) (recorded_of_flow setting k log flow) (published setting k log flow) test))))
       ]
 
-  is_new : (setting : Setting) (k : ℕ) (log : Log) (src dst : ℕ) → IsLog setting log → src < setting.endpoints → dst < setting.endpoints
-      → is_recorded (batches_only (batches_of k log)) (flow_of src dst) ≡ nat_lt 0 (published setting k log (flow_of src dst))
+  is_new : (setting : PairSetting) (k : ℕ) (log : Log) (src dst : ℕ) → IsLog setting log → src < setting.endpoints → dst < setting.endpoints
+      → is_recorded (batches_only (published_batches k log)) (flow_of src dst) ≡ nat_lt 0 (published setting k log (flow_of src dst))
   is_new setting k [] src dst is in_src in_dst = refl
   is_new setting k (Asked flow slots ∷ log) src dst is in_src in_dst = is_new setting k log src dst is.1 in_src in_dst
   is_new setting k (Requested holder ∷ log) src dst is in_src in_dst = is_new setting k log src dst is.1 in_src in_dst
@@ -118,7 +102,7 @@ module _ (balances : EveryBatchBalances) where
   is_new setting k (Took lease ∷ log) src dst is in_src in_dst = is_new setting k log src dst is.1 in_src in_dst
   is_new setting k (Told teller generation ∷ log) src dst is in_src in_dst = is_new setting k log src dst is.1 in_src in_dst
   is_new setting k (Published issue ∷ log) src dst is in_src in_dst =
-      subst (λ (i : Issue). is_recorded (batches_only (batches_of k (Published i ∷ log))) (flow_of src dst) ≡ nat_lt 0 (published setting k (Published i ∷ log) (flow_of src dst))) (sym is.0.2)
+      subst (λ (i : BatchIssue). is_recorded (batches_only (published_batches k (Published i ∷ log))) (flow_of src dst) ≡ nat_lt 0 (published setting k (Published i ∷ log) (flow_of src dst))) (sym is.0.2)
       (is_new-more setting k log issue.lease src dst is.1 in_src in_dst (is_new setting k log src dst is.1 in_src in_dst))
   is_new setting k (Heard hearer issue ∷ log) src dst is in_src in_dst = is_new setting k log src dst is.1 in_src in_dst
   is_new setting k (Crashed node ∷ log) src dst is in_src in_dst = is_new setting k log src dst is.1 in_src in_dst
@@ -149,7 +133,7 @@ module _ (balances : EveryBatchBalances) where
 
   -- ---- numbers
 
-  based : (setting : Setting) (log : Log) (flow : Flow) → IsLog setting log → base_of setting log flow ≤ asked log flow
+  based : (setting : PairSetting) (log : Log) (flow : Flow) → IsLog setting log → base_of setting log flow ≤ asked_of_flow log flow
   based setting log flow is = let c = counts setting log flow is in omega (arith, c.now)
 
 -- ---- generations
@@ -205,7 +189,7 @@ changes-few : (holder : Holder) (ls : List Lease) → changes holder ls ≤ 1 + 
 changes-few holder [] = omega arith
 changes-few holder (lease ∷ ls) = cond_both (same_holder holder lease.holder) 0 1 (λ (n : ℕ). n + changes lease.holder ls ≤ 1 + suc (length ls)) (λ yes. omega (arith, changes-few lease.holder ls)) (λ no. omega (arith, changes-few lease.holder ls))
 
-used-few : (setting : Setting) (log : Log) (node : ℕ) → IsLog setting log → used_of log node ≤ setting.span
+used-few : (setting : PairSetting) (log : Log) (node : ℕ) → IsLog setting log → used_of log node ≤ setting.span
 used-few setting log node is = at_lease (lease_of log node) refl
   where
     without : (l : Log) → IsLog setting l → lease_of l node ≡ None → used_of l node ≤ setting.span
@@ -246,7 +230,7 @@ own-few src number (slot ∷ slots) = omega (arith, length-append (send_to src n
     one None = omega arith
     one (Some dst) = omega arith
 
-sent-few : (setting : Setting) (log : Log) → IsLog setting log → length (sent setting log) ≤ setting.b * length log
+sent-few : (setting : PairSetting) (log : Log) → IsLog setting log → length (sent setting log) ≤ setting.b * length log
 sent-few setting [] is = omega arith
 sent-few setting (Asked flow slots ∷ log) is = omega (arith, mul-suc setting.b (length log), sent-few setting log is.1)
 sent-few setting (Requested holder ∷ log) is = omega (arith, mul-suc setting.b (length log), sent-few setting log is.1)
@@ -263,7 +247,7 @@ sent-few setting (Heard src issue ∷ log) is =
 sent-few setting (Crashed node ∷ log) is = omega (arith, mul-suc setting.b (length log), sent-few setting log is.1)
 sent-few setting (Refused why ∷ log) is = omega (arith, mul-suc setting.b (length log), sent-few setting log is.1)
 
-length-log : (setting : Setting) (events : List Event) → length (log_of setting events) ≡ length events
+length-log : (setting : PairSetting) (events : List Event) → length (log_of setting events) ≡ length events
 length-log setting [] = refl
 length-log setting (event ∷ events) = ap suc (length-log setting events)
 
@@ -284,7 +268,7 @@ few_of_all balances setting events =
         based = λ flow. based balances setting log flow is;
         sent = sent-few setting log is;
         issued = λ number issue at.
-            let test : Issue → Bool = λ i. i.number == number in
+            let test : BatchIssue → Bool = λ i. i.number == number in
             let used : IsUsed setting log issue = found (IsUsed setting log) test (issues log) issue (leased setting log is).used at in
             let slots : HasSlots setting issue = found (HasSlots setting) test (issues log) issue (slots_of_all setting log is) at in
             let same : issue.number ≡ number = find-number number (issues log) issue at in

@@ -9,12 +9,12 @@ use Rattle.greedy_rules.specs.declared.flows.Item.{Item}
 use Rattle.greedy_rules.specs.Batches.{DemandBatch}
 use Rattle.greedy_rules.specs.Schedule.{slots_then, list_then, schedule_from, rest_from}
 use Rattle.list_facts.proofs.Pairs.{AllPairs-nil, AllPairs-cons, AllPairs-append}
-use Rattle.takeover_history.specs.Events.{Setting, Event, Holder, Lease, Issue, Fact, Asked, Requested, Granted, Took, Told, Published, Heard, Crashed, Refused, Log}
+use Rattle.takeover_history.specs.Events.{PairSetting, Event, Holder, Lease, BatchIssue, Fact, Asked, Requested, Granted, Took, Told, Published, Heard, Crashed, Refused, Log}
 use Rattle.takeover_history.specs.Leases.{boot_of, leases, same_holder, changes, lease_for, lease_of, used_of}
 use Rattle.takeover_history.specs.Endpoints.{issues}
-use Rattle.takeover_history.specs.Batches.{batches_of, slots_by, list_by, list_of, issue_for}
-use Rattle.takeover_history.specs.Steps.{log_of, Follows, IsLog}
-use Rattle.takeover_history.specs.Laws.{slots_in, EachGenerationIsScheduled, NumbersRise, EachGenerationIsOneNodes, numbered, NumbersInARowAreASchedule}
+use Rattle.takeover_history.specs.Batches.{published_batches, slots_by, list_by, list_of, issue_for}
+use Rattle.takeover_history.specs.Steps.{log_of, IsLog}
+use Rattle.takeover_history.specs.Laws.{slots_published, EachGenerationIsScheduled, NumbersRise, EachGenerationIsOneNodes, NumbersInARowAreASchedule}
 use Rattle.takeover_history.proofs.Follow.{is_log}
 use Rattle.takeover_history.proofs.Leases.{has_batch, owner, IsUsed, Leased, leased}
 use Rattle.takeover_history.proofs.Lists.{list_by-append}
@@ -34,30 +34,30 @@ slots_by-append b list (x ∷ xs) ys =
     ap (λ (s : List (List Flow)). slots_then b x.0 x.1 list ++ s) (slots_by-append b then xs ys)
     ∙ sym (append_assoc (slots_then b x.0 x.1 list) (slots_by b then xs) (slots_by b (list_by b then xs) ys))
 
-scheduled-more : (setting : Setting) (k : ℕ) (log : Log) (lease : Lease) → slots_in k log ≡ slots_by setting.b [] (batches_of k log)
-    → slots_in k (Published (issue_for setting log lease) ∷ log) ≡ slots_by setting.b [] (batches_of k (Published (issue_for setting log lease) ∷ log))
+scheduled-more : (setting : PairSetting) (k : ℕ) (log : Log) (lease : Lease) → slots_published k log ≡ slots_by setting.b [] (published_batches k log)
+    → slots_published k (Published (issue_for setting log lease) ∷ log) ≡ slots_by setting.b [] (published_batches k (Published (issue_for setting log lease) ∷ log))
 scheduled-more setting k log lease before =
-    let issue : Issue = issue_for setting log lease in
+    let issue : BatchIssue = issue_for setting log lease in
     let x : ℕ × DemandBatch = (issue.number, issue.batch) in
     elim (cases_eq lease.generation k) [
       | inl here ↦
           let test = eq-eqb lease.generation k here in
           let list : issue.slots ≡ slots_then setting.b issue.number issue.batch (list_of setting k log) = ap (λ (n : ℕ). slots_then setting.b issue.number issue.batch (list_of setting n log)) here in
-          ap (λ (s : List (List Flow)). slots_in k log ++ s) (cond-true (lease.generation == k) issue.slots [] test)
+          ap (λ (s : List (List Flow)). slots_published k log ++ s) (cond-true (lease.generation == k) issue.slots [] test)
           ∙ (ap (λ (s : List (List Flow)). s ++ issue.slots) before
-          ∙ (ap (λ (s : List (List Flow)). slots_by setting.b [] (batches_of k log) ++ s) (list ∙ sym (append-nil (slots_then setting.b issue.number issue.batch (list_of setting k log))))
-          ∙ (sym (slots_by-append setting.b [] (batches_of k log) (x ∷ []))
-          ∙ ap (λ (ys : List (ℕ × DemandBatch)). slots_by setting.b [] (batches_of k log ++ ys)) (sym (cond-true (lease.generation == k) (x ∷ []) [] test)))))
+          ∙ (ap (λ (s : List (List Flow)). slots_by setting.b [] (published_batches k log) ++ s) (list ∙ sym (append-nil (slots_then setting.b issue.number issue.batch (list_of setting k log))))
+          ∙ (sym (slots_by-append setting.b [] (published_batches k log) (x ∷ []))
+          ∙ ap (λ (ys : List (ℕ × DemandBatch)). slots_by setting.b [] (published_batches k log ++ ys)) (sym (cond-true (lease.generation == k) (x ∷ []) [] test)))))
       | inr there ↦
           let test = ne_eqb lease.generation k there in
-          ap (λ (s : List (List Flow)). slots_in k log ++ s) (cond-false (lease.generation == k) issue.slots [] test)
-          ∙ (append-nil (slots_in k log)
+          ap (λ (s : List (List Flow)). slots_published k log ++ s) (cond-false (lease.generation == k) issue.slots [] test)
+          ∙ (append-nil (slots_published k log)
           ∙ (before
-          ∙ (ap (λ (ys : List (ℕ × DemandBatch)). slots_by setting.b [] ys) (sym (append-nil (batches_of k log)))
-          ∙ ap (λ (ys : List (ℕ × DemandBatch)). slots_by setting.b [] (batches_of k log ++ ys)) (sym (cond-false (lease.generation == k) (x ∷ []) [] test)))))
+          ∙ (ap (λ (ys : List (ℕ × DemandBatch)). slots_by setting.b [] ys) (sym (append-nil (published_batches k log)))
+          ∙ ap (λ (ys : List (ℕ × DemandBatch)). slots_by setting.b [] (published_batches k log ++ ys)) (sym (cond-false (lease.generation == k) (x ∷ []) [] test)))))
     ]
 
-scheduled : (setting : Setting) (k : ℕ) (log : Log) → IsLog setting log → slots_in k log ≡ slots_by setting.b [] (batches_of k log)
+scheduled : (setting : PairSetting) (k : ℕ) (log : Log) → IsLog setting log → slots_published k log ≡ slots_by setting.b [] (published_batches k log)
 scheduled setting k [] is = refl
 scheduled setting k (Asked flow slots ∷ log) is = scheduled setting k log is.1
 scheduled setting k (Requested holder ∷ log) is = scheduled setting k log is.1
@@ -65,7 +65,7 @@ scheduled setting k (Granted lease ∷ log) is = scheduled setting k log is.1
 scheduled setting k (Took lease ∷ log) is = scheduled setting k log is.1
 scheduled setting k (Told src generation ∷ log) is = scheduled setting k log is.1
 scheduled setting k (Published issue ∷ log) is =
-    subst (λ (i : Issue). slots_in k (Published i ∷ log) ≡ slots_by setting.b [] (batches_of k (Published i ∷ log))) (sym is.0.2) (scheduled-more setting k log issue.lease (scheduled setting k log is.1))
+    subst (λ (i : BatchIssue). slots_published k (Published i ∷ log) ≡ slots_by setting.b [] (published_batches k (Published i ∷ log))) (sym is.0.2) (scheduled-more setting k log issue.lease (scheduled setting k log is.1))
 scheduled setting k (Heard src issue ∷ log) is = scheduled setting k log is.1
 scheduled setting k (Crashed node ∷ log) is = scheduled setting k log is.1
 scheduled setting k (Refused why ∷ log) is = scheduled setting k log is.1
@@ -105,7 +105,7 @@ abbrev pub AreGranted : List Lease → Type 0
 AreGranted [] = Unit {0}
 AreGranted (lease ∷ before) = (lease.generation ≡ changes lease.holder before) × AreGranted before
 
-pub granted : (setting : Setting) (log : Log) → IsLog setting log → AreGranted (leases log)
+pub granted : (setting : PairSetting) (log : Log) → IsLog setting log → AreGranted (leases log)
 granted setting [] is = tt
 granted setting (Asked flow slots ∷ log) is = granted setting log is.1
 granted setting (Requested holder ∷ log) is = granted setting log is.1
@@ -133,7 +133,7 @@ all_agree (lease ∷ ls) are =
     (λ k d within. All-cons (Agree (get_or ls k d)) lease ls (λ same. (later k d within).1 same) (all_agree ls are.1 k d within))
 
 -- what holds of all leases holds of an owner
-owned : (P : Lease → Type 0) (setting : Setting) (number : ℕ) (ls : List Lease) (lease : Lease) → All P ls → owner setting number ls ≡ Some lease → P lease
+owned : (P : Lease → Type 0) (setting : PairSetting) (number : ℕ) (ls : List Lease) (lease : Lease) → All P ls → owner setting number ls ≡ Some lease → P lease
 owned P setting number [] lease all is = absurd (cc)
 owned P setting number (x ∷ ls) lease all is = elim (cases_Bool (has_batch setting number x)) [
   | inl here ↦ subst P (same_Some x lease (rw here at is)) (All-head P x ls all)
@@ -141,7 +141,7 @@ owned P setting number (x ∷ ls) lease all is = elim (cases_Bool (has_batch set
 ]
 
 -- two batches of one generation are of one holder
-pub one_holder : (setting : Setting) (log : Log) (i j : Issue) → AreGranted (leases log) → IsUsed setting log i → IsUsed setting log j → i.lease.generation ≡ j.lease.generation → i.lease.holder ≡ j.lease.holder
+pub one_holder : (setting : PairSetting) (log : Log) (i j : BatchIssue) → AreGranted (leases log) → IsUsed setting log i → IsUsed setting log j → i.lease.generation ≡ j.lease.generation → i.lease.holder ≡ j.lease.holder
 one_holder setting log i j are one other same =
     let agrees : All (Agree i.lease) (leases log) = owned (λ (l : Lease). All (Agree l) (leases log)) setting i.number (leases log) i.lease (all_agree (leases log) are) one.0 in
     owned (Agree i.lease) setting j.number (leases log) j.lease agrees other.0 same
@@ -160,7 +160,7 @@ abbrev Below : ℕ × DemandBatch → ℕ × DemandBatch → Type 0
 Below x y = x.0 < y.0
 
 -- what holds of all issues of a generation holds of its batches
-batches_are : (P : ℕ → Type 0) (k : ℕ) (log : Log) → All (λ (i : Issue). i.lease.generation ≡ k → P i.number) (issues log) → All (λ (x : ℕ × DemandBatch). P x.0) (batches_of k log)
+batches_are : (P : ℕ → Type 0) (k : ℕ) (log : Log) → All (λ (i : BatchIssue). i.lease.generation ≡ k → P i.number) (issues log) → All (λ (x : ℕ × DemandBatch). P x.0) (published_batches k log)
 batches_are P k [] all = All-nil (λ (x : ℕ × DemandBatch). P x.0)
 batches_are P k (Asked flow slots ∷ log) all = batches_are P k log all
 batches_are P k (Requested holder ∷ log) all = batches_are P k log all
@@ -169,8 +169,8 @@ batches_are P k (Took lease ∷ log) all = batches_are P k log all
 batches_are P k (Told src generation ∷ log) all = batches_are P k log all
 batches_are P k (Published issue ∷ log) all =
     let Q : ℕ × DemandBatch → Type 0 = λ x. P x.0 in
-    let R : Issue → Type 0 = λ i. i.lease.generation ≡ k → P i.number in
-    All-append Q (batches_of k log) (cond (issue.lease.generation == k) ((issue.number, issue.batch) ∷ []) []) (batches_are P k log (All-tail R issue (issues log) all))
+    let R : BatchIssue → Type 0 = λ i. i.lease.generation ≡ k → P i.number in
+    All-append Q (published_batches k log) (cond (issue.lease.generation == k) ((issue.number, issue.batch) ∷ []) []) (batches_are P k log (All-tail R issue (issues log) all))
     (cond_both (issue.lease.generation == k) ((issue.number, issue.batch) ∷ []) [] (All Q)
     (λ here. All-cons Q (issue.number, issue.batch) [] (All-head R issue (issues log) all (eqb-true issue.lease.generation k here)) (All-nil Q))
     (λ other. All-nil Q))
@@ -179,13 +179,13 @@ batches_are P k (Crashed node ∷ log) all = batches_are P k log all
 batches_are P k (Refused why ∷ log) all = batches_are P k log all
 
 -- earlier batches of the generation of the next one have lower numbers
-below_next : (setting : Setting) (log : Log) (new : Issue) → IsLog setting (Published new ∷ log) → All (λ (i : Issue). i.lease.generation ≡ new.lease.generation → i.number < new.number) (issues log)
+below_next : (setting : PairSetting) (log : Log) (new : BatchIssue) → IsLog setting (Published new ∷ log) → All (λ (i : BatchIssue). i.lease.generation ≡ new.lease.generation → i.number < new.number) (issues log)
 below_next setting log new is =
     let l = leased setting log is.1 in
     let now = leased setting (Published new ∷ log) is in
     let mine : IsUsed setting (Published new ∷ log) new = All-head (IsUsed setting (Published new ∷ log)) new (issues log) now.used in
     let node : ℕ = new.lease.holder.node in
-    let number : new.number ≡ new.lease.first + used_of log node = ap (λ (i : Issue). i.number) is.0.2 in
+    let number : new.number ≡ new.lease.first + used_of log node = ap (λ (i : BatchIssue). i.number) is.0.2 in
     let t = l.taken node new.lease is.0.0 in
     All-weaker (IsUsed setting log) (λ i. i.lease.generation ≡ new.lease.generation → i.number < new.number)
     (λ i u same.
@@ -200,7 +200,7 @@ below_next setting log new is =
     omega (arith, passed.2, first, used, number))
     (issues log) l.used
 
-rising : (setting : Setting) (k : ℕ) (log : Log) → IsLog setting log → AllPairs Below (batches_of k log)
+rising : (setting : PairSetting) (k : ℕ) (log : Log) → IsLog setting log → AllPairs Below (published_batches k log)
 rising setting k [] is = AllPairs-nil Below
 rising setting k (Asked flow slots ∷ log) is = rising setting k log is.1
 rising setting k (Requested holder ∷ log) is = rising setting k log is.1
@@ -209,13 +209,13 @@ rising setting k (Took lease ∷ log) is = rising setting k log is.1
 rising setting k (Told src generation ∷ log) is = rising setting k log is.1
 rising setting k (Published issue ∷ log) is =
     let x : ℕ × DemandBatch = (issue.number, issue.batch) in
-    let xs = batches_of k log in
+    let xs = published_batches k log in
     let before = rising setting k log is.1 in
     cond_both (issue.lease.generation == k) (x ∷ []) [] (λ (ys : List (ℕ × DemandBatch)). AllPairs Below (xs ++ ys))
     (λ here.
     let same : issue.lease.generation ≡ k = eqb-true issue.lease.generation k here in
     let lower : All (λ (y : ℕ × DemandBatch). y.0 < issue.number) xs = batches_are (λ (n : ℕ). n < issue.number) k log
-    (All-weaker (λ (i : Issue). i.lease.generation ≡ issue.lease.generation → i.number < issue.number) (λ i. i.lease.generation ≡ k → i.number < issue.number) (λ i less of. less (of ∙ sym same)) (issues log) (below_next setting log issue is)) in
+    (All-weaker (λ (i : BatchIssue). i.lease.generation ≡ issue.lease.generation → i.number < issue.number) (λ i. i.lease.generation ≡ k → i.number < issue.number) (λ i less of. less (of ∙ sym same)) (issues log) (below_next setting log issue is)) in
     AllPairs-append Below xs (x ∷ []) before (AllPairs-cons Below x [] (All-nil (Below x)) (AllPairs-nil Below))
     (All-weaker (λ (y : ℕ × DemandBatch). y.0 < issue.number) (λ y. All (Below y) (x ∷ [])) (λ y less. All-cons (Below y) x [] less (All-nil (Below y))) xs lower))
     (λ other. subst (AllPairs Below) (sym (append-nil xs)) before)

@@ -5,39 +5,39 @@ use Rattle.std.proofs.lemmas.Bool.{cases_Bool, cases_eq, cond-true, cond-false, 
 use Rattle.std.proofs.lemmas.List.Elements.{All-nil, All-cons, All-weaker}
 use Rattle.std.proofs.lemmas.Option.{same_Some}
 use Rattle.list_facts.proofs.Pairs.{AllPairs-nil, AllPairs-cons}
-use Rattle.takeover_history.specs.Events.{Setting, Event, Holder, Lease, Issue, Fact, Asked, Requested, Granted, Took, Told, Published, Heard, Crashed, Refused, Log}
+use Rattle.takeover_history.specs.Events.{PairSetting, Event, Holder, Lease, BatchIssue, Fact, Asked, Requested, Granted, Took, Told, Published, Heard, Crashed, Refused, Log}
 use Rattle.takeover_history.specs.Leases.{boot_of, sent_messages, grant_at, leases, lease_for, lease_of, used_of, begins_above}
 use Rattle.takeover_history.specs.Endpoints.{issues}
 use Rattle.takeover_history.specs.Batches.{issue_for}
-use Rattle.takeover_history.specs.Steps.{log_of, Follows, IsLog}
+use Rattle.takeover_history.specs.Steps.{log_of, FactFollows, IsLog}
 use Rattle.takeover_history.specs.Laws.{NoBatchIsPublishedTwice}
 use Rattle.takeover_history.proofs.Follow.{is_log}
 
 -- the batch is one of the lease's
-abbrev pub has_batch : Setting → ℕ → Lease → Bool
+abbrev pub has_batch : PairSetting → ℕ → Lease → Bool
 has_batch setting number lease = nat_le lease.first number && nat_lt number (lease.first + setting.span)
 
-abbrev pub owner : Setting → ℕ → List Lease → Option Lease
+abbrev pub owner : PairSetting → ℕ → List Lease → Option Lease
 owner setting number ls = find (has_batch setting number) ls
 
 -- the lease was granted: its batches are no other lease's
-abbrev pub IsOwned : Setting → List Lease → Lease → Type 0
+abbrev pub IsOwned : PairSetting → List Lease → Lease → Type 0
 IsOwned setting ls lease =
     (lease.first + setting.span ≤ setting.span * length ls)
     × ((number : ℕ) → lease.first ≤ number → number < lease.first + setting.span → owner setting number ls ≡ Some lease)
 
 -- the batch was published under its lease, and where the node is still in that boot it has passed it
-abbrev pub IsUsed : Setting → Log → Issue → Type 0
+abbrev pub IsUsed : PairSetting → Log → BatchIssue → Type 0
 IsUsed setting log issue =
     (owner setting issue.number (leases log) ≡ Some issue.lease)
     × (issue.number < setting.span * length (leases log))
     × (issue.lease.holder.boot ≤ boot_of log issue.lease.holder.node)
     × (issue.lease.holder.boot ≡ boot_of log issue.lease.holder.node → (lease : Lease) × (lease_of log issue.lease.holder.node ≡ Some lease) × (issue.number < lease.first + used_of log issue.lease.holder.node))
 
-abbrev Apart : Issue → Issue → Type 0
+abbrev Apart : BatchIssue → BatchIssue → Type 0
 Apart i j = i.number ≢ j.number
 
-pub record Leased (setting : Setting) (log : Log) : Type 0 where
+pub record Leased (setting : PairSetting) (log : Log) : Type 0 where
   pub grants : (message : ℕ) (lease : Lease) → grant_at log message ≡ Some lease → IsOwned setting (leases log) lease
   pub taken : (node : ℕ) (lease : Lease) → lease_of log node ≡ Some lease → IsOwned setting (leases log) lease × (lease.holder.boot ≡ boot_of log node) × (used_of log node ≤ setting.span)
   pub used : All (IsUsed setting log) (issues log)
@@ -45,23 +45,23 @@ pub record Leased (setting : Setting) (log : Log) : Type 0 where
 
 -- ---- a grant
 
-above_is_new : (setting : Setting) (ls : List Lease) (lease : Lease) (number : ℕ) → number < lease.first → owner setting number (lease ∷ ls) ≡ owner setting number ls
+above_is_new : (setting : PairSetting) (ls : List Lease) (lease : Lease) (number : ℕ) → number < lease.first → owner setting number (lease ∷ ls) ≡ owner setting number ls
 above_is_new setting ls lease number below =
     cond-false (has_batch setting number lease) (Some lease) (owner setting number ls) (and_left (nat_le lease.first number) (nat_lt number (lease.first + setting.span)) (lt-leb lease.first number below))
 
-owned-before : (setting : Setting) (ls : List Lease) (new lease : Lease) → new.first ≡ setting.span * length ls → IsOwned setting ls lease → IsOwned setting (new ∷ ls) lease
+owned-before : (setting : PairSetting) (ls : List Lease) (new lease : Lease) → new.first ≡ setting.span * length ls → IsOwned setting ls lease → IsOwned setting (new ∷ ls) lease
 owned-before setting ls new lease first owned = (
   omega (arith, owned.0, mul-suc setting.span (length ls)),
   λ number low high. above_is_new setting ls new number (omega (arith, owned.0)) ∙ owned.1 number low high,
 )
 
-owned-new : (setting : Setting) (ls : List Lease) (new : Lease) → new.first ≡ setting.span * length ls → IsOwned setting (new ∷ ls) new
+owned-new : (setting : PairSetting) (ls : List Lease) (new : Lease) → new.first ≡ setting.span * length ls → IsOwned setting (new ∷ ls) new
 owned-new setting ls new first = (
   omega (arith, mul-suc setting.span (length ls)),
   λ number low high. cond-true (has_batch setting number new) (Some new) (owner setting number ls) (and_from (nat_le new.first number) (nat_lt number (new.first + setting.span)) (le-leb new.first number low) (lt-ltb number (new.first + setting.span) high)),
 )
 
-granted : (setting : Setting) (log : Log) (new : Lease) → new.first ≡ setting.span * length (leases log) → Leased setting log → Leased setting (Granted new ∷ log)
+granted : (setting : PairSetting) (log : Log) (new : Lease) → new.first ≡ setting.span * length (leases log) → Leased setting log → Leased setting (Granted new ∷ log)
 granted setting log new first l = record {
   grants = λ message lease is. elim (cases_Bool (sent_messages log == message)) [
     | inl here ↦ subst (λ (x : Lease). IsOwned setting (new ∷ leases log) x) (same_Some new lease (rw here at is)) (owned-new setting (leases log) new first)
@@ -81,12 +81,12 @@ granted setting log new first l = record {
 
 -- ---- a lease is taken
 
-pub above-last : (setting : Setting) (log : Log) (new last : Lease) → begins_above setting (lease_of log new.holder.node) new ≡ true → lease_of log new.holder.node ≡ Some last → last.first + setting.span ≤ new.first
+pub above-last : (setting : PairSetting) (log : Log) (new last : Lease) → begins_above setting (lease_of log new.holder.node) new ≡ true → lease_of log new.holder.node ≡ Some last → last.first + setting.span ≤ new.first
 above-last setting log new last above is =
     let then : nat_lt (last.first + setting.span) (new.first + 1) ≡ true = subst (λ (o : Option Lease). begins_above setting o new ≡ true) is above in
     omega (arith, ltb-true (last.first + setting.span) (new.first + 1) then)
 
-took : (setting : Setting) (log : Log) (new : Lease) → Follows setting log (Took new) → Leased setting log → Leased setting (Took new ∷ log)
+took : (setting : PairSetting) (log : Log) (new : Lease) → FactFollows setting log (Took new) → Leased setting log → Leased setting (Took new ∷ log)
 took setting log new f l = record {
   grants = l.grants;
   taken = λ node lease is. elim (cases_Bool (new.holder.node == node)) [
@@ -129,7 +129,7 @@ took setting log new f l = record {
 
 -- ---- a crash
 
-crashed : (setting : Setting) (log : Log) (gone : ℕ) → Leased setting log → Leased setting (Crashed gone ∷ log)
+crashed : (setting : PairSetting) (log : Log) (gone : ℕ) → Leased setting log → Leased setting (Crashed gone ∷ log)
 crashed setting log gone l = record {
   grants = l.grants;
   taken = λ node lease is. elim (cases_Bool (gone == node)) [
@@ -164,11 +164,11 @@ crashed setting log gone l = record {
 -- ---- a batch is published
 
 -- no batch before it has its number
-apart : (setting : Setting) (log : Log) (new : Issue) → Follows setting log (Published new) → Leased setting log → All (Apart new) (issues log)
+apart : (setting : PairSetting) (log : Log) (new : BatchIssue) → FactFollows setting log (Published new) → Leased setting log → All (Apart new) (issues log)
 apart setting log new f l =
     let node : ℕ = new.lease.holder.node in
     let t = l.taken node new.lease f.0 in
-    let number : new.number ≡ new.lease.first + used_of log node = ap (λ (i : Issue). i.number) f.2 in
+    let number : new.number ≡ new.lease.first + used_of log node = ap (λ (i : BatchIssue). i.number) f.2 in
     let mine : owner setting new.number (leases log) ≡ Some new.lease = t.0.1 new.number (omega arith) (omega (arith, f.1)) in
     All-weaker (IsUsed setting log) (Apart new)
     (λ issue u same.
@@ -183,12 +183,12 @@ apart setting log new f l =
     absurd (omega (arith, passed.2, first, used, number, same)))
     (issues log) l.used
 
-published : (setting : Setting) (log : Log) (new : Issue) → Follows setting log (Published new) → Leased setting log → Leased setting (Published new ∷ log)
+published : (setting : PairSetting) (log : Log) (new : BatchIssue) → FactFollows setting log (Published new) → Leased setting log → Leased setting (Published new ∷ log)
 published setting log new f l =
     let by : ℕ = new.lease.holder.node in
     let now : List Fact = Published new ∷ log in
     let t = l.taken by new.lease f.0 in
-    let number : new.number ≡ new.lease.first + used_of log by = ap (λ (i : Issue). i.number) f.2 in
+    let number : new.number ≡ new.lease.first + used_of log by = ap (λ (i : BatchIssue). i.number) f.2 in
     let more : used_of now by ≡ 1 + used_of log by = ap (λ (n : ℕ). n + used_of log by) (cond-true (by == by) 1 0 (eq-eqb by by refl)) in
     record {
       grants = l.grants;
@@ -222,7 +222,7 @@ published setting log new f l =
 
 -- ---- every log
 
-pub leased : (setting : Setting) (log : Log) → IsLog setting log → Leased setting log
+pub leased : (setting : PairSetting) (log : Log) → IsLog setting log → Leased setting log
 leased setting [] is = record {
   grants = λ message lease none. absurd (cc);
   taken = λ node lease none. absurd (cc);

@@ -1,4 +1,3 @@
-pub mod Rows
 pub mod Follow
 pub mod Counts
 pub mod Lists

@@ -8,13 +8,11 @@ use Rattle.std.proofs.lemmas.Bool.{ne_eqb, eqb-true, or_cases}
 use Rattle.std.proofs.lemmas.Nat.{same_from_place, mul-add-lt}
 use Rattle.greedy_rules.specs.declared.flows.Item.{Item}
 use Rattle.greedy_rules.specs.Demands.{HasEachFlowOnce}
+use Rattle.greedy_rules.proofs.OnceLemmas.{InRange}
 use Rattle.list_facts.proofs.Pairs.{AllPairs-head, AllPairs-tail}
 
 abbrev pair_number : ℕ → Item → ℕ
 pair_number endpoints item = item.flow.src * endpoints + item.flow.dst
-
-abbrev pub InRange : ℕ → Item → Type 0
-InRange endpoints item = (item.flow.src < endpoints) × (item.flow.dst < endpoints)
 
 differs : (endpoints : ℕ) (x : Item) (xs : List Item) → InRange endpoints x → All (InRange endpoints) xs → All (λ y. x.flow ≢ y.flow) xs
     → AllByRecursion (λ n. nat_eq (pair_number endpoints x) n ≡ false) (map (pair_number endpoints) xs)

@@ -5,21 +5,20 @@ use Rattle.std.proofs.Math.Nat.{suc-mul, mul-le-mul_right}
 use Rattle.std.proofs.lemmas.Bool.{cases_Bool, cases_eq, cases_order, eqb-true, eq-eqb, false≢true}
 use Rattle.std.proofs.lemmas.List.Elements.{All-nil, All-cons, All-head, All-tail, All-append, All-weaker, Contains-append_left, Contains-append_right}
 use Rattle.greedy_rules.specs.declared.flows.Flow.{Flow}
-use Rattle.greedy_rules.specs.declared.flows.Item.{Item}
 use Rattle.greedy_rules.specs.Flows.{same_flow}
 use Rattle.greedy_rules.specs.Demands.{after_batch}
-use Rattle.greedy_rules.specs.Slot.{Bar, has_flow}
+use Rattle.greedy_rules.specs.Slot.{has_flow}
 use Rattle.greedy_rules.specs.SlotTable.{destination_of}
 use Rattle.greedy_rules.specs.Limits.{is_barred}
-use Rattle.greedy_rules.specs.Allocation.{after_slot, batch_slots}
 use Rattle.greedy_rules.specs.Matching.{IsMatching}
 use Rattle.greedy_rules.specs.Schedule.{first_slot, slot_in}
 use Rattle.greedy_rules.proofs.Facts.{same_flow-true, Apart, apart_from_all, IsMatching-slot_with, not_taken, All-batch_slots}
+use Rattle.greedy_rules.proofs.ScheduleLemmas.{length-batch_slots}
 use Rattle.list_facts.proofs.Pairs.{AllPairs-nil, AllPairs-cons, AllPairs-head, AllPairs-tail, AllPairs-append}
-use Rattle.takeover_history.specs.Events.{Setting, Issue, Fact, Asked, Requested, Granted, Took, Told, Published, Heard, Crashed, Refused, Log}
+use Rattle.takeover_history.specs.Events.{PairSetting, BatchIssue, Fact, Asked, Requested, Granted, Took, Told, Published, Heard, Crashed, Refused, Log}
 use Rattle.takeover_history.specs.Endpoints.{issues, Send, send_to, own_sends}
-use Rattle.takeover_history.specs.Batches.{limits_of, list_of, issue_for}
-use Rattle.takeover_history.specs.Steps.{Follows, IsLog}
+use Rattle.takeover_history.specs.Batches.{one_rack_limits, list_of, issue_for}
+use Rattle.takeover_history.specs.Steps.{IsLog}
 
 -- ---- numbers
 
@@ -36,26 +35,22 @@ same_batch b n m o p in_n in_m same = elim (cases_order n m) [
 
 -- ---- a published batch
 
-length-slots : (bar : Bar) (number count : ℕ) (list : List Item) → length (batch_slots bar number count list) ≡ count
-length-slots bar number zero list = refl
-length-slots bar number (suc count) list = ap suc (length-slots bar (number + 1) count (after_slot bar number list))
-
 -- it has b slots, and each is a matching
-abbrev pub HasSlots : Setting → Issue → Type 0
+abbrev pub HasSlots : PairSetting → BatchIssue → Type 0
 HasSlots setting issue = (length issue.slots ≡ setting.b) × All IsMatching issue.slots
 
-has_slots : (setting : Setting) (log : Log) (issue : Issue) → issue ≡ issue_for setting log issue.lease → HasSlots setting issue
+has_slots : (setting : PairSetting) (log : Log) (issue : BatchIssue) → issue ≡ issue_for setting log issue.lease → HasSlots setting issue
 has_slots setting log issue is =
     subst (HasSlots setting) (sym is) (
-      length-slots (is_barred (limits_of setting)) (first_slot setting.b (issue_for setting log issue.lease).number) setting.b (after_batch (issue_for setting log issue.lease).batch.entries (list_of setting issue.lease.generation log)),
-      All-batch_slots (is_barred (limits_of setting)) (λ flow. Unit {0}) IsMatching
-          (λ slot flow any free pairs. IsMatching-slot_with flow slot (apart_from_all slot flow (not_taken (limits_of setting) slot flow free)) pairs)
+      length-batch_slots (is_barred (one_rack_limits setting)) (first_slot setting.b (issue_for setting log issue.lease).number) setting.b (after_batch (issue_for setting log issue.lease).batch.entries (list_of setting issue.lease.generation log)),
+      All-batch_slots (is_barred (one_rack_limits setting)) (λ flow. Unit {0}) IsMatching
+          (λ slot flow any free pairs. IsMatching-slot_with flow slot (apart_from_all slot flow (not_taken (one_rack_limits setting) slot flow free)) pairs)
           (AllPairs-nil Apart)
           (first_slot setting.b (issue_for setting log issue.lease).number) setting.b (after_batch (issue_for setting log issue.lease).batch.entries (list_of setting issue.lease.generation log))
           (λ k d within. tt),
     )
 
-pub slots_of_all : (setting : Setting) (log : Log) → IsLog setting log → All (HasSlots setting) (issues log)
+pub slots_of_all : (setting : PairSetting) (log : Log) → IsLog setting log → All (HasSlots setting) (issues log)
 slots_of_all setting [] is = All-nil (HasSlots setting)
 slots_of_all setting (Asked flow slots ∷ log) is = slots_of_all setting log is.1
 slots_of_all setting (Requested holder ∷ log) is = slots_of_all setting log is.1

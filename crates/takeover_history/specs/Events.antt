@@ -11,13 +11,13 @@ pub use Rattle.takeover_history.specs.declared.lease.Holder.{Holder}
 pub use Rattle.takeover_history.specs.declared.lease.Lease.{Lease}
 
 -- so many endpoints in one rack, b slots in a batch, and so many batches in a lease
-pub record Setting : Type 0 where
+pub record PairSetting : Type 0 where
   pub endpoints : ℕ
   pub b : ℕ
   pub span : ℕ
 
 -- a batch that was published: under which lease, its number, its entries and its slots
-pub record Issue : Type 0 where
+pub record BatchIssue : Type 0 where
   pub lease : Lease
   pub number : ℕ
   pub batch : DemandBatch
@@ -30,8 +30,8 @@ pub data Fact : Type 0 where
   Granted : (lease : Lease) → Fact
   Took : (lease : Lease) → Fact
   Told : (src generation : ℕ) → Fact
-  Published : (issue : Issue) → Fact
-  Heard : (src : ℕ) (issue : Issue) → Fact
+  Published : (issue : BatchIssue) → Fact
+  Heard : (src : ℕ) (issue : BatchIssue) → Fact
   Crashed : (node : ℕ) → Fact
   Refused : (why : Refusal) → Fact
 

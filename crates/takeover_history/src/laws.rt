@@ -1,5 +1,5 @@
 //! What holds of every list of events that come to two arbiters.
-ghost use Rattle.takeover_history.specs.Laws.{NoBatchIsPublishedTwice, EachBatchIsItsNodes, AsksAreCounted, SendsAreAsked, SlotsAreMatchings, EachSendIsPublished, NoEndpointSendsTwiceInASlot, NoSlotIsPassedOver, ALaterGenerationHasNoSlots, EachGenerationIsScheduled, NumbersRise, EachGenerationIsOneNodes, NumbersInARowAreASchedule, AGenerationBeginsAnew};
+ghost use Rattle.takeover_history.specs.Laws.{NoBatchIsPublishedTwice, EachBatchIsItsNodes, AsksAreCounted, EverySendIsAsked, SlotsAreMatchings, EachSendIsPublished, NoEndpointSendsTwiceInASlot, NoSlotIsPassedOver, ALaterGenerationHasNoSlots, EachGenerationIsScheduled, NumbersRise, EachGenerationIsOneNodes, NumbersInARowAreASchedule, AGenerationBeginsAnew};
 ghost use Rattle.takeover_history.specs.Fits.{EveryNextBatchMayBeApplied, NodesHaveOwnGenerations, EveryLogHasFew};
 
 use greedy_rules::every_batch_balances;
@@ -30,7 +30,7 @@ pub fn slots_are_matchings()
 /// An endpoint never sends more than it was asked for, and no slot that it hears is passed over: it sends in each slot of a batch of its own
 /// generation, and has none in a batch of a later one.
 pub fn sends_are_asked()
-    ensures asked { SendsAreAsked }
+    ensures asked { EverySendIsAsked }
     ensures none_passed { NoSlotIsPassedOver }
     ensures later { ALaterGenerationHasNoSlots }
 {

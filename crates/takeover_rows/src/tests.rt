@@ -1,7 +1,7 @@
 //! The rows: two endpoints, batches of one slot, leases of two batches.
 ghost use Rattle.std.specs.Prelude.{◌≡◌, ◌<◌, ◌≤◌, ◌+◌, true, IfOk, OnOk};
 ghost use Rattle.takeover_core.specs.Outcomes.{IsEvent};
-ghost use Rattle.takeover_rows.specs.Caller.{HasTaken, asked_by};
+ghost use Rattle.takeover_rows.specs.Caller.{CallerHasTaken, asked_by};
 
 use greedy_rules::Flow;
 use std::alloc::Global;
@@ -25,7 +25,7 @@ struct Caller {
 
 impl Caller {
     fn open(alloc: Global) -> Result<Caller, NoMemory>
-        ensures { IfOk result (λ caller. HasTaken caller.pair caller.endpoints caller.count caller.asks) }
+        ensures { IfOk result (λ caller. CallerHasTaken caller.pair caller.endpoints caller.count caller.asks) }
     {
         Ok(Caller {
             pair: Pair::open(alloc, 2, 1, 2, 100)?,
@@ -36,8 +36,8 @@ impl Caller {
     }
 
     fn step(&mut self, rt: &impl Abort, event: Event) -> Result<Outcome, NoMemory>
-        requires { HasTaken self.old.pair self.old.endpoints self.old.count self.old.asks }
-        ensures { OnOk result (HasTaken self.new.pair self.new.endpoints self.new.count self.new.asks) }
+        requires { CallerHasTaken self.old.pair self.old.endpoints self.old.count self.old.asks }
+        ensures { OnOk result (CallerHasTaken self.new.pair self.new.endpoints self.new.count self.new.asks) }
     {
         asks_are_counted();
         let slots = asked(event);
@@ -61,8 +61,8 @@ impl Caller {
 
     /// Takes the events of a row, each with what it answers.
     fn steps(&mut self, rt: &impl Abort, row: &[(Event, Outcome)]) -> Result<(), NoMemory>
-        requires { HasTaken self.old.pair self.old.endpoints self.old.count self.old.asks }
-        ensures { OnOk result (HasTaken self.new.pair self.new.endpoints self.new.count self.new.asks) }
+        requires { CallerHasTaken self.old.pair self.old.endpoints self.old.count self.old.asks }
+        ensures { OnOk result (CallerHasTaken self.new.pair self.new.endpoints self.new.count self.new.asks) }
     {
         for (event, answer) in row {
             let found = self.step(rt, *event)?;
@@ -72,7 +72,7 @@ impl Caller {
     }
 
     fn totals(&self, rt: &impl Abort, src: u16, dst: u16) -> (u32, u32)
-        requires { HasTaken self.now.pair self.now.endpoints self.now.count self.now.asks }
+        requires { CallerHasTaken self.now.pair self.now.endpoints self.now.count self.now.asks }
     {
         assert!(rt; src < self.endpoints && dst < self.endpoints);
         self.pair.totals(Flow { src, dst })

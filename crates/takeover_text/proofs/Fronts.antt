@@ -9,10 +9,10 @@ use Rattle.report_text.specs.declared.line.Line.{Line}
 use Rattle.report_text.specs.declared.line.Line.TheVariants as line
 use Rattle.text_output.specs.Text.{line_text, text_of}
 use Rattle.takeover_history.specs.declared.event.Event.{Event}
-use Rattle.takeover_history.specs.Events.{Setting, Log}
+use Rattle.takeover_history.specs.Events.{PairSetting, Log}
 use Rattle.takeover_history.specs.Steps.{done, log_of}
 use Rattle.script_text.specs.Content.{ScriptContent}
-use Rattle.takeover_text.specs.Lines.{lines_by, lines_of, total_lines, shown, takeover_text}
+use Rattle.takeover_text.specs.Lines.{takeover_lines, lines_of, total_lines, shown, takeover_text}
 use Rattle.takeover_text.specs.Progress.{first_events, log_after, latest_lines}
 
 -- the event at a place
@@ -30,49 +30,49 @@ pub events_all : (script : ScriptContent) → first_events script (length script
 events_all script = ap reverse (take-length script.events)
 
 pub lines_more : (script : ScriptContent) (at : ℕ) (event : Event) → slice_get script.events at ≡ Some event
-    → text_of (lines_by script.pair (log_after script (at + 1))) ≡ text_of (lines_by script.pair (log_after script at)) ++ text_of (latest_lines script.pair (log_after script (at + 1)))
+    → text_of (takeover_lines script.pair (log_after script (at + 1))) ≡ text_of (takeover_lines script.pair (log_after script at)) ++ text_of (latest_lines script.pair (log_after script (at + 1)))
 lines_more script at event is =
-    let before : List Line = lines_by script.pair (log_after script at) in
+    let before : List Line = takeover_lines script.pair (log_after script at) in
     let more = events_more script at event is in
-    ap (λ (es : List Event). text_of (lines_by script.pair (log_of script.pair es))) more
+    ap (λ (es : List Event). text_of (takeover_lines script.pair (log_of script.pair es))) more
     ∙ (flat_map-append line_text before (lines_of script.pair (log_after script at) (done script.pair (log_after script at) event))
     ∙ ap (λ (es : List Event). text_of before ++ text_of (latest_lines script.pair (log_of script.pair es))) (sym more))
 
 -- what later events show comes behind what earlier ones do
-lines_then : (setting : Setting) (earlier later : List Event) → (rest : List Line) × (lines_by setting (log_of setting (later ++ earlier)) ≡ lines_by setting (log_of setting earlier) ++ rest)
-lines_then setting earlier [] = ([], sym (append-nil (lines_by setting (log_of setting earlier))))
+lines_then : (setting : PairSetting) (earlier later : List Event) → (rest : List Line) × (takeover_lines setting (log_of setting (later ++ earlier)) ≡ takeover_lines setting (log_of setting earlier) ++ rest)
+lines_then setting earlier [] = ([], sym (append-nil (takeover_lines setting (log_of setting earlier))))
 lines_then setting earlier (event ∷ later) =
     let (rest, is) = lines_then setting earlier later in
     let log : Log = log_of setting (later ++ earlier) in
     let last : List Line = lines_of setting log (done setting log event) in (
       rest ++ last,
-      ap (λ (ls : List Line). ls ++ last) is ∙ append_assoc (lines_by setting (log_of setting earlier)) rest last,
+      ap (λ (ls : List Line). ls ++ last) is ∙ append_assoc (takeover_lines setting (log_of setting earlier)) rest last,
     )
 
 pub lines_whole : (script : ScriptContent) (at : ℕ)
-    → (rest : List ℕ) × (text_of (lines_by script.pair (log_after script (length script.events))) ≡ text_of (lines_by script.pair (log_after script at)) ++ rest)
+    → (rest : List ℕ) × (text_of (takeover_lines script.pair (log_after script (length script.events))) ≡ text_of (takeover_lines script.pair (log_after script at)) ++ rest)
 lines_whole script at =
     let early : List Event = first_events script at in
     let late : List Event = reverse (drop at script.events) in
     let (rest, is) = lines_then script.pair early late in
     let parts : reverse script.events ≡ late ++ early = ap reverse (sym (take-append-drop at script.events)) ∙ reverse-append (take at script.events) (drop at script.events) in (
       text_of rest,
-      ap (λ (es : List Event). text_of (lines_by script.pair (log_of script.pair es))) (events_all script ∙ parts)
-          ∙ (ap text_of is ∙ flat_map-append line_text (lines_by script.pair (log_after script at)) rest),
+      ap (λ (es : List Event). text_of (takeover_lines script.pair (log_of script.pair es))) (events_all script ∙ parts)
+          ∙ (ap text_of is ∙ flat_map-append line_text (takeover_lines script.pair (log_after script at)) rest),
     )
 
 -- the text of a takeover, in its three parts
 pub text_parts : (script : ScriptContent)
     → takeover_text script
-    ≡ text_of (lines_by script.pair (log_after script (length script.events)))
+    ≡ text_of (takeover_lines script.pair (log_after script (length script.events)))
     ++ (text_of (total_lines script.pair (log_after script (length script.events))) ++ line_text (line.End (length (log_after script (length script.events)) + 2)))
 unfolding shown
 text_parts script =
     let log : Log = log_after script (length script.events) in
-    let by : List Line = lines_by script.pair log in
+    let by : List Line = takeover_lines script.pair log in
     let totals : List Line = total_lines script.pair log in
     let ended : Line = line.End (length log + 2) in
-    ap (λ (es : List Event). text_of ((lines_by script.pair (log_of script.pair es) ++ total_lines script.pair (log_of script.pair es)) ++ line.End (length (log_of script.pair es) + 2) ∷ [])) (sym (events_all script))
+    ap (λ (es : List Event). text_of ((takeover_lines script.pair (log_of script.pair es) ++ total_lines script.pair (log_of script.pair es)) ++ line.End (length (log_of script.pair es) + 2) ∷ [])) (sym (events_all script))
     ∙ (flat_map-append line_text (by ++ totals) (ended ∷ [])
     ∙ (ap (λ (t : List ℕ). t ++ text_of (ended ∷ [])) (flat_map-append line_text by totals)
     ∙ (append_assoc (text_of by) (text_of totals) (text_of (ended ∷ [])) ∙ ap (λ (t : List ℕ). text_of by ++ (text_of totals ++ t)) (append-nil (line_text ended)))))

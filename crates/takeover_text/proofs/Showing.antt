@@ -13,14 +13,14 @@ use Rattle.takeover_history.specs.declared.event.Refusal.{Refusal}
 use Rattle.takeover_history.specs.declared.event.Refusal.TheVariants.{NoMessage, OldBoot, OldLease, Stale, Repeat}
 use Rattle.takeover_history.specs.declared.lease.Holder.{Holder}
 use Rattle.takeover_history.specs.declared.lease.Lease.{Lease}
-use Rattle.takeover_history.specs.Events.{Setting, Issue, Fact, Log}
+use Rattle.takeover_history.specs.Events.{PairSetting, BatchIssue, Fact, Log}
 use Rattle.takeover_history.specs.Events as fact
 use Rattle.takeover_history.specs.Leases.{boot_of, lease_of, begins_above, request_at, grant_at}
 use Rattle.takeover_history.specs.Endpoints.{generation_of, issue_at, has_heard, Send, own_sends, sends_at, sent}
-use Rattle.takeover_history.specs.Steps.{granted, taken, told, heard, done}
+use Rattle.takeover_history.specs.Steps.{granted, taken_fact, told_fact, heard, done}
 use Rattle.takeover_core.specs.declared.outcome.Outcome.{Outcome}
 use Rattle.takeover_core.specs.declared.outcome.Outcome.TheVariants.{Nothing, Granted, Published, Sent, Refused}
-use Rattle.takeover_text.specs.Lines.{place_of, send_line}
+use Rattle.takeover_text.specs.Lines.{refusal_place, send_line}
 use Rattle.takeover_text.specs.Progress.{latest_outcome, latest_lines}
 
 -- one line alone
@@ -40,7 +40,7 @@ heard_other : (P : Type 0) (later : Bool) (from count : ℕ) (other : Outcome) �
 heard_other P true from count other nothing sends is = nothing is
 heard_other P false from count other nothing sends is = sends is
 
-pub nothing_shown : (setting : Setting) (log : Log) → latest_outcome setting log ≡ Nothing → latest_lines setting log ≡ []
+pub nothing_shown : (setting : PairSetting) (log : Log) → latest_outcome setting log ≡ Nothing → latest_lines setting log ≡ []
 nothing_shown setting [] is = refl
 nothing_shown setting (fact.Granted lease ∷ log) is = absurd (cc)
 nothing_shown setting (fact.Published issue ∷ log) is = absurd (cc)
@@ -53,7 +53,7 @@ nothing_shown setting (fact.Took lease ∷ log) is = refl
 nothing_shown setting (fact.Told src generation ∷ log) is = refl
 nothing_shown setting (fact.Crashed node ∷ log) is = refl
 
-pub grant_shown : (setting : Setting) (log : Log) (message node generation first : ℕ) → latest_outcome setting log ≡ Granted message node generation first
+pub grant_shown : (setting : PairSetting) (log : Log) (message node generation first : ℕ) → latest_outcome setting log ≡ Granted message node generation first
     → latest_lines setting log ≡ line.Granted message node generation first ∷ []
 grant_shown setting [] message node generation first is = absurd (cc)
 grant_shown setting (fact.Granted lease ∷ log) message node generation first is = cc
@@ -67,12 +67,12 @@ grant_shown setting (fact.Took lease ∷ log) message node generation first is =
 grant_shown setting (fact.Told src of ∷ log) message node generation first is = absurd (cc)
 grant_shown setting (fact.Crashed crashed ∷ log) message node generation first is = absurd (cc)
 
-pub refusal_shown : (setting : Setting) (log : Log) (why : Refusal) → latest_outcome setting log ≡ Refused why → latest_lines setting log ≡ line.Declined (length log + 1) (place_of why) ∷ []
+pub refusal_shown : (setting : PairSetting) (log : Log) (why : Refusal) → latest_outcome setting log ≡ Refused why → latest_lines setting log ≡ line.Declined (length log + 1) (refusal_place why) ∷ []
 refusal_shown setting [] why is = absurd (cc)
 refusal_shown setting (fact.Refused named ∷ log) why is =
     let same : named ≡ why = cc in
     let row : length log + 2 ≡ length (fact.Refused named ∷ log) + 1 = omega arith in
-    ap (λ (r : Refusal). line.Declined (length log + 2) (place_of r) ∷ []) same ∙ ap (λ (n : ℕ). line.Declined n (place_of why) ∷ []) row
+    ap (λ (r : Refusal). line.Declined (length log + 2) (refusal_place r) ∷ []) same ∙ ap (λ (n : ℕ). line.Declined n (refusal_place why) ∷ []) row
 refusal_shown setting (fact.Heard src issue ∷ log) why is =
     heard_other _ (nat_lt (generation_of log src) issue.lease.generation) _ _ _ (λ (no : Nothing ≡ Refused why). absurd (cc)) (λ (no : Sent _ _ ≡ Refused why). absurd (cc)) is
 refusal_shown setting (fact.Granted lease ∷ log) why is = absurd (cc)
@@ -84,11 +84,11 @@ refusal_shown setting (fact.Told src of ∷ log) why is = absurd (cc)
 refusal_shown setting (fact.Crashed crashed ∷ log) why is = absurd (cc)
 
 -- so many of the sends, from this one on, are shown
-pub record AreShown (setting : Setting) (log : Log) (from count : ℕ) : Type 0 where
+pub record AreShown (setting : PairSetting) (log : Log) (from count : ℕ) : Type 0 where
   pub within : from + count ≤ length (sent setting log)
   pub lines : latest_lines setting log ≡ map send_line (take count (drop from (sent setting log)))
 
-pub sends_shown : (setting : Setting) (log : Log) (from count : ℕ) → latest_outcome setting log ≡ Sent from count → AreShown setting log from count
+pub sends_shown : (setting : PairSetting) (log : Log) (from count : ℕ) → latest_outcome setting log ≡ Sent from count → AreShown setting log from count
 sends_shown setting [] from count is = absurd (cc)
 sends_shown setting (fact.Heard src issue ∷ log) from count is =
     let before : List Send = sent setting log in
@@ -111,12 +111,12 @@ sends_shown setting (fact.Crashed crashed ∷ log) from count is = absurd (cc)
 
 -- a batch of this number was published last
 pub record IsIssued (log : Log) (number : ℕ) : Type 0 where
-  pub issue : Issue
+  pub issue : BatchIssue
   pub earlier : Log
   pub is : log ≡ fact.Published issue ∷ earlier
   pub named : issue.number ≡ number
 
-pub batch_shown : (setting : Setting) (log : Log) (number : ℕ) → latest_outcome setting log ≡ Published number → IsIssued log number
+pub batch_shown : (setting : PairSetting) (log : Log) (number : ℕ) → latest_outcome setting log ≡ Published number → IsIssued log number
 batch_shown setting [] number is = absurd (cc)
 batch_shown setting (fact.Published issue ∷ log) number is = record { issue = issue; earlier = log; is = refl; named = cc }
 batch_shown setting (fact.Heard src issue ∷ log) number is =
@@ -131,7 +131,7 @@ batch_shown setting (fact.Crashed crashed ∷ log) number is = absurd (cc)
 
 -- ---- a batch is published by a publishing alone
 
-module _ (setting : Setting) (log : Log) (issue : Issue) where
+module _ (setting : PairSetting) (log : Log) (issue : BatchIssue) where
   abbrev IsOther : Fact → Type 0
   IsOther what = what ≡ fact.Published issue → ⊥
 
@@ -139,18 +139,18 @@ module _ (setting : Setting) (log : Log) (issue : Issue) where
   granting None = λ is. cc
   granting (Some holder) = λ is. cc
 
-  taking : (node : ℕ) (o : Option Lease) → IsOther (taken setting log node o)
+  taking : (node : ℕ) (o : Option Lease) → IsOther (taken_fact setting log node o)
   taking node None = λ is. cc
   taking node (Some lease) =
       cond_both (lease.holder.node == node) (cond (lease.holder.boot == boot_of log node) (cond (begins_above setting (lease_of log node) lease) (fact.Took lease) (fact.Refused OldLease)) (fact.Refused OldBoot)) (fact.Refused NoMessage) IsOther
       (λ here. cond_both (lease.holder.boot == boot_of log node) (cond (begins_above setting (lease_of log node) lease) (fact.Took lease) (fact.Refused OldLease)) (fact.Refused OldBoot) IsOther
       (λ boot. cond_both (begins_above setting (lease_of log node) lease) (fact.Took lease) (fact.Refused OldLease) IsOther (λ above is. cc) (λ below is. cc)) (λ other is. cc)) (λ other is. cc)
 
-  telling : (src : ℕ) (o : Option Lease) → IsOther (told log src o)
+  telling : (src : ℕ) (o : Option Lease) → IsOther (told_fact log src o)
   telling src None = λ is. cc
   telling src (Some lease) = cond_both (nat_lt lease.generation (generation_of log src)) (fact.Refused Stale) (fact.Told src lease.generation) IsOther (λ stale is. cc) (λ fresh is. cc)
 
-  hearing : (src : ℕ) (o : Option Issue) → IsOther (heard log src o)
+  hearing : (src : ℕ) (o : Option BatchIssue) → IsOther (heard log src o)
   hearing src None = λ is. cc
   hearing src (Some published) =
       cond_both (nat_lt published.lease.generation (generation_of log src)) (fact.Refused Stale) (cond (has_heard log src published.number) (fact.Refused Repeat) (fact.Heard src published)) IsOther

@@ -2,11 +2,11 @@
 use Rattle.std.specs.Prelude.{◌≡◌, false, None, [], ◌∷◌}
 use Rattle.report_text.specs.declared.line.Line.TheVariants as line
 use Rattle.takeover_history.specs.declared.event.Event.TheVariants.{Ask, Request, Grant, Take, Tell, Publish, Hear, Crash}
-use Rattle.takeover_history.specs.Events.{Setting}
+use Rattle.takeover_history.specs.Events.{PairSetting}
 use Rattle.takeover_text.specs.Lines.{shown}
 
 -- two endpoints, batches of one slot, leases of two batches
-abbrev pub small : Setting
+abbrev pub small : PairSetting
 small = record { endpoints = 2; b = 1; span = 2 }
 
 -- node 1 takes over from node 0, which then publishes what is left of its lease

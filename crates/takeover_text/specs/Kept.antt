@@ -28,13 +28,13 @@ is_send_of src dst (line.Sent number source destination) = (source == src) && (d
 is_send_of src dst _ = false
 
 -- the packet of a `sent` line was published; a `total` line counts the sends of its flow, no more than were asked for
-abbrev pub IsKept : List Line → Line → Type 0
-IsKept lines (line.Sent slot src dst) = 0 < count_by (is_packet slot src dst) lines
-IsKept lines (line.Total src dst asked sent) = (sent ≡ count_by (is_send_of src dst) lines) × (sent ≤ asked)
-IsKept lines _ = ⊤
+abbrev pub LineIsKept : List Line → Line → Type 0
+LineIsKept lines (line.Sent slot src dst) = 0 < count_by (is_packet slot src dst) lines
+LineIsKept lines (line.Total src dst asked sent) = (sent ≡ count_by (is_send_of src dst) lines) × (sent ≤ asked)
+LineIsKept lines _ = ⊤
 
 pub record KeepPromises (lines : List Line) : Type 0 where
   pub published : (batch : ℕ) → count_by (is_publishing batch) lines ≤ 1
   pub sources : (slot src : ℕ) → count_by (is_send_from slot src) lines ≤ 1
   pub destinations : (slot dst : ℕ) → count_by (is_send_to slot dst) lines ≤ 1
-  pub each : All (IsKept lines) lines
+  pub each : All (LineIsKept lines) lines

@@ -3,14 +3,14 @@
 use Rattle.std.specs.Prelude.{ℕ, List, [], ◌∷◌, take, reverse}
 use Rattle.report_text.specs.declared.line.Line.{Line}
 use Rattle.takeover_history.specs.declared.event.Event.{Event}
-use Rattle.takeover_history.specs.Events.{Setting, Log}
+use Rattle.takeover_history.specs.Events.{PairSetting, Log}
 use Rattle.takeover_history.specs.Steps.{log_of}
 use Rattle.takeover_core.specs.declared.pair.Pair.{Pair}
 use Rattle.takeover_core.specs.declared.outcome.Outcome.{Outcome}
 use Rattle.takeover_core.specs.declared.outcome.Outcome.TheVariants.{Nothing}
 use Rattle.takeover_core.specs.Outcomes.{outcome_of}
 use Rattle.takeover_core.specs.Promised.{IsPromised}
-use Rattle.takeover_core.specs.Standing.{StandsFor}
+use Rattle.takeover_core.specs.Standing.{PairStandsFor}
 use Rattle.script_text.specs.Content.{ScriptContent}
 use Rattle.takeover_text.specs.Lines.{lines_of}
 
@@ -22,15 +22,15 @@ abbrev pub log_after : ScriptContent → ℕ → Log
 log_after script count = log_of script.pair (first_events script count)
 
 -- the pair stands for them
-abbrev pub HasTaken : ScriptContent → ℕ → Pair → Type 0
-HasTaken script count pair = StandsFor script.pair pair (first_events script count)
+abbrev pub PairHasTaken : ScriptContent → ℕ → Pair → Type 0
+PairHasTaken script count pair = PairStandsFor script.pair pair (first_events script count)
 
 -- what the latest event of a log answered, and what it shows
-abbrev pub latest_outcome : Setting → Log → Outcome
+abbrev pub latest_outcome : PairSetting → Log → Outcome
 latest_outcome setting [] = Nothing
 latest_outcome setting (fact ∷ earlier) = outcome_of setting earlier fact
 
-abbrev pub latest_lines : Setting → Log → List Line
+abbrev pub latest_lines : PairSetting → Log → List Line
 latest_lines setting [] = []
 latest_lines setting (fact ∷ earlier) = lines_of setting earlier fact
 

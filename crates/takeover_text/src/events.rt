@@ -4,8 +4,8 @@ ghost use Rattle.takeover_history.specs.declared.event.Event.TheVariants.{Publis
 ghost use Rattle.script_text.specs.Script.{IsScript};
 ghost use Rattle.text_output.specs.Output.{Passes};
 ghost use Rattle.text_output.specs.Text.{text_of};
-ghost use Rattle.takeover_text.specs.Lines.{place_of as the_place, lines_by};
-ghost use Rattle.takeover_text.specs.Progress.{log_after, HasTaken, latest_outcome, latest_lines};
+ghost use Rattle.takeover_text.specs.Lines.{refusal_place as the_place, takeover_lines};
+ghost use Rattle.takeover_text.specs.Progress.{log_after, PairHasTaken, latest_outcome, latest_lines};
 
 use crate::published::put_published;
 use crate::sends::put_sends;
@@ -52,7 +52,7 @@ fn put_outcome<K: Sink>(
 ) -> Result<(), Stop>
     requires script { IsScript script.now }
     requires at { at < length script.now.events }
-    requires taken { HasTaken script.now (at + 1) pair.now }
+    requires taken { PairHasTaken script.now (at + 1) pair.now }
     requires outcome { outcome ≡ latest_outcome script.now.pair (log_after script.now (at + 1)) }
     ensures { Passes output.old output.new (text_of (latest_lines script.now.pair (log_after script.now (at + 1)))) result }
 {
@@ -92,8 +92,8 @@ fn put_event<K: Sink>(
 ) -> Result<(), Stop>
     requires script { IsScript script.now }
     requires at { at < length script.now.events }
-    requires taken { HasTaken script.now at pair.old }
-    ensures taken { OnOk result (HasTaken script.now (at + 1) pair.new) }
+    requires taken { PairHasTaken script.now at pair.old }
+    ensures taken { OnOk result (PairHasTaken script.now (at + 1) pair.new) }
     ensures passes { Passes output.old output.new (text_of (latest_lines script.now.pair (log_after script.now (at + 1)))) result }
 {
     texts_follow();
@@ -108,10 +108,10 @@ pub(crate) fn put_events<K: Sink>(
     pair: &mut Pair,
 ) -> Result<(), Stop>
     requires script { IsScript script.now }
-    requires taken { HasTaken script.now 0 pair.old }
-    ensures taken { OnOk result (HasTaken script.now (length script.now.events) pair.new) }
+    requires taken { PairHasTaken script.now 0 pair.old }
+    ensures taken { OnOk result (PairHasTaken script.now (length script.now.events) pair.new) }
     ensures passes { Passes output.old output.new
-        (text_of (lines_by script.now.pair (log_after script.now (length script.now.events)))) result }
+        (text_of (takeover_lines script.now.pair (log_after script.now (length script.now.events)))) result }
 {
     let count = script.events().len() as u32;
     for at in 0..count {

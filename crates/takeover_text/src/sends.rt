@@ -1,10 +1,10 @@
 // The lines of the slots in which an endpoint sends.
 ghost use Rattle.std.specs.Prelude.{◌<◌, ◌≤◌, ◌+◌, ◌^◌, List, length, map, take, drop};
 ghost use Rattle.takeover_history.specs.declared.event.Event.{Event};
-ghost use Rattle.takeover_history.specs.Events.{Setting};
+ghost use Rattle.takeover_history.specs.Events.{PairSetting};
 ghost use Rattle.takeover_history.specs.Endpoints.{sent};
 ghost use Rattle.takeover_history.specs.Steps.{log_of};
-ghost use Rattle.takeover_core.specs.Standing.{StandsFor};
+ghost use Rattle.takeover_core.specs.Standing.{PairStandsFor};
 ghost use Rattle.text_output.specs.Output.{Passes};
 ghost use Rattle.text_output.specs.Text.{text_of};
 ghost use Rattle.takeover_text.specs.Lines.{send_line};
@@ -22,8 +22,8 @@ pub(crate) fn put_sends<K: Sink>(
     count: u32,
 ) -> Result<(), Stop>
     requires numbers { from + count < 2 ^ 32 }
-    requires sends { (setting : Setting) × (events : List Event) × StandsFor setting pair.now events × (from + count ≤ length (sent setting (log_of setting events))) }
-    ensures { (setting : Setting) (events : List Event) → StandsFor setting pair.now events →
+    requires sends { (setting : PairSetting) × (events : List Event) × PairStandsFor setting pair.now events × (from + count ≤ length (sent setting (log_of setting events))) }
+    ensures { (setting : PairSetting) (events : List Event) → PairStandsFor setting pair.now events →
         Passes output.old output.new (text_of (map send_line (take count (drop from (sent setting (log_of setting events)))))) result }
 {
     let mut slot = Numeral::new(0);

@@ -3,7 +3,7 @@ ghost use Rattle.std.specs.Prelude.{◌≡◌, ◌<◌, length};
 ghost use Rattle.text_output.specs.Output.{Passes};
 ghost use Rattle.text_output.specs.Text.{text_of};
 ghost use Rattle.takeover_text.specs.Lines.{total_line, totals_of, total_lines};
-ghost use Rattle.takeover_text.specs.Progress.{log_after, HasTaken};
+ghost use Rattle.takeover_text.specs.Progress.{log_after, PairHasTaken};
 
 use fp_edge::Sink;
 use greedy_rules::Flow;
@@ -19,7 +19,7 @@ fn put_total<K: Sink>(
     pair: &Pair,
     flow: Flow,
 ) -> Result<(), Stop>
-    requires stands { HasTaken script.now (length script.now.events) pair.now }
+    requires stands { PairHasTaken script.now (length script.now.events) pair.now }
     requires src { flow.src < script.now.pair.endpoints }
     requires dst { flow.dst < script.now.pair.endpoints }
     ensures { Passes output.old output.new
@@ -44,7 +44,7 @@ fn put_source<K: Sink>(
     pair: &Pair,
     src: u16,
 ) -> Result<(), Stop>
-    requires stands { HasTaken script.now (length script.now.events) pair.now }
+    requires stands { PairHasTaken script.now (length script.now.events) pair.now }
     requires src { src < script.now.pair.endpoints }
     ensures { Passes output.old output.new
         (text_of (totals_of script.now.pair (log_after script.now (length script.now.events)) src)) result }
@@ -62,7 +62,7 @@ pub(crate) fn put_totals<K: Sink>(
     script: &Script,
     pair: &Pair,
 ) -> Result<(), Stop>
-    requires { HasTaken script.now (length script.now.events) pair.now }
+    requires { PairHasTaken script.now (length script.now.events) pair.now }
     ensures { Passes output.old output.new
         (text_of (total_lines script.now.pair (log_after script.now (length script.now.events)))) result }
 {

@@ -1,10 +1,10 @@
 ghost use Rattle.std.specs.Prelude.{IfOk};
 ghost use Rattle.script_text.specs.Script.{IsScript};
 ghost use Rattle.text_output.specs.Content.{sink_content};
-ghost use Rattle.text_output.specs.Output.{Ends, Writes};
+ghost use Rattle.text_output.specs.Output.{EndsText, Writes};
 ghost use Rattle.takeover_text.specs.Lines.{shown, takeover_text};
 ghost use Rattle.takeover_text.specs.Kept.{KeepPromises};
-ghost use Rattle.takeover_text.specs.Progress.{HasTaken, IsPromisedThroughout};
+ghost use Rattle.takeover_text.specs.Progress.{PairHasTaken, IsPromisedThroughout};
 
 use crate::events::put_events;
 use crate::totals::put_totals;
@@ -20,7 +20,7 @@ use text_output::{Output, Stop, texts_follow};
 /// The pair of a script, before its first event.
 fn open_pair(alloc: Global, script: &Script) -> Result<Pair, NoMemory>
     requires { IsScript script.now }
-    ensures { IfOk result (HasTaken script.now 0) }
+    ensures { IfOk result (PairHasTaken script.now 0) }
 {
     let (endpoints, b, lease) = script.pair();
     Pair::open(alloc, endpoints, b, lease, script.events().len() as u32)
@@ -33,7 +33,7 @@ fn put_lines<K: Sink>(
     output: &mut Output<'_, K>,
 ) -> Result<(), Stop>
     requires { IsScript script.now }
-    ensures { Ends output.old output.new (takeover_text script.now) result }
+    ensures { EndsText output.old output.new (takeover_text script.now) result }
 {
     texts_follow();
     running_counts_serve();

@@ -5,6 +5,9 @@ use Rattle.std.proofs.lemmas.List.{append-nil, take_more, take-append-drop}
 use Rattle.std.proofs.lemmas.List.Concat.{flat_map-append}
 use Rattle.report_text.specs.declared.line.Line.{Line}
 use Rattle.text_output.specs.Text.{line_text, text_of}
+use Rattle.std.proofs.Common.{arith}
+use Rattle.std.proofs.lemmas.List.FromFn.{length-range_with_len, get_or-range_with_len}
+use Rattle.std.specs.List.{range_with_len}
 
 -- one item of a list more
 pub items_more : {X : Type 0} (lines : X → List Line) (xs : List X) (i : ℕ) (d : X) → i < length xs
@@ -22,3 +25,9 @@ items_whole lines xs i d below =
     ∙ (ap text_of (flat_map-append lines (take (i + 1) xs) (drop (i + 1) xs))
     ∙ (flat_map-append line_text (flat_map lines (take (i + 1) xs)) (flat_map lines (drop (i + 1) xs))
     ∙ ap (λ (t : List ℕ). t ++ text_of (flat_map lines (drop (i + 1) xs))) (items_more lines xs i d below)))
+
+pub numbers_more : (lines : ℕ → List Line) (n at : ℕ) → at < n
+    → text_of (flat_map lines (take (at + 1) (range_with_len 0 n))) ≡ text_of (flat_map lines (take at (range_with_len 0 n))) ++ text_of (lines at)
+numbers_more lines n at below =
+    items_more lines (range_with_len 0 n) at 0 (omega (arith, length-range_with_len 0 n))
+    ∙ ap (λ (m : ℕ). text_of (flat_map lines (take at (range_with_len 0 n))) ++ text_of (lines m)) (omega (arith, get_or-range_with_len 0 n at 0 below))

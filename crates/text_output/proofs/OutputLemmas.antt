@@ -5,9 +5,10 @@ use Rattle.std.proofs.KnownBytes.{Appends-trans, Appends-nil}
 use Rattle.std.proofs.lemmas.List.{append_assoc, append-nil}
 use Rattle.text_output.specs.Content.{SinkContent, OutputContent}
 use Rattle.text_output.specs.Transfer.{AppendsFront}
-use Rattle.text_output.specs.Output.{Gives, Passes, Passed, Ends, Writes, IsCaused}
+use Rattle.text_output.specs.Output.{Gives, Passes, Passed, EndsText, Writes, IsCaused}
 use Rattle.text_output.specs.declared.output.Stop.TheVariants.{Write, Memory}
 use Rattle.text_output.specs.declared.output.Stop.{Stop}
+use Rattle.std.proofs.Common.{OnOk}
 
 Gives-then : (a b c : OutputContent) (x y : List ℕ) → Gives a b x → Gives b c y → Gives a c (x ++ y)
 Gives-then a b c x y (given, was, is) (given', was', is') = (
@@ -93,7 +94,7 @@ Passes-no_memory a x (Err d) is = record {
 }
 
 -- text that began with nothing gathered, and of which nothing is gathered any more, is written
-whole : (a b : OutputContent) (x : List ℕ) (r : Result (Unit {0}) Stop) → a.gathered ≡ [] → Ends a b x r → Writes a.sink b.sink x r
+whole : (a b : OutputContent) (x : List ℕ) (r : Result (Unit {0}) Stop) → a.gathered ≡ [] → EndsText a b x r → Writes a.sink b.sink x r
 whole a b x (Ok u) none ends =
     let (given, was, is) = ends.passes.all in
     let same : given ≡ x = sym (append-nil given) ∙ (ap (λ (xs : List ℕ). given ++ xs) (sym ends.empty) ∙ (sym is ∙ ap (λ (xs : List ℕ). xs ++ x) none)) in
@@ -105,10 +106,21 @@ whole a b x (Err e) none ends = record {
   cause = ends.passes.cause;
 }
 
-pub Writes-whole : (a b : OutputContent) (old new : SinkContent) (x : List ℕ) (r : Result (Unit {0}) Stop) → a.sink ≡ old → b.sink ≡ new → a.gathered ≡ [] → Ends a b x r → Writes old new x r
+pub Writes-whole : (a b : OutputContent) (old new : SinkContent) (x : List ℕ) (r : Result (Unit {0}) Stop) → a.sink ≡ old → b.sink ≡ new → a.gathered ≡ [] → EndsText a b x r → Writes old new x r
 Writes-whole a b old new x r before after none ends =
     subst (λ (s : SinkContent). Writes s new x r) before (subst (λ (s : SinkContent). Writes a.sink s x r) after (whole a b x r none ends))
 
 pub Writes-nothing : (sink : SinkContent) (x : List ℕ) (r : Result (Unit {0}) Stop) → IsErrAnd r (λ d. d ≡ Memory) → Writes sink sink x r
 Writes-nothing sink x (Ok u) is = absurd is
 Writes-nothing sink x (Err d) is = record { later = omega arith; all = tt; front = ([], x, refl, Appends-nil sink.held); cause = subst (IsCaused sink.faults sink.faults) (sym is) tt }
+
+pub never_ok : (P : Type 0) (e : Stop) (r : Result (Unit {0}) Stop) → IsErrAnd r (λ d. d ≡ e) → OnOk r P
+never_ok P e (Ok t) is = absurd is
+never_ok P e (Err d) is = tt
+
+pub OnOk-always : {P : Type 0} (r : Result (Unit {0}) Stop) → P → OnOk r P
+OnOk-always (Ok t) p = p
+OnOk-always (Err e) p = tt
+
+pub Ends-stopped : {a b : OutputContent} {x : List ℕ} {r : Result (Unit {0}) Stop} (e : Stop) → Passes a b x r → IsErrAnd r (λ d. d ≡ e) → EndsText a b x r
+Ends-stopped {b = b} {r = r} e passes is = record { passes = passes; empty = never_ok (b.gathered ≡ []) e r is }

@@ -1,22 +1,13 @@
 -- The text of a slot, place by place of its row.
-use Rattle.std.proofs.Common.{◌≡◌, ◌<◌, ◌+◌, ◌||◌, ℕ, suc, List, [], ◌∷◌, ◌++◌, length, get_or, map, take, drop, Bool, true, false, Option, Some, None, is_some, refl, sym, ap, ◌∙◌, arith}
-use Rattle.std.specs.List.{fold}
+use Rattle.std.proofs.Common.{◌≡◌, ◌<◌, ◌+◌, ℕ, List, [], ◌∷◌, ◌++◌, length, get_or, map, take, drop, Option, Some, None, refl, sym, ap, ◌∙◌, arith}
 use Rattle.std.proofs.lemmas.List.{map-append, take_more, take-append-drop, length-take-le}
 use Rattle.std.proofs.lemmas.List.Concat.{flat_map-append}
 use Rattle.greedy_rules.specs.declared.flows.Flow.{Flow}
 use Rattle.greedy_rules.specs.SlotTable.{flows_from}
+use Rattle.greedy_rules.proofs.RowLemmas.{flows_from-append}
 use Rattle.report_text.specs.declared.line.Line.{Line}
 use Rattle.text_output.specs.Text.{line_text, text_of}
 use Rattle.text_output.specs.Text.{flow_list}
-
-flows_from-append : (src : ℕ) (xs ys : List (Option ℕ)) → flows_from src (xs ++ ys) ≡ flows_from src xs ++ flows_from (src + length xs) ys
-flows_from-append src [] ys = let here : src ≡ src + 0 = omega arith in ap (λ (n : ℕ). flows_from n ys) here
-flows_from-append src (None ∷ xs) ys =
-    let on : src + 1 + length xs ≡ src + suc (length xs) = omega arith in
-    flows_from-append (src + 1) xs ys ∙ ap (λ (n : ℕ). flows_from (src + 1) xs ++ flows_from n ys) on
-flows_from-append src (Some dst ∷ xs) ys =
-    let on : src + 1 + length xs ≡ src + suc (length xs) = omega arith in
-    ap (λ (fs : List Flow). record { src = src; dst = dst } ∷ fs) (flows_from-append (src + 1) xs ys ∙ ap (λ (n : ℕ). flows_from (src + 1) xs ++ flows_from n ys) on)
 
 flows_from-one : (src : ℕ) (cell : Option ℕ) → flows_from src (cell ∷ []) ≡ flow_list src cell
 flows_from-one src None = refl
@@ -52,17 +43,3 @@ row_whole line from row at d below =
     let rest : List Flow = flows_from (from + length (take (at + 1) row)) (drop (at + 1) row) in
     row_parts line from row (take (at + 1) row) (drop (at + 1) row) (sym (take-append-drop (at + 1) row))
     ∙ ap (λ (t : List ℕ). t ++ text_of (map line rest)) (row_more line from row at d below)
-
--- whether a place has a destination, or one before it had
-abbrev or_sends : Bool → Option ℕ → Bool
-or_sends sends to = sends || is_some to
-
-stays_true : (row : List (Option ℕ)) → fold or_sends true row ≡ true
-stays_true [] = refl
-stays_true (to ∷ row) = stays_true row
-
--- a row in which nobody sends has no flows
-pub no_flows : (src : ℕ) (row : List (Option ℕ)) → fold or_sends false row ≡ false → flows_from src row ≡ []
-no_flows src [] none = refl
-no_flows src (None ∷ row) none = no_flows (src + 1) row none
-no_flows src (Some dst ∷ row) none = let both : true ≡ false = sym (stays_true row) ∙ none in absurd (cc)

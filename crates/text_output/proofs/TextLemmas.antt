@@ -4,7 +4,9 @@ use Rattle.std.proofs.lemmas.List.{append-nil, map-append, map_more, take-append
 use Rattle.std.proofs.lemmas.List.Concat.{flat_map-append}
 use Rattle.std.proofs.lemmas.Option.{get_or_from_slice_get}
 use Rattle.report_text.specs.declared.line.Line.{Line}
+use Rattle.report_text.specs.declared.line.Line.TheVariants as line
 use Rattle.text_output.specs.Text.{line_text, text_of}
+use Rattle.std.specs.Bool.{⊤}
 
 -- a line for each element, one more
 pub text_more : {X : Type 0} (f : X → Line) (xs : List X) (i : ℕ) (x : X) → i < length xs → slice_get xs i ≡ Some x
@@ -18,3 +20,7 @@ pub text_rest : {X : Type 0} (f : X → Line) (xs : List X) (i : ℕ) → text_o
 text_rest f xs i =
     ap (λ ys. text_of (map f ys)) (sym (take-append-drop i xs))
     ∙ (ap text_of (map-append f (take i xs) (drop i xs)) ∙ flat_map-append line_text (map f (take i xs)) (map f (drop i xs)))
+
+abbrev pub IsNoSend : Line → Type 0
+IsNoSend (line.Sent slot src dst) = ⊥
+IsNoSend _ = ⊤

@@ -1,7 +1,7 @@
 -- Laws on outputs.
 use Rattle.std.specs.Prelude.{◌≡◌, ℕ, List, [], ◌++◌, Result, Err, IsErrAnd}
 use Rattle.text_output.specs.Content.{SinkContent, OutputContent}
-use Rattle.text_output.specs.Output.{Passes, Passed, Ends, Writes}
+use Rattle.text_output.specs.Output.{Passes, Passed, EndsText, Writes}
 use Rattle.text_output.specs.declared.output.Stop.{Stop}
 use Rattle.text_output.specs.declared.output.Stop.TheVariants.{Memory}
 
@@ -15,5 +15,5 @@ pub record TextsFollow : Type 0 where
   pub nothing : {a : OutputContent} → Passed a a []
   pub no_memory : {a : OutputContent} {x : List ℕ} {result : Result (Unit {0}) Stop} → IsErrAnd result (λ e. e ≡ Memory) → Passes a a x result
   -- a text that began with nothing gathered, and ended, is written to the sink; and none is where memory is wanting
-  pub whole : {a b : OutputContent} {old new : SinkContent} {x : List ℕ} {result : Result (Unit {0}) Stop} → a.sink ≡ old → b.sink ≡ new → a.gathered ≡ [] → Ends a b x result → Writes old new x result
+  pub whole : {a b : OutputContent} {old new : SinkContent} {x : List ℕ} {result : Result (Unit {0}) Stop} → a.sink ≡ old → b.sink ≡ new → a.gathered ≡ [] → EndsText a b x result → Writes old new x result
   pub unwritten : {sink : SinkContent} {x : List ℕ} {result : Result (Unit {0}) Stop} → IsErrAnd result (λ e. e ≡ Memory) → Writes sink sink x result

@@ -29,7 +29,7 @@ abbrev pub Passed : OutputContent → OutputContent → List ℕ → Type 0
 Passed old new text = Passes old new text (Ok (tt {0}))
 
 -- the last of a text: nothing is gathered any more where all went well
-pub record Ends (old new : OutputContent) (text : List ℕ) (result : Result (Unit {0}) Stop) : Type 0 where
+pub record EndsText (old new : OutputContent) (text : List ℕ) (result : Result (Unit {0}) Stop) : Type 0 where
   pub passes : Passes old new text result
   pub empty : OnOk result (new.gathered ≡ [])
 

@@ -2,7 +2,7 @@ ghost use Rattle.std.specs.Prelude.{◌≡◌, [], OnOk, IfErr};
 ghost use Rattle.report_text.specs.Buffer.{HasRoom};
 ghost use Rattle.report_text.specs.Lines.{HasName};
 ghost use Rattle.text_output.specs.Content.{sink_content};
-ghost use Rattle.text_output.specs.Output.{Passes, Ends};
+ghost use Rattle.text_output.specs.Output.{Passes, EndsText};
 ghost use Rattle.text_output.specs.Text.{line_text, entry_line};
 ghost use Rattle.text_output.specs.declared.output.Stop.TheVariants.{Memory, Write};
 
@@ -114,7 +114,7 @@ impl<'a, K: Sink> Output<'a, K> {
     /// The last line: the sink is given all.
     pub fn put_last_line(&mut self, line: &Line) -> Result<(), Stop>
         requires { HasName line.now }
-        ensures { Ends self.old self.new (line_text line.now) result }
+        ensures { EndsText self.old self.new (line_text line.now) result }
     {
         self.put_line(line)?;
         self.flush()

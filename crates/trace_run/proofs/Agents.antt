@@ -4,7 +4,7 @@ use Rattle.endpoint_history.specs.Packets.{DownPacket}
 use Rattle.endpoint_history.specs.Agent.{AgentHistory, Boots, Asks, TakesDown, epoch_of}
 use Rattle.endpoint_history.specs.Lane.{MakesDown}
 use Rattle.endpoint_history.specs.Steps.{Step, OfAgent, OfLane, agent_of}
-use Rattle.endpoint_history.specs.Rounds.{Round, Played, arriving, then_each, begun, posted_down, heard}
+use Rattle.endpoint_history.specs.Rounds.{Round, PlayedEnds, arriving, then_each, begun, posted_down, heard}
 use Rattle.trace_run.specs.Run.{replayed}
 use Rattle.trace_run.specs.Histories.{played_after}
 use Rattle.trace_run.specs.Agents.{EpochsCountBoots}
@@ -15,7 +15,7 @@ boots-count : (boots : List ℕ) (steps : List Step) → epoch_of (agent_of (the
 boots-count [] steps = omega arith
 boots-count (version ∷ boots) steps = let rest = boots-count boots (OfAgent (Boots version) ∷ steps) in omega arith
 
-heard-booted : (endpoints g number : ℕ) (round : Round) (before : Played) → epoch_of (agent_of (heard endpoints g number round before)) ≡ epoch_of (agent_of before.steps) + length round.boots
+heard-booted : (endpoints g number : ℕ) (round : Round) (before : PlayedEnds) → epoch_of (agent_of (heard endpoints g number round before)) ≡ epoch_of (agent_of before.steps) + length round.boots
 heard-booted endpoints g number round before =
     let booted : List Step = then_each (λ version. OfAgent (Boots version)) round.boots before.steps in
     let told_steps : List Step = OfLane (MakesDown number round.told) ∷ begun endpoints g number round before in

@@ -15,6 +15,7 @@ use Rattle.greedy_rules.specs.SlotTable.{IsSlotOf}
 use Rattle.greedy_rules.specs.Matching.{EverySlotIsInRange}
 use Rattle.greedy_rules.specs.Allocation.{slots_of}
 use Rattle.greedy_rules.specs.Schedule.{schedule}
+use Rattle.greedy_rules.specs.Cells.{flow_of}
 use Rattle.endpoint_history.specs.Lane.{last_reset}
 use Rattle.endpoint_history.specs.Counts.{Allocation, owed}
 use Rattle.endpoint_history.specs.Rest.{need_through}
@@ -22,13 +23,12 @@ use Rattle.trace_run.specs.Run.{Setting, replayed}
 use Rattle.trace_run.specs.Histories.{lane_after}
 use Rattle.trace_run.specs.Windows.{batch_at}
 use Rattle.trace_run.specs.Applicable.{EveryRunIsApplicable, EverySlotIsOfTheRun}
-use Rattle.trace_run.specs.Rest.{allocated_from, allocated_in, left_after, need_after, OwedIsAllocatedOrLeft, PublishedIsPending}
+use Rattle.trace_run.specs.Rest.{allocated_from, allocated_in_batch, left_after, need_after, OwedIsAllocatedOrLeft, PublishedIsPending}
 use Rattle.trace_run.specs.Counts.{ToldIsAllocated}
 use Rattle.trace_run.specs.Sends.{ToldIsOwedInEachRound}
 use Rattle.trace_run.specs.Allocations.{since, OneFlowMore, AFlowWithoutSlots, ABatchMore, NeedsAreOwed, AllocationIsPending}
 use Rattle.trace_run.specs.Premises.{Schedules}
 use Rattle.trace_run.proofs.Fronts.{length-schedule, run_length}
-use Rattle.trace_run.proofs.Rows.{flow_of}
 use Rattle.trace_run.proofs.Rest.{one_batch_more}
 
 -- the batches are all before this one
@@ -46,7 +46,7 @@ none_from s setting allocated reset src dst past =
 -- one batch more, whether it is counted or not
 batch_counted : (s : Schedules) (setting : Setting) (batches rounds reset src dst : ℕ) → batches < rounds →
     allocated_from setting (batches + 1) reset src dst
-    ≡ allocated_from setting batches reset src dst + cond (nat_le reset batches) (allocated_in setting batches rounds src dst) 0
+    ≡ allocated_from setting batches reset src dst + cond (nat_le reset batches) (allocated_in_batch setting batches rounds src dst) 0
 batch_counted s setting batches rounds reset src dst below =
     let on : suc batches ≡ batches + 1 = omega arith in
     let there = ap (λ (n : ℕ). allocated_from setting n reset src dst) on in
@@ -73,7 +73,7 @@ other_flow setting batches src dst batch to n other before =
 
 pub one_flow_more : Schedules → OneFlowMore
 one_flow_more s setting batches rounds src dst allocations below are batch to low =
-    let a : Allocation = record { dst = dst; batch = batches; slots = allocated_in setting batches rounds src dst } in
+    let a : Allocation = record { dst = dst; batch = batches; slots = allocated_in_batch setting batches rounds src dst } in
     let push = sum_by-cons (λ (x : Allocation). cond (x.dst == to && nat_le batch x.batch) x.slots 0) a allocations in
     let before = are batch to low in
     elim (cases_eq dst to) [
@@ -97,7 +97,7 @@ a_flow_without_slots s setting batches rounds src dst allocations below are none
       | inr other ↦ other_flow setting batches src dst batch to (since batch allocations to) other before
       | inl here ↦
           let counted = batch_counted s setting batches rounds batch src dst below in
-          let nothing : cond {A = ℕ} (nat_le batch batches) (allocated_in setting batches rounds src dst) 0 ≡ 0 =
+          let nothing : cond {A = ℕ} (nat_le batch batches) (allocated_in_batch setting batches rounds src dst) 0 ≡ 0 =
           ap (λ (n : ℕ). cond {A = ℕ} (nat_le batch batches) n 0) none ∙ either (nat_le batch batches) in
           let was : since batch allocations to ≡ allocated_from setting batches batch src to = before ∙ ap (λ (c : Bool). allocated_from setting (cond c (batches + 1) batches) batch src to) (le-ltb to dst (omega arith)) in
           let same = ap (λ (d : ℕ). allocated_from setting batches batch src d) here in

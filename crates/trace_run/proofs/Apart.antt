@@ -13,19 +13,21 @@ use Rattle.greedy_rules.specs.Slot.{has_flow}
 use Rattle.greedy_rules.specs.Matching.{EverySlotsFlowsAreOfEntries}
 use Rattle.greedy_rules.specs.Allocation.{slots_of}
 use Rattle.greedy_rules.specs.Schedule.{first_slot, schedule}
+use Rattle.greedy_rules.specs.Cells.{flow_of}
 use Rattle.endpoint_history.specs.Packets.{DownPacket, slots_to}
 use Rattle.endpoint_history.specs.Agent.{Boots, Asks, TakesDown, MakesUp, SendsDue, TakenDown, taken, takes, slots_taken}
 use Rattle.endpoint_history.specs.Lane.{LaneHistory, MakesDown, TakesUp}
 use Rattle.endpoint_history.specs.Steps.{Step, OfAgent, OfLane, agent_of, lane_of, WasMadeDown, ArrivesFromLane, rounds_begun, RoundsRise}
 use Rattle.endpoint_history.specs.Packets.{UpPacket}
-use Rattle.endpoint_history.specs.Rounds.{Round, Played, arriving, then_each, begun, posted_down, heard, posted_up, read}
-use Rattle.trace_run.specs.Run.{Setting, batch_of, told_of, told_in, replayed}
+use Rattle.endpoint_history.specs.Rounds.{Round, PlayedEnds, arriving, then_each, begun, posted_down, heard, posted_up, read}
+use Rattle.endpoint_history.proofs.NeverTaken.{WasMadeDown-later}
+use Rattle.endpoint_history.proofs.Rounds.{lane-agent}
+use Rattle.trace_run.specs.Run.{Setting, slots_in_batch, told_of, told_in, replayed}
 use Rattle.trace_run.specs.Histories.{played_after}
-use Rattle.trace_run.specs.Premises.{Schedules, Ends}
+use Rattle.trace_run.specs.Premises.{Schedules, EndsLaws}
 use Rattle.trace_run.proofs.Applicable.{round_after}
-use Rattle.trace_run.proofs.Rows.{flow_of}
-use Rattle.trace_run.proofs.Sends.{WasMadeDown-later, ToldAre, told_are_now, are-within, are-rising, issued-told}
-use Rattle.trace_run.proofs.Through.{lane_of-agents, rounds_length}
+use Rattle.trace_run.proofs.Sends.{ToldAre, told_are_now, are-within, are-rising, issued-told}
+use Rattle.trace_run.proofs.Through.{rounds_length}
 use Rattle.trace_run.proofs.ToldOf.{slots_from-told, told_in-within, told_in-rises}
 
 -- ---- slots
@@ -70,9 +72,9 @@ none_told s setting batches round endpoint apart =
     let k : ℕ = round - 2 * setting.g in
     let P : List Flow → Type 0 = All (λ (f : Flow). IsTrue (is_other f)) in
     let all : List (List Flow) = schedule setting.b batches in
-    let none : slots_of (flow_of endpoint endpoint) (batch_of setting.b k batches) ≡ 0 =
-    none_to_itself endpoint (batch_of setting.b k batches) (All-take P setting.b (drop (k * setting.b) all) (All-drop P (k * setting.b) all (other_flows s.flows setting.b batches apart))) in
-    let its = slots_from-told (λ offset. setting.cores (first_slot setting.b k + offset) endpoint) endpoint endpoint 0 (batch_of setting.b k batches) in
+    let none : slots_of (flow_of endpoint endpoint) (slots_in_batch setting.b k batches) ≡ 0 =
+    none_to_itself endpoint (slots_in_batch setting.b k batches) (All-take P setting.b (drop (k * setting.b) all) (All-drop P (k * setting.b) all (other_flows s.flows setting.b batches apart))) in
+    let its = slots_from-told (λ offset. setting.cores (first_slot setting.b k + offset) endpoint) endpoint endpoint 0 (slots_in_batch setting.b k batches) in
     let told : slots_to endpoint (told_of setting batches k endpoint) ≡ 0 = omega arith in
     elim (cases_Bool (nat_le (2 * setting.g) round)) [
       | inl late ↦ rw late told
@@ -121,7 +123,7 @@ record HasHeard (setting : Setting) (rounds endpoint : ℕ) (steps : List Step) 
   rise : RoundsRise (lane_of steps)
   told : ToldAre (told_by setting rounds endpoint) (lane_of steps)
 
-has_heard : Schedules → Ends → (setting : Setting) → 0 < setting.g → (rounds endpoint : ℕ) → HasHeard setting rounds endpoint (heard_after setting rounds endpoint)
+has_heard : Schedules → EndsLaws → (setting : Setting) → 0 < setting.g → (rounds endpoint : ℕ) → HasHeard setting rounds endpoint (heard_after setting rounds endpoint)
 has_heard s ends setting some rounds endpoint =
     let order = ends.order setting.endpoints setting.g ((replayed setting (suc rounds)).rounds endpoint) in
     let told = told_are_now s setting some rounds rounds endpoint (omega arith) in
@@ -130,7 +132,7 @@ has_heard s ends setting some rounds endpoint =
     number : ℕ
     number = length ((replayed setting rounds).rounds endpoint)
 
-    before : Played
+    before : PlayedEnds
     before = played_after setting rounds endpoint
 
     round : Round
@@ -153,7 +155,7 @@ has_heard s ends setting some rounds endpoint =
         }
 
 -- it has taken in no slots to itself
-pub none_heard : Schedules → Ends → (setting : Setting) → 0 < setting.g → (rounds endpoint : ℕ) → AreApart (replayed setting rounds).batches →
+pub none_heard : Schedules → EndsLaws → (setting : Setting) → 0 < setting.g → (rounds endpoint : ℕ) → AreApart (replayed setting rounds).batches →
     slots_taken (agent_of (heard_after setting rounds endpoint)) endpoint ≡ 0
 none_heard s ends setting some rounds endpoint apart =
     let h = has_heard s ends setting some rounds endpoint in
@@ -171,17 +173,17 @@ none_heard s ends setting some rounds endpoint apart =
         ap (λ (xs : List Told). slots_to endpoint xs) (sym is ∙ of) ∙ none_told s setting (replayed setting rounds).batches (packet.content.batch + 2 * setting.g) endpoint apart
 
 -- and no more to any than there were slots
-pub few_heard : Schedules → Ends → (setting : Setting) → 0 < setting.g → (rounds endpoint dst : ℕ) → slots_taken (agent_of (heard_after setting rounds endpoint)) dst ≤ (rounds + 1) * setting.b
+pub few_heard : Schedules → EndsLaws → (setting : Setting) → 0 < setting.g → (rounds endpoint dst : ℕ) → slots_taken (agent_of (heard_after setting rounds endpoint)) dst ≤ (rounds + 1) * setting.b
 few_heard s ends setting some rounds endpoint dst =
     let h = has_heard s ends setting some rounds endpoint in
     let batches : List DemandBatch = (replayed setting rounds).batches in
     let number : ℕ = length ((replayed setting rounds).rounds endpoint) in
     let round : Round = round_after setting rounds endpoint in
-    let before : Played = played_after setting rounds endpoint in
+    let before : PlayedEnds = played_after setting rounds endpoint in
     let steps : List Step = heard_after setting rounds endpoint in
     let downs : List DownPacket = arriving (posted_down setting.endpoints setting.g number round before) number in
     let begun_is : rounds_begun (lane_of steps) ≡ rounds + 1 =
-    ap (λ (l : LaneHistory). rounds_begun l) (lane_of-agents (λ packet. TakesDown number packet) downs (OfLane (MakesDown number round.told) ∷ begun setting.endpoints setting.g number round before))
+    ap (λ (l : LaneHistory). rounds_begun l) (lane-agent (λ packet. TakesDown number packet) downs (OfLane (MakesDown number round.told) ∷ begun setting.endpoints setting.g number round before))
     ∙ ap (λ (n : ℕ). n + 1) (rounds_length setting rounds endpoint) in
     subst (λ (n : ℕ). slots_taken (agent_of steps) dst ≤ n * setting.b) begun_is
     (ends.few setting.b setting.g steps h.from_lane h.rise

@@ -11,8 +11,10 @@ use Rattle.greedy_rules.specs.Demands.{HasEachFlowOnce, AreBelow, OpensNewFlows,
 use Rattle.greedy_rules.specs.Matching.{AreAmong}
 use Rattle.greedy_rules.specs.Schedule.{first_slot, slots_then, list_then, rest, rest_from}
 use Rattle.greedy_rules.specs.Balance.{Balances, is_recorded, AreInOrder}
+use Rattle.greedy_rules.specs.Cells.{flow_of}
+use Rattle.greedy_rules.proofs.CellLemmas.{rows_rise, rows_here, all_rows}
 use Rattle.endpoint_history.specs.Lane.{LaneHistory}
-use Rattle.endpoint_history.specs.Entries.{had, added, is_reset, entry_with, entries_of}
+use Rattle.endpoint_history.specs.Entries.{had, added, is_reset, entry_with, entries_of_batches}
 use Rattle.endpoint_history.specs.Entries as lane
 use Rattle.endpoint_history.specs.Steps.{lane_of}
 use Rattle.endpoint_history.specs.Rounds.{Round, read}
@@ -22,7 +24,6 @@ use Rattle.trace_run.specs.Windows.{batch_at}
 use Rattle.trace_run.specs.Applicable.{IsApplicable, EveryRunIsApplicable}
 use Rattle.trace_run.specs.Premises.{Schedules}
 use Rattle.trace_run.proofs.Through.{kept}
-use Rattle.trace_run.proofs.Rows.{flow_of, rows_rise, rows_here, all_rows}
 
 -- ---- the lane that records
 
@@ -40,16 +41,16 @@ had-kept setting rounds src dst =
     kept (λ (h : LaneHistory). had setting.g h dst) (λ r t h. refl) (λ r p h. refl) setting.endpoints setting.g (length ((replayed setting rounds).rounds src))
     (round_after setting rounds src) (played_after setting rounds src)
 
-entries-kept : (setting : Setting) (rounds src dst : ℕ) → entries_of src setting.g (recording setting rounds src) dst ≡ entries_of src setting.g (lane_after setting rounds src) dst
+entries-kept : (setting : Setting) (rounds src dst : ℕ) → entries_of_batches src setting.g (recording setting rounds src) dst ≡ entries_of_batches src setting.g (lane_after setting rounds src) dst
 entries-kept setting rounds src dst =
-    kept (λ (h : LaneHistory). entries_of src setting.g h dst) (λ r t h. refl) (λ r p h. refl) setting.endpoints setting.g (length ((replayed setting rounds).rounds src))
+    kept (λ (h : LaneHistory). entries_of_batches src setting.g h dst) (λ r t h. refl) (λ r p h. refl) setting.endpoints setting.g (length ((replayed setting rounds).rounds src))
     (round_after setting rounds src) (played_after setting rounds src)
 
 -- ---- an entry
 
 -- the flow's entry in the batch that is recorded
 abbrev pub cell : Setting → ℕ → ℕ → ℕ → Option Entry
-cell setting rounds src dst = lane.entry_of src setting.g (recording setting rounds src) dst
+cell setting rounds src dst = lane.next_entry src setting.g (recording setting rounds src) dst
 
 with_of : (src dst add : ℕ) (had_it clear : Bool) → IfSome (entry_with src dst had_it clear add) (λ e. e.flow ≡ flow_of src dst)
 with_of src dst add had_it clear = helper (nat_lt 0 add || clear) (nat_lt 0 add)
@@ -193,7 +194,7 @@ next s setting rounds run =
             let entry : DemandBatch → Option Entry = λ x. entry_of x.entries (flow_of src dst) in
             map-append entry batches (batch ∷ [])
             ∙ (ap (λ (es : List (Option Entry)). es ++ entry batch ∷ []) (a.entries src dst low high ∙ sym (entries-kept setting rounds src dst))
-            ∙ ap (λ (o : Option Entry). entries_of src setting.g (recording setting rounds src) dst ++ o ∷ []) (cell_here setting rounds src dst low high));
+            ∙ ap (λ (o : Option Entry). entries_of_batches src setting.g (recording setting rounds src) dst ++ o ∷ []) (cell_here setting rounds src dst low high));
       };
     }
   where

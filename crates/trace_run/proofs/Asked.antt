@@ -8,7 +8,7 @@ use Rattle.endpoint_history.specs.Packets.{DownPacket}
 use Rattle.endpoint_history.specs.Agent.{AgentHistory, Boots, Asks, TakesDown, asked}
 use Rattle.endpoint_history.specs.Lane.{MakesDown}
 use Rattle.endpoint_history.specs.Steps.{Step, OfAgent, OfLane, agent_of}
-use Rattle.endpoint_history.specs.Rounds.{Round, Played, arriving, then_each, begun, posted_down, heard}
+use Rattle.endpoint_history.specs.Rounds.{Round, PlayedEnds, arriving, then_each, begun, posted_down, heard}
 use Rattle.trace_run.specs.Run.{FromOutside, Setting, replayed}
 use Rattle.trace_run.specs.Histories.{played_after, agent_after}
 use Rattle.trace_run.specs.Recorded.{asked_in}
@@ -36,7 +36,7 @@ boots-forget : (dst : ℕ) (boots : List ℕ) (steps : List Step) →
 boots-forget dst [] steps = omega arith
 boots-forget dst (version ∷ boots) steps = let rest = boots-forget dst boots (OfAgent (Boots version) ∷ steps) in omega arith
 
-heard-asks : (endpoints g number : ℕ) (round : Round) (before : Played) (dst : ℕ) →
+heard-asks : (endpoints g number : ℕ) (round : Round) (before : PlayedEnds) (dst : ℕ) →
     asked (agent_of (heard endpoints g number round before)) dst ≤ asked (agent_of before.steps) dst + asked_of dst round.asks
 heard-asks endpoints g number round before dst =
     let booted : List Step = then_each (λ version. OfAgent (Boots version)) round.boots before.steps in

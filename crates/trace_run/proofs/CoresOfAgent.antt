@@ -9,7 +9,7 @@ use Rattle.fcp_framing.specs.declared.packet.Demand.{Demand}
 use Rattle.fcp_framing.specs.declared.packet.Told.{Told}
 use Rattle.endpoint_history.specs.Packets.{DownPacket, slots_to}
 use Rattle.endpoint_history.specs.Agent.{AgentEvent, AgentHistory, Boots, Asks, TakesDown, MakesUp, SendsDue, epoch_of, version_of, is_current, arrived, takes, TakenDown, taken, is_none_taken, is_in_time, in_time, missed, asked, total, was_carried, unconfirmed, sends_new, numbers, packet_up}
-use Rattle.endpoint_history.specs.Sending.{Slot, slots_of, due, sent_of, sent_now, sends, sent_in}
+use Rattle.endpoint_history.specs.Sending.{Slot, slots_of_telling, due, sent_of, sent_now, sends, sent_in}
 use Rattle.trace_run.specs.Cores.{bare_slot, bare_down}
 use Rattle.trace_run.proofs.CoresOfLane.{map-cond, sum-map, slots_to-bare}
 
@@ -109,7 +109,7 @@ packet_up-bare endpoints g h = rw (numbers-bare endpoints g (MakesUp ∷ h), non
 
 -- ---- what it sends
 
-slots_of-bare : (b batch : ℕ) (told : List Told) → slots_of b (record { batch = batch; told = map bare_slot told }) ≡ slots_of b (record { batch = batch; told = told })
+slots_of-bare : (b batch : ℕ) (told : List Told) → slots_of_telling b (record { batch = batch; told = map bare_slot told }) ≡ slots_of_telling b (record { batch = batch; told = told })
 slots_of-bare b batch [] = refl
 slots_of-bare b batch (t ∷ told) = ap (λ (slots : List Slot). record { slot = batch * b + 1 + t.offset; dst = t.dst } ∷ slots) (slots_of-bare b batch told)
 
@@ -124,7 +124,7 @@ due-bare b g h round = rw (taken-bare h) (ap (sort_by (λ s. s.slot)) (each (tak
     is_used t = is_in_time g t && round == t.packet.content.batch + 2 * g + 2
 
     slots : TakenDown → List Slot
-    slots t = slots_of b t.packet.content
+    slots t = slots_of_telling b t.packet.content
 
     each : (ts : List TakenDown) → flat_map slots (filter is_used (map bare_taken ts)) ≡ flat_map slots (filter is_used ts)
     each [] = refl

@@ -16,7 +16,7 @@ use Rattle.fcp_framing.specs.declared.packet.Told.{Told}
 use Rattle.endpoint_history.specs.Packets.{Telling, DownPacket, Resets, Requests, slots_to}
 use Rattle.endpoint_history.specs.Lane.{LaneEvent, LaneHistory, MakesDown, TakesUp, Records, epoch_of, restarts, version_of, last_reset, is_current, arrived, takes, telling_in, may_send, numbers, untold, packet_down}
 use Rattle.endpoint_history.specs.Counts.{recorded, slots_in, decides, acknowledged, slots_untold, lost, owed}
-use Rattle.endpoint_history.specs.Entries.{counted_from, is_reset, added, had, entry_of}
+use Rattle.endpoint_history.specs.Entries.{counted_from, is_reset, added, had, next_entry}
 use Rattle.trace_run.specs.Cores.{bare_slot, bare_telling, bare_down}
 
 -- ---- calls without cores
@@ -214,5 +214,5 @@ had-bare g [] dst = refl
 had-bare g (Records round ∷ h) dst = rw (added-bare g h dst, had-bare g h dst) refl
 had-bare g (_ ∷ h) dst = had-bare g h dst
 
-pub entry-bare : (endpoint g : ℕ) (h : LaneHistory) (dst : ℕ) → entry_of endpoint g (map bare_lane h) dst ≡ entry_of endpoint g h dst
+pub entry-bare : (endpoint g : ℕ) (h : LaneHistory) (dst : ℕ) → next_entry endpoint g (map bare_lane h) dst ≡ next_entry endpoint g h dst
 entry-bare endpoint g h dst = rw (had-bare g h dst, is_reset-bare h, added-bare g h dst) refl

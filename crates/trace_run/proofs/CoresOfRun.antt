@@ -14,16 +14,15 @@ use Rattle.endpoint_history.specs.Packets.{DownPacket, UpPacket}
 use Rattle.endpoint_history.specs.Agent.{AgentEvent, AgentHistory, Boots, Asks, TakesDown, MakesUp, SendsDue, packet_up}
 use Rattle.endpoint_history.specs.Sending.{Slot, sent_in}
 use Rattle.endpoint_history.specs.Lane.{LaneEvent, LaneHistory, MakesDown, TakesUp, Records, packet_down}
-use Rattle.endpoint_history.specs.Entries.{entry_of}
 use Rattle.endpoint_history.specs.Steps.{Step, OfAgent, OfLane, agent_of, lane_of}
-use Rattle.endpoint_history.specs.Rounds.{Round, Posted, Played, arriving, then_each, begun, posted_down, heard, posted_up, read, recorded, played, entries_by, sent_by}
+use Rattle.endpoint_history.specs.Rounds.{Round, Posted, PlayedEnds, arriving, then_each, begun, posted_down, heard, posted_up, read, recorded, played, entries_by, sent_by}
 use Rattle.endpoint_history.specs.Rounds as rounds
 use Rattle.endpoint_history.specs.Agent as agent
 use Rattle.endpoint_history.specs.Sending as sending
 use Rattle.endpoint_history.specs.Lane as lane
 use Rattle.endpoint_history.specs.Counts as counts
 use Rattle.endpoint_history.specs.Entries as entries
-use Rattle.trace_run.specs.Run.{Setting, Run, batch_of, told_at, told_from, told_of, told_in, recorded_by, next_rounds, after_round, replayed}
+use Rattle.trace_run.specs.Run.{Setting, Run, slots_in_batch, told_at, slots_told_from, told_of, told_in, recorded_together, next_rounds, after_round, replayed}
 use Rattle.trace_run.specs.Histories.{played_after}
 use Rattle.trace_run.specs.Sends.{sent_up_to}
 use Rattle.trace_run.specs.Cores.{CoresDecideNothing, CoresDecideNoSend, bare_slot, bare_down, bare_posted, CoresStandInDownPackets, CoresDecideNoUpPacket, CoresDecideNoCount}
@@ -36,7 +35,7 @@ abbrev bare_step : Step → Step
 bare_step (OfAgent event) = OfAgent (bare_agent event)
 bare_step (OfLane event) = OfLane (bare_lane event)
 
-abbrev bare_played : Played → Played
+abbrev bare_played : PlayedEnds → PlayedEnds
 bare_played p = record { steps = map bare_step p.steps; down = map bare_posted p.down; up = p.up }
 
 abbrev bare_round : Round → Round
@@ -85,7 +84,7 @@ arriving-bare (p ∷ posted) round = either (arrives_in p.fate p.round round) (a
 
 -- ---- a round
 
-module _ (endpoints g number : ℕ) (round : Round) (before : Played) where
+module _ (endpoints g number : ℕ) (round : Round) (before : PlayedEnds) where
   begun-bare : begun endpoints g number (bare_round round) (bare_played before) ≡ map bare_step (begun endpoints g number round before)
   begun-bare =
       ap (then_each (λ (a : ℕ × ℕ). OfAgent (Asks a.0 a.1)) round.asks) (each-bare (λ version. OfAgent (Boots version)) (λ x. refl) round.boots before.steps)
@@ -148,24 +147,24 @@ sent-bare endpoints b g (round ∷ earlier) =
 
 -- ---- the run
 
-told_from-bare : (core : ℕ → ℕ) (endpoint offset : ℕ) (slots : List (List Flow)) → told_from (λ n. 0) endpoint offset slots ≡ map bare_slot (told_from core endpoint offset slots)
+told_from-bare : (core : ℕ → ℕ) (endpoint offset : ℕ) (slots : List (List Flow)) → slots_told_from (λ n. 0) endpoint offset slots ≡ map bare_slot (slots_told_from core endpoint offset slots)
 told_from-bare core endpoint offset [] = refl
 told_from-bare core endpoint offset (slot ∷ slots) = rw (told_from-bare core endpoint (offset + 1) slots) (either (destination_of slot endpoint))
   where
-    either : (o : Option ℕ) → told_at offset 0 o ++ map bare_slot (told_from core endpoint (offset + 1) slots) ≡ map bare_slot (told_at offset (core offset) o ++ told_from core endpoint (offset + 1) slots)
+    either : (o : Option ℕ) → told_at offset 0 o ++ map bare_slot (slots_told_from core endpoint (offset + 1) slots) ≡ map bare_slot (told_at offset (core offset) o ++ slots_told_from core endpoint (offset + 1) slots)
     either None = refl
     either (Some dst) = refl
 
 told_in-bare : (setting : Setting) (batches : List DemandBatch) (round endpoint : ℕ) → told_in (bare_setting setting) batches round endpoint ≡ map bare_slot (told_in setting batches round endpoint)
 told_in-bare setting batches round endpoint =
     let k : ℕ = round - 2 * setting.g in
-    rw (told_from-bare (λ offset. setting.cores (first_slot setting.b k + offset) endpoint) endpoint 0 (batch_of setting.b k batches))
+    rw (told_from-bare (λ offset. setting.cores (first_slot setting.b k + offset) endpoint) endpoint 0 (slots_in_batch setting.b k batches))
     (map-cond bare_slot (nat_le (2 * setting.g) round) (told_of setting batches k endpoint) [])
 
 next_rounds-bare : (setting : Setting) (round : ℕ) (before : Run) (endpoint : ℕ) → next_rounds (bare_setting setting) round (bare_run before) endpoint ≡ map bare_round (next_rounds setting round before endpoint)
 next_rounds-bare setting round before endpoint = rw (told_in-bare setting before.batches round endpoint) refl
 
-recorded_by-bare : (setting : Setting) (rounds : ℕ → List Round) → recorded_by (bare_setting setting) (λ endpoint. map bare_round (rounds endpoint)) ≡ recorded_by setting rounds
+recorded_by-bare : (setting : Setting) (rounds : ℕ → List Round) → recorded_together (bare_setting setting) (λ endpoint. map bare_round (rounds endpoint)) ≡ recorded_together setting rounds
 recorded_by-bare setting rounds =
     ap (λ (entries : ℕ → List Entry). record { entries = flat_map entries (range_with_len 0 setting.endpoints); limits = setting.limits })
     (fun_ext (λ endpoint. entries-bare endpoint setting.endpoints setting.g (rounds endpoint)))
@@ -173,7 +172,7 @@ recorded_by-bare setting rounds =
 run-bare : (setting : Setting) (round : ℕ) (before : Run) → after_round (bare_setting setting) round (bare_run before) ≡ bare_run (after_round setting round before)
 run-bare setting round before =
     let lists : ℕ → List Round = next_rounds setting round before in
-    ap (λ (now : ℕ → List Round). record { batches = before.batches ++ recorded_by (bare_setting setting) now ∷ []; rounds = now }) (fun_ext (next_rounds-bare setting round before))
+    ap (λ (now : ℕ → List Round). record { batches = before.batches ++ recorded_together (bare_setting setting) now ∷ []; rounds = now }) (fun_ext (next_rounds-bare setting round before))
     ∙ ap (λ (batch : DemandBatch). record { batches = before.batches ++ batch ∷ []; rounds = λ endpoint. map bare_round (lists endpoint) }) (recorded_by-bare setting lists)
 
 replayed-bare : (setting : Setting) (rounds : ℕ) → replayed (bare_setting setting) rounds ≡ bare_run (replayed setting rounds)
@@ -204,10 +203,10 @@ played-same : (setting : Setting) (cores : (slot source : ℕ) → ℕ) (rounds 
 played-same setting cores rounds endpoint = sym (played_after-bare (record setting { cores = cores }) rounds endpoint) ∙ played_after-bare setting rounds endpoint
 
 pub cores_stand_in_down_packets : CoresStandInDownPackets
-cores_stand_in_down_packets setting cores rounds endpoint = ap (λ (p : Played). p.down) (played-same setting cores rounds endpoint)
+cores_stand_in_down_packets setting cores rounds endpoint = ap (λ (p : PlayedEnds). p.down) (played-same setting cores rounds endpoint)
 
 pub cores_decide_no_up_packet : CoresDecideNoUpPacket
-cores_decide_no_up_packet setting cores rounds endpoint = ap (λ (p : Played). p.up) (played-same setting cores rounds endpoint)
+cores_decide_no_up_packet setting cores rounds endpoint = ap (λ (p : PlayedEnds). p.up) (played-same setting cores rounds endpoint)
 
 -- what an agent and a lane count alike without cores is alike in both runs
 agents-alike : {X : Type 0} (of : AgentHistory → X) → ((h : AgentHistory) → of (map bare_agent h) ≡ of h) → (one two : List Step) → map bare_step one ≡ map bare_step two → of (agent_of one) ≡ of (agent_of two)
@@ -222,7 +221,7 @@ pub cores_decide_no_count : CoresDecideNoCount
 cores_decide_no_count setting cores rounds src dst =
     let one : List Step = (played_after (record setting { cores = cores }) rounds src).steps in
     let two : List Step = (played_after setting rounds src).steps in
-    let same : map bare_step one ≡ map bare_step two = ap (λ (p : Played). p.steps) (played-same setting cores rounds src) in (
+    let same : map bare_step one ≡ map bare_step two = ap (λ (p : PlayedEnds). p.steps) (played-same setting cores rounds src) in (
       record {
         asked = agents-alike (λ h. agent.asked h dst) (λ h. asked-bare h dst) one two same;
         in_time = agents-alike (λ h. agent.in_time setting.g h dst) (λ h. in_time-bare setting.g h dst) one two same;

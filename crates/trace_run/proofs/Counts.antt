@@ -12,17 +12,17 @@ use Rattle.greedy_rules.specs.Batches.{DemandBatch, entry_of}
 use Rattle.greedy_rules.specs.Slot.{has_flow}
 use Rattle.greedy_rules.specs.Schedule.{first_slot, schedule}
 use Rattle.greedy_rules.specs.Balance.{added_by, added_of}
+use Rattle.greedy_rules.specs.Cells.{flow_of}
 use Rattle.endpoint_history.specs.Packets.{UpPacket, Resets, Requests, slots_to}
 use Rattle.endpoint_history.specs.Lane.{LaneHistory, MakesDown, TakesUp, epoch_of, restarts, last_reset, telling_in}
 use Rattle.endpoint_history.specs.Counts.{told}
 use Rattle.endpoint_history.specs.Rest.{need_through, add_of, adds_from}
-use Rattle.trace_run.specs.Run.{Setting, batch_of, told_of, told_in, replayed}
+use Rattle.trace_run.specs.Run.{Setting, slots_in_batch, told_of, told_in, replayed}
 use Rattle.trace_run.specs.Histories.{played_after, lane_after}
 use Rattle.trace_run.specs.Applicable.{EveryRunIsApplicable}
 use Rattle.trace_run.specs.Rest.{allocated_from, left_after, OwedIsAllocatedOrLeft}
 use Rattle.trace_run.specs.Counts.{ToldIsAllocated, TellingHasRoom, ToldFitsSlots, EveryFlowIsCounted, AddsAreDemandedAndLost}
-use Rattle.trace_run.specs.Premises.{Schedules, Ends}
-use Rattle.trace_run.proofs.Rows.{flow_of}
+use Rattle.trace_run.specs.Premises.{Schedules, EndsLaws}
 use Rattle.trace_run.proofs.Fronts.{run_length, length-schedule}
 use Rattle.trace_run.proofs.Applicable.{round_after, recording}
 use Rattle.trace_run.proofs.Rest.{one_batch_more, allocated_grows}
@@ -50,7 +50,7 @@ telling-fits s setting some rounds src dst h =
           let kept = leb-true (last_reset h) k parts.1 in
           let whole : slots_to dst (telling_in setting.g h rounds told_now).told ≡ slots_to dst (told_of setting batches k src) =
           ap (λ c. slots_to dst (cond c told_now [])) tells ∙ ap (λ c. slots_to dst (cond c (told_of setting batches k src) [])) parts.0 in
-          let its = slots_from-told (λ offset. setting.cores (first_slot setting.b k + offset) src) src dst 0 (batch_of setting.b k batches) in
+          let its = slots_from-told (λ offset. setting.cores (first_slot setting.b k + offset) src) src dst 0 (slots_in_batch setting.b k batches) in
           let below : k < rounds = omega arith in
           let more = one_batch_more s setting k rounds (last_reset h) src dst below kept in
           let on : suc k ≡ rounds + 1 - 2 * setting.g = omega arith in
@@ -61,7 +61,7 @@ telling-fits s setting some rounds src dst h =
 abbrev ToldFits : Setting → ℕ → ℕ → ℕ → LaneHistory → Type 0
 ToldFits setting allocated src dst h = told setting.g h dst ≤ allocated_from setting allocated (last_reset h) src dst
 
-takes-fit : (ends : Ends) (setting : Setting) (allocated src dst round : ℕ) (packet : UpPacket) (h : LaneHistory) → ToldFits setting allocated src dst h → ToldFits setting allocated src dst (TakesUp round packet ∷ h)
+takes-fit : (ends : EndsLaws) (setting : Setting) (allocated src dst round : ℕ) (packet : UpPacket) (h : LaneHistory) → ToldFits setting allocated src dst h → ToldFits setting allocated src dst (TakesUp round packet ∷ h)
 takes-fit ends setting allocated src dst round (Requests packet) h fits = let same = ends.reading.tells_none setting.g round packet h dst in omega arith
 takes-fit ends setting allocated src dst round (Resets epoch version) h fits =
     elim (cases_Bool (restarts h epoch)) [
@@ -74,14 +74,14 @@ takes-fit ends setting allocated src dst round (Resets epoch version) h fits =
     ]
 
 -- at most what is to be told is told
-pub told-makes : (ends : Ends) (g round : ℕ) (slots : List Told) (h : LaneHistory) (dst : ℕ) → told g (MakesDown round slots ∷ h) dst ≤ told g h dst + slots_to dst (telling_in g h round slots).told
+pub told-makes : (ends : EndsLaws) (g round : ℕ) (slots : List Told) (h : LaneHistory) (dst : ℕ) → told g (MakesDown round slots ∷ h) dst ≤ told g h dst + slots_to dst (telling_in g h round slots).told
 told-makes ends g round slots h dst =
     elim (cases_lt 0 (epoch_of h)) [
       | inl begun ↦ let tells = ends.making.tells g round slots h dst begun in omega arith
       | inr none ↦ let same = (ends.making.before g round slots h dst (omega arith)).0 in omega arith
     ]
 
-told-so_far : (s : Schedules) (ends : Ends) (setting : Setting) → 0 < setting.g → (rounds src dst : ℕ) → ToldFits setting (rounds - 2 * setting.g) src dst (lane_after setting rounds src)
+told-so_far : (s : Schedules) (ends : EndsLaws) (setting : Setting) → 0 < setting.g → (rounds src dst : ℕ) → ToldFits setting (rounds - 2 * setting.g) src dst (lane_after setting rounds src)
 told-so_far s ends setting some zero src dst = let parts = ends.sums.three setting.g [] dst in let sum = ends.adds setting.g [] dst in omega arith
 told-so_far s ends setting some (suc rounds) src dst =
     let g : ℕ = setting.g in
@@ -103,7 +103,7 @@ told-so_far s ends setting some (suc rounds) src dst =
         subst (λ (n : ℕ). ToldFits setting (rounds + 1 - 2 * setting.g) src dst (MakesDown n told_now ∷ h)) count
         (let push = told-makes ends setting.g rounds told_now h dst in omega arith)
 
-pub told_is_allocated : Schedules → Ends → ToldIsAllocated
+pub told_is_allocated : Schedules → EndsLaws → ToldIsAllocated
 told_is_allocated s ends setting some allocated rounds src dst enough =
     let h = lane_after setting rounds src in
     let before = told-so_far s ends setting some rounds src dst in
@@ -111,7 +111,7 @@ told_is_allocated s ends setting some allocated rounds src dst enough =
     let grows = allocated_grows s setting (rounds + 1 - 2 * setting.g) allocated (last_reset h) src dst (omega arith) in
     omega arith
 
-pub telling_has_room : Ends → ToldIsAllocated → TellingHasRoom
+pub telling_has_room : EndsLaws → ToldIsAllocated → TellingHasRoom
 telling_has_room ends told_is setting some allocated rounds src dst enough =
     let fits = told_is setting some allocated rounds src dst enough in
     let parts = ends.sums.three setting.g (lane_after setting rounds src) dst in
@@ -131,7 +131,7 @@ told_fits_slots s told_is setting some rounds src dst =
 
 -- ---- counts
 
-pub every_flow_is_counted : Schedules → Ends → OwedIsAllocatedOrLeft → EveryFlowIsCounted
+pub every_flow_is_counted : Schedules → EndsLaws → OwedIsAllocatedOrLeft → EveryFlowIsCounted
 every_flow_is_counted s ends owed_is setting some rounds src dst low high =
     let h = lane_after setting rounds src in
     let is = owed_is setting rounds rounds src dst (omega arith) low high in
@@ -159,7 +159,7 @@ adds_from-is flow zero (batch ∷ batches) =
     omega arith
 adds_from-is flow (suc k) (batch ∷ batches) = adds_from-is flow k batches
 
-pub adds_are_demanded_and_lost : Ends → EveryRunIsApplicable → AddsAreDemandedAndLost
+pub adds_are_demanded_and_lost : EndsLaws → EveryRunIsApplicable → AddsAreDemandedAndLost
 adds_are_demanded_and_lost ends applicable setting zero src dst low high =
     let sum = ends.adds setting.g [] dst in omega arith
 adds_are_demanded_and_lost ends applicable setting (suc rounds) src dst low high =

@@ -1,9 +1,9 @@
 -- The worked runs, computed.
 use Rattle.std.specs.Prelude.{refl}
-use Rattle.trace_run.specs.Examples.{batch_lines, slot_lines, sent_lines, count_line, WorkedRuns}
+use Rattle.trace_run.specs.Examples.{entries_shown, slot_lines, sent_lines, count_shown, WorkedRuns}
 
 pub worked_runs : WorkedRuns
-unfolding batch_lines slot_lines sent_lines count_line
+unfolding entries_shown slot_lines sent_lines count_shown
 worked_runs = record {
   one = record { records = refl; allocates = refl; sends = refl; ends = refl };
   lost = record { records = refl; allocates = refl; sends = refl; ends = refl };

@@ -9,15 +9,13 @@ use Rattle.greedy_rules.specs.declared.flows.Flow.{Flow}
 use Rattle.greedy_rules.specs.declared.flows.Item.{Item}
 use Rattle.greedy_rules.specs.Batches.{DemandBatch}
 use Rattle.greedy_rules.specs.Schedule.{first_slot, slots_then, schedule, rest}
+use Rattle.greedy_rules.proofs.BatchLemmas.{no_batch}
 use Rattle.endpoint_history.specs.Rounds.{Round}
-use Rattle.trace_run.specs.Run.{Setting, batch_of, told_from, told_in, round_of, recorded_by, next_rounds, replayed}
+use Rattle.trace_run.specs.Run.{Setting, slots_in_batch, slots_told_from, told_in, round_of, recorded_together, next_rounds, replayed}
 use Rattle.trace_run.specs.Fronts.{EveryRoundHasABatch, ARunBeginsWithEach, RoundsAreOfTheWholeRun}
 use Rattle.trace_run.specs.Premises.{Schedules}
 
 -- ---- a schedule and its first batches
-
-abbrev pub no_batch : DemandBatch
-no_batch = record { entries = []; limits = record { hosts = 0; cores = 0 } }
 
 one_batch : (b : ℕ) → 1 * b ≡ b
 one_batch b = omega arith
@@ -30,7 +28,7 @@ pub length-schedule : (s : Schedules) (b : ℕ) (batches : List DemandBatch) →
 length-schedule s b batches = s.count b 0 [] batches
 
 -- the slots of a batch are those of the schedule of any batches that begin with it and those before it
-pub fronts_of_schedule : (s : Schedules) (b k : ℕ) (front later : List DemandBatch) → k < length front → batch_of b k (front ++ later) ≡ batch_of b k front
+pub fronts_of_schedule : (s : Schedules) (b k : ℕ) (front later : List DemandBatch) → k < length front → slots_in_batch b k (front ++ later) ≡ slots_in_batch b k front
 fronts_of_schedule s b k front later below =
     let long : k < length (front ++ later) = omega (arith, length-append front later) in
     (s.each b k (front ++ later) no_batch long).0
@@ -44,7 +42,7 @@ pub run_length : EveryRoundHasABatch
 run_length setting zero = refl
 run_length setting (suc n) =
     let before = (replayed setting n).batches in
-    let last : DemandBatch = recorded_by setting (next_rounds setting n (replayed setting n)) in
+    let last : DemandBatch = recorded_together setting (next_rounds setting n (replayed setting n)) in
     omega (arith, length-append before (last ∷ []), run_length setting n)
 
 -- the batches that come after
@@ -64,7 +62,7 @@ run_begins setting rounds (suc all) within =
           (record { later = []; is = sym (append-nil (replayed setting (suc all)).batches) })
       | inr before ↦
           let b = run_begins setting rounds all before in
-          let last : List DemandBatch = recorded_by setting (next_rounds setting all (replayed setting all)) ∷ [] in
+          let last : List DemandBatch = recorded_together setting (next_rounds setting all (replayed setting all)) ∷ [] in
           record { later = b.later ++ last; is = ap (λ (xs : List DemandBatch). xs ++ last) b.is ∙ append_assoc (replayed setting rounds).batches b.later last }
     ]
 
@@ -95,9 +93,9 @@ told-whole s setting some round all endpoint within =
           let le = leb-true (2 * setting.g) round late in
           let b = run_begins setting round all within in
           let below : k < length front = omega (arith, run_length setting round) in
-          let same : batch_of setting.b k front ≡ batch_of setting.b k whole =
-          sym (ap (batch_of setting.b k) b.is ∙ fronts_of_schedule s setting.b k front b.later below) in
-          ap (λ (xs : List (List Flow)). cond (nat_le (2 * setting.g) round) (told_from (λ offset. setting.cores (first_slot setting.b k + offset) endpoint) endpoint 0 xs) []) same
+          let same : slots_in_batch setting.b k front ≡ slots_in_batch setting.b k whole =
+          sym (ap (slots_in_batch setting.b k) b.is ∙ fronts_of_schedule s setting.b k front b.later below) in
+          ap (λ (xs : List (List Flow)). cond (nat_le (2 * setting.g) round) (slots_told_from (λ offset. setting.cores (first_slot setting.b k + offset) endpoint) endpoint 0 xs) []) same
     ]
 
 pub rounds_are_of_the_whole_run : Schedules → RoundsAreOfTheWholeRun

@@ -12,7 +12,6 @@ pub mod Fronts
 pub mod Named
 pub mod Recorded
 pub mod Rest
-pub mod Rows
 pub mod Sends
 pub mod Shown
 pub mod Through

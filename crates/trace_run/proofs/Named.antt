@@ -1,7 +1,7 @@
 -- What the upward packets that arrive name, forged or not.
 use Rattle.std.proofs.Common.{◌≡◌, ◌≢◌, ◌<◌, ◌≤◌, ◌+◌, ℕ, List, [], ◌∷◌, filter, Option, Some, None, All, refl, sym, ap, ◌∙◌, subst, inl, inr, arith}
 use Rattle.std.specs.Prelude.{unwrap_or}
-use Rattle.std.proofs.lemmas.Bool.{cases_Bool, cases_eq, eq-eqb, ne_eqb}
+use Rattle.std.proofs.lemmas.Bool.{cases_Bool, eq-eqb}
 use Rattle.std.proofs.lemmas.List.Elements.{All-push, All-head, All-tail, All-map, All-filter, All-weaker}
 use Rattle.ack_window.specs.Ends.{content_of}
 use Rattle.ack_window.specs.Sends.{Event, Sends, Reads, newest_of, newest_content}
@@ -17,8 +17,9 @@ use Rattle.endpoint_history.specs.Confirmed.{total_named}
 use Rattle.endpoint_history.specs.Counts.{recorded}
 use Rattle.endpoint_history.specs.Lane.{LaneHistory, MakesDown, TakesUp, Records, restarts, takes}
 use Rattle.endpoint_history.specs.Steps.{Step, OfAgent, OfLane, agent_of, lane_of}
-use Rattle.endpoint_history.specs.Rounds.{Round, Posted, Played, arriving, then_each, begun, posted_down, heard, posted_up, read}
-use Rattle.trace_run.proofs.Through.{lane_of-agents}
+use Rattle.endpoint_history.specs.Rounds.{Round, Posted, PlayedEnds, arriving, then_each, begun, posted_down, heard, posted_up, read}
+use Rattle.endpoint_history.proofs.Rounds.{lane-agent}
+use Rattle.endpoint_history.proofs.Named.{total_named-own, total_named-most}
 
 -- ---- what a request names
 
@@ -26,23 +27,6 @@ use Rattle.trace_run.proofs.Through.{lane_of-agents}
 pub record NamesOthers (endpoint most : ℕ) (demands : List Demand) : Type 0 where
   pub none : total_named endpoint demands ≡ 0
   pub few : (dst : ℕ) → total_named dst demands ≤ most
-
-none-named : (endpoint : ℕ) (demands : List Demand) → All (λ (d : Demand). d.dst ≢ endpoint) demands → total_named endpoint demands ≡ 0
-none-named endpoint [] apart = refl
-none-named endpoint (d ∷ demands) apart =
-    let P : Demand → Type 0 = λ x. x.dst ≢ endpoint in
-    rw (ne_eqb d.dst endpoint (All-head P d demands apart)) (none-named endpoint demands (All-tail P d demands apart))
-
-few-named : (most dst : ℕ) (demands : List Demand) → All (λ (d : Demand). d.total ≤ most) demands → total_named dst demands ≤ most
-few-named most dst [] few = omega arith
-few-named most dst (d ∷ demands) few =
-    let P : Demand → Type 0 = λ x. x.total ≤ most in
-    let here = All-head P d demands few in
-    let rest = few-named most dst demands (All-tail P d demands few) in
-    elim (cases_eq d.dst dst) [
-      | inl same ↦ rw (eq-eqb d.dst dst same) (omega arith)
-      | inr other ↦ rw (ne_eqb d.dst dst other) rest
-    ]
 
 abbrev pub IsFair : ℕ → ℕ → UpPacket → Type 0
 IsFair endpoint most (Resets epoch version) = Unit {0}
@@ -54,8 +38,8 @@ raw-fair endpoints endpoint (Resets epoch version) is = tt
 raw-fair endpoints endpoint (Requests packet) is = elim is [
   | inl reset ↦ let blank = ap (λ (u : Up). u.reset) reset.blank in absurd (cc)
   | inr request ↦ record {
-    none = none-named endpoint packet.content request.others;
-    few = λ dst. few-named 200000000 dst packet.content request.totals;
+    none = total_named-own endpoint packet.content request.others;
+    few = λ dst. total_named-most 200000000 dst packet.content request.totals;
   }
 ]
 
@@ -70,9 +54,9 @@ totals-named : (endpoints g endpoint most : ℕ) (history : AgentHistory) (deman
     total g history endpoint ≡ 0 → ((dst : ℕ) → total g history dst ≤ most) → NamesOthers endpoint most demands
 totals-named endpoints g endpoint most history demands names none few =
     record {
-      none = none-named endpoint demands (All-weaker (λ (d : Demand). (0 < d.total) × (d.total ≤ total g history d.dst)) (λ (d : Demand). d.dst ≢ endpoint)
+      none = total_named-own endpoint demands (All-weaker (λ (d : Demand). (0 < d.total) × (d.total ≤ total g history d.dst)) (λ (d : Demand). d.dst ≢ endpoint)
           (λ d named same. let is = ap (λ (n : ℕ). total g history n) same in let some = named.0 in let within = named.1 in absurd (omega arith)) demands names.totals);
-      few = λ dst. few-named most dst demands (All-weaker (λ (d : Demand). (0 < d.total) × (d.total ≤ total g history d.dst)) (λ (d : Demand). d.total ≤ most)
+      few = λ dst. total_named-most most dst demands (All-weaker (λ (d : Demand). (0 < d.total) × (d.total ≤ total g history d.dst)) (λ (d : Demand). d.total ≤ most)
           (λ d named. let within = named.1 in let bound = few d.dst in omega arith) demands names.totals);
     }
 
@@ -100,7 +84,7 @@ module _ (P : UpPacket → Type 0) where
   EachTaken (TakesUp round packet ∷ earlier) = P packet × EachTaken earlier
   EachTaken (_ ∷ earlier) = EachTaken earlier
 
-  pub record IsSound (played : Played) : Type 0 where
+  pub record IsSound (played : PlayedEnds) : Type 0 where
     pub posted : All (λ (p : Posted UpPacket). P p.packet) played.up
     pub taken : EachTaken (lane_of played.steps)
 
@@ -114,7 +98,7 @@ module _ (P : UpPacket → Type 0) where
       (All-filter (λ (p : Posted UpPacket). arrives_in p.fate p.round number) (λ (p : Posted UpPacket). P p.packet) posted all)
 
   -- where the packet that is made and the raw ones are so, a round stays so
-  pub sound-read : (endpoints g number : ℕ) (round : Round) (before : Played) → IsSound before → P (packet_up endpoints g (agent_of (heard endpoints g number round before))) → All P round.raw →
+  pub sound-read : (endpoints g number : ℕ) (round : Round) (before : PlayedEnds) → IsSound before → P (packet_up endpoints g (agent_of (heard endpoints g number round before))) → All P round.raw →
       All (λ (p : Posted UpPacket). P p.packet) (posted_up endpoints g number round before) × EachTaken (lane_of (read endpoints g number round before))
   sound-read endpoints g number round before sound made raw =
       let booted : List Step = then_each (λ version. OfAgent (Boots version)) round.boots before.steps in
@@ -123,9 +107,9 @@ module _ (P : UpPacket → Type 0) where
       let downs : List DownPacket = arriving (posted_down endpoints g number round before) number in
       let posted : All (λ (p : Posted UpPacket). P p.packet) (posted_up endpoints g number round before) =
       All-push (λ (p : Posted UpPacket). P p.packet) before.up (record { round = number; fate = round.up; packet = packet_up endpoints g (agent_of heard_steps) }) sound.posted made in
-      let same : lane_of (begun endpoints g number round before) ≡ lane_of before.steps = lane_of-agents (λ (a : ℕ × ℕ). Asks a.0 a.1) round.asks booted ∙ lane_of-agents (λ version. Boots version) round.boots before.steps in
+      let same : lane_of (begun endpoints g number round before) ≡ lane_of before.steps = lane-agent (λ (a : ℕ × ℕ). Asks a.0 a.1) round.asks booted ∙ lane-agent (λ version. Boots version) round.boots before.steps in
       let told : EachTaken (lane_of told_steps) = subst EachTaken (sym same) sound.taken in
-      let heard_taken : EachTaken (lane_of heard_steps) = subst EachTaken (sym (lane_of-agents (λ packet. TakesDown number packet) downs told_steps)) told in (
+      let heard_taken : EachTaken (lane_of heard_steps) = subst EachTaken (sym (lane-agent (λ packet. TakesDown number packet) downs told_steps)) told in (
         posted,
         each-read number round.raw (then_each (λ packet. OfLane (TakesUp number packet)) (arriving (posted_up endpoints g number round before) number) (OfAgent MakesUp ∷ heard_steps)) raw
             (each-read number (arriving (posted_up endpoints g number round before) number) (OfAgent MakesUp ∷ heard_steps) (each-arriving (posted_up endpoints g number round before) number posted) heard_taken),

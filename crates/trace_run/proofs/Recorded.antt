@@ -3,26 +3,28 @@ use Rattle.std.proofs.Common.{◌≡◌, ◌≢◌, ◌<◌, ◌≤◌, ◌+◌,
 use Rattle.std.specs.Prelude.{IfSome}
 use Rattle.std.proofs.Math.Seq.{drop-append_seam}
 use Rattle.std.proofs.lemmas.Bool.{cases_eq, cases_lt}
-use Rattle.std.proofs.lemmas.List.{append_assoc, append-nil}
 use Rattle.std.proofs.lemmas.List.Folds.{list_any_none}
 use Rattle.std.proofs.lemmas.List.Elements.{All-nil, All-head, All-tail, All-push, All-take}
 use Rattle.greedy_rules.specs.declared.flows.Flow.{Flow}
 use Rattle.greedy_rules.specs.declared.flows.Entry.{Entry}
-use Rattle.greedy_rules.specs.declared.limits.Limits.{Limits}
 use Rattle.greedy_rules.specs.Batches.{DemandBatch, entry_of}
 use Rattle.greedy_rules.specs.Demands.{is_listed, need_with}
 use Rattle.greedy_rules.specs.Matching.{AreAmong}
 use Rattle.greedy_rules.specs.Schedule.{rest}
 use Rattle.greedy_rules.specs.Balance.{is_recorded}
-use Rattle.greedy_rules.specs.Recorded.{demand_through, demand_of, IsRecordedAfter, AreRecordedAfter, AreRecorded, MayBeApplied, RecordedBatchesMayBeApplied, LaterBatchesMayBeApplied}
+use Rattle.greedy_rules.specs.Recorded.{demand_through, demand_of, IsRecordedAfter, AreRecorded, MayBeApplied, RecordedBatchesMayBeApplied, LaterBatchesMayBeApplied}
+use Rattle.greedy_rules.specs.Cells.{flow_of}
+use Rattle.greedy_rules.proofs.CellLemmas.{rows_rise, entry_of-none}
+use Rattle.greedy_rules.proofs.RecordedLemmas.{demand_more, AreRecordedAfter-more}
 use Rattle.endpoint_history.specs.Packets.{UpPacket}
-use Rattle.endpoint_history.specs.Agent.{AgentHistory, asked, missed, total, packet_up}
+use Rattle.endpoint_history.specs.Agent.{AgentHistory, packet_up}
 use Rattle.endpoint_history.specs.Counts.{recorded, owed}
 use Rattle.endpoint_history.specs.Entries.{added, had, is_reset, entry_with}
 use Rattle.endpoint_history.specs.Lane.{LaneHistory, last_reset}
 use Rattle.endpoint_history.specs.Rest.{need_through}
 use Rattle.endpoint_history.specs.Rounds.{Posted}
 use Rattle.endpoint_history.specs.Steps.{agent_of}
+use Rattle.endpoint_history.proofs.Totals.{total-is}
 use Rattle.trace_run.specs.Run.{Setting, replayed}
 use Rattle.trace_run.specs.Histories.{played_after, lane_after}
 use Rattle.trace_run.specs.Windows.{batch_at}
@@ -30,9 +32,8 @@ use Rattle.trace_run.specs.Applicable.{IsApplicable, EveryRunIsApplicable}
 use Rattle.trace_run.specs.Rest.{OwedIsAllocatedOrLeft}
 use Rattle.trace_run.specs.Counts.{ToldIsAllocated, ToldFitsSlots}
 use Rattle.trace_run.specs.Recorded.{KeepsTraceRules, EveryRunIsRecorded}
-use Rattle.trace_run.specs.Premises.{Schedules, Ends}
+use Rattle.trace_run.specs.Premises.{Schedules, EndsLaws}
 use Rattle.trace_run.proofs.Fronts.{run_length, run_begins, later_is, a_run_begins_with_each}
-use Rattle.trace_run.proofs.Rows.{flow_of, rows_rise, entry_of-none}
 use Rattle.trace_run.proofs.Applicable.{round_after, recording, cell, cell-of, if_some_both, all_cells, had-listed, opens-new, clears-old}
 use Rattle.trace_run.proofs.Allocations.{none_from}
 use Rattle.trace_run.proofs.Asked.{heard-asked, asked-grows, none-asked-in}
@@ -41,14 +42,10 @@ use Rattle.trace_run.proofs.Named.{IsFair, raw-fair, packet-fair, IsSound, sound
 
 -- ---- what arrives is fair
 
-total-is : (g : ℕ) (h : AgentHistory) (dst : ℕ) → total g h dst ≡ asked h dst + missed g h dst
-unfolding total
-total-is g h dst = refl
-
 slots_bound : (setting : Setting) (rounds : ℕ) → setting.b ≤ 64 → rounds ≤ 100000 → rounds * setting.b ≤ 6400000
 slots_bound setting rounds batch long = let most : rounds * setting.b ≤ 100000 * setting.b = mul-le-mul_right setting.b long in omega arith
 
-made-fair : Schedules → Ends → (setting : Setting) (rounds all endpoint : ℕ) → rounds < all → KeepsTraceRules setting all → AreApart (replayed setting rounds).batches →
+made-fair : Schedules → EndsLaws → (setting : Setting) (rounds all endpoint : ℕ) → rounds < all → KeepsTraceRules setting all → AreApart (replayed setting rounds).batches →
     IsFair endpoint 200000000 (packet_up setting.endpoints setting.g (agent_of (heard_after setting rounds endpoint)))
 made-fair s ends setting rounds all endpoint below trace apart =
     packet-fair ends.named setting.endpoints setting.g endpoint 200000000 h
@@ -77,7 +74,7 @@ apart-front : (setting : Setting) (rounds all : ℕ) → rounds ≤ all → AreA
 apart-front setting rounds all within apart =
     subst AreApart (a_run_begins_with_each setting rounds all within) (All-take (λ (x : DemandBatch). All (λ (e : Entry). e.flow.src ≢ e.flow.dst) x.entries) rounds (replayed setting all).batches apart)
 
-sound : Schedules → Ends → (setting : Setting) (last all endpoint : ℕ) → last < all → KeepsTraceRules setting all → AreApart (replayed setting last).batches →
+sound : Schedules → EndsLaws → (setting : Setting) (last all endpoint : ℕ) → last < all → KeepsTraceRules setting all → AreApart (replayed setting last).batches →
     (rounds : ℕ) → rounds ≤ suc last → IsSound (IsFair endpoint 200000000) (played_after setting rounds endpoint)
 sound s ends setting last all endpoint below trace apart zero within = record { posted = All-nil (λ (p : Posted UpPacket). IsFair endpoint 200000000 p.packet); taken = tt }
 sound s ends setting last all endpoint below trace apart (suc rounds) within =
@@ -102,7 +99,7 @@ no_entry src dst add had_it reset P had_none add_none = rw (had_none, add_none) 
     either true = tt
     either false = tt
 
-apart-next : Schedules → Ends → EveryRunIsApplicable → ToldIsAllocated → (setting : Setting) (rounds all : ℕ) → rounds < all → KeepsTraceRules setting all →
+apart-next : Schedules → EndsLaws → EveryRunIsApplicable → ToldIsAllocated → (setting : Setting) (rounds all : ℕ) → rounds < all → KeepsTraceRules setting all →
     AreApart (replayed setting rounds).batches → AreApart (replayed setting (suc rounds)).batches
 apart-next s ends applicable told_is setting rounds all below trace apart =
     All-push (λ (x : DemandBatch). All (λ (e : Entry). e.flow.src ≢ e.flow.dst) x.entries) (replayed setting rounds).batches (batch_at setting rounds) apart
@@ -133,7 +130,7 @@ apart-next s ends applicable told_is setting rounds all below trace apart =
         nothing_added : owed setting.g (recording setting rounds src) src ≡ 0 → added setting.g (recording setting rounds src) src ≡ 0
         nothing_added none = omega arith
 
-pub apart-all : Schedules → Ends → EveryRunIsApplicable → ToldIsAllocated → (setting : Setting) (rounds all : ℕ) → rounds ≤ all → KeepsTraceRules setting all → AreApart (replayed setting rounds).batches
+pub apart-all : Schedules → EndsLaws → EveryRunIsApplicable → ToldIsAllocated → (setting : Setting) (rounds all : ℕ) → rounds ≤ all → KeepsTraceRules setting all → AreApart (replayed setting rounds).batches
 apart-all s ends applicable told_is setting zero all within trace = All-nil (λ (x : DemandBatch). All (λ (e : Entry). e.flow.src ≢ e.flow.dst) x.entries)
 apart-all s ends applicable told_is setting (suc rounds) all within trace =
     apart-next s ends applicable told_is setting rounds all (omega arith) trace (apart-all s ends applicable told_is setting rounds all (omega arith) trace)
@@ -141,7 +138,7 @@ apart-all s ends applicable told_is setting (suc rounds) all within trace =
 -- ---- numbers
 
 -- what is demanded of each flow
-demanded_few : Schedules → Ends → EveryRunIsApplicable → ToldIsAllocated → (setting : Setting) (rounds all src dst : ℕ) → rounds ≤ all → KeepsTraceRules setting all →
+demanded_few : Schedules → EndsLaws → EveryRunIsApplicable → ToldIsAllocated → (setting : Setting) (rounds all src dst : ℕ) → rounds ≤ all → KeepsTraceRules setting all →
     recorded (lane_after setting rounds src) dst ≤ 200000000
 demanded_few s ends applicable told_is setting zero all src dst within trace = omega arith
 demanded_few s ends applicable told_is setting (suc rounds) all src dst within trace =
@@ -149,7 +146,7 @@ demanded_few s ends applicable told_is setting (suc rounds) all src dst within t
     let is_sound = sound s ends setting rounds all src (omega arith) trace apart (suc rounds) (omega arith) in
     ends.recorded 200000000 (lane_after setting (suc rounds) src) dst (fair-few src 200000000 (lane_after setting (suc rounds) src) is_sound.taken)
 
-owed_few : Schedules → Ends → EveryRunIsApplicable → ToldIsAllocated → ToldFitsSlots → (setting : Setting) (rounds all src dst : ℕ) → rounds ≤ all → KeepsTraceRules setting all →
+owed_few : Schedules → EndsLaws → EveryRunIsApplicable → ToldIsAllocated → ToldFitsSlots → (setting : Setting) (rounds all src dst : ℕ) → rounds ≤ all → KeepsTraceRules setting all →
     owed setting.g (lane_after setting rounds src) dst ≤ 200000000 + rounds * setting.b
 owed_few s ends applicable told_is fits setting rounds all src dst within trace =
     let demanded = demanded_few s ends applicable told_is setting rounds all src dst within trace in
@@ -158,15 +155,11 @@ owed_few s ends applicable told_is fits setting rounds all src dst within trace 
     omega arith
 
 -- the demand of a flow is what its lane owes
-demand_through-is : (batches : List DemandBatch) (flow : Flow) (need : ℕ) → demand_through batches flow need ≡ need_through (map (λ batch. entry_of batch.entries flow) batches) need
+pub demand_through-is : (batches : List DemandBatch) (flow : Flow) (need : ℕ) → demand_through batches flow need ≡ need_through (map (λ batch. entry_of batch.entries flow) batches) need
 demand_through-is [] flow need = refl
 demand_through-is (batch ∷ batches) flow need = demand_through-is batches flow (need_with (entry_of batch.entries flow) need)
 
-demand_more : (batches : List DemandBatch) (batch : DemandBatch) (flow : Flow) (need : ℕ) → demand_through (batches ++ batch ∷ []) flow need ≡ need_with (entry_of batch.entries flow) (demand_through batches flow need)
-demand_more [] batch flow need = refl
-demand_more (x ∷ batches) batch flow need = demand_more batches batch flow (need_with (entry_of x.entries flow) need)
-
-demand_none : (batches : List DemandBatch) (flow : Flow) → All (λ (x : DemandBatch). entry_of x.entries flow ≡ None) batches → demand_of batches flow ≡ 0
+pub demand_none : (batches : List DemandBatch) (flow : Flow) → All (λ (x : DemandBatch). entry_of x.entries flow ≡ None) batches → demand_of batches flow ≡ 0
 demand_none [] flow none = refl
 demand_none (batch ∷ batches) flow none =
     let P : DemandBatch → Type 0 = λ x. entry_of x.entries flow ≡ None in
@@ -202,15 +195,6 @@ demand_few s owed_is applicable setting rounds most few flow =
 
 -- ---- batch after batch
 
-AreRecordedAfter-more : (endpoints : ℕ) (limits : Limits) (before batches : List DemandBatch) (batch : DemandBatch) → AreRecordedAfter endpoints limits before batches →
-    IsRecordedAfter endpoints limits (before ++ batches) batch → AreRecordedAfter endpoints limits before (batches ++ batch ∷ [])
-AreRecordedAfter-more endpoints limits before [] batch are is = (subst (λ (xs : List DemandBatch). IsRecordedAfter endpoints limits xs batch) (append-nil before) is, tt)
-AreRecordedAfter-more endpoints limits before (x ∷ batches) batch are is = (
-  are.0,
-  AreRecordedAfter-more endpoints limits (before ++ x ∷ []) batches batch are.1
-      (subst (λ (xs : List DemandBatch). IsRecordedAfter endpoints limits xs batch) (sym (append_assoc before (x ∷ []) batches)) is),
-)
-
 next-recorded : Schedules → EveryRunIsApplicable → (setting : Setting) (rounds : ℕ) → AreApart (replayed setting (suc rounds)).batches →
     ((flow : Flow) → demand_of (replayed setting (suc rounds)).batches flow < 2 ^ 32) → IsRecordedAfter setting.endpoints setting.limits (replayed setting rounds).batches (batch_at setting rounds)
 next-recorded s applicable setting rounds apart few =
@@ -238,7 +222,7 @@ next-recorded s applicable setting rounds apart few =
     last_apart [] x all = All-head (λ (y : DemandBatch). All (λ (e : Entry). e.flow.src ≢ e.flow.dst) y.entries) x [] all
     last_apart (y ∷ xs) x all = last_apart xs x (All-tail (λ (z : DemandBatch). All (λ (e : Entry). e.flow.src ≢ e.flow.dst) z.entries) y (xs ++ x ∷ []) all)
 
-module _ (s : Schedules) (ends : Ends) (applicable : EveryRunIsApplicable) (owed_is : OwedIsAllocatedOrLeft) (told_is : ToldIsAllocated) (fits : ToldFitsSlots) where
+module _ (s : Schedules) (ends : EndsLaws) (applicable : EveryRunIsApplicable) (owed_is : OwedIsAllocatedOrLeft) (told_is : ToldIsAllocated) (fits : ToldFitsSlots) where
   are_recorded : (setting : Setting) (rounds all : ℕ) → rounds ≤ all → KeepsTraceRules setting all → AreRecorded setting.endpoints setting.limits (replayed setting rounds).batches
   are_recorded setting zero all within trace = tt
   are_recorded setting (suc rounds) all within trace =

@@ -1,29 +1,29 @@
 -- The ledger of each lane and the demand list.
-use Rattle.std.proofs.Common.{◌≡◌, ◌<◌, ◌≤◌, ◌+◌, ◌-◌, ◌*◌, ℕ, zero, suc, List, [], ◌∷◌, ◌++◌, length, map, take, drop, cond, Option, refl, sym, ap, ◌∙◌, subst, arith, mul-le-mul_right}
+use Rattle.std.proofs.Common.{◌≡◌, ◌<◌, ◌≤◌, ◌+◌, ◌-◌, ◌*◌, ℕ, zero, suc, List, [], ◌∷◌, ◌++◌, length, map, take, drop, Option, refl, sym, ap, ◌∙◌, subst, arith, mul-le-mul_right}
 use Rattle.std.proofs.Math.Seq.{drop-append_seam, drop-append-add}
 use Rattle.std.proofs.lemmas.List.{take_all, drop-append-le, append-nil}
-use Rattle.std.proofs.lemmas.List.Sums.{sum_by-append}
+use Rattle.list_facts.proofs.Lists.{drop-none}
 use Rattle.greedy_rules.specs.declared.flows.Flow.{Flow}
 use Rattle.greedy_rules.specs.declared.flows.Item.{Item}
 use Rattle.greedy_rules.specs.declared.flows.Entry.{Entry}
 use Rattle.greedy_rules.specs.Batches.{DemandBatch, entry_of}
 use Rattle.greedy_rules.specs.Demands.{item_of, need_in, need_with}
-use Rattle.greedy_rules.specs.Slot.{has_flow}
 use Rattle.greedy_rules.specs.Allocation.{slots_of}
 use Rattle.greedy_rules.specs.Schedule.{first_slot, slots_then, list_then, schedule, schedule_from, rest, rest_from}
+use Rattle.greedy_rules.specs.Cells.{flow_of}
+use Rattle.greedy_rules.proofs.BalanceLemmas.{slots_of-append}
 use Rattle.endpoint_history.specs.Lane.{LaneHistory, last_reset}
 use Rattle.endpoint_history.specs.Counts.{owed}
-use Rattle.endpoint_history.specs.Entries.{entries_of}
+use Rattle.endpoint_history.specs.Entries.{entries_of_batches}
 use Rattle.endpoint_history.specs.Rest.{need_through, need_left, FitNeeds, slots_from}
 use Rattle.endpoint_history.specs.LedgerLaws.{AddsSumToOwed}
 use Rattle.endpoint_history.specs.Steps.{TakesInRound}
-use Rattle.trace_run.specs.Run.{Setting, batch_of, replayed}
+use Rattle.trace_run.specs.Run.{Setting, slots_in_batch, replayed}
 use Rattle.trace_run.specs.Histories.{lane_after}
 use Rattle.trace_run.specs.Windows.{batch_at}
-use Rattle.trace_run.specs.Rest.{allocated_from, allocated_in, left_after, need_after, OwedIsAllocatedOrLeft, PublishedIsPending}
-use Rattle.trace_run.specs.Premises.{Schedules, Ends}
+use Rattle.trace_run.specs.Rest.{allocated_from, allocated_in_batch, left_after, need_after, OwedIsAllocatedOrLeft, PublishedIsPending}
+use Rattle.trace_run.specs.Premises.{Schedules, EndsLaws}
 use Rattle.trace_run.proofs.Fronts.{Begins, length-slots, length-schedule, fronts_of_schedule, run_length, run_begins, later_is}
-use Rattle.trace_run.proofs.Rows.{flow_of}
 use Rattle.trace_run.proofs.Applicable.{EachFollows, runs, recording}
 
 -- the flow's slots in each of these batches
@@ -61,14 +61,6 @@ flow_is_left s endpoints b k list (batch ∷ batches) later flow each =
       fits = (omega arith, subst (λ (n : ℕ). FitNeeds (map (λ x. entry_of x.entries flow) (batches ++ later)) (slots_by_batch flow b (k + 1) after batches) n) (sym less) more.fits);
     }
 
--- the slots from a batch on are those of the schedule from its first slot on
-drop-none : {X : Type 0} (n : ℕ) → drop {A = X} n [] ≡ []
-drop-none zero = refl
-drop-none (suc n) = refl
-
-pub slots_of-append : (flow : Flow) (one two : List (List Flow)) → slots_of flow (one ++ two) ≡ slots_of flow one + slots_of flow two
-slots_of-append flow one two = sum_by-append (λ (slot : List Flow). cond (has_flow slot flow) 1 0) one two
-
 from_batch : (s : Schedules) (flow : Flow) (b batch k : ℕ) (list : List Item) (batches : List DemandBatch) →
     slots_from batch (slots_by_batch flow b k list batches) ≡ slots_of flow (drop (batch * b) (schedule_from b k list batches))
 from_batch s flow b batch k list [] = sym (ap (slots_of flow) (drop-none (batch * b)))
@@ -93,14 +85,14 @@ from_batch s flow b (suc batch) k list (x ∷ batches) =
 owed-none : (g dst : ℕ) → AddsSumToOwed → owed g [] dst ≡ 0
 owed-none g dst sums = let sum = sums g [] dst in omega arith
 
-pub owed_is_allocated_or_left : Schedules → Ends → OwedIsAllocatedOrLeft
+pub owed_is_allocated_or_left : Schedules → EndsLaws → OwedIsAllocatedOrLeft
 owed_is_allocated_or_left s ends setting allocated zero src dst within low high =
     let none : allocated ≡ 0 = omega arith in
     subst (λ (m : ℕ). owed setting.g [] dst ≡ allocated_from setting m 0 src dst + need_after setting m 0 src dst) (sym none)
     (owed-none setting.g dst ends.adds ∙ sym (ap (λ (xs : List (List Flow)). slots_of (flow_of src dst) xs + 0) (drop-none (0 * setting.b))))
 owed_is_allocated_or_left s ends setting allocated (suc rounds) src dst within low high =
     rest_now
-    ∙ (ap (λ n. n + need_left (entries_of src setting.g all_calls dst) slots 0) (from_batch s flow setting.b (last_reset calls) 0 [] front)
+    ∙ (ap (λ n. n + need_left (entries_of_batches src setting.g all_calls dst) slots 0) (from_batch s flow setting.b (last_reset calls) 0 [] front)
     ∙ ap (λ n. allocated_from setting allocated (last_reset calls) src dst + n)
     (ap (λ (es : List (Option Entry)). need_left es slots 0) (sym entries)
     ∙ (left.left ∙ ap (λ (bs : List DemandBatch). need_through (map (λ x. entry_of x.entries flow) bs) (left_after setting allocated src dst)) (sym later))))
@@ -132,13 +124,13 @@ owed_is_allocated_or_left s ends setting allocated (suc rounds) src dst within l
     left : IsLeft flow setting.b 0 [] front begins.later
     left = flow_is_left s setting.endpoints setting.b 0 [] front begins.later flow (runs s setting allocated).follows
 
-    entries : map (λ x. entry_of x.entries flow) (front ++ begins.later) ≡ entries_of src setting.g all_calls dst
+    entries : map (λ x. entry_of x.entries flow) (front ++ begins.later) ≡ entries_of_batches src setting.g all_calls dst
     entries = ap (λ (bs : List DemandBatch). map (λ x. entry_of x.entries flow) bs) (sym begins.is) ∙ (runs s setting (suc rounds)).is.entries src dst low high
 
     takes : TakesInRound calls
     takes = (ends.order setting.endpoints setting.g ((replayed setting (suc rounds)).rounds src)).takes
 
-    rest_now : owed setting.g calls dst ≡ slots_from (last_reset calls) slots + need_left (entries_of src setting.g all_calls dst) slots 0
+    rest_now : owed setting.g calls dst ≡ slots_from (last_reset calls) slots + need_left (entries_of_batches src setting.g all_calls dst) slots 0
     rest_now = ends.rest src setting.g (length ((replayed setting rounds).rounds src)) calls dst slots takes
         (subst (λ (es : List (Option Entry)). FitNeeds es slots 0) entries left.fits)
 
@@ -150,14 +142,14 @@ whole_new s b k x list =
     take_all b (slots_then b k x list ++ []) (omega arith)
 
 one_more : (s : Schedules) (flow : Flow) (b batch reset : ℕ) (front : List DemandBatch) (last : DemandBatch) → length front ≡ batch → reset ≤ batch →
-    slots_of flow (drop (reset * b) (schedule b (front ++ last ∷ []))) ≡ slots_of flow (drop (reset * b) (schedule b front)) + slots_of flow (batch_of b batch (front ++ last ∷ []))
+    slots_of flow (drop (reset * b) (schedule b (front ++ last ∷ []))) ≡ slots_of flow (drop (reset * b) (schedule b front)) + slots_of flow (slots_in_batch b batch (front ++ last ∷ []))
 one_more s flow b batch reset front last count within =
     let next : List DemandBatch = front ++ last ∷ [] in
     let new : List (List Flow) = slots_then b (0 + length front) last (rest b front) ++ [] in
     let splits : schedule b next ≡ schedule b front ++ new = (s.more b 0 [] front (last ∷ [])).0 in
     let size : length (schedule b front) ≡ batch * b = length-schedule s b front ∙ ap (λ (n : ℕ). n * b) count in
     let fits : reset * b ≤ length (schedule b front) = subst (λ (n : ℕ). reset * b ≤ n) (sym size) (mul-le-mul_right b within) in
-    let its : batch_of b batch next ≡ new = ap (λ (xs : List (List Flow)). take b (drop (batch * b) xs)) splits
+    let its : slots_in_batch b batch next ≡ new = ap (λ (xs : List (List Flow)). take b (drop (batch * b) xs)) splits
     ∙ (ap (λ (n : ℕ). take b (drop n (schedule b front ++ new))) (sym size)
     ∙ (ap (take b) (drop-append_seam (schedule b front) new)
     ∙ whole_new s b (0 + length front) last (rest b front))) in
@@ -167,7 +159,7 @@ one_more s flow b batch reset front last count within =
     ∙ ap (λ (xs : List (List Flow)). slots_of flow (drop (reset * b) (schedule b front)) + slots_of flow xs) (sym its)))
 
 pub one_batch_more : (s : Schedules) (setting : Setting) (batch rounds reset src dst : ℕ) → batch < rounds → reset ≤ batch →
-    allocated_from setting (suc batch) reset src dst ≡ allocated_from setting batch reset src dst + allocated_in setting batch rounds src dst
+    allocated_from setting (suc batch) reset src dst ≡ allocated_from setting batch reset src dst + allocated_in_batch setting batch rounds src dst
 one_batch_more s setting batch rounds reset src dst below kept =
     let flow : Flow = flow_of src dst in
     let b : ℕ = setting.b in
@@ -177,8 +169,8 @@ one_batch_more s setting batch rounds reset src dst below kept =
     let begins = run_begins setting (suc batch) rounds (omega arith) in
     let count = run_length setting batch in
     let long = run_length setting (suc batch) in
-    let here : batch_of b batch (replayed setting rounds).batches ≡ batch_of b batch next =
-    ap (batch_of b batch) begins.is ∙ fronts_of_schedule s b batch next begins.later (omega arith) in
+    let here : slots_in_batch b batch (replayed setting rounds).batches ≡ slots_in_batch b batch next =
+    ap (slots_in_batch b batch) begins.is ∙ fronts_of_schedule s b batch next begins.later (omega arith) in
     one_more s flow b batch reset front last count kept ∙ ap (λ (xs : List (List Flow)). allocated_from setting batch reset src dst + slots_of flow xs) (sym here)
 
 pub published_is_pending : Schedules → OwedIsAllocatedOrLeft → PublishedIsPending

@@ -1,5 +1,5 @@
 -- What is sent was told, and what was told is of the schedule.
-use Rattle.std.proofs.Common.{◌≡◌, ◌≢◌, ◌<◌, ◌≤◌, ◌+◌, ◌-◌, ◌*◌, ◌==◌, ◌&&◌, ℕ, zero, suc, List, [], ◌∷◌, ◌++◌, length, get_or, drop, cond, nat_lt, Bool, true, Option, Some, None, refl, sym, ap, ◌∙◌, subst, inl, inr, arith}
+use Rattle.std.proofs.Common.{◌≡◌, ◌≢◌, ◌<◌, ◌≤◌, ◌+◌, ◌-◌, ◌*◌, ◌==◌, ◌&&◌, ℕ, zero, suc, List, [], ◌∷◌, ◌++◌, length, get_or, drop, cond, nat_lt, Bool, true, Some, refl, sym, ap, ◌∙◌, subst, inl, inr, arith}
 use Rattle.std.specs.Prelude.{nat_le, count_by}
 use Rattle.std.proofs.lemmas.Bool.{cases_Bool, cases_eq, eq-eqb, ne_eqb, le-leb}
 use Rattle.std.proofs.lemmas.List.{get_or-take, get_or-drop, length-take}
@@ -8,21 +8,24 @@ use Rattle.greedy_rules.specs.declared.flows.Flow.{Flow}
 use Rattle.greedy_rules.specs.Batches.{DemandBatch}
 use Rattle.greedy_rules.specs.Slot.{has_flow}
 use Rattle.greedy_rules.specs.Schedule.{schedule, slot_at}
+use Rattle.greedy_rules.specs.Cells.{flow_of}
 use Rattle.endpoint_history.specs.Packets.{Telling, DownPacket}
 use Rattle.endpoint_history.specs.Agent.{AgentEvent, AgentHistory, Boots, Asks, TakesDown, MakesUp, SendsDue, TakenDown, ever_taken}
 use Rattle.endpoint_history.specs.Agent as agent
-use Rattle.endpoint_history.specs.Sending.{Slot, slots_of, ever_sent}
-use Rattle.endpoint_history.specs.Lane.{LaneEvent, LaneHistory, MakesDown, TakesUp, Records, epoch_of, last_reset, telling_in, may_send, numbers}
+use Rattle.endpoint_history.specs.Sending.{Slot, slots_of_telling, ever_sent}
+use Rattle.endpoint_history.specs.Lane.{LaneHistory, MakesDown, TakesUp, Records, epoch_of, last_reset, telling_in, may_send, numbers}
 use Rattle.endpoint_history.specs.Steps.{Step, OfAgent, OfLane, agent_of, lane_of, WasMadeDown, ArrivesFromLane}
-use Rattle.endpoint_history.specs.Tellings.{Among, Issue, issued, AreWithin, ToldWithin, RisesFrom, ToldRises}
-use Rattle.endpoint_history.specs.Rounds.{Round, Played, arriving, then_each, begun, posted_down, played, sent_by, NamedByNoRaw}
-use Rattle.trace_run.specs.Run.{Setting, batch_of, told_of, told_in, replayed}
+use Rattle.endpoint_history.specs.Tellings.{Among, Issue, issued, SlotsAreWithin, ToldWithin, RisesFrom, ToldRises}
+use Rattle.endpoint_history.specs.Rounds.{Round, PlayedEnds, arriving, then_each, begun, posted_down, played, sent_by, NamedByNoRaw}
+use Rattle.endpoint_history.proofs.Once.{content_in}
+use Rattle.endpoint_history.proofs.NeverSent.{some_told}
+use Rattle.endpoint_history.proofs.NeverTaken.{WasMadeDown-later}
+use Rattle.trace_run.specs.Run.{Setting, slots_in_batch, told_of, told_in, replayed}
 use Rattle.trace_run.specs.Histories.{played_after, agent_after, lane_after}
 use Rattle.trace_run.specs.Sends.{EverySendIsScheduled, NoSlotIsSentTwice, SentIsWhatEachRoundSends, NoPacketIsForged}
-use Rattle.trace_run.specs.Premises.{Schedules, Ends}
+use Rattle.trace_run.specs.Premises.{Schedules, EndsLaws}
 use Rattle.trace_run.proofs.Fronts.{told-whole}
 use Rattle.trace_run.proofs.Applicable.{round_after, recording}
-use Rattle.trace_run.proofs.Rows.{flow_of}
 use Rattle.trace_run.proofs.Through.{agent-kept, agent_of-read, through, rounds_length}
 use Rattle.trace_run.proofs.ToldOf.{IsIn, sends_flow, told_in-within, told_in-rises, told_of-among}
 
@@ -31,7 +34,7 @@ use Rattle.trace_run.proofs.ToldOf.{IsIn, sends_flow, told_in-within, told_in-ri
 sent_is_round_after_round : (endpoints b g : ℕ) (round : Round) (earlier : List Round) →
     ever_sent b g (agent_of (played endpoints g (round ∷ earlier)).steps) ≡ ever_sent b g (agent_of (played endpoints g earlier).steps) ++ sent_by endpoints b g (round ∷ earlier)
 sent_is_round_after_round endpoints b g round earlier =
-    let before : Played = played endpoints g earlier in
+    let before : PlayedEnds = played endpoints g earlier in
     let number : ℕ = length earlier in
     let booted : List Step = then_each (λ version. OfAgent (Boots version)) round.boots before.steps in
     let begun_steps : List Step = begun endpoints g number round before in
@@ -44,11 +47,6 @@ sent_is_round_after_round endpoints b g round earlier =
     ∙ agent-kept (λ (h : AgentHistory). ever_sent b g h) (λ version. Boots version) (λ x h. refl) round.boots before.steps)))
 
 -- ---- every packet ever taken was made, whatever is forged
-
-pub WasMadeDown-later : (g : ℕ) (event : LaneEvent) (history : LaneHistory) (packet : DownPacket) → WasMadeDown g history packet → WasMadeDown g (event ∷ history) packet
-WasMadeDown-later g (MakesDown round told) history packet made = inr made
-WasMadeDown-later g (TakesUp round up) history packet made = made
-WasMadeDown-later g (Records round) history packet made = made
 
 pub ever_taken-made : (g : ℕ) (steps : List Step) (t : TakenDown) → ArrivesFromLane g steps → Among t (ever_taken (agent_of steps)) → WasMadeDown g (lane_of steps) t.packet
 ever_taken-made g [] t arrives among = absurd among
@@ -97,9 +95,9 @@ pub told_are_now : (s : Schedules) (setting : Setting) → 0 < setting.g → (ro
     ToldAre (λ round. told_in setting (replayed setting all).batches round endpoint) (recording setting rounds endpoint)
 told_are_now s setting some rounds all endpoint within = told-again s setting some rounds all endpoint within (told_are s setting some rounds all endpoint within)
 
-pub are-within : (b : ℕ) (of : ℕ → List Told) → ((round : ℕ) → AreWithin b (of round)) → (h : LaneHistory) → ToldAre of h → ToldWithin b h
+pub are-within : (b : ℕ) (of : ℕ → List Told) → ((round : ℕ) → SlotsAreWithin b (of round)) → (h : LaneHistory) → ToldAre of h → ToldWithin b h
 are-within b of each [] are = tt
-are-within b of each (MakesDown round told ∷ h) are = (subst (AreWithin b) (sym are.0) (each round), are-within b of each h are.1)
+are-within b of each (MakesDown round told ∷ h) are = (subst (SlotsAreWithin b) (sym are.0) (each round), are-within b of each h are.1)
 are-within b of each (TakesUp round packet ∷ h) are = are-within b of each h are
 are-within b of each (Records round ∷ h) are = are-within b of each h are
 
@@ -115,10 +113,6 @@ telling-is g h round told some = elim (cases_Bool (nat_le (2 * g) round && nat_l
   | inl tells ↦ rw tells refl
   | inr none ↦ absurd (some (rw none refl))
 ]
-
-abbrev content_in : Telling → Option Issue → Telling
-content_in t None = t
-content_in t (Some x) = x.content
 
 pub issued-told : (of : ℕ → List Told) (g : ℕ) (h : LaneHistory) (round : ℕ) (issue : Issue) → ToldAre of h → issued g h round ≡ Some issue → issue.content.told ≢ [] → issue.content.told ≡ of round
 issued-told of g [] round issue are is some = absurd (cc)
@@ -140,12 +134,9 @@ issued-told of g (MakesDown number told ∷ h) round issue are is some =
 
 -- ---- sends
 
-some_told : (b : ℕ) (telling : Telling) (s : Slot) → Among s (slots_of b telling) → telling.told ≢ []
-some_told b telling s among none = subst (λ (xs : List Told). Among s (slots_of b (record { batch = telling.batch; told = xs }))) none among
-
 -- the slot of a batch at a place
-slot-of_batch : (b k place : ℕ) (batches : List DemandBatch) → place < length (batch_of b k batches) →
-    get_or (batch_of b k batches) place [] ≡ slot_at (schedule b batches) (k * b + 1 + (0 + place))
+slot-of_batch : (b k place : ℕ) (batches : List DemandBatch) → place < length (slots_in_batch b k batches) →
+    get_or (slots_in_batch b k batches) place [] ≡ slot_at (schedule b batches) (k * b + 1 + (0 + place))
 slot-of_batch b k place batches below =
     let all : List (List Flow) = schedule b batches in
     let none : List Flow = [] in
@@ -169,15 +160,15 @@ sent_is_what_each_round_sends setting (suc rounds) endpoint =
     ∙ ap (λ (xs : List Slot). xs ++ sent_by setting.endpoints setting.b setting.g (round ∷ before)) (sent_is_what_each_round_sends setting rounds endpoint)
 
 -- a slot of a batch in which the endpoint sends stands in the schedule
-send_is : (b batch endpoint : ℕ) (batches : List DemandBatch) (s : Slot) → IsIn b batch 0 endpoint (batch_of b batch batches) s →
+send_is : (b batch endpoint : ℕ) (batches : List DemandBatch) (s : Slot) → IsIn b batch 0 endpoint (slots_in_batch b batch batches) s →
     (0 < s.slot) × (has_flow (slot_at (schedule b batches) s.slot) (flow_of endpoint s.dst) ≡ true)
 send_is b batch endpoint batches s i =
-    let slot : get_or (batch_of b batch batches) i.place [] ≡ slot_at (schedule b batches) s.slot =
+    let slot : get_or (slots_in_batch b batch batches) i.place [] ≡ slot_at (schedule b batches) s.slot =
     slot-of_batch b batch i.place batches i.below ∙ ap (slot_at (schedule b batches)) (sym i.is) in
     let number = i.is in
-    (omega arith, ap (λ (xs : List Flow). has_flow xs (flow_of endpoint s.dst)) (sym slot) ∙ sends_flow (get_or (batch_of b batch batches) i.place []) endpoint s.dst i.sends)
+    (omega arith, ap (λ (xs : List Flow). has_flow xs (flow_of endpoint s.dst)) (sym slot) ∙ sends_flow (get_or (slots_in_batch b batch batches) i.place []) endpoint s.dst i.sends)
 
-pub every_send_is_scheduled : Schedules → Ends → EverySendIsScheduled
+pub every_send_is_scheduled : Schedules → EndsLaws → EverySendIsScheduled
 every_send_is_scheduled s ends setting some rounds all endpoint within sent among_sent =
     let b : ℕ = setting.b in
     let g : ℕ = setting.g in
@@ -197,10 +188,10 @@ every_send_is_scheduled s ends setting some rounds all endpoint within sent amon
     issued-told of g (lane_of steps) (content.batch + 2 * g) (record { epoch = t.packet.epoch; number = t.packet.seq; content = content }) (told_are s setting some rounds all endpoint within) came.0 named in
     let its = of_batch setting batches content.batch endpoint in
     let i = told_of-among setting batches content.batch endpoint sent
-    (subst (λ (xs : List Told). Among sent (slots_of b (record { batch = content.batch; told = xs }))) (told ∙ its) was.2) in
+    (subst (λ (xs : List Told). Among sent (slots_of_telling b (record { batch = content.batch; told = xs }))) (told ∙ its) was.2) in
     send_is b content.batch endpoint batches sent i
 
-pub no_slot_is_sent_twice : Schedules → Ends → NoSlotIsSentTwice
+pub no_slot_is_sent_twice : Schedules → EndsLaws → NoSlotIsSentTwice
 no_slot_is_sent_twice s ends setting some rounds endpoint slot =
     let batches : List DemandBatch = (replayed setting rounds).batches in
     let of : ℕ → List Told = λ round. told_in setting batches round endpoint in
@@ -218,5 +209,5 @@ pub none-named : (setting : Setting) (number endpoint : ℕ) → ((round : ℕ) 
 none-named setting zero endpoint none = tt
 none-named setting (suc number) endpoint none = (none number, none-named setting number endpoint none)
 
-pub no_packet_is_forged : Ends → NoPacketIsForged
+pub no_packet_is_forged : EndsLaws → NoPacketIsForged
 no_packet_is_forged ends setting rounds endpoint none = ends.arrive setting.endpoints setting.g ((replayed setting rounds).rounds endpoint) (none-named setting rounds endpoint none)

@@ -1,12 +1,11 @@
 -- All of it.
-use Rattle.std.proofs.Common.{◌≡◌, ◌<◌, ◌≤◌, ◌+◌, ◌-◌, ◌*◌, ℕ, suc, List, [], ◌∷◌, length, replicate, All, ◌∙◌, ap, subst, arith}
-use Rattle.std.proofs.lemmas.List.{length-append, length-replicate}
-use Rattle.std.proofs.lemmas.List.Elements.{All-head, All-tail, All-append, All-replicate}
+use Rattle.std.proofs.Common.{◌≡◌, ◌<◌, ◌≤◌, ◌-◌, ◌*◌, ℕ, List, length, All, ◌∙◌, ap, subst, arith}
 use Rattle.greedy_rules.specs.declared.limits.Limits.{Limits}
 use Rattle.greedy_rules.specs.Batches.{DemandBatch}
 use Rattle.greedy_rules.specs.Limits.{is_barred}
 use Rattle.greedy_rules.specs.Matching.{IsMaximal, EverySlotIsAMaximalMatching, EverySlotKeepsTheLimits}
-use Rattle.greedy_rules.specs.Schedule.{schedule, slot_limits, limits_at, slot_at, need_before}
+use Rattle.greedy_rules.specs.Schedule.{schedule, limits_at, slot_at, need_before}
+use Rattle.greedy_rules.proofs.RecordedLemmas.{length-slot_limits, uniform}
 use Rattle.trace_run.specs.Run.{replayed}
 use Rattle.trace_run.specs.Applicable.{EveryRunIsApplicable, EverySlotIsOfTheRun}
 use Rattle.trace_run.specs.Counts.{EveryFlowIsCounted, AddsAreDemandedAndLost}
@@ -19,26 +18,11 @@ use Rattle.trace_run.proofs.Fronts.{length-schedule, run_length}
 
 -- ---- the limits of a slot are those of all batches
 
-limits_are : (b : ℕ) (limits : Limits) (batches : List DemandBatch) → All (λ (x : DemandBatch). x.limits ≡ limits) batches → All (λ (l : Limits). l ≡ limits) (slot_limits b batches)
-limits_are b limits [] same = λ i d below. absurd (omega arith)
-limits_are b limits (batch ∷ batches) same =
-    let P : DemandBatch → Type 0 = λ x. x.limits ≡ limits in
-    All-append (λ (l : Limits). l ≡ limits) (replicate b batch.limits) (slot_limits b batches) (All-replicate (λ (l : Limits). l ≡ limits) b batch.limits (All-head P batch batches same))
-    (limits_are b limits batches (All-tail P batch batches same))
-
-times_more : (n b : ℕ) → suc n * b ≡ b + n * b
-times_more n b = grind arith
-
-limits-length : (b : ℕ) (batches : List DemandBatch) → length (slot_limits b batches) ≡ length batches * b
-limits-length b [] = let none : 0 ≡ 0 * b = omega arith in none
-limits-length b (batch ∷ batches) =
-    omega (arith, length-append (replicate b batch.limits) (slot_limits b batches), length-replicate b batch.limits, limits-length b batches, times_more (length batches) b)
-
 limits_here : (b : ℕ) (limits : Limits) (batches : List DemandBatch) → All (λ (x : DemandBatch). x.limits ≡ limits) batches →
     (number : ℕ) → 0 < number → number ≤ length batches * b → limits_at b batches number ≡ limits
 limits_here b limits batches same number above within =
-    let long = limits-length b batches in
-    limits_are b limits batches same (number - 1) (record { hosts = 0; cores = 0 }) (omega arith)
+    let long = length-slot_limits b batches in
+    uniform b limits batches same (number - 1) (record { hosts = 0; cores = 0 }) (omega arith)
 
 pub every_replay_shows : Schedules → EverySlotIsAMaximalMatching → EverySlotKeepsTheLimits → EveryRunIsApplicable → EverySlotIsOfTheRun
     → EverySendIsScheduled → NoSlotIsSentTwice → EveryFlowIsCounted → AddsAreDemandedAndLost → NoLossOrBootHarmsARun → EveryReplayShows

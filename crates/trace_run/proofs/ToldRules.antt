@@ -12,14 +12,14 @@ use Rattle.greedy_rules.specs.declared.flows.Flow.{Flow}
 use Rattle.greedy_rules.specs.Batches.{DemandBatch}
 use Rattle.greedy_rules.specs.SlotTable.{destination_of}
 use Rattle.greedy_rules.specs.Schedule.{first_slot, schedule}
+use Rattle.greedy_rules.specs.Cells.{flow_of}
 use Rattle.endpoint_history.specs.Tellings.{RisesFrom}
-use Rattle.trace_run.specs.Run.{Setting, batch_of, told_at, told_from, told_of, replayed}
+use Rattle.trace_run.specs.Run.{Setting, slots_in_batch, told_at, slots_told_from, told_of, replayed}
 use Rattle.trace_run.specs.Applicable.{EverySlotIsOfTheRun}
 use Rattle.trace_run.specs.Recorded.{KeepsTraceRules}
 use Rattle.trace_run.specs.Told.{AreOfBatch, WhatIsToldIsOfABatch}
 use Rattle.trace_run.specs.Premises.{Schedules}
 use Rattle.trace_run.proofs.Apart.{AreApart, is_other, other_flows}
-use Rattle.trace_run.proofs.Rows.{flow_of}
 use Rattle.trace_run.proofs.ToldOf.{told_in-rises}
 
 -- what holds of all flows of a slot holds of the one that the source has
@@ -39,21 +39,21 @@ of_source P (flow ∷ slot) endpoint dst all is = elim (cases_Bool (flow.src == 
 -- what holds of each slot in which the endpoint sends holds of all that it is told
 each_told : (Q : Told → Type 0) (P : List Flow → Type 0) (core : ℕ → ℕ) (endpoint offset : ℕ) (slots : List (List Flow)) → All P slots →
     ((place : ℕ) (slot : List Flow) (dst : ℕ) → offset ≤ place → place < offset + length slots → P slot → destination_of slot endpoint ≡ Some dst → Q (record { offset = place; core = core place; dst = dst })) →
-    All Q (told_from core endpoint offset slots)
+    All Q (slots_told_from core endpoint offset slots)
 each_told Q P core endpoint offset [] all each = All-nil Q
 each_told Q P core endpoint offset (slot ∷ slots) all each =
     one (destination_of slot endpoint) refl
     (each_told Q P core endpoint (offset + 1) slots (All-tail P slot slots all) (λ place s dst low high holds is. each place s dst (omega arith) (omega arith) holds is))
   where
-    one : (o : Option ℕ) → destination_of slot endpoint ≡ o → All Q (told_from core endpoint (offset + 1) slots) → All Q (told_at offset (core offset) o ++ told_from core endpoint (offset + 1) slots)
+    one : (o : Option ℕ) → destination_of slot endpoint ≡ o → All Q (slots_told_from core endpoint (offset + 1) slots) → All Q (told_at offset (core offset) o ++ slots_told_from core endpoint (offset + 1) slots)
     one None is rest = rest
-    one (Some dst) is rest = All-cons Q (record { offset = offset; core = core offset; dst = dst }) (told_from core endpoint (offset + 1) slots) (each offset slot dst (omega arith) (omega arith) (All-head P slot slots all) is) rest
+    one (Some dst) is rest = All-cons Q (record { offset = offset; core = core offset; dst = dst }) (slots_told_from core endpoint (offset + 1) slots) (each offset slot dst (omega arith) (omega arith) (All-head P slot slots all) is) rest
 
-few_told : (core : ℕ → ℕ) (endpoint offset : ℕ) (slots : List (List Flow)) → length (told_from core endpoint offset slots) ≤ length slots
+few_told : (core : ℕ → ℕ) (endpoint offset : ℕ) (slots : List (List Flow)) → length (slots_told_from core endpoint offset slots) ≤ length slots
 few_told core endpoint offset [] = omega arith
 few_told core endpoint offset (slot ∷ slots) = one (destination_of slot endpoint) (few_told core endpoint (offset + 1) slots)
   where
-    one : (o : Option ℕ) → length (told_from core endpoint (offset + 1) slots) ≤ length slots → length (told_at offset (core offset) o ++ told_from core endpoint (offset + 1) slots) ≤ suc (length slots)
+    one : (o : Option ℕ) → length (slots_told_from core endpoint (offset + 1) slots) ≤ length slots → length (told_at offset (core offset) o ++ slots_told_from core endpoint (offset + 1) slots) ≤ suc (length slots)
     one None rest = omega arith
     one (Some dst) rest = omega arith
 
@@ -75,11 +75,11 @@ differ : (f : Flow) → IsTrue (is_other f) → f.dst ≢ f.src
 differ f other same = let is = rw (eq-eqb f.src f.dst (sym same)) at other in absurd (cc)
 
 of_slots : (endpoints b endpoint : ℕ) (core : ℕ → ℕ) (slots : List (List Flow)) → ((place : ℕ) → IsCore (core place)) → length slots ≤ b → All (IsFair endpoints) slots →
-    RisesFrom 0 (told_from core endpoint 0 slots) → AreOfBatch endpoints b endpoint (told_from core endpoint 0 slots)
+    RisesFrom 0 (slots_told_from core endpoint 0 slots) → AreOfBatch endpoints b endpoint (slots_told_from core endpoint 0 slots)
 of_slots endpoints b endpoint core slots cores long fair rises =
     record {
       few = let few = few_told core endpoint 0 slots in omega arith;
-      rising = increases 0 (told_from core endpoint 0 slots) rises;
+      rising = increases 0 (slots_told_from core endpoint 0 slots) rises;
       offsets = each_told (λ (t : Told). t.offset < b) (IsFair endpoints) core endpoint 0 slots fair (λ place slot dst low high holds is. omega arith);
       cores = each_told (λ (t : Told). IsCore t.core) (IsFair endpoints) core endpoint 0 slots fair (λ place slot dst low high holds is. cores place);
       destinations = each_told (λ (t : Told). t.dst < endpoints) (IsFair endpoints) core endpoint 0 slots fair
@@ -97,7 +97,7 @@ what_is_told_is_of_a_batch s in_run apart setting rounds all endpoint within tra
     let fair : All (IsFair setting.endpoints) whole = λ i d below. record { within = (in_run setting rounds i d below).in_range; other = others i d below } in
     let long = length-take setting.b (drop (k * setting.b) whole) in
     either (nat_le (2 * setting.g) rounds) (told_in-rises setting batches rounds endpoint)
-    (λ rises. of_slots setting.endpoints setting.b endpoint (λ offset. setting.cores (first_slot setting.b k + offset) endpoint) (batch_of setting.b k batches)
+    (λ rises. of_slots setting.endpoints setting.b endpoint (λ offset. setting.cores (first_slot setting.b k + offset) endpoint) (slots_in_batch setting.b k batches)
     (λ place. cores (first_slot setting.b k + place) endpoint) (omega arith)
     (All-take (IsFair setting.endpoints) setting.b (drop (k * setting.b) whole) (All-drop (IsFair setting.endpoints) (k * setting.b) whole fair)) rises)
   where

@@ -6,11 +6,11 @@ use Rattle.trace_run.specs.Run.{told_in, replayed}
 use Rattle.trace_run.specs.Histories.{lane_after}
 use Rattle.trace_run.specs.Sends.{ToldIsOwedInEachRound}
 use Rattle.trace_run.specs.Unharmed.{NoLossOrBootHarmsARun}
-use Rattle.trace_run.specs.Premises.{Schedules, Ends}
+use Rattle.trace_run.specs.Premises.{Schedules, EndsLaws}
 use Rattle.trace_run.proofs.Sends.{told_are, are-within, none-named}
 use Rattle.trace_run.proofs.ToldOf.{told_in-within}
 
-pub no_loss_or_boot_harms_a_run : Schedules → Ends → ToldIsOwedInEachRound → NoLossOrBootHarmsARun
+pub no_loss_or_boot_harms_a_run : Schedules → EndsLaws → ToldIsOwedInEachRound → NoLossOrBootHarmsARun
 no_loss_or_boot_harms_a_run s ends owed_is setting some rounds endpoint low none =
     let batches = (replayed setting rounds).batches in
     let of : ℕ → List Told = λ round. told_in setting batches round endpoint in

@@ -5,10 +5,11 @@ use Rattle.std.proofs.lemmas.List.{get_or_append_left}
 use Rattle.greedy_rules.specs.declared.flows.Item.{Item}
 use Rattle.greedy_rules.specs.Batches.{DemandBatch}
 use Rattle.greedy_rules.specs.Schedule.{slots_then, list_then, schedule, schedule_from, rest, rest_from}
-use Rattle.trace_run.specs.Run.{batch_of, replayed}
+use Rattle.greedy_rules.proofs.BatchLemmas.{no_batch}
+use Rattle.trace_run.specs.Run.{slots_in_batch, replayed}
 use Rattle.trace_run.specs.Windows.{batch_at, EveryBatchIsNext, EveryWindowIsAllocated, InWindows, StepsGoOn, collected_after, EveryStepIsInWindows, WhatIsToldIsPublished}
 use Rattle.trace_run.specs.Premises.{Schedules}
-use Rattle.trace_run.proofs.Fronts.{Begins, no_batch, length-schedule, fronts_of_schedule, run_length, run_begins, later_is}
+use Rattle.trace_run.proofs.Fronts.{Begins, length-schedule, fronts_of_schedule, run_length, run_begins, later_is}
 
 -- ---- the next batch
 
@@ -28,7 +29,7 @@ every_batch_is_next s setting k =
       slots = λ rounds below.
           let begins = run_begins setting (suc k) rounds (omega arith) in
           let long = run_length setting (suc k) in
-          ap (batch_of b k) begins.is
+          ap (slots_in_batch b k) begins.is
           ∙ (fronts_of_schedule s b k (front ++ last ∷ []) begins.later (omega arith)
           ∙ ((s.each b k (front ++ last ∷ []) no_batch (omega arith)).0
           ∙ (ap (λ (x : DemandBatch). slots_then b k x (rest b (take k (front ++ last ∷ [])))) (at_end front last no_batch k count)

@@ -6,7 +6,7 @@ use Rattle.endpoint_history.specs.Lane.{last_reset}
 use Rattle.endpoint_history.specs.Counts.{Allocation, allocated, owed}
 use Rattle.trace_run.specs.Run.{Setting}
 use Rattle.trace_run.specs.Histories.{lane_after}
-use Rattle.trace_run.specs.Rest.{allocated_from, allocated_in, left_after}
+use Rattle.trace_run.specs.Rest.{allocated_from, allocated_in_batch, left_after}
 use Rattle.trace_run.specs.Windows.{batch_at}
 
 -- the slots of a flow in batches from this one on
@@ -22,13 +22,13 @@ AreCounted setting batches upto src allocations =
 abbrev pub OneFlowMore : Type 0
 OneFlowMore =
     (setting : Setting) (batches rounds src dst : ℕ) (allocations : List Allocation) → batches < rounds → AreCounted setting batches dst src allocations →
-    AreCounted setting batches (dst + 1) src (record { dst = dst; batch = batches; slots = allocated_in setting batches rounds src dst } ∷ allocations)
+    AreCounted setting batches (dst + 1) src (record { dst = dst; batch = batches; slots = allocated_in_batch setting batches rounds src dst } ∷ allocations)
 
 -- a flow that has no slots in the batch may be passed over
 abbrev pub AFlowWithoutSlots : Type 0
 AFlowWithoutSlots =
     (setting : Setting) (batches rounds src dst : ℕ) (allocations : List Allocation) → batches < rounds → AreCounted setting batches dst src allocations →
-    allocated_in setting batches rounds src dst ≡ 0 → AreCounted setting batches (dst + 1) src allocations
+    allocated_in_batch setting batches rounds src dst ≡ 0 → AreCounted setting batches (dst + 1) src allocations
 
 -- and then the batch is counted
 abbrev pub ABatchMore : Type 0
@@ -46,4 +46,4 @@ abbrev pub AllocationIsPending : Type 0
 AllocationIsPending =
     (setting : Setting) (batches rounds src dst : ℕ) (allocations : List Allocation) → batches < rounds → src < setting.endpoints → dst < setting.endpoints →
     AreCounted setting batches dst src allocations → last_reset (lane_after setting rounds src) ≤ batches →
-    allocated (lane_after setting rounds src) allocations dst + allocated_in setting batches rounds src dst ≤ owed setting.g (lane_after setting rounds src) dst
+    allocated (lane_after setting rounds src) allocations dst + allocated_in_batch setting batches rounds src dst ≤ owed setting.g (lane_after setting rounds src) dst

@@ -23,7 +23,7 @@ pub record IsApplicable (setting : Setting) (rounds : ℕ) : Type 0 where
       is_listed (rest setting.b (replayed setting rounds).batches) (record { src = src; dst = dst }) ≡ had setting.g (lane_after setting rounds src) dst
   pub entries : (src dst : ℕ) → src < setting.endpoints → dst < setting.endpoints →
       map (λ batch. entry_of batch.entries (record { src = src; dst = dst })) (replayed setting rounds).batches
-      ≡ lane.entries_of src setting.g (lane_after setting rounds src) dst
+      ≡ lane.entries_of_batches src setting.g (lane_after setting rounds src) dst
 
 abbrev pub EveryRunIsApplicable : Type 0
 EveryRunIsApplicable = (setting : Setting) (rounds : ℕ) → IsApplicable setting rounds

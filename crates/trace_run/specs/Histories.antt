@@ -2,12 +2,12 @@
 use Rattle.std.specs.Prelude.{ℕ}
 use Rattle.endpoint_history.specs.Agent.{AgentHistory}
 use Rattle.endpoint_history.specs.Lane.{LaneHistory}
-use Rattle.endpoint_history.specs.Rounds.{Played, played}
+use Rattle.endpoint_history.specs.Rounds.{PlayedEnds, played}
 use Rattle.endpoint_history.specs.Steps.{agent_of, lane_of}
 use Rattle.trace_run.specs.Run.{Setting, replayed}
 
 -- what an endpoint has played after so many rounds
-abbrev pub played_after : Setting → ℕ → ℕ → Played
+abbrev pub played_after : Setting → ℕ → ℕ → PlayedEnds
 played_after setting rounds endpoint = played setting.endpoints setting.g ((replayed setting rounds).rounds endpoint)
 
 -- the calls of its agent, and of its lane

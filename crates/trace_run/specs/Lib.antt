@@ -1,3 +1,4 @@
+pub use Rattle.endpoint_history.specs.Entries
 pub mod Agents
 pub mod Allocations
 pub mod Applicable

@@ -20,7 +20,7 @@ pub record Schedules : Type 0 where
   pub flows : EverySlotsFlowsAreOfEntries
 
 -- of both ends of a connection
-pub record Ends : Type 0 where
+pub record EndsLaws : Type 0 where
   pub order : RoundsAreInOrder
   pub arrive : RoundsArriveFromOther
   pub making : MakingTells

@@ -7,7 +7,7 @@ use Rattle.greedy_rules.specs.Schedule.{schedule, rest}
 use Rattle.endpoint_history.specs.Lane.{last_reset}
 use Rattle.endpoint_history.specs.Counts.{owed}
 use Rattle.endpoint_history.specs.Rest.{need_through}
-use Rattle.trace_run.specs.Run.{Setting, batch_of, replayed}
+use Rattle.trace_run.specs.Run.{Setting, slots_in_batch, replayed}
 use Rattle.trace_run.specs.Histories.{lane_after}
 
 -- the flow's slots in the first so many batches, from this batch on
@@ -16,8 +16,8 @@ allocated_from setting allocated batch src dst =
     slots_of (record { src = src; dst = dst }) (drop (batch * setting.b) (schedule setting.b (replayed setting allocated).batches))
 
 -- its slots in this batch, of the schedule of so many rounds
-abbrev pub allocated_in : Setting → ℕ → ℕ → ℕ → ℕ → ℕ
-allocated_in setting batch rounds src dst = slots_of (record { src = src; dst = dst }) (batch_of setting.b batch (replayed setting rounds).batches)
+abbrev pub allocated_in_batch : Setting → ℕ → ℕ → ℕ → ℕ → ℕ
+allocated_in_batch setting batch rounds src dst = slots_of (record { src = src; dst = dst }) (slots_in_batch setting.b batch (replayed setting rounds).batches)
 
 -- what the first so many batches leave of its need
 abbrev pub left_after : Setting → ℕ → ℕ → ℕ → ℕ
@@ -42,5 +42,5 @@ abbrev pub PublishedIsPending : Type 0
 PublishedIsPending =
     (setting : Setting) (batch rounds src dst : ℕ) → batch < rounds → src < setting.endpoints → dst < setting.endpoints →
     last_reset (lane_after setting rounds src) ≤ batch →
-    allocated_from setting batch (last_reset (lane_after setting rounds src)) src dst + allocated_in setting batch rounds src dst
+    allocated_from setting batch (last_reset (lane_after setting rounds src)) src dst + allocated_in_batch setting batch rounds src dst
     ≤ owed setting.g (lane_after setting rounds src) dst

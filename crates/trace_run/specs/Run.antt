@@ -33,22 +33,22 @@ pub record Setting : Type 0 where
 -- ---- what is told
 
 -- the slots of batch k
-abbrev pub batch_of : ℕ → ℕ → List DemandBatch → List (List Flow)
-batch_of b k batches = take b (drop (k * b) (schedule b batches))
+abbrev pub slots_in_batch : ℕ → ℕ → List DemandBatch → List (List Flow)
+slots_in_batch b k batches = take b (drop (k * b) (schedule b batches))
 
 -- the endpoint's slots of these, of which the first has this offset
 abbrev pub told_at : ℕ → ℕ → Option ℕ → List Told
 told_at offset core None = []
 told_at offset core (Some dst) = record { offset = offset; core = core; dst = dst } ∷ []
 
-abbrev pub told_from : (ℕ → ℕ) → ℕ → ℕ → List (List Flow) → List Told
-told_from core endpoint offset [] = []
-told_from core endpoint offset (slot ∷ slots) = told_at offset (core offset) (destination_of slot endpoint) ++ told_from core endpoint (offset + 1) slots
+abbrev pub slots_told_from : (ℕ → ℕ) → ℕ → ℕ → List (List Flow) → List Told
+slots_told_from core endpoint offset [] = []
+slots_told_from core endpoint offset (slot ∷ slots) = told_at offset (core offset) (destination_of slot endpoint) ++ slots_told_from core endpoint (offset + 1) slots
 
 -- its slots of batch k of the schedule of these batches
 abbrev pub told_of : Setting → List DemandBatch → ℕ → ℕ → List Told
 told_of setting batches k endpoint =
-    told_from (λ offset. setting.cores (first_slot setting.b k + offset) endpoint) endpoint 0 (batch_of setting.b k batches)
+    slots_told_from (λ offset. setting.cores (first_slot setting.b k + offset) endpoint) endpoint 0 (slots_in_batch setting.b k batches)
 
 -- what it is told in a round: the slots of the batch 2 g rounds before, where there is one. Those of a batch below the endpoint's
 -- last reset are told to no one: its lane sees to that
@@ -75,8 +75,8 @@ pub record Run : Type 0 where
   pub rounds : (endpoint : ℕ) → List Round
 
 -- what the endpoints record together in their last rounds: the entries of endpoint 0, then those of endpoint 1, and so on
-abbrev pub recorded_by : Setting → (ℕ → List Round) → DemandBatch
-recorded_by setting rounds = record {
+abbrev pub recorded_together : Setting → (ℕ → List Round) → DemandBatch
+recorded_together setting rounds = record {
   entries = flat_map (λ endpoint. entries_by endpoint setting.endpoints setting.g (rounds endpoint)) (range_with_len 0 setting.endpoints);
   limits = setting.limits;
 }
@@ -86,7 +86,7 @@ next_rounds setting round before endpoint = round_of setting before.batches roun
 
 abbrev pub after_round : Setting → ℕ → Run → Run
 after_round setting round before = record {
-  batches = before.batches ++ recorded_by setting (next_rounds setting round before) ∷ [];
+  batches = before.batches ++ recorded_together setting (next_rounds setting round before) ∷ [];
   rounds = next_rounds setting round before;
 }
 

@@ -3,17 +3,17 @@ use Rattle.std.specs.Prelude.{◌≡◌, ◌⊎◌, ℕ, zero, suc, ◌+◌, ◌
 use Rattle.std.specs.List.{slice_index_or}
 use Rattle.greedy_rules.specs.Batches.{DemandBatch}
 use Rattle.greedy_rules.specs.Schedule.{slots_then, list_then, schedule, schedule_from, rest, rest_from}
-use Rattle.trace_run.specs.Run.{Setting, batch_of, recorded_by, next_rounds, replayed}
+use Rattle.trace_run.specs.Run.{Setting, slots_in_batch, recorded_together, next_rounds, replayed}
 
 -- the batch that round `batch` records
 abbrev pub batch_at : Setting → ℕ → DemandBatch
-batch_at setting batch = recorded_by setting (next_rounds setting batch (replayed setting batch))
+batch_at setting batch = recorded_together setting (next_rounds setting batch (replayed setting batch))
 
 -- it stands at its place in every run that has it; its slots, and the next list, are those of one batch on the list that is left
 pub record IsNext (setting : Setting) (batch : ℕ) : Type 0 where
   pub at : (rounds : ℕ) (other : DemandBatch) → batch < rounds → slice_index_or (replayed setting rounds).batches batch other ≡ batch_at setting batch
   pub slots : (rounds : ℕ) → batch < rounds →
-      batch_of setting.b batch (replayed setting rounds).batches ≡ slots_then setting.b batch (batch_at setting batch) (rest setting.b (replayed setting batch).batches)
+      slots_in_batch setting.b batch (replayed setting rounds).batches ≡ slots_then setting.b batch (batch_at setting batch) (rest setting.b (replayed setting batch).batches)
   pub list : rest setting.b (replayed setting (suc batch)).batches ≡ list_then setting.b batch (batch_at setting batch) (rest setting.b (replayed setting batch).batches)
 
 abbrev pub EveryBatchIsNext : Type 0

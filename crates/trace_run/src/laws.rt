@@ -7,7 +7,7 @@ ghost use Rattle.trace_run.specs.Cores.{CoresDecideNothing, CoresDecideNoSend, C
 ghost use Rattle.trace_run.specs.Counts.{ToldIsAllocated, TellingHasRoom, ToldFitsSlots, EveryFlowIsCounted, AddsAreDemandedAndLost};
 ghost use Rattle.trace_run.specs.Examples.{WorkedRuns};
 ghost use Rattle.trace_run.specs.Fronts.{EveryRoundHasABatch, ARunBeginsWithEach, RoundsAreOfTheWholeRun};
-ghost use Rattle.trace_run.specs.Premises.{Schedules, Ends};
+ghost use Rattle.trace_run.specs.Premises.{Schedules, EndsLaws};
 ghost use Rattle.trace_run.specs.Recorded.{EveryRunIsRecorded};
 ghost use Rattle.trace_run.specs.Rest.{OwedIsAllocatedOrLeft, PublishedIsPending};
 ghost use Rattle.trace_run.specs.Sends.{EverySendIsScheduled, NoSlotIsSentTwice, SentIsWhatEachRoundSends, NoPacketIsForged, ToldIsOwedInEachRound};
@@ -205,7 +205,7 @@ fn schedules_hold()
 
 /// The laws of both ends of a connection that the lemmas here rest on.
 fn ends_hold()
-    ensures { Ends }
+    ensures { EndsLaws }
 {
     agents_count_slots();
     allocations_are_in_order();

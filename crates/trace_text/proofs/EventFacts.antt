@@ -11,7 +11,7 @@ use Rattle.loss_world.specs.declared.fate.Fate.TheVariants.{Lose}
 use Rattle.trace_text.specs.Earlier.{is_same_way}
 use Rattle.trace_text.specs.Faults.{is_fate}
 use Rattle.trace_text.specs.Ranks.{has_rank_in}
-use Rattle.trace_text.specs.Events.{AreAmong, IsBootAmong, IsFateAmong, IsWithin, boot_rank, events_kept, fate_rank, is_boot_of, is_fate_of, is_packet_of, packet_of, packet_rank, way_number, packet_start}
+use Rattle.trace_text.specs.Events.{EventsAreAmong, IsBootAmong, IsFateAmong, IsWithin, boot_rank, events_kept, fate_rank, is_boot_of, is_fate_of, is_packet_of, packet_of, packet_rank, way_number, packet_start}
 use Rattle.trace_text.specs.declared.events.GivenFate.{GivenFate}
 use Rattle.trace_text.specs.declared.events.Boot.{Boot}
 use Rattle.trace_text.specs.declared.packets.KeptPacket.{KeptPacket}
@@ -161,7 +161,7 @@ bytes-told bytes raws round are =
     (λ k d lt. let raw = get_or raws k d in All-take (λ byte. byte < 256) raw.size (drop (packet_start raw) bytes) (All-drop (λ byte. byte < 256) (packet_start raw) bytes are))
 
 pub among-permuted : (n : ℕ) (fates fates2 : List GivenFate) (boots boots2 : List Boot) (raws raws2 : List KeptPacket) (bytes : List ℕ)
-    → IsPermutation fates fates2 → IsPermutation boots boots2 → IsPermutation raws raws2 → AreAmong n fates boots raws bytes → AreAmong n fates2 boots2 raws2 bytes
+    → IsPermutation fates fates2 → IsPermutation boots boots2 → IsPermutation raws raws2 → EventsAreAmong n fates boots raws bytes → EventsAreAmong n fates2 boots2 raws2 bytes
 among-permuted n fates fates2 boots boots2 raws raws2 bytes p q r among = record {
   each_fate = All-permutation (IsFateAmong n) fates fates2 p among.each_fate;
   each_boot = All-permutation (IsBootAmong n) boots boots2 q among.each_boot;
@@ -206,11 +206,3 @@ pub at-map : {X Y : Type 0} (f : X → Y) (xs : List X) (at : ℕ) (d : X) → a
 at-map f [] at d lt = absurd (omega arith)
 at-map f (x ∷ xs) zero d lt = refl
 at-map f (x ∷ xs) (suc at) d lt = at-map f xs at d (omega arith)
-
-pub filter-shorter : {X : Type 0} (p : X → Bool) (xs : List X) → length (filter p xs) ≤ length xs
-filter-shorter p [] = omega arith
-filter-shorter p (x ∷ xs) = by (p x) (filter-shorter p xs)
-  where
-    by : (b : Bool) → length (filter p xs) ≤ length xs → length (cond b (x ∷ filter p xs) (filter p xs)) ≤ suc (length xs)
-    by true rest = omega arith
-    by false rest = omega arith

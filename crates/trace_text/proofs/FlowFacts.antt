@@ -6,7 +6,7 @@ use Rattle.std.proofs.lemmas.List.{get_or-set_same, get_or-set_other, set-get_or
 use Rattle.std.proofs.lemmas.List.Sums.{sum_by_push}
 use Rattle.line_marks.specs.Places.{Places, is_marked}
 use Rattle.trace_text.specs.Asks.{slots_asked, IsAmong}
-use Rattle.trace_text.specs.FlowSums.{flow_of, slots_in, unmarked}
+use Rattle.trace_text.specs.FlowSums.{flow_number, slots_for_round, unmarked}
 use Rattle.trace_text.specs.declared.ask.Ask.{Ask}
 
 -- each flow is marked where it has slots
@@ -113,7 +113,7 @@ none-above n some none = absurd (omega (arith, some, none))
 
 -- ---- what a table holds of a flow of a round
 
-pub held-same : (own round : ℕ) (slots other : List ℕ) (src dst : ℕ) → ((flow : ℕ) → flow < 65536 → get_or slots flow 0 ≡ get_or other flow 0) → slots_in own slots round src dst ≡ slots_in own other round src dst
+pub held-same : (own round : ℕ) (slots other : List ℕ) (src dst : ℕ) → ((flow : ℕ) → flow < 65536 → get_or slots flow 0 ≡ get_or other flow 0) → slots_for_round own slots round src dst ≡ slots_for_round own other round src dst
 held-same own round slots other src dst same = by (own == round) (nat_lt src 256) refl (nat_lt dst 256) refl
   where
     by : (a b : Bool) → nat_lt src 256 ≡ b → (c : Bool) → nat_lt dst 256 ≡ c → cond (a && b && c) (get_or slots (src * 256 + dst) 0) 0 ≡ cond (a && b && c) (get_or other (src * 256 + dst) 0) 0
@@ -125,7 +125,7 @@ held-same own round slots other src dst same = by (own == round) (nat_lt src 256
     by true false e c f = refl
     by false b e c f = refl
 
-pub held-none : (own : ℕ) (slots : List ℕ) (round src dst : ℕ) → ((flow : ℕ) → flow < 65536 → get_or slots flow 0 ≡ 0) → slots_in own slots round src dst ≡ 0
+pub held-none : (own : ℕ) (slots : List ℕ) (round src dst : ℕ) → ((flow : ℕ) → flow < 65536 → get_or slots flow 0 ≡ 0) → slots_for_round own slots round src dst ≡ 0
 held-none own slots round src dst none = by (own == round) (nat_lt src 256) refl (nat_lt dst 256) refl
   where
     by : (a b : Bool) → nat_lt src 256 ≡ b → (c : Bool) → nat_lt dst 256 ≡ c → cond (a && b && c) (get_or slots (src * 256 + dst) 0) 0 ≡ 0
@@ -139,12 +139,12 @@ held-none own slots round src dst none = by (own == round) (nat_lt src 256) refl
 
 -- an ask's flow has its slots more
 pub held-more : (ask : Ask) (slots : List ℕ) (least most : ℕ) (round src dst : ℕ) → ask.src < 256 → ask.dst < 256 → length slots ≡ 65536 → most ≡ least + ask.slots
-    → slots_in ask.round (set slots (flow_of ask) most) round src dst ≡ slots_in ask.round (set slots (flow_of ask) least) round src dst + slots_asked round src dst ask
+    → slots_for_round ask.round (set slots (flow_number ask) most) round src dst ≡ slots_for_round ask.round (set slots (flow_number ask) least) round src dst + slots_asked round src dst ask
 held-more ask slots least most round src dst low low2 long more =
     by (ask.round == round) (nat_lt src 256) refl (nat_lt dst 256) refl (ask.src == src) refl (ask.dst == dst) refl
   where
     at : ℕ
-    at = flow_of ask
+    at = flow_number ask
 
     by : (a b : Bool) → nat_lt src 256 ≡ b → (c : Bool) → nat_lt dst 256 ≡ c → (d : Bool) → (ask.src == src) ≡ d → (e : Bool) → (ask.dst == dst) ≡ e
         → cond (a && b && c) (get_or (set slots at most) (src * 256 + dst) 0) 0 ≡ cond (a && b && c) (get_or (set slots at least) (src * 256 + dst) 0) 0 + cond (a && d && e) ask.slots 0
@@ -173,19 +173,19 @@ held-more ask slots least most round src dst low low2 long more =
 
 -- an ask comes into a table of its round
 pub held-add : (ask : Ask) (slots : List ℕ) (round src dst : ℕ) → ask.src < 256 → ask.dst < 256 → length slots ≡ 65536
-    → slots_in ask.round (set slots (flow_of ask) (get_or slots (flow_of ask) 0 + ask.slots)) round src dst ≡ slots_in ask.round slots round src dst + slots_asked round src dst ask
+    → slots_for_round ask.round (set slots (flow_number ask) (get_or slots (flow_number ask) 0 + ask.slots)) round src dst ≡ slots_for_round ask.round slots round src dst + slots_asked round src dst ask
 held-add ask slots round src dst low low2 long =
-    held-more ask slots (get_or slots (flow_of ask) 0) _ round src dst low low2 long refl
-    ∙ ap (λ (xs : List ℕ). slots_in ask.round xs round src dst + slots_asked round src dst ask) (set-get_or slots (flow_of ask) 0)
+    held-more ask slots (get_or slots (flow_number ask) 0) _ round src dst low low2 long refl
+    ∙ ap (λ (xs : List ℕ). slots_for_round ask.round xs round src dst + slots_asked round src dst ask) (set-get_or slots (flow_number ask) 0)
 
 -- and all slots of a flow are taken out as an ask
 pub held-taken : (own flow : ℕ) (slots : List ℕ) (round src dst : ℕ) → flow < 65536 → length slots ≡ 65536
-    → slots_in own slots round src dst ≡ slots_in own (set slots flow 0) round src dst + slots_asked round src dst (record { round = own; src = flow / 256; dst = flow % 256; slots = get_or slots flow 0 })
+    → slots_for_round own slots round src dst ≡ slots_for_round own (set slots flow 0) round src dst + slots_asked round src dst (record { round = own; src = flow / 256; dst = flow % 256; slots = get_or slots flow 0 })
 held-taken own flow slots round src dst low long =
     let here : flow / 256 * 256 + flow % 256 ≡ flow = omega arith in
     sym
-    (ap (λ (xs : List ℕ). slots_in own xs round src dst) (set-get_or slots flow 0))
-    ∙ subst (λ k. slots_in own (set slots k (get_or slots flow 0)) round src dst ≡ slots_in own (set slots k 0) round src dst + slots_asked round src dst ask) here
+    (ap (λ (xs : List ℕ). slots_for_round own xs round src dst) (set-get_or slots flow 0))
+    ∙ subst (λ k. slots_for_round own (set slots k (get_or slots flow 0)) round src dst ≡ slots_for_round own (set slots k 0) round src dst + slots_asked round src dst ask) here
     (held-more ask slots 0 (get_or slots flow 0) round src dst (omega arith) (omega arith) long (omega arith))
   where
     ask : Ask
@@ -194,8 +194,8 @@ held-taken own flow slots round src dst low long =
 -- a flow is handed out
 pub handed-out : (own flow : ℕ) (slots : List ℕ) (asks : List Ask) (round src dst : ℕ) → flow < 65536 → length slots ≡ 65536
     → (own2 number : ℕ) (after : List ℕ) → own2 ≡ own → number ≡ get_or slots flow 0 → after ≡ set slots flow 0
-    → sum_by (slots_asked round src dst) (asks ++ record { round = own2; src = flow / 256; dst = flow % 256; slots = number } ∷ []) + slots_in own2 after round src dst
-    ≡ sum_by (slots_asked round src dst) asks + slots_in own slots round src dst
+    → sum_by (slots_asked round src dst) (asks ++ record { round = own2; src = flow / 256; dst = flow % 256; slots = number } ∷ []) + slots_for_round own2 after round src dst
+    ≡ sum_by (slots_asked round src dst) asks + slots_for_round own slots round src dst
 handed-out own flow slots asks round src dst low long own2 number after same is taken =
     rw (same, is, taken)
     (omega (
@@ -234,7 +234,7 @@ kept-more P slots after at number is here each flow low some = elim (cases_eq fl
 ]
 
 -- what the flow of an ask has
-pub held-own : (ask : Ask) (own : ℕ) (slots : List ℕ) → ask.src < 256 → ask.dst < 256 → own ≡ ask.round → slots_in own slots ask.round ask.src ask.dst ≡ get_or slots (flow_of ask) 0
+pub held-own : (ask : Ask) (own : ℕ) (slots : List ℕ) → ask.src < 256 → ask.dst < 256 → own ≡ ask.round → slots_for_round own slots ask.round ask.src ask.dst ≡ get_or slots (flow_number ask) 0
 held-own ask own slots low low2 same =
     let one : (own == ask.round) ≡ true = grind (arith, nat_tests) in
     let two : nat_lt ask.src 256 ≡ true = grind (arith, nat_tests) in
@@ -243,18 +243,18 @@ held-own ask own slots low low2 same =
 
 -- an ask of the round of a table comes into it
 pub held-added : (ask : Ask) (own own2 : ℕ) (slots after : List ℕ) (round src dst : ℕ) → ask.src < 256 → ask.dst < 256 → length slots ≡ 65536 → own ≡ ask.round → own2 ≡ own
-    → after ≡ set slots (flow_of ask) (get_or slots (flow_of ask) 0 + ask.slots) → slots_in own2 after round src dst ≡ slots_in own slots round src dst + slots_asked round src dst ask
+    → after ≡ set slots (flow_number ask) (get_or slots (flow_number ask) 0 + ask.slots) → slots_for_round own2 after round src dst ≡ slots_for_round own slots round src dst + slots_asked round src dst ask
 held-added ask own own2 slots after round src dst low low2 long same same2 is = rw (same2, same, is) (held-add ask slots round src dst low low2 long)
 
-pub added-among : (endpoints : ℕ) (ask : Ask) (slots after : List ℕ) (number : ℕ) → IsAmong 256 ask → IsAmong endpoints ask → after ≡ set slots (flow_of ask) number
+pub added-among : (endpoints : ℕ) (ask : Ask) (slots after : List ℕ) (number : ℕ) → IsAmong 256 ask → IsAmong endpoints ask → after ≡ set slots (flow_number ask) number
     → ((flow : ℕ) → flow < 65536 → 0 < get_or slots flow 0 → (flow / 256 < endpoints) × (flow % 256 < endpoints) × (flow / 256 ≢ flow % 256))
     → (flow : ℕ) → flow < 65536 → 0 < get_or after flow 0 → (flow / 256 < endpoints) × (flow % 256 < endpoints) × (flow / 256 ≢ flow % 256)
 added-among endpoints ask slots after number small among is each =
     let low = small.src in
     let low2 = small.dst in
-    let src : flow_of ask / 256 ≡ ask.src = omega arith in
-    let dst : flow_of ask % 256 ≡ ask.dst = omega arith in
+    let src : flow_number ask / 256 ≡ ask.src = omega arith in
+    let dst : flow_number ask % 256 ≡ ask.dst = omega arith in
     let below = among.src in
     let below2 = among.dst in
-    kept-more (λ flow. (flow / 256 < endpoints) × (flow % 256 < endpoints) × (flow / 256 ≢ flow % 256)) slots after (flow_of ask) number is
+    kept-more (λ flow. (flow / 256 < endpoints) × (flow % 256 < endpoints) × (flow / 256 ≢ flow % 256)) slots after (flow_number ask) number is
     (omega arith, omega arith, λ e. among.other (sym src ∙ e ∙ dst)) each

@@ -16,7 +16,7 @@ mod TableFacts
 mod HexFacts
 mod RankFacts
 mod EventFacts
-mod AskFacts
+pub mod AskFacts
 mod FlowFacts
 mod ContentFacts
 mod TraceFacts

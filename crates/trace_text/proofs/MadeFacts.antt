@@ -8,6 +8,7 @@ use Rattle.std.proofs.lemmas.Grind.{flat_map-append}
 use Rattle.std.proofs.lemmas.List.{append_assoc, map-append}
 use Rattle.std.proofs.lemmas.List.Elements.{All-append, All-cons, All-nil}
 use Rattle.std.proofs.lemmas.List.Sums.{sum_by-cons}
+use Rattle.list_facts.proofs.Lists.{next_number}
 use Rattle.loss_world.specs.declared.fate.Fate.TheVariants.{Lose}
 use Rattle.trace_text.specs.Asks.{IsAmong, slots_for}
 use Rattle.trace_text.specs.Events.{IsFateAmong}
@@ -20,16 +21,8 @@ pub state_after-add : (a b x : ℕ) → state_after (a + b) x ≡ state_after b 
 state_after-add a zero x = let e : a + 0 ≡ a = omega arith in ap (λ n. state_after n x) e
 state_after-add a (suc b) x = let e : a + suc b ≡ suc (a + b) = omega arith in ap (λ n. state_after n x) e ∙ ap next_state (state_after-add a b x)
 
--- the numbers up to one more
-range-more : (low n : ℕ) → range_with_len low (n + 1) ≡ range_with_len low n ++ (low + n) ∷ []
-range-more low zero = let e : low + 0 ≡ low = omega arith in ap (λ k. k ∷ []) (sym e)
-range-more low (suc n) =
-    let e : (low + 1) + n ≡ low + suc n = omega arith in
-    let f : suc n + 1 ≡ suc (n + 1) = omega arith in
-    ap (range_with_len low) f ∙ ap (λ l. low ∷ l) (range-more (low + 1) n ∙ ap (λ k. range_with_len (low + 1) n ++ k ∷ []) e)
-
 pub range-next : (n : ℕ) → range_with_len 0 (n + 1) ≡ range_with_len 0 n ++ n ∷ []
-range-next n = let e : 0 + n ≡ n = omega arith in range-more 0 n ∙ ap (λ k. range_with_len 0 n ++ k ∷ []) e
+range-next n = let e : 0 + n ≡ n = omega arith in next_number 0 n ∙ ap (λ k. range_with_len 0 n ++ k ∷ []) e
 
 pub flat_map-more : {X : Type 0} (f : ℕ → List X) (n : ℕ) → flat_map f (range_with_len 0 (n + 1)) ≡ flat_map f (range_with_len 0 n) ++ f n
 flat_map-more f n = ap (flat_map f) (range-next n) ∙ flat_map-append f (range_with_len 0 n) (n ∷ []) ∙ ap (λ l. flat_map f (range_with_len 0 n) ++ l) (append-nil (f n))

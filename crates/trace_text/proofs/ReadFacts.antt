@@ -4,7 +4,7 @@ use Rattle.std.specs.Prelude.{◌&&◌, ◌||◌, nat_le, nat_lt, is_some}
 use Rattle.std.specs.List.{filter_map}
 use Rattle.std.proofs.lemmas.Bool.Decides.{nat_tests}
 use Rattle.loss_world.specs.declared.fate.Fate.TheVariants.{Lose, Twice}
-use Rattle.trace_text.specs.Fields.{Record, field, has_number, number_at, is_hex, bytes_of}
+use Rattle.trace_text.specs.Fields.{Record, field, has_number, field_number_at, is_hex, bytes_of}
 use Rattle.trace_text.specs.Rows.{Row, Raw, Put, may_have}
 use Rattle.trace_text.specs.Stage.{takes_kind}
 use Rattle.clos_topology.specs.Network.{endpoints_of}
@@ -35,7 +35,7 @@ unfolding read_kind checked
 long-packet command before fields takes three number hex long =
     let bytes = hex-bytes (field fields 2) hex in
     let many : nat_le (length (bytes_of (field fields 2))) 2048 ≡ false = let half = bytes.1 in grind (arith, nat_tests) in
-    let out : (is_round (number_at fields 1) && nat_le (length (bytes_of (field fields 2))) 2048) ≡ false = rw many (by (is_round (number_at fields 1))) in
+    let out : (is_round (field_number_at fields 1) && nat_le (length (bytes_of (field fields 2))) 2048) ≡ false = rw many (by (is_round (field_number_at fields 1))) in
     rw (takes, three, number, hex, out) refl
   where
     by : (b : Bool) → (b && false) ≡ false
@@ -48,7 +48,7 @@ unfolding read_kind checked
 long-put command before fields takes three number hex long =
     let bytes = hex-bytes (field fields 2) hex in
     let many : nat_le (length (bytes_of (field fields 2))) 2048 ≡ false = let half = bytes.1 in grind (arith, nat_tests) in
-    let out : (nat_lt (number_at fields 1) (endpoints_of (net_of before)) && nat_le (length (bytes_of (field fields 2))) 2048) ≡ false = rw many (by (nat_lt (number_at fields 1) (endpoints_of (net_of before)))) in
+    let out : (nat_lt (field_number_at fields 1) (endpoints_of (net_of before)) && nat_le (length (bytes_of (field fields 2))) 2048) ≡ false = rw many (by (nat_lt (field_number_at fields 1) (endpoints_of (net_of before)))) in
     rw (takes, three, number, hex, out) refl
   where
     by : (b : Bool) → (b && false) ≡ false

@@ -3,12 +3,13 @@ use Rattle.std.proofs.Common.{◌≡◌, ℕ, zero, suc, ◌+◌, ◌*◌, ◌<�
 use Rattle.std.specs.Prelude.{◌==◌, filter, sum_by}
 use Rattle.std.specs.List.{flat_map, range_with_len}
 use Rattle.std.proofs.lemmas.Bool.Decides.{nat_tests}
+use Rattle.list_facts.proofs.Lists.{filter_none}
 use Rattle.clos_topology.specs.Network.{Network, endpoints_of}
 use Rattle.trace_text.specs.Asks.{rank_of, slots_asked, is_asked_by, ask_for, asks_in, IsAmong, IsRisingFrom, IsKept}
 use Rattle.trace_text.specs.Ranks.{has_rank_in}
 use Rattle.trace_text.specs.Trace.{Events, asked_at, content_by}
 use Rattle.trace_text.specs.declared.ask.Ask.{Ask}
-use Rattle.trace_text.proofs.RankFacts.{filter_no, within-round}
+use Rattle.trace_text.proofs.RankFacts.{within-round}
 use Rattle.trace_text.proofs.AskFacts.{among-more, asked-pairs, filter-block, pair_of}
 use Rattle.trace_text.proofs.ContentFacts.{asked_at-content_by}
 use Rattle.trace_text.proofs.EventFacts.{filter-same}
@@ -50,7 +51,7 @@ ranks-split (ask ∷ asks) low a b c rising p q = by (has_rank_in rank_of a b as
 -- the asks of a round, source by source
 sources-of : (asks : List Ask) (round n : ℕ) → IsRisingFrom 0 asks → All (IsAmong 256) asks → n ≤ 256
     → filter (has_rank_in rank_of (round * 65536) (round * 65536 + n * 256)) asks ≡ flat_map (λ src. filter (is_asked_by round src) asks) (range_with_len 0 n)
-sources-of asks round zero rising among few = filter_no _ asks (λ k d lt. grind (arith, nat_tests))
+sources-of asks round zero rising among few = filter_none _ asks (λ k d lt. grind (arith, nat_tests))
 sources-of asks round (suc n) rising among few =
     let e : round * 65536 + suc n * 256 ≡ (round * 256 + n) * 256 + 256 = omega arith in
     let f : round * 65536 + n * 256 ≡ (round * 256 + n) * 256 = omega arith in

@@ -7,7 +7,7 @@ use Rattle.std.proofs.lemmas.Bool.{false≢true}
 use Rattle.std.proofs.lemmas.Bool.Decides.{nat_tests}
 use Rattle.clos_topology.specs.Network.{Network}
 use Rattle.trace_text.specs.Rows.{Row, Ask}
-use Rattle.trace_text.specs.Earlier.{greatest_round, end_in, end_of, named_round, slots_of}
+use Rattle.trace_text.specs.Earlier.{greatest_round, end_in, end_of, named_round, row_slots}
 use Rattle.trace_text.specs.Standing.{IsNetOf, endpoints_kept}
 
 pub length-more : (before : List Row) (row : Row) → length (before ++ row ∷ []) ≡ length before + 1
@@ -54,14 +54,14 @@ end_of-more [] row = option_or-none (end_in row)
 end_of-more (first ∷ rows) row = ap (λ o. option_or (end_in first) o) (end_of-more rows row) ∙ option_or-assoc (end_in first) (end_of rows) (end_in row)
 
 -- no flow asks for too much where this one does not
-pub slots_of-bounded : (before : List Row) (round src dst slots s d : ℕ) → ((s d : ℕ) → sum_by (slots_of s d) before ≤ 100000000)
-    → sum_by (slots_of src dst) before + slots ≤ 100000000 → sum_by (slots_of s d) (before ++ Ask round src dst slots ∷ []) ≤ 100000000
+pub slots_of-bounded : (before : List Row) (round src dst slots s d : ℕ) → ((s d : ℕ) → sum_by (row_slots s d) before ≤ 100000000)
+    → sum_by (row_slots src dst) before + slots ≤ 100000000 → sum_by (row_slots s d) (before ++ Ask round src dst slots ∷ []) ≤ 100000000
 slots_of-bounded before round src dst slots s d each this = by (src == s) refl (dst == d) refl
   where
-    by : (a : Bool) → (src == s) ≡ a → (b : Bool) → (dst == d) ≡ b → sum_by (slots_of s d) (before ++ Ask round src dst slots ∷ []) ≤ 100000000
+    by : (a : Bool) → (src == s) ≡ a → (b : Bool) → (dst == d) ≡ b → sum_by (row_slots s d) (before ++ Ask round src dst slots ∷ []) ≤ 100000000
     by true e true f =
         let same : src ≡ s = grind (arith, nat_tests) in
         let same2 : dst ≡ d = grind (arith, nat_tests) in
-        rw (sum_by_push (slots_of s d) before (Ask round src dst slots), e, f) (rw (same, same2) at this)
-    by true e false f = rw (sum_by_push (slots_of s d) before (Ask round src dst slots), e, f) (omega (arith, each s d))
-    by false e b f = rw (sum_by_push (slots_of s d) before (Ask round src dst slots), e) (omega (arith, each s d))
+        rw (sum_by_push (row_slots s d) before (Ask round src dst slots), e, f) (rw (same, same2) at this)
+    by true e false f = rw (sum_by_push (row_slots s d) before (Ask round src dst slots), e, f) (omega (arith, each s d))
+    by false e b f = rw (sum_by_push (row_slots s d) before (Ask round src dst slots), e) (omega (arith, each s d))

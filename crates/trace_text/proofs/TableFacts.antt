@@ -5,10 +5,10 @@ use Rattle.std.proofs.lemmas.List.{get_or-set_same, get_or-set_other}
 use Rattle.std.proofs.lemmas.Nat.{same_from_place, mul-add-lt}
 use Rattle.std.proofs.lemmas.Bool.Decides.{nat_tests}
 use Rattle.trace_text.specs.Rows.{Ask}
-use Rattle.trace_text.specs.Earlier.{slots_of}
+use Rattle.trace_text.specs.Earlier.{row_slots}
 
 pub table-more : (totals : List ℕ) (n round src dst slots s d : ℕ) → length totals ≡ n * n → src < n → dst < n → s < n → d < n
-    → get_or (set totals (src * n + dst) (get_or totals (src * n + dst) 0 + slots)) (s * n + d) 0 ≡ get_or totals (s * n + d) 0 + slots_of s d (Ask round src dst slots)
+    → get_or (set totals (src * n + dst) (get_or totals (src * n + dst) 0 + slots)) (s * n + d) 0 ≡ get_or totals (s * n + d) 0 + row_slots s d (Ask round src dst slots)
 table-more totals n round src dst slots s d len low low2 low3 low4 = by (src == s) refl (dst == d) refl
   where
     at : ℕ

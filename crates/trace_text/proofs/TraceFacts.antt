@@ -5,7 +5,7 @@ use Rattle.trace_text.specs.Fields.{Record}
 use Rattle.trace_text.specs.Rows.{Row}
 use Rattle.trace_text.specs.Earlier.{net_of, end_of, slots_in_round}
 use Rattle.trace_text.specs.Faults.{read_row}
-use Rattle.trace_text.specs.Trace.{TraceContent, IsFaultOf, content_by, content_or_fault, ended, events_of, puts_of, with_puts, records_of, rows_after, trace_of}
+use Rattle.trace_text.specs.Trace.{TraceContent, IsFaultOf, content_by, content_or_fault, ended, events_of, puts_of, with_puts, records_of_text, rows_after, trace_of}
 use Rattle.trace_text.specs.Standing.{Finishes, TakesRow, StandsFor}
 use Rattle.trace_text.specs.Valid.{IsTrace}
 use Rattle.trace_text.specs.declared.command.Command.{Command}
@@ -35,7 +35,7 @@ unfolding rows_after
 rows_after-err command fields records before fault e = rw e refl
 
 pub told : (command : Command) (text : List ℕ) (fields : Record) (records : List Record) (before : List Row) (rows : Rows) (e : TraceRefused)
-    → rows_after command (records_of text) [] ≡ rows_after command (fields ∷ records) before → TakesRow command before fields rows (Err e) → IsFaultOf (trace_of command text) e
+    → rows_after command (records_of_text text) [] ≡ rows_after command (fields ∷ records) before → TakesRow command before fields rows (Err e) → IsFaultOf (trace_of command text) e
 unfolding trace_of
 told command text fields records before rows (refused.Row row fault) same takes = rw (same, rows_after-err command fields records before fault takes.0, takes.1) refl
 told command text fields records before rows refused.Memory same takes = tt
@@ -47,7 +47,7 @@ rows_after-none command before = refl
 
 -- all rows were read
 pub finished : (command : Command) (text : List ℕ) (before : List Row) (rows : Rows) (r : Result TraceContent TraceRefused)
-    → rows_after command (records_of text) [] ≡ ended before (end_of before) → StandsFor before rows → Finishes rows r
+    → rows_after command (records_of_text text) [] ≡ ended before (end_of before) → StandsFor before rows → Finishes rows r
     → IfOk r (λ trace. trace_of command text ≡ Ok trace) × IfOk r IsTrace × IfErr r (IsFaultOf (trace_of command text))
 unfolding trace_of
 finished command text before rows (Ok trace) all stands finish = let done = finish before stands in (ap content_or_fault all ∙ done.0, done.1, tt)

@@ -9,13 +9,14 @@ use Rattle.std.proofs.lemmas.List.Elements.{All-filter, filter_passes}
 use Rattle.std.proofs.lemmas.List.FromFn.{get_or-map-range_with_len, length-map-range_with_len}
 use Rattle.std.proofs.lemmas.List.Kept.{AllPairs-from_increasing}
 use Rattle.std.proofs.lemmas.List.Sums.{sum_by-cons}
+use Rattle.list_facts.proofs.Lists.{sum_by-map}
 use Rattle.clos_topology.specs.Network.{Network, endpoints_of}
 use Rattle.clos_topology.specs.Limits.{IsNetwork}
 use Rattle.trace_text.specs.Asks.{IsAmong, slots_asked, slots_for}
-use Rattle.trace_text.specs.Earlier.{slots_of, slots_in_round}
+use Rattle.trace_text.specs.Earlier.{row_slots, slots_in_round}
 use Rattle.trace_text.specs.Rows.{Row}
 use Rattle.trace_text.specs.Rows as row
-use Rattle.trace_text.specs.Events.{AreAmong, events_kept, is_boot_of}
+use Rattle.trace_text.specs.Events.{EventsAreAmong, events_kept, is_boot_of}
 use Rattle.trace_text.specs.Faults.{is_fate}
 use Rattle.trace_text.specs.Puts.{AreFew, puts_in}
 use Rattle.trace_text.specs.Trace.{TraceContent, Events, of_way, content_by, with_puts, each_below, table_of, some_below}
@@ -40,11 +41,6 @@ sum_by-below f g (x ∷ xs) le = omega (arith, sum_by-cons f x xs, sum_by-cons g
 sum_by-plus : {X : Type 0} (f g : X → ℕ) (xs : List X) → sum_by (λ x. f x + g x) xs ≡ sum_by f xs + sum_by g xs
 sum_by-plus f g [] = refl
 sum_by-plus f g (x ∷ xs) = omega (arith, sum_by-cons (λ y. f y + g y) x xs, sum_by-cons f x xs, sum_by-cons g x xs, sum_by-plus f g xs)
-
--- a sum over what is made of each
-sum_by-map : {X Y : Type 0} (f : Y → ℕ) (g : X → Y) (xs : List X) → sum_by f (map g xs) ≡ sum_by (λ x. f (g x)) xs
-sum_by-map f g [] = refl
-sum_by-map f g (x ∷ xs) = omega (arith, sum_by-cons f (g x) (map g xs), sum_by-cons (λ y. f (g y)) x xs, sum_by-map f g xs)
 
 -- pairs whose first parts rise, from low on
 abbrev RisesFrom : ℕ → List (ℕ × ℕ) → Type 0
@@ -182,10 +178,10 @@ pub rounds-le : (count src dst : ℕ) (asks : List Ask) → sum_by (λ r. sum_by
 rounds-le count src dst asks = sums-le (λ r. slots_asked r src dst) (slots_for src dst) count asks (ask-rounds count src dst)
 
 -- the same of rows
-pub row-rounds-le : (count src dst : ℕ) (rows : List Row) → sum_by (λ r. sum_by (slots_in_round r src dst) rows) (range_with_len 0 count) ≤ sum_by (slots_of src dst) rows
-row-rounds-le count src dst rows = sums-le (λ r. slots_in_round r src dst) (slots_of src dst) count rows each
+pub row-rounds-le : (count src dst : ℕ) (rows : List Row) → sum_by (λ r. sum_by (slots_in_round r src dst) rows) (range_with_len 0 count) ≤ sum_by (row_slots src dst) rows
+row-rounds-le count src dst rows = sums-le (λ r. slots_in_round r src dst) (row_slots src dst) count rows each
   where
-    each : (row : Row) → sum_by (λ r. slots_in_round r src dst row) (range_with_len 0 count) ≤ slots_of src dst row
+    each : (row : Row) → sum_by (λ r. slots_in_round r src dst row) (range_with_len 0 count) ≤ row_slots src dst row
     each (row.Net racks hosts cores) = omega (arith, none-round count 0)
     each (row.Ask round s d slots) = ask-rounds count src dst (record { round = round; src = s; dst = d; slots = slots })
     each (row.Meets round endpoint up fate) = omega (arith, none-round count 0)
@@ -202,10 +198,10 @@ in-round false b c slots = omega arith
 pub asked-le : (round src dst : ℕ) (asks : List Ask) → sum_by (slots_asked round src dst) asks ≤ sum_by (slots_for src dst) asks
 asked-le round src dst asks = sum_by-below (slots_asked round src dst) (slots_for src dst) asks (λ ask. in-round (ask.round == round) (ask.src == src) (ask.dst == dst) ask.slots)
 
-pub row-asked-le : (round src dst : ℕ) (rows : List Row) → sum_by (slots_in_round round src dst) rows ≤ sum_by (slots_of src dst) rows
-row-asked-le round src dst rows = sum_by-below (slots_in_round round src dst) (slots_of src dst) rows each
+pub row-asked-le : (round src dst : ℕ) (rows : List Row) → sum_by (slots_in_round round src dst) rows ≤ sum_by (row_slots src dst) rows
+row-asked-le round src dst rows = sum_by-below (slots_in_round round src dst) (row_slots src dst) rows each
   where
-    each : (row : Row) → slots_in_round round src dst row ≤ slots_of src dst row
+    each : (row : Row) → slots_in_round round src dst row ≤ row_slots src dst row
     each (row.Net racks hosts cores) = omega arith
     each (row.Ask r s d slots) = in-round (r == round) (s == src) (d == dst) slots
     each (row.Meets r endpoint up fate) = omega arith
@@ -249,7 +245,7 @@ total-le endpoints rounds src dst f =
     (sum_by-below _ _ (range_with_len 0 rounds) (λ r. below-cases (λ l. amount_for dst l ≤ f r src dst) endpoints (some_asked endpoints f r) [] src (omega arith) (some-amount endpoints 0 (f r src) dst).0))
 
 pub content_by-sound : (net : Network) (rounds : ℕ) (asks : List Ask) (fates : List GivenFate) (boots : List Boot) (raws : List KeptPacket) (bytes : List ℕ) → IsNetwork net → 1 ≤ rounds → rounds ≤ 100000 → All (IsAmong (endpoints_of net)) asks
-    → ((src dst : ℕ) → sum_by (λ round. sum_by (slots_asked round src dst) asks) (range_with_len 0 rounds) ≤ 100000000) → AreAmong (endpoints_of net) fates boots raws bytes → length boots ≤ 67108864 → All (λ byte. byte < 256) bytes
+    → ((src dst : ℕ) → sum_by (λ round. sum_by (slots_asked round src dst) asks) (range_with_len 0 rounds) ≤ 100000000) → EventsAreAmong (endpoints_of net) fates boots raws bytes → length boots ≤ 67108864 → All (λ byte. byte < 256) bytes
     → IsTrace (content_by net rounds (λ round src dst. sum_by (slots_asked round src dst) asks) (events_kept fates boots raws bytes))
 content_by-sound net rounds asks fates boots raws bytes limits some few among bounded within few_boots are = record {
   net = limits;

@@ -43,9 +43,9 @@ end_of [] = None
 end_of (row ∷ rows) = option_or (end_in row) (end_of rows)
 
 -- the slots that a row asks for, where it is an ask of this flow
-abbrev pub slots_of : ℕ → ℕ → Row → ℕ
-slots_of src dst (Ask round s d slots) = if (s == src) && (d == dst) then slots else 0
-slots_of src dst row = 0
+abbrev pub row_slots : ℕ → ℕ → Row → ℕ
+row_slots src dst (Ask round s d slots) = if (s == src) && (d == dst) then slots else 0
+row_slots src dst row = 0
 
 -- the same, where it is one of this round
 abbrev pub slots_in_round : ℕ → ℕ → ℕ → Row → ℕ

@@ -66,7 +66,7 @@ abbrev pub IsWithin : ℕ → KeptPacket → Type 0
 IsWithin bytes packet = (packet_start packet + packet.size ≤ bytes) × (packet.size ≤ 2048)
 
 -- all that is kept is
-pub record AreAmong (endpoints : ℕ) (fates : List GivenFate) (boots : List Boot) (raws : List KeptPacket) (bytes : List ℕ) : Type 0 where
+pub record EventsAreAmong (endpoints : ℕ) (fates : List GivenFate) (boots : List Boot) (raws : List KeptPacket) (bytes : List ℕ) : Type 0 where
   pub each_fate : All (IsFateAmong endpoints) fates
   pub each_boot : All (IsBootAmong endpoints) boots
   pub each_raw : All (IsWithin (length bytes)) raws
@@ -74,7 +74,7 @@ pub record AreAmong (endpoints : ℕ) (fates : List GivenFate) (boots : List Boo
 -- what a trace keeps, in the order of ranks, and where the fates, the boots and the raw packets of each round begin; it has no more
 -- boots and no more raw packets than its text has bytes
 pub record AreKept (endpoints rounds : ℕ) (fates : List GivenFate) (fate_starts : List ℕ) (boots : List Boot) (boot_starts : List ℕ) (raws : List KeptPacket) (raw_starts : List ℕ) (bytes : List ℕ) : Type 0 where
-  pub among : AreAmong endpoints fates boots raws bytes
+  pub among : EventsAreAmong endpoints fates boots raws bytes
   pub fates_rise : IsNonDecreasingBy fate_rank fates
   pub fates_begin : AreStarts fate_rank 512 rounds fates fate_starts
   pub boots_rise : IsNonDecreasingBy boot_rank boots

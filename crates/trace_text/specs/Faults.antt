@@ -8,9 +8,9 @@ use Rattle.clos_topology.specs.Limits as limits
 use Rattle.trace_text.specs.Fields.{Record, field}
 use Rattle.loss_world.specs.declared.fate.Fate.{Fate}
 use Rattle.loss_world.specs.declared.fate.Fate.TheVariants.{Hold}
-use Rattle.trace_text.specs.Rows.{Row, Net, Ask, Meets, Boot, Raw, Put, End, kind_of, may_have, is_readable, row_of}
+use Rattle.trace_text.specs.Rows.{Row, Net, Ask, Meets, Boot, Raw, Put, End, kind_of, may_have, is_readable, trace_row_of}
 use Rattle.trace_text.specs.Stage.{takes_kind, takes_rounds}
-use Rattle.trace_text.specs.Earlier.{net_of, named_round, greatest_round, end_of, slots_of, fate_in, put_in}
+use Rattle.trace_text.specs.Earlier.{net_of, named_round, greatest_round, end_of, row_slots, fate_in, put_in}
 use Rattle.trace_text.specs.declared.command.Command.{Command}
 use Rattle.trace_text.specs.declared.kind.Kind.{Kind}
 use Rattle.trace_text.specs.declared.fault.Fault.{Fault}
@@ -29,7 +29,7 @@ is_fate fate = true
 
 -- each field is in its range, in a net of so many endpoints
 abbrev pub is_in_range : ℕ → Row → Bool
-is_in_range endpoints (Net racks hosts cores) = limits.is_in_range racks hosts cores
+is_in_range endpoints (Net racks hosts cores) = limits.are_sizes_in_range racks hosts cores
 is_in_range endpoints (Ask round src dst slots) = is_round round && nat_lt src endpoints && nat_lt dst endpoints && is_between 1 100000000 slots
 is_in_range endpoints (Meets round endpoint up fate) = is_round round && nat_lt endpoint endpoints && is_fate fate
 is_in_range endpoints (Boot round endpoint version) = is_round round && nat_lt endpoint endpoints && is_between 1 2 version
@@ -61,7 +61,7 @@ is_out_of_order before row = is_some (end_of before) || nat_lt (named_round row)
 
 -- the asks of this flow up to this row are too much together, or this endpoint put 1,024 packets before
 abbrev pub is_too_much : List Row → Row → Bool
-is_too_much before (Ask round src dst slots) = nat_lt 100000000 (sum_by (slots_of src dst) before + slots)
+is_too_much before (Ask round src dst slots) = nat_lt 100000000 (sum_by (row_slots src dst) before + slots)
 is_too_much before (Put endpoint packet) = nat_le 1024 (length (filter_map (put_in endpoint) before))
 is_too_much before row = false
 
@@ -86,8 +86,8 @@ read_kind command before fields k =
     if not (takes_kind command k) then Err fault.NotHere
     else if not (may_have k (length fields)) then Err fault.Fields
     else if not (is_readable k fields) then Err fault.Number
-    else if not (has_rounds_for command (row_of k fields)) then Err fault.Range
-    else checked before (row_of k fields)
+    else if not (has_rounds_for command (trace_row_of k fields)) then Err fault.Range
+    else checked before (trace_row_of k fields)
 
 abbrev pub read_named : Command → List Row → Record → Option Kind → Result Row Fault
 read_named command before fields None = Err fault.Kind

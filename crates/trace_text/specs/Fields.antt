@@ -34,8 +34,8 @@ unfoldable pub number_of : Field → ℕ
 number_of text = digits_value 10 text
 
 -- the same of the field at a place
-abbrev pub number_at : Record → ℕ → ℕ
-number_at fields at = number_of (field fields at)
+abbrev pub field_number_at : Record → ℕ → ℕ
+field_number_at fields at = number_of (field fields at)
 
 abbrev pub has_number : Record → ℕ → Bool
 has_number fields at = is_number (field fields at)

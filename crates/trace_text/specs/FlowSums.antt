@@ -6,15 +6,15 @@ use Rattle.trace_text.specs.declared.ask.Ask.{Ask}
 use Rattle.trace_text.specs.declared.flow_sums.FlowSums.{FlowSums}
 
 -- flows are numbered by source and then destination, of at most 256 endpoints
-abbrev pub flow_of : Ask → ℕ
-flow_of ask = ask.src * 256 + ask.dst
+abbrev pub flow_number : Ask → ℕ
+flow_number ask = ask.src * 256 + ask.dst
 
 -- the slots of a flow in a table for this round
-abbrev pub slots_in : ℕ → List ℕ → ℕ → ℕ → ℕ → ℕ
-slots_in own slots round src dst = if (own == round) && nat_lt src 256 && nat_lt dst 256 then slice_index slots (src * 256 + dst) else 0
+abbrev pub slots_for_round : ℕ → List ℕ → ℕ → ℕ → ℕ → ℕ
+slots_for_round own slots round src dst = if (own == round) && nat_lt src 256 && nat_lt dst 256 then slice_index slots (src * 256 + dst) else 0
 
-abbrev pub held : FlowSums → ℕ → ℕ → ℕ → ℕ
-held sums round src dst = slots_in sums.round sums.slots.items round src dst
+abbrev pub held_sum : FlowSums → ℕ → ℕ → ℕ → ℕ
+held_sum sums round src dst = slots_for_round sums.round sums.slots.items round src dst
 
 -- no flow has slots
 abbrev pub holds_none : FlowSums → Type 0

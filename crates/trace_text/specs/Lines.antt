@@ -6,7 +6,7 @@ use Rattle.std.specs.List.{list_all}
 use Rattle.std.specs.Str.{bytes_eq}
 use Rattle.csv.specs.Reading.{default_config, records}
 use Rattle.trace_text.specs.Fields.{Record, cut, field, is_number, number_of}
-use Rattle.trace_text.specs.Rows.{Ask, kind_of, may_have, is_readable, row_of}
+use Rattle.trace_text.specs.Rows.{Ask, kind_of, may_have, is_readable, trace_row_of}
 use Rattle.trace_text.specs.declared.kind.Kind.TheVariants as kind
 use Rattle.trace_text.specs.declared.plain_ask.PlainAsk.{PlainAsk}
 use Rattle.trace_text.specs.declared.records.Found.{Found}
@@ -78,7 +78,7 @@ pub record IsAskRow (ask : PlainAsk) (fields : Record) : Type 0 where
   pub no_net : bytes_eq (field fields 0) (codes "net") ≡ false
   pub whole : may_have kind.Ask (length fields) ≡ true
   pub readable : is_readable kind.Ask fields ≡ true
-  pub row : row_of kind.Ask fields ≡ Ask ask.round ask.src ask.dst ask.slots
+  pub row : trace_row_of kind.Ask fields ≡ Ask ask.round ask.src ask.dst ask.slots
 
 -- the first record is this ask, and the others are these
 abbrev pub BeginsWithAsk : List Record → PlainAsk → List Record → Type 0

@@ -3,7 +3,7 @@ use Rattle.std.specs.Prelude.{ℕ, Bool, ◌&&◌, ◌||◌, ◌==◌, List, len
 use Rattle.std.specs.Str.{bytes_eq}
 use Rattle.loss_world.specs.declared.fate.Fate.{Fate}
 use Rattle.loss_world.specs.declared.fate.Fate.TheVariants.{Lose, Twice, Hold}
-use Rattle.trace_text.specs.Fields.{Field, Record, field, number_at, has_number, is_way, is_up, is_hex, bytes_of}
+use Rattle.trace_text.specs.Fields.{Field, Record, field, field_number_at, has_number, is_way, is_up, is_hex, bytes_of}
 use Rattle.trace_text.specs.declared.kind.Kind.{Kind}
 use Rattle.trace_text.specs.declared.kind.Kind.TheVariants as kind
 
@@ -43,8 +43,8 @@ may_have kind.End count = count == 2
 abbrev pub has_version : Record → Bool
 has_version fields = length fields == 3 || has_number fields 3
 
-abbrev pub version_of : Record → ℕ
-version_of fields = if length fields == 3 then 1 else number_at fields 3
+abbrev pub version_of_boot : Record → ℕ
+version_of_boot fields = if length fields == 3 then 1 else field_number_at fields 3
 
 -- each field that is to be a number, a way or bytes is one
 abbrev pub is_readable : Kind → Record → Bool
@@ -59,13 +59,13 @@ is_readable kind.Put fields = has_number fields 1 && is_hex (field fields 2)
 is_readable kind.End fields = has_number fields 1
 
 -- what a readable row says
-abbrev pub row_of : Kind → Record → Row
-row_of kind.Net fields = Net (number_at fields 1) (number_at fields 2) (number_at fields 3)
-row_of kind.Ask fields = Ask (number_at fields 1) (number_at fields 2) (number_at fields 3) (number_at fields 4)
-row_of kind.Lose fields = Meets (number_at fields 1) (number_at fields 2) (is_up (field fields 3)) Lose
-row_of kind.Twice fields = Meets (number_at fields 1) (number_at fields 2) (is_up (field fields 3)) Twice
-row_of kind.Hold fields = Meets (number_at fields 1) (number_at fields 2) (is_up (field fields 3)) (Hold (number_at fields 4))
-row_of kind.Boot fields = Boot (number_at fields 1) (number_at fields 2) (version_of fields)
-row_of kind.Raw fields = Raw (number_at fields 1) (bytes_of (field fields 2))
-row_of kind.Put fields = Put (number_at fields 1) (bytes_of (field fields 2))
-row_of kind.End fields = End (number_at fields 1)
+abbrev pub trace_row_of : Kind → Record → Row
+trace_row_of kind.Net fields = Net (field_number_at fields 1) (field_number_at fields 2) (field_number_at fields 3)
+trace_row_of kind.Ask fields = Ask (field_number_at fields 1) (field_number_at fields 2) (field_number_at fields 3) (field_number_at fields 4)
+trace_row_of kind.Lose fields = Meets (field_number_at fields 1) (field_number_at fields 2) (is_up (field fields 3)) Lose
+trace_row_of kind.Twice fields = Meets (field_number_at fields 1) (field_number_at fields 2) (is_up (field fields 3)) Twice
+trace_row_of kind.Hold fields = Meets (field_number_at fields 1) (field_number_at fields 2) (is_up (field fields 3)) (Hold (field_number_at fields 4))
+trace_row_of kind.Boot fields = Boot (field_number_at fields 1) (field_number_at fields 2) (version_of_boot fields)
+trace_row_of kind.Raw fields = Raw (field_number_at fields 1) (bytes_of (field fields 2))
+trace_row_of kind.Put fields = Put (field_number_at fields 1) (bytes_of (field fields 2))
+trace_row_of kind.End fields = End (field_number_at fields 1)

@@ -6,14 +6,14 @@ use Rattle.clos_topology.specs.Limits.{IsNetwork}
 use Rattle.clos_topology.specs.declared.net.NetRefused.{NetRefused}
 use Rattle.clos_topology.specs.declared.net.NetRefused.TheVariants as net_refused
 use Rattle.loss_world.specs.declared.fate.Fate.{Fate}
-use Rattle.trace_text.specs.Rows.{Row, Net, Ask, Meets, Boot, Raw, Put, End, may_have, is_readable, row_of}
-use Rattle.trace_text.specs.Fields.{Field, Record, field, has_number, number_at, is_way, is_up, is_hex, bytes_of}
+use Rattle.trace_text.specs.Rows.{Row, Net, Ask, Meets, Boot, Raw, Put, End, may_have, is_readable, trace_row_of}
+use Rattle.trace_text.specs.Fields.{Field, Record, field, has_number, field_number_at, is_way, is_up, is_hex, bytes_of}
 use Rattle.trace_text.specs.Stage.{takes_kind}
-use Rattle.trace_text.specs.Earlier.{net_of, greatest_round, end_of, slots_of, slots_in_round, latest_fate}
+use Rattle.trace_text.specs.Earlier.{net_of, greatest_round, end_of, row_slots, slots_in_round, latest_fate}
 use Rattle.trace_text.specs.Faults.{read_row, read_kind, is_between, is_fate, has_rounds_for}
 use Rattle.trace_text.specs.Asks.{IsAmong, slots_asked}
-use Rattle.trace_text.specs.FlowSums.{held, IsTidy, HoldsAmong}
-use Rattle.trace_text.specs.Events.{AreAmong, AreEventsOf, way_number}
+use Rattle.trace_text.specs.FlowSums.{held_sum, IsTidy, HoldsAmong}
+use Rattle.trace_text.specs.Events.{EventsAreAmong, AreEventsOf, way_number}
 use Rattle.trace_text.specs.Puts.{ArePutsOf}
 use Rattle.trace_text.specs.Trace.{TraceContent, IsFaultOf, content_or_fault, ended}
 use Rattle.trace_text.specs.Valid.{IsTrace}
@@ -63,24 +63,24 @@ ReadsPacket fields (Err why) =
     ⊎ ((is_hex (field fields 2) ≡ true) × (4096 < length (field fields 2)) × (why ≡ fault.Range))
 
 -- what is checked where a row is read is within its limits
-abbrev pub IsWhole : TakenRow → Type 0
-IsWhole (taken.Net net) = IsNetwork net
-IsWhole (taken.Meets round endpoint up fate) = is_fate fate ≡ true
-IsWhole (taken.Boot round endpoint version) = is_between 1 2 version ≡ true
-IsWhole (taken.Raw round packet) = IsPacket packet.now
-IsWhole (taken.Put endpoint packet) = IsPacket packet.now
-IsWhole row = ⊤
+abbrev pub IsWholeRow : TakenRow → Type 0
+IsWholeRow (taken.Net net) = IsNetwork net
+IsWholeRow (taken.Meets round endpoint up fate) = is_fate fate ≡ true
+IsWholeRow (taken.Boot round endpoint version) = is_between 1 2 version ≡ true
+IsWholeRow (taken.Raw round packet) = IsPacket packet.now
+IsWholeRow (taken.Put endpoint packet) = IsPacket packet.now
+IsWholeRow row = ⊤
 
 -- the fields read as a row that gives this fate, where they can be read
 abbrev pub MeetsFate : Record → Fate → Result TakenRow Fault → Type 0
-MeetsFate fields fate (Ok row) = (has_number fields 1 && has_number fields 2 && is_way (field fields 3) ≡ true) × (Meets (number_at fields 1) (number_at fields 2) (is_up (field fields 3)) fate ≡ row_value row) × IsWhole row
+MeetsFate fields fate (Ok row) = (has_number fields 1 && has_number fields 2 && is_way (field fields 3) ≡ true) × (Meets (field_number_at fields 1) (field_number_at fields 2) (is_up (field fields 3)) fate ≡ row_value row) × IsWholeRow row
 MeetsFate fields fate (Err why) = (has_number fields 1 && has_number fields 2 && is_way (field fields 3) ≡ false) × (why ≡ fault.Number)
 
 -- a row that can be read, and is whole; or its fault, whatever stands before it
 abbrev pub ReadsKind : Command → Kind → Record → Result TakenRow Fault → Type 0
 ReadsKind command kind fields (Ok row) =
-    (takes_kind command kind ≡ true) × (may_have kind (length fields) ≡ true) × (is_readable kind fields ≡ true) × (has_rounds_for command (row_of kind fields) ≡ true)
-    × (row_of kind fields ≡ row_value row) × IsWhole row
+    (takes_kind command kind ≡ true) × (may_have kind (length fields) ≡ true) × (is_readable kind fields ≡ true) × (has_rounds_for command (trace_row_of kind fields) ≡ true)
+    × (trace_row_of kind fields ≡ row_value row) × IsWholeRow row
 ReadsKind command kind fields (Err fault) = (before : List Row) → read_kind command before fields kind ≡ Err fault
 
 -- the row is a net
@@ -107,10 +107,10 @@ pub record StandsFor (before : List Row) (rows : Rows) : Type 0 where
   pub ended : rows.end ≡ end_of before
   pub short : IfSome rows.end (λ rounds. (1 ≤ rounds) × (rounds ≤ 100000))
   pub table : length rows.totals.items ≡ endpoints_kept rows.net * endpoints_kept rows.net
-  pub totals : (src dst : ℕ) → src < endpoints_kept rows.net → dst < endpoints_kept rows.net → slice_index rows.totals.items (src * endpoints_kept rows.net + dst) ≡ sum_by (slots_of src dst) before
-  pub bounded : (src dst : ℕ) → sum_by (slots_of src dst) before ≤ 100000000
+  pub totals : (src dst : ℕ) → src < endpoints_kept rows.net → dst < endpoints_kept rows.net → slice_index rows.totals.items (src * endpoints_kept rows.net + dst) ≡ sum_by (row_slots src dst) before
+  pub bounded : (src dst : ℕ) → sum_by (row_slots src dst) before ≤ 100000000
   pub tidy : IsTidy rows.sums
-  pub asks : (round src dst : ℕ) → sum_by (slots_asked round src dst) rows.asks.items + held rows.sums round src dst ≡ sum_by (slots_in_round round src dst) before
+  pub asks : (round src dst : ℕ) → sum_by (slots_asked round src dst) rows.asks.items + held_sum rows.sums round src dst ≡ sum_by (slots_in_round round src dst) before
   pub among : All (IsAmong (endpoints_kept rows.net)) rows.asks.items
   pub held_among : HoldsAmong (endpoints_kept rows.net) rows.sums
   pub ways : length rows.fated.items ≡ endpoints_kept rows.net * 2
@@ -119,12 +119,12 @@ pub record StandsFor (before : List Row) (rows : Rows) : Type 0 where
   pub few : length rows.events.boots.items ≤ length before
   pub few_raws : length rows.events.raws.items ≤ length before
   pub few_bytes : length rows.events.bytes.items ≤ 2048 * length before
-  pub bounds : AreAmong (endpoints_kept rows.net) rows.events.fates.items rows.events.boots.items rows.events.raws.items rows.events.bytes.items
+  pub bounds : EventsAreAmong (endpoints_kept rows.net) rows.events.fates.items rows.events.boots.items rows.events.raws.items rows.events.bytes.items
   pub puts : ArePutsOf before (endpoints_kept rows.net) rows.puts
 
 -- what is kept stands for some rows
-abbrev pub Stands : Rows → Type 0
-Stands rows = (before : List Row) × StandsFor before rows
+abbrev pub RowsAreKept : Rows → Type 0
+RowsAreKept rows = (before : List Row) × StandsFor before rows
 
 -- what the code relies on of a row without fault
 abbrev pub IsAllowed : Rows → TakenRow → Type 0

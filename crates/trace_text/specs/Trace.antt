@@ -16,8 +16,8 @@ use Rattle.trace_text.specs.declared.fault.Fault.TheVariants as fault
 
 -- the rows of a text as fields: comma separated values with double quotes and no header. A byte order mark at the
 -- start is dropped, and a blank line is no row
-abbrev pub records_of : List ℕ → List Record
-records_of text = records default_config (strip_bom text)
+abbrev pub records_of_text : List ℕ → List Record
+records_of_text text = records default_config (strip_bom text)
 
 -- a row's number, counted from 1, and its fault
 pub record FaultyRow : Type 0 where
@@ -62,8 +62,8 @@ pub record TraceContent : Type 0 where
   pub puts : List (List (List ℕ))
 
 -- the last of some, if there is one
-abbrev pub last_of : List ℕ → Option ℕ
-last_of xs = slice_get xs (length xs - 1)
+abbrev pub last_one : List ℕ → Option ℕ
+last_one xs = slice_get xs (length xs - 1)
 
 -- what a source asks for in a round
 abbrev pub asked_at : TraceContent → ℕ → ℕ → List (ℕ × ℕ)
@@ -137,7 +137,7 @@ content_or_fault (Err faulty) = Err faulty
 
 -- what the trace of a text holds, or the first faulty row where it is no trace that the command takes
 unfoldable pub trace_of : Command → List ℕ → Result TraceContent FaultyRow
-trace_of command text = content_or_fault (rows_after command (records_of text) [])
+trace_of command text = content_or_fault (rows_after command (records_of_text text) [])
 
 -- the refusal tells the first faulty row, or want of memory
 abbrev pub IsFaultOf : Result TraceContent FaultyRow → TraceRefused → Type 0

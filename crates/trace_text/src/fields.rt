@@ -2,7 +2,7 @@
 ghost use Rattle.std.specs.Prelude.{◌≡◌, [], ◌∷◌, ◌++◌, true, false, nat_lt, length, MatchOption, OnOk};
 ghost use Rattle.csv.specs.Records.{fields_of, partial_of};
 ghost use Rattle.hex.specs.Hex.{is_hex_digit};
-ghost use Rattle.trace_text.specs.Fields.{Record, cut, field, has_number, number_at, is_way, is_up, is_hex};
+ghost use Rattle.trace_text.specs.Fields.{Record, cut, field, has_number, field_number_at, is_way, is_up, is_hex};
 ghost use Rattle.trace_text.specs.Lines.{IsClosed};
 
 use crate::number::read_number;
@@ -53,7 +53,7 @@ pub fn field(fields: &ByteRecord, at: usize) -> &[u8]
 
 /// The number in the field at a place, if it is one.
 pub fn number_at(fields: &ByteRecord, at: usize) -> Option<u32>
-    ensures { MatchOption result (has_number (fields_of fields.now) at ≡ false) (λ n. (has_number (fields_of fields.now) at ≡ true) × (n ≡ number_at (fields_of fields.now) at)) }
+    ensures { MatchOption result (has_number (fields_of fields.now) at ≡ false) (λ n. (has_number (fields_of fields.now) at ≡ true) × (n ≡ field_number_at (fields_of fields.now) at)) }
 {
     read_number(field(fields, at))
 }

@@ -2,7 +2,7 @@
 ghost use Rattle.std.specs.Prelude.{◌≡◌, ◌+◌, ◌<◌, ◌≤◌, ◌^◌, ℕ, length, slice_index, sum_by, All, IfOk, OnOk};
 ghost use Rattle.std.specs.List.{slice_set};
 ghost use Rattle.trace_text.specs.Asks.{slots_asked, IsAmong};
-ghost use Rattle.trace_text.specs.FlowSums.{flow_of, held, holds_none, IsTidy, HoldsAmong};
+ghost use Rattle.trace_text.specs.FlowSums.{flow_number, held_sum, holds_none, IsTidy, HoldsAmong};
 
 use crate::ask::Ask;
 use line_marks::Marks;
@@ -65,7 +65,7 @@ impl FlowSums {
         ensures tidy { OnOk result (IsTidy self.new) }
         ensures round { OnOk result (self.new.round ≡ round) }
         ensures among { (endpoints : ℕ) → All (IsAmong endpoints) summed.old.items → HoldsAmong endpoints self.old → OnOk result (All (IsAmong endpoints) summed.new.items × HoldsAmong endpoints self.new) }
-        ensures sums { (round src dst : ℕ) → OnOk result (sum_by (slots_asked round src dst) summed.new.items + held self.new round src dst ≡ sum_by (slots_asked round src dst) summed.old.items + held self.old round src dst) }
+        ensures sums { (round src dst : ℕ) → OnOk result (sum_by (slots_asked round src dst) summed.new.items + held_sum self.new round src dst ≡ sum_by (slots_asked round src dst) summed.old.items + held_sum self.old round src dst) }
     {
         if round == self.round {
             return Ok(());
@@ -80,10 +80,10 @@ impl FlowSums {
         requires tidy { IsTidy self.old }
         requires round { ask.now.round ≡ self.old.round }
         requires small { IsAmong 256 ask.now }
-        requires fits { slice_index self.old.slots.items (flow_of ask.now) + ask.now.slots < 2 ^ 32 }
+        requires fits { slice_index self.old.slots.items (flow_number ask.now) + ask.now.slots < 2 ^ 32 }
         ensures tidy { IsTidy self.new }
         ensures round { self.new.round ≡ self.old.round }
-        ensures slots { self.new.slots.items ≡ slice_set self.old.slots.items (flow_of ask.now) (slice_index self.old.slots.items (flow_of ask.now) + ask.now.slots) }
+        ensures slots { self.new.slots.items ≡ slice_set self.old.slots.items (flow_number ask.now) (slice_index self.old.slots.items (flow_number ask.now) + ask.now.slots) }
     {
         let src = usize::from(ask.src);
         let dst = usize::from(ask.dst);
@@ -102,7 +102,7 @@ impl FlowSums {
         ensures tidy { OnOk result (IsTidy self.new) }
         ensures none { OnOk result (holds_none self.new) }
         ensures among { (endpoints : ℕ) → All (IsAmong endpoints) summed.old.items → HoldsAmong endpoints self.old → OnOk result (All (IsAmong endpoints) summed.new.items) }
-        ensures sums { (round src dst : ℕ) → OnOk result (sum_by (slots_asked round src dst) summed.new.items ≡ sum_by (slots_asked round src dst) summed.old.items + held self.old round src dst) }
+        ensures sums { (round src dst : ℕ) → OnOk result (sum_by (slots_asked round src dst) summed.new.items ≡ sum_by (slots_asked round src dst) summed.old.items + held_sum self.old round src dst) }
     {
         let mut flow = self.next_from(0);
         while flow < FLOWS {
@@ -123,7 +123,7 @@ impl FlowSums {
     pub fn finish(self, asks: Vec<Ask>) -> Result<Vec<Ask>, NoMemory>
         requires tidy { IsTidy self }
         ensures among { IfOk result (λ all. (endpoints : ℕ) → All (IsAmong endpoints) asks.items → HoldsAmong endpoints self → All (IsAmong endpoints) all.items) }
-        ensures sums { IfOk result (λ all. (round src dst : ℕ) → sum_by (slots_asked round src dst) all.items ≡ sum_by (slots_asked round src dst) asks.items + held self round src dst) }
+        ensures sums { IfOk result (λ all. (round src dst : ℕ) → sum_by (slots_asked round src dst) all.items ≡ sum_by (slots_asked round src dst) asks.items + held_sum self round src dst) }
     {
         let mut sums = self;
         let mut all = asks;

@@ -2,7 +2,7 @@
 ghost use Rattle.std.specs.Prelude.{◌≡◌, ◌≤◌, Ok, length, IfOk, IfErr};
 ghost use Rattle.trace_text.specs.Trace.{trace_of, IsFaultOf};
 ghost use Rattle.trace_text.specs.Valid.{IsTrace};
-ghost use Rattle.trace_text.specs.Standing.{Stands, Finishes};
+ghost use Rattle.trace_text.specs.Standing.{RowsAreKept, Finishes};
 
 use crate::records::{Found, Records};
 use crate::rows::Rows;
@@ -38,7 +38,7 @@ pub fn read_trace(alloc: Global, bytes: &[u8], command: Command) -> Result<Trace
 
 // What stands after the last row.
 fn finish(rows: Rows) -> Result<Trace, TraceRefused>
-    requires stands { Stands rows }
+    requires stands { RowsAreKept rows }
     requires room { rows.count ≤ 67108864 }
     ensures { Finishes rows result }
 {

@@ -4,7 +4,7 @@ ghost use Rattle.std.specs.Prelude.{◌≡◌, ◌<◌, ◌≤◌, ◌++◌, ℕ
 ghost use Rattle.std.specs.Bool.{MatchBool};
 ghost use Rattle.csv.specs.Reading.{strip_bom};
 ghost use Rattle.csv.specs.Records.{fields_of};
-ghost use Rattle.trace_text.specs.Trace.{records_of};
+ghost use Rattle.trace_text.specs.Trace.{records_of_text};
 ghost use Rattle.trace_text.specs.Lines.{BeginsWithAsk, Finds, BeginsLong, records_in};
 ghost use Rattle.trace_text.specs.declared.records.Found.TheVariants as found;
 
@@ -65,7 +65,7 @@ impl<'a> Model for Records<'a> {
 
 impl<'a> Records<'a> {
     pub fn new(alloc: Global, text: &'a [u8]) -> Records<'a>
-        ensures records { result ≡ records_of text.now }
+        ensures records { result ≡ records_of_text text.now }
         ensures few { length result ≤ length text.now }
     {
         Records::at(alloc, without_mark(text))

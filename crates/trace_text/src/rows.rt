@@ -10,7 +10,7 @@ ghost use Rattle.trace_text.specs.Faults.{read_row, checked, is_in_range, is_bet
 ghost use Rattle.std.specs.List.{list_any, filter_map};
 ghost use Rattle.trace_text.specs.Earlier.{fate_in, put_in};
 ghost use Rattle.trace_text.specs.Events.{way_number};
-ghost use Rattle.trace_text.specs.Standing.{StandsFor, Stands, IsAllowed, IsWhole, IsPacket, is_net, endpoints_kept, row_value, as_rows, row_unless, TakesRow};
+ghost use Rattle.trace_text.specs.Standing.{StandsFor, RowsAreKept, IsAllowed, IsWholeRow, IsPacket, is_net, endpoints_kept, row_value, as_rows, row_unless, TakesRow};
 ghost use Rattle.trace_text.specs.declared.fault.TraceRefused.TheVariants as refused;
 ghost use Rattle.trace_text.specs.declared.taken_row.TakenRow.TheVariants as taken;
 
@@ -81,7 +81,7 @@ impl Rows {
     /// The row with these fields, or its fault.
     #[tactic(auto, unfolding(crate::specs::Faults::read_row, crate::specs::Faults::read_kind))]
     pub fn judge<'a>(&self, command: Command, fields: &'a ByteRecord) -> Result<TakenRow<'a>, Fault>
-        requires { Stands self.now }
+        requires { RowsAreKept self.now }
         ensures row { (before : List Row) → StandsFor before self.now → read_row command before (fields_of fields.now) ≡ as_rows result }
         ensures allowed { IfOk result (λ row. IsAllowed self.now row) }
     {
@@ -104,7 +104,7 @@ impl Rows {
     /// Takes the next row, or tells its number and fault.
     #[inline(never)]
     pub fn take(&mut self, command: Command, fields: &ByteRecord) -> Result<(), TraceRefused>
-        requires stands { Stands self.old }
+        requires stands { RowsAreKept self.old }
         requires room { self.old.count < 4294967295 }
         ensures { (before : List Row) → StandsFor before self.old → TakesRow command before (fields_of fields.now) self.new result }
     {
@@ -117,7 +117,7 @@ impl Rows {
     /// Takes an ask that is the next row, or tells the row's number and fault.
     #[inline(always)]
     pub fn take_ask(&mut self, command: Command, ask: &PlainAsk) -> Result<(), TraceRefused>
-        requires stands { Stands self.old }
+        requires stands { RowsAreKept self.old }
         requires room { self.old.count < 4294967295 }
         ensures { (before : List Row) (fields : Record) → StandsFor before self.old → IsAskRow ask.now fields → TakesRow command before fields self.new result }
     {
@@ -129,7 +129,7 @@ impl Rows {
 
     /// The number and the fault of the next row, which has more fields than a row of any kind.
     pub fn refuse_too_many(&self, command: Command, fields: &ByteRecord) -> TraceRefused
-        requires stands { Stands self.now }
+        requires stands { RowsAreKept self.now }
         requires room { self.now.count < 4294967295 }
         requires many { 6 ≤ length (fields_of fields.now) }
         ensures { (before : List Row) → StandsFor before self.now → TakesRow command before (fields_of fields.now) self.now (Err result) }
@@ -140,7 +140,7 @@ impl Rows {
     // What is wrong with it.
     #[tactic(auto, using(crate::proofs::FirstFields::too_many), unfolding(crate::specs::Faults::read_row, crate::specs::Faults::read_kind))]
     fn fault_of_too_many(&self, command: Command, fields: &ByteRecord) -> Fault
-        requires stands { Stands self.now }
+        requires stands { RowsAreKept self.now }
         requires many { 6 ≤ length (fields_of fields.now) }
         ensures { (before : List Row) → StandsFor before self.now → read_row command before (fields_of fields.now) ≡ Err result }
     {
@@ -172,7 +172,7 @@ impl Rows {
     #[inline(always)]
     #[tactic(auto, unfolding(crate::specs::Faults::read_row, crate::specs::Faults::read_kind))]
     fn judge_ask(&self, command: Command, ask: &PlainAsk) -> Option<Fault>
-        requires { Stands self.now }
+        requires { RowsAreKept self.now }
         ensures row { (before : List Row) (fields : Record) → StandsFor before self.now → IsAskRow ask.now fields → read_row command before fields ≡ row_unless (row.Ask ask.now.round ask.now.src ask.now.dst ask.now.slots) result }
         ensures allowed { IfNone result (IsAllowed self.now (taken.Ask ask.now.round ask.now.src ask.now.dst ask.now.slots)) }
     {
@@ -187,8 +187,8 @@ impl Rows {
 
     // What is wrong with a row that could be read.
     fn fault_of(&self, row: &TakenRow) -> Option<Fault>
-        requires stands { Stands self.now }
-        requires whole { IsWhole row.now }
+        requires stands { RowsAreKept self.now }
+        requires whole { IsWholeRow row.now }
         requires first { IfNone self.now.net (is_net row.now ≡ true) }
         ensures fault { (before : List Row) → StandsFor before self.now → checked before (row_value row.now) ≡ row_unless (row_value row.now) result }
         ensures allowed { IfNone result (IsAllowed self.now row.now) }
@@ -233,7 +233,7 @@ impl Rows {
     #[inline(always)]
     #[tactic(auto, unfolding(crate::specs::Faults::checked))]
     fn ask_fault(&self, round: u32, src: u32, dst: u32, slots: u32) -> Option<Fault>
-        requires { Stands self.now }
+        requires { RowsAreKept self.now }
         ensures fault { (before : List Row) → StandsFor before self.now → checked before (row.Ask round src dst slots) ≡ row_unless (row.Ask round src dst slots) result }
         ensures allowed { IfNone result (IsAllowed self.now (taken.Ask round src dst slots)) }
     {
@@ -254,7 +254,7 @@ impl Rows {
 
     #[tactic(auto, unfolding(crate::specs::Faults::checked))]
     fn fate_fault(&self, round: u32, endpoint: u32, up: bool, fate: Fate) -> Option<Fault>
-        requires stands { Stands self.now }
+        requires stands { RowsAreKept self.now }
         requires fate { is_fate fate ≡ true }
         ensures fault { (before : List Row) → StandsFor before self.now → checked before (row.Meets round endpoint up fate) ≡ row_unless (row.Meets round endpoint up fate) result }
         ensures allowed { IfNone result (IsAllowed self.now (taken.Meets round endpoint up fate)) }
@@ -273,7 +273,7 @@ impl Rows {
 
     #[tactic(auto, unfolding(crate::specs::Faults::checked))]
     fn boot_fault(&self, round: u32, endpoint: u32, version: u8) -> Option<Fault>
-        requires stands { Stands self.now }
+        requires stands { RowsAreKept self.now }
         requires version { is_between 1 2 version ≡ true }
         ensures fault { (before : List Row) → StandsFor before self.now → checked before (row.Boot round endpoint version) ≡ row_unless (row.Boot round endpoint version) result }
         ensures allowed { IfNone result (IsAllowed self.now (taken.Boot round endpoint version)) }
@@ -305,7 +305,7 @@ impl Rows {
 
     #[tactic(auto, unfolding(crate::specs::Faults::checked))]
     fn put_fault(&self, endpoint: u32, packet: &[u8]) -> Option<Fault>
-        requires stands { Stands self.now }
+        requires stands { RowsAreKept self.now }
         requires packet { IsPacket packet.now }
         ensures fault { (before : List Row) → StandsFor before self.now → checked before (row.Put endpoint (bytes_of packet.now)) ≡ row_unless (row.Put endpoint (bytes_of packet.now)) result }
         ensures allowed { IfNone result (IsAllowed self.now (taken.Put endpoint packet.entry)) }
@@ -339,7 +339,7 @@ impl Rows {
 
     // Keeps a row without fault.
     fn push(&mut self, row: TakenRow) -> Result<(), NoMemory>
-        requires stands { Stands self.old }
+        requires stands { RowsAreKept self.old }
         requires allowed { IsAllowed self.old row }
         requires room { self.old.count < 4294967295 }
         ensures { (before : List Row) → StandsFor before self.old → OnOk result (StandsFor (before ++ row_value row.entry ∷ []) self.new) }
@@ -389,7 +389,7 @@ impl Rows {
 
     #[inline(always)]
     fn push_ask(&mut self, round: u32, src: u32, dst: u32, slots: u32) -> Result<(), NoMemory>
-        requires stands { Stands self.old }
+        requires stands { RowsAreKept self.old }
         requires allowed { IsAllowed self.old (taken.Ask round src dst slots) }
         requires room { self.old.count < 4294967295 }
         ensures { (before : List Row) → StandsFor before self.old → OnOk result (StandsFor (before ++ row.Ask round src dst slots ∷ []) self.new) }
@@ -409,7 +409,7 @@ impl Rows {
     }
 
     fn push_fate(&mut self, round: u32, endpoint: u32, up: bool, fate: Fate) -> Result<(), NoMemory>
-        requires stands { Stands self.old }
+        requires stands { RowsAreKept self.old }
         requires allowed { IsAllowed self.old (taken.Meets round endpoint up fate) }
         requires room { self.old.count < 4294967295 }
         ensures { (before : List Row) → StandsFor before self.old → OnOk result (StandsFor (before ++ row.Meets round endpoint up fate ∷ []) self.new) }
@@ -428,7 +428,7 @@ impl Rows {
     }
 
     fn push_boot(&mut self, round: u32, endpoint: u32, version: u8) -> Result<(), NoMemory>
-        requires stands { Stands self.old }
+        requires stands { RowsAreKept self.old }
         requires allowed { IsAllowed self.old (taken.Boot round endpoint version) }
         requires room { self.old.count < 4294967295 }
         ensures { (before : List Row) → StandsFor before self.old → OnOk result (StandsFor (before ++ row.Boot round endpoint version ∷ []) self.new) }
@@ -444,7 +444,7 @@ impl Rows {
     }
 
     fn push_raw(&mut self, round: u32, packet: &[u8]) -> Result<(), NoMemory>
-        requires stands { Stands self.old }
+        requires stands { RowsAreKept self.old }
         requires allowed { IsAllowed self.old (taken.Raw round packet) }
         requires room { self.old.count < 4294967295 }
         ensures { (before : List Row) → StandsFor before self.old → OnOk result (StandsFor (before ++ row.Raw round (bytes_of packet.now) ∷ []) self.new) }
@@ -456,7 +456,7 @@ impl Rows {
     }
 
     fn push_put(&mut self, endpoint: u32, packet: &[u8]) -> Result<(), NoMemory>
-        requires stands { Stands self.old }
+        requires stands { RowsAreKept self.old }
         requires allowed { IsAllowed self.old (taken.Put endpoint packet) }
         requires room { self.old.count < 4294967295 }
         ensures { (before : List Row) → StandsFor before self.old → OnOk result (StandsFor (before ++ row.Put endpoint (bytes_of packet.now) ∷ []) self.new) }
@@ -467,7 +467,7 @@ impl Rows {
     }
 
     fn is_ask(&self, round: u32, src: u32, dst: u32, slots: u32) -> bool
-        requires { Stands self.now }
+        requires { RowsAreKept self.now }
         ensures { result ≡ is_in_range (endpoints_kept self.now.net) (row.Ask round src dst slots) }
     {
         let endpoints = self.endpoints();
@@ -487,7 +487,7 @@ impl Rows {
 
     // What the flow asked for so far.
     fn total(&self, src: u32, dst: u32) -> u32
-        requires stands { Stands self.now }
+        requires stands { RowsAreKept self.now }
         requires src { src < endpoints_kept self.now.net }
         requires dst { dst < endpoints_kept self.now.net }
         ensures value { result ≡ slice_index self.now.totals.items (src * endpoints_kept self.now.net + dst) }
@@ -498,7 +498,7 @@ impl Rows {
 
     // How many packets the endpoint put so far.
     fn put_count(&self, endpoint: u32) -> u16
-        requires stands { Stands self.now }
+        requires stands { RowsAreKept self.now }
         requires endpoint { endpoint < endpoints_kept self.now.net }
         ensures count { result ≡ slice_index self.now.puts.counts.items endpoint }
         ensures rows { (before : List Row) → StandsFor before self.now → result ≡ length (filter_map (put_in endpoint) before) }
@@ -508,7 +508,7 @@ impl Rows {
 
     // Whether an earlier row gave a fate to the packet of this round, endpoint and way.
     fn has_fate(&self, round: u32, endpoint: u32, up: bool) -> bool
-        requires stands { Stands self.now }
+        requires stands { RowsAreKept self.now }
         requires endpoint { endpoint < endpoints_kept self.now.net }
         requires round { round ≤ 99999 }
         requires late { self.now.round ≤ round }
@@ -519,7 +519,7 @@ impl Rows {
 
     // Where a way of an endpoint stands.
     fn way_of(&self, endpoint: u32, up: bool) -> usize
-        requires stands { Stands self.now }
+        requires stands { RowsAreKept self.now }
         requires endpoint { endpoint < endpoints_kept self.now.net }
         ensures place { result ≡ endpoint * 2 + way_number up }
         ensures within { result < length self.now.fated.items }
@@ -529,7 +529,7 @@ impl Rows {
 
     // Where the total of a flow stands.
     fn place_of(&self, src: u32, dst: u32) -> usize
-        requires stands { Stands self.now }
+        requires stands { RowsAreKept self.now }
         requires src { src < endpoints_kept self.now.net }
         requires dst { dst < endpoints_kept self.now.net }
         ensures place { result ≡ src * endpoints_kept self.now.net + dst }
@@ -540,7 +540,7 @@ impl Rows {
 
     // How many endpoints the net has, where there is one.
     fn endpoints(&self) -> u32
-        requires { Stands self.now }
+        requires { RowsAreKept self.now }
         ensures number { result ≡ endpoints_kept self.now.net }
         ensures few { result ≤ 256 }
     {

@@ -4,7 +4,7 @@ ghost use Rattle.csv.specs.Records.{fields_of};
 ghost use Rattle.clos_topology.specs.Limits.{network_of};
 ghost use Rattle.trace_text.specs.Standing.{MeetsFate, ReadsKind, ReadsPacket, net_or_fault};
 ghost use Rattle.trace_text.specs.Faults.{is_fate};
-ghost use Rattle.trace_text.specs.Rows.{may_have, has_version, version_of};
+ghost use Rattle.trace_text.specs.Rows.{may_have, has_version, version_of_boot};
 ghost use Rattle.trace_text.specs.Stage.{takes_kind, takes_rounds};
 ghost use Rattle.trace_text.specs.declared.kind.Kind.TheVariants as kind;
 
@@ -200,7 +200,7 @@ fn read_boot<'a>(fields: &'a ByteRecord) -> Result<TakenRow<'a>, Fault>
 
 // The version of a boot, which is 1 where no field tells it.
 fn version_in(fields: &ByteRecord) -> Option<u32>
-    ensures { MatchOption result (has_version (fields_of fields.now) ≡ false) (λ version. (has_version (fields_of fields.now) ≡ true) × (version ≡ version_of (fields_of fields.now))) }
+    ensures { MatchOption result (has_version (fields_of fields.now) ≡ false) (λ version. (has_version (fields_of fields.now) ≡ true) × (version ≡ version_of_boot (fields_of fields.now))) }
 {
     if fields.len() == 3 {
         return Some(1);

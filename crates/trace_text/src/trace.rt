@@ -4,9 +4,9 @@ ghost use Rattle.std.specs.List.{range_with_len};
 ghost use Rattle.clos_topology.specs.Network.{endpoints_of};
 ghost use Rattle.clos_topology.specs.Limits.{IsNetwork};
 ghost use Rattle.trace_text.specs.Asks.{slots_asked, ask_for, asks_in, IsAmong};
-ghost use Rattle.trace_text.specs.Events.{AreAmong, events_kept};
+ghost use Rattle.trace_text.specs.Events.{EventsAreAmong, events_kept};
 ghost use Rattle.trace_text.specs.Puts.{AreFew, puts_in};
-ghost use Rattle.trace_text.specs.Trace.{asked_at, fate_at, boots_at, raw_at, puts_at, content_by, with_puts, each_below, last_of};
+ghost use Rattle.trace_text.specs.Trace.{asked_at, fate_at, boots_at, raw_at, puts_at, content_by, with_puts, each_below, last_one};
 ghost use Rattle.trace_text.specs.Valid.{IsTrace};
 
 use crate::ask::Ask;
@@ -91,7 +91,7 @@ impl Trace {
         requires among { All (IsAmong (endpoints_of net)) asks.items }
         requires small { (round src dst : ℕ) → sum_by (slots_asked round src dst) asks.items ≤ 100000000 }
         requires bounded { (src dst : ℕ) → sum_by (λ round. sum_by (slots_asked round src dst) asks.items) (range_with_len 0 rounds) ≤ 100000000 }
-        requires events { AreAmong (endpoints_of net) events.fates.items events.boots.items events.raws.items events.bytes.items }
+        requires events { EventsAreAmong (endpoints_of net) events.fates.items events.boots.items events.raws.items events.bytes.items }
         requires boots { length events.boots.items ≤ 67108864 }
         requires raws { length events.raws.items ≤ 67108864 }
         requires puts { AreFew puts }
@@ -271,7 +271,7 @@ impl Trace {
     pub fn boot_version(&self, round: u32, endpoint: u16) -> Option<u8>
         requires round { round < self.now.rounds }
         requires endpoint { endpoint < endpoints_of self.now.net }
-        ensures { result ≡ last_of (boots_at self.now round endpoint) }
+        ensures { result ≡ last_one (boots_at self.now round endpoint) }
     {
         match self.boots_of(round, endpoint).last() {
             Some(boot) => Some(boot.version),
@@ -286,7 +286,7 @@ impl Trace {
         requires round { round < self.now.rounds }
         requires endpoint { endpoint < endpoints_of self.now.net }
         ensures count { result.0 ≡ length (boots_at self.now round endpoint) }
-        ensures version { result.1 ≡ last_of (boots_at self.now round endpoint) }
+        ensures version { result.1 ≡ last_one (boots_at self.now round endpoint) }
     {
         let rank = boot_rank(round, endpoint);
         if is_gap(&self.boots, rank, rank + 1, near) {

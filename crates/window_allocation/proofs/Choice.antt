@@ -1,15 +1,15 @@
 -- Items of a list that are chosen one after another.
 use Rattle.std.proofs.Common.{◌≡◌, ◌≢◌, ◌<◌, ◌+◌, ℕ, List, [], ◌∷◌, ◌++◌, length, get_or, take, Bool, true, false, not, ◌||◌, cond, All, refl, sym, ap, ◌∙◌, subst, arith}
-use Rattle.std.proofs.lemmas.Bool.{cond_both, or_left, false_from_ne_true, not-true}
+use Rattle.std.proofs.lemmas.Bool.{cond_both, or_left, not-true}
 use Rattle.std.proofs.lemmas.List.{take_all, take_more, length-take, length-append}
 use Rattle.std.proofs.lemmas.List.Elements.{All-nil, All-cons, All-head, All-tail, All-weaker}
 use Rattle.std.proofs.lemmas.List.Folds.{list_any_none}
 use Rattle.list_facts.proofs.Pairs.{AllPairs-head, AllPairs-tail}
-use Rattle.greedy_rules.specs.declared.flows.Flow.{Flow}
 use Rattle.greedy_rules.specs.declared.flows.Item.{Item}
 use Rattle.greedy_rules.specs.Flows.{same_flow}
 use Rattle.greedy_rules.specs.Demands.{HasEachFlowOnce, is_listed}
-use Rattle.greedy_rules.proofs.Facts.{same_flow-true, same_flow-refl}
+use Rattle.greedy_rules.proofs.Facts.{same_flow-refl}
+use Rattle.greedy_rules.proofs.CellLemmas.{differs}
 use Rattle.slot_batches.specs.Marks.{WindowMarks, has_mark}
 use Rattle.slot_batches.specs.Woven.{picked, places_from}
 use Rattle.window_allocation.specs.Picked.{IsReached}
@@ -110,21 +110,18 @@ All-chosen P (choice ∷ choices) (item ∷ list) all =
     let rest = All-chosen P choices list (All-tail P item list all) in
     cond_both choice (item ∷ chosen choices list) (chosen choices list) (All P) (λ _. All-cons P item (chosen choices list) (All-head P item list all) rest) (λ _. rest)
 
-not_same : (f g : Flow) → f ≢ g → same_flow f g ≡ false
-not_same f g apart = false_from_ne_true _ (λ same. apart (same_flow-true f g same))
-
 agrees_more : (choice : Bool) (choices : List Bool) (item : Item) (list : List Item) → All (λ j. item.flow ≢ j.flow) list → Agree (unlisted (chosen choices list)) choices list
     → Agree (unlisted (cond choice (item ∷ chosen choices list) (chosen choices list))) (choice ∷ choices) (item ∷ list)
 agrees_more true choices item list others more = (
   ap not (or_left (same_flow item.flow item.flow) (is_listed (chosen choices list) item.flow) (same_flow-refl item.flow)),
   agree_too (unlisted (chosen choices list)) (unlisted (item ∷ chosen choices list)) choices list
       (All-weaker (λ j. item.flow ≢ j.flow) (λ j. unlisted (item ∷ chosen choices list) j ≡ unlisted (chosen choices list) j)
-      (λ j apart. ap (λ (b : Bool). not (b || is_listed (chosen choices list) j.flow)) (not_same item.flow j.flow apart)) list others)
+      (λ j apart. ap (λ (b : Bool). not (b || is_listed (chosen choices list) j.flow)) (differs item.flow j.flow apart)) list others)
       more,
 )
 agrees_more false choices item list others more = (
   ap not (list_any_none (λ (x : Item). same_flow x.flow item.flow) (chosen choices list)
-      (All-weaker (λ j. item.flow ≢ j.flow) (λ j. same_flow j.flow item.flow ≡ false) (λ j apart. not_same j.flow item.flow (λ same. apart (sym same))) (chosen choices list)
+      (All-weaker (λ j. item.flow ≢ j.flow) (λ j. same_flow j.flow item.flow ≡ false) (λ j apart. differs j.flow item.flow (λ same. apart (sym same))) (chosen choices list)
       (All-chosen (λ j. item.flow ≢ j.flow) choices list others))),
   more,
 )

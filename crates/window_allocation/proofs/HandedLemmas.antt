@@ -18,12 +18,12 @@ use Rattle.greedy_rules.specs.Recorded.{MayBeApplied}
 use Rattle.greedy_rules.specs.Schedule.{first_slot, slots_then, list_then, schedule_from, rest_from}
 use Rattle.greedy_rules.proofs.Facts.{same_flow-true}
 use Rattle.slot_batches.specs.Woven.{picked, HaveNoEntry}
-use Rattle.window_allocation.specs.Handed.{Part, slots_of_part, moved_by_part, batches_of, slots_over, moved_over, IsPassedEmpty, ComeOfRing}
+use Rattle.window_allocation.specs.Handed.{HandedPart, slots_of_part, moved_by_part, batches_of, slots_over, moved_over, IsPassedEmpty, ComeOfRing}
 use Rattle.window_allocation.specs.Runs.{IsPlayed, ArePlayed}
 use Rattle.window_allocation.proofs.RunLemmas.{run_behind}
 
 -- one part more, behind others
-parts_and_one : (b k workers : ℕ) (list : List Item) (parts : List Part) (part : Part) (moved : List ℕ) → SchedulesGoOn
+parts_and_one : (b k workers : ℕ) (list : List Item) (parts : List HandedPart) (part : HandedPart) (moved : List ℕ) → SchedulesGoOn
     → (batches_of (parts ++ part ∷ []) ≡ batches_of parts ++ part.batches)
     × (slots_over b k list (parts ++ part ∷ []) ≡ slots_over b k list parts ++ slots_of_part b (k + length (batches_of parts)) (rest_from b k list (batches_of parts)) part)
     × (moved_over b k workers list (parts ++ part ∷ []) moved

@@ -2,6 +2,7 @@
 use Rattle.std.proofs.Common.{◌≡◌, ◌≤◌, ◌+◌, ◌-◌, ◌*◌, ℕ, List, [], ◌∷◌, ◌++◌, length, take, drop, replicate, All, refl, sym, ap, ◌∙◌, arith}
 use Rattle.std.proofs.lemmas.List.{append_assoc, replicate-append-replicate, take-append-drop}
 use Rattle.std.proofs.lemmas.List.Elements.{All-head, All-tail}
+use Rattle.list_facts.proofs.Numbers.{rows_on}
 use Rattle.greedy_rules.specs.declared.flows.Flow.{Flow}
 use Rattle.greedy_rules.specs.declared.flows.Item.{Item}
 use Rattle.greedy_rules.specs.declared.flows.Entry.{Entry}
@@ -42,9 +43,6 @@ idle_stay b k list (batch ∷ batches) stays order idle =
           ∙ (replicate-append-replicate b (length batches * b) none ∙ ap (λ (n : ℕ). replicate n none) (next_place (length batches) b ∙ ap (λ (n : ℕ). n * b) count))),
       ap (λ (l : List Item). rest_from b (k + 1) l batches) one.1 ∙ on.1,
     )
-
-rows_on : (p n b : ℕ) → (p + n) * b ≡ p * b + n * b
-rows_on p n b = grind arith
 
 -- their places, which were empty, stay as they are
 pub places_stay : (passed n b : ℕ) (slots idle : List (List Flow)) → (passed + n) * b ≤ length slots → drop (passed * b) slots ≡ replicate (length slots - passed * b) [] → idle ≡ replicate (n * b) []

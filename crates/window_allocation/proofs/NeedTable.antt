@@ -1,7 +1,7 @@
 -- The table of needs, one item after another.
-use Rattle.std.proofs.Common.{◌≡◌, ◌≢◌, ◌<◌, ◌+◌, ◌*◌, ℕ, suc, List, [], ◌∷◌, ◌++◌, length, get_or, set, take, replicate, Option, Some, None, All, false, slice_get, refl, sym, ap, ◌∙◌, arith, inl, inr}
+use Rattle.std.proofs.Common.{◌≡◌, ◌≢◌, ◌<◌, ◌+◌, ◌*◌, ℕ, suc, List, [], ◌∷◌, ◌++◌, length, get_or, set, take, replicate, Option, Some, None, All, slice_get, refl, sym, ap, ◌∙◌, arith, inl, inr}
 use Rattle.std.specs.Option.{option_or}
-use Rattle.std.proofs.lemmas.Bool.{cond-true, cond-false, eq-eqb, and_from, cases_Bool, cases_eq}
+use Rattle.std.proofs.lemmas.Bool.{cond-true, cond-false, eq-eqb, and_from, cases_eq}
 use Rattle.std.proofs.lemmas.Option.{get_or_from_slice_get}
 use Rattle.std.proofs.lemmas.Nat.{same_from_place, mul-add-lt}
 use Rattle.std.proofs.lemmas.List.{get_or-set_same, get_or-set_other, length-set, length-replicate, get_or-replicate, take_more, get_or-take, length-take}
@@ -10,15 +10,9 @@ use Rattle.greedy_rules.specs.declared.flows.Flow.{Flow}
 use Rattle.greedy_rules.specs.declared.flows.Item.{Item}
 use Rattle.greedy_rules.specs.Flows.{same_flow}
 use Rattle.greedy_rules.specs.Demands.{HasEachFlowOnce, item_of, need_in}
-use Rattle.greedy_rules.proofs.Facts.{same_flow-true}
+use Rattle.greedy_rules.proofs.CellLemmas.{differs}
+use Rattle.greedy_rules.specs.Cells.{flow_of}
 use Rattle.window_allocation.specs.Needs.{Needs, place_of}
-
-abbrev flow_of : ℕ → ℕ → Flow
-flow_of src dst = record { src = src; dst = dst }
-
--- flows that are not equal are told apart
-differs : (f g : Flow) → f ≢ g → same_flow f g ≡ false
-differs f g apart = elim (cases_Bool (same_flow f g)) [ inl same ↦ absurd (apart (same_flow-true f g same)) | inr other ↦ other ]
 
 or_none : (item : Option Item) → option_or item None ≡ item
 or_none None = refl

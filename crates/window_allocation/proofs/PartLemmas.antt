@@ -1,9 +1,9 @@
 -- Part of a list: a window's batches may be applied to it where they have no entry of what is left out.
-use Rattle.std.proofs.Common.{◌≡◌, ◌≢◌, ◌<◌, ◌≤◌, ◌+◌, ℕ, zero, suc, List, [], ◌∷◌, ◌++◌, length, get_or, filter, Bool, true, false, not, ◌&&◌, ◌||◌, Option, Some, None, is_some, All, refl, sym, ap, ◌∙◌, subst, arith, inl, inr}
+use Rattle.std.proofs.Common.{◌≡◌, ◌≢◌, ◌<◌, ◌≤◌, ◌+◌, ℕ, List, [], ◌∷◌, ◌++◌, get_or, filter, Bool, true, false, not, ◌&&◌, ◌||◌, Some, None, is_some, All, refl, sym, ap, ◌∙◌, subst, arith, inl, inr}
 use Rattle.std.specs.List.{list_any}
 use Rattle.std.proofs.lemmas.Bool.{cases_Bool, cond-true, cond-false, and_left, and_right, or_left, or_parts, both_ways, not-true, not_from_true, not_from_false}
 use Rattle.std.proofs.lemmas.List.{append-nil, append_assoc}
-use Rattle.std.proofs.lemmas.List.Folds.{list_any-append, list_any_none}
+use Rattle.std.proofs.lemmas.List.Folds.{list_any_none}
 use Rattle.std.proofs.lemmas.List.Elements.{All-nil, All-cons, All-head, All-tail, All-append, All-map, All-filter, All-weaker}
 use Rattle.list_facts.proofs.Pairs.{AllPairs-head, AllPairs-tail}
 use Rattle.greedy_rules.specs.declared.flows.Flow.{Flow}
@@ -12,12 +12,13 @@ use Rattle.greedy_rules.specs.declared.flows.Entry.{Entry}
 use Rattle.greedy_rules.specs.declared.limits.Limits.{Limits}
 use Rattle.greedy_rules.specs.Flows.{same_flow}
 use Rattle.greedy_rules.specs.Batches.{DemandBatch, entry_of}
-use Rattle.greedy_rules.specs.Demands.{HasEachFlowOnce, AreBelow, HaveTwoEnds, is_listed, item_of, need_in, need_with, opened, after_batch}
+use Rattle.greedy_rules.specs.Demands.{HasEachFlowOnce, AreBelow, HaveTwoEnds, is_listed, item_of, need_in, opened, after_batch}
 use Rattle.greedy_rules.specs.Limits.{is_barred}
 use Rattle.greedy_rules.specs.Balance.{EveryBatchBalances, is_recorded}
-use Rattle.greedy_rules.specs.Recorded.{demand_through, demand_of, IsRecordedAfter, AreRecordedAfter, Applies, MayBeApplied, IsLeftBy}
+use Rattle.greedy_rules.specs.Recorded.{demand_of, IsRecordedAfter, AreRecordedAfter, Applies, MayBeApplied, IsLeftBy}
 use Rattle.greedy_rules.specs.Schedule.{first_slot, list_then}
-use Rattle.greedy_rules.proofs.Facts.{same_flow-refl, same_flow-true, listed-after_slots, listed-after_batch, flows-after_slots, flows-after_batch}
+use Rattle.greedy_rules.proofs.Facts.{same_flow-true, listed-after_slots, listed-after_batch, flows-after_slots, flows-after_batch}
+use Rattle.greedy_rules.proofs.RecordedLemmas.{need_of_item, need_with-le, demand_more, is_recorded-more}
 use Rattle.slot_batches.specs.Woven.{picked, HaveNoEntry}
 use Rattle.slot_batches.proofs.SetAside.{once-filter}
 use Rattle.slot_batches.proofs.WeaveLemmas.{no_entry_is}
@@ -42,39 +43,6 @@ opens_from endpoints b k list now (batch ∷ batches) still may =
 
 pub opens_new : (endpoints b k : ℕ) (list : List Item) (batches : List DemandBatch) → MayBeApplied endpoints b k list batches → OpenNew list batches
 opens_new endpoints b k list batches may = opens_from endpoints b k list list batches (λ flow listed. listed) may
-
-need_of_item : (items : List Item) (at : ℕ) (d : Item) → HasEachFlowOnce items → at < length items → need_in (item_of items (get_or items at d).flow) ≡ (get_or items at d).need
-need_of_item [] at d once below = absurd (omega arith)
-need_of_item (item ∷ items) zero d once below = ap need_in (cond-true (same_flow item.flow item.flow) (Some item) (item_of items item.flow) (same_flow-refl item.flow))
-need_of_item (item ∷ items) (suc at) d once below =
-    let that : Item = get_or items at d in
-    let tail : HasEachFlowOnce items = λ i j e lt within. once (suc i) (suc j) e (omega arith) (omega arith) in
-    let apart : item.flow ≢ that.flow = once 0 (suc at) d (omega arith) below in
-    elim (cases_Bool (same_flow item.flow that.flow)) [
-      | inl same ↦ absurd (apart (same_flow-true item.flow that.flow same))
-      | inr other ↦ ap need_in (cond-false (same_flow item.flow that.flow) (Some item) (item_of items that.flow) other) ∙ need_of_item items at d tail (omega arith)
-    ]
-
--- more need stays more
-need_with-le : (entry : Option Entry) (low high : ℕ) → low ≤ high → need_with entry low ≤ need_with entry high
-need_with-le None low high le = le
-need_with-le (Some entry) low high le =
-    elim (cases_Bool entry.clear) [
-      | inl clears ↦ omega (arith, cond-true {A = ℕ} entry.clear 0 low clears, cond-true {A = ℕ} entry.clear 0 high clears)
-      | inr keeps ↦ omega (arith, cond-false {A = ℕ} entry.clear 0 low keeps, cond-false {A = ℕ} entry.clear 0 high keeps)
-    ]
-
-demand_more : (earlier : List DemandBatch) (batch : DemandBatch) (flow : Flow) (need : ℕ) → demand_through (earlier ++ batch ∷ []) flow need ≡ need_with (entry_of batch.entries flow) (demand_through earlier flow need)
-demand_more [] batch flow need = refl
-demand_more (x ∷ earlier) batch flow need = demand_more earlier batch flow (need_with (entry_of x.entries flow) need)
-
-or-none : (p : Bool) → (p || false) ≡ p
-or-none true = refl
-or-none false = refl
-
-is_recorded-more : (earlier : List DemandBatch) (batch : DemandBatch) (flow : Flow) → is_recorded (earlier ++ batch ∷ []) flow ≡ (is_recorded earlier flow || is_some (entry_of batch.entries flow))
-is_recorded-more earlier batch flow =
-    list_any-append (λ (x : DemandBatch). is_some (entry_of x.entries flow)) earlier (batch ∷ []) ∙ ap (λ b. is_recorded earlier flow || b) (or-none (is_some (entry_of batch.entries flow)))
 
 module _ (endpoints b : ℕ) (limits : Limits) (gone : Flow → Bool) (balances : EveryBatchBalances) where
   -- part of a list that batches have left: of the flows that are not gone

@@ -4,10 +4,11 @@ use Rattle.std.specs.List.Sorted.{IsNonDecreasingBy, IsPartitionPoint}
 use Rattle.std.proofs.lemmas.Bool.{cond-true, cond-false, cases_Bool, ltb-true, ltb-false}
 use Rattle.std.proofs.lemmas.List.Elements.{All-nil, All-cons, All-head, All-tail}
 use Rattle.std.proofs.lemmas.List.{append_assoc, length-append, take-append-drop, take_at, drop_at, drop_more, take_rest, length-take-le, length-drop, get_or-drop, drop-drop, get_or_append_left, get_or-append_right}
+use Rattle.list_facts.proofs.Lists.{empty_of}
 use Rattle.greedy_rules.specs.declared.flows.Item.{Item}
 use Rattle.slot_batches.specs.Woven.{picked, stays, weave, never_served, once_served, woven, places_from}
 use Rattle.window_allocation.specs.Picked.{staying}
-use Rattle.window_allocation.proofs.Weaving.{run_aside, none_left, followed}
+use Rattle.window_allocation.proofs.Weaving.{run_aside, followed}
 
 -- there are as many places as items picked
 pub as_many : (aside : Item → Bool) (place : ℕ) (items : List Item) → length (picked aside items) ≡ length (places_from aside place items)
@@ -292,7 +293,7 @@ next_step aside first from i places list rest inside more left =
 pub last_step : (aside : Item → Bool) (first from i : ℕ) (places : List ℕ) (list rest : List Item) → length places ≤ i → drop i places ≡ places_from aside (first + from) (drop from list)
     → weave aside (drop from list) rest ≡ drop from list ++ rest
 last_step aside first from i places list rest ended left =
-    let none : drop i places ≡ [] = none_left (drop i places) (omega (arith, ended, length-drop i places)) in
+    let none : drop i places ≡ [] = empty_of (drop i places) (omega (arith, ended, length-drop i places)) in
     followed aside (drop from list) rest (none_next aside (first + from) (drop from list) (sym none ∙ left))
 
 -- the places of both parts of a list, as the code cuts them

@@ -6,6 +6,7 @@ use Rattle.std.proofs.lemmas.Nat.{mul-le}
 use Rattle.std.proofs.lemmas.List.{drop_more, drop_all, get_or_default, get_or-take, get_or-drop, length-take, length-drop, drop-drop}
 use Rattle.std.proofs.lemmas.List.Elements.{filter_passes}
 use Rattle.std.proofs.lemmas.List.Folds.{list_any_none}
+use Rattle.list_facts.proofs.Lists.{take_on}
 use Rattle.greedy_rules.specs.declared.flows.Flow.{Flow}
 use Rattle.greedy_rules.specs.declared.flows.Item.{Item}
 use Rattle.greedy_rules.specs.Flows.{same_flow}
@@ -22,7 +23,6 @@ use Rattle.slot_batches.specs.Beyond.{is_in, seen_with, goes_ahead, HaveRivals, 
 use Rattle.window_allocation.specs.declared.end_words.EndWords.{EndWords}
 use Rattle.window_allocation.specs.Reach.{names_source, names_destination, AreAhead, HasRival, stands_ahead, IsOut, AreOut, IsNamed, OpenAhead, OpenNew}
 use Rattle.window_allocation.proofs.Places.{within_list}
-use Rattle.window_allocation.proofs.RunLemmas.{take_on}
 
 -- more flows go ahead
 pub more_ahead : (b : ℕ) (slots : List (List Flow)) (fewer more : Flow → Bool) (words : EndWords) → ((flow : Flow) → fewer flow ≡ true → more flow ≡ true) → AreAhead b slots fewer words → AreAhead b slots more words

@@ -18,7 +18,7 @@ use Rattle.slot_batches.specs.Woven.{picked, places_from, OnlyOpen, HaveNoEntry,
 use Rattle.slot_batches.specs.Beyond.{HaveRivals, AreBarredInSlots, ItemsBarredInSlotsMayBeSetAside}
 use Rattle.slot_batches.specs.NextList.{IsListBefore, EveryBatchKeepsItsFlows}
 use Rattle.slot_batches.proofs.SetAside.{still_before}
-use Rattle.alloc_pipeline.specs.Ring.{RingWork, IsSameRing, MayAllocate}
+use Rattle.alloc_pipeline.specs.Ring.{RingWork, IsSameRingWork, MayAllocate}
 use Rattle.window_allocation.specs.Handed.{Handed, IsOfWindow, ComeOfRing, moved_over}
 use Rattle.window_allocation.specs.Picked.{IsReached}
 use Rattle.window_allocation.specs.Reach.{OpenNew, AreOut}
@@ -112,7 +112,7 @@ as_long b n total full slots size fits is =
     let none : List Flow = [] in
     omega (arith, ap length is, length-append full (replicate (total - n * b) none), length-replicate (total - n * b) none, size, fits)
 
-pub may_again : (old mid : RingWork) (first : ℕ) (list : Demands) (batches : List DemandBatch) (out now : Slots) → IsSameRing old mid → now.endpoints ≡ out.endpoints → length now.slots ≡ length out.slots
+pub may_again : (old mid : RingWork) (first : ℕ) (list : Demands) (batches : List DemandBatch) (out now : Slots) → IsSameRingWork old mid → now.endpoints ≡ out.endpoints → length now.slots ≡ length out.slots
     → MayAllocate old first list batches out → MayAllocate mid first list batches now
 may_again old mid first list batches out now same endpoints long may = record {
   count = omega (arith, may.count, same.batches);
@@ -125,7 +125,7 @@ may_again old mid first list batches out now same endpoints long may = record {
   places = rw (same.b, long) may.places;
 }
 
-pub gives_again : (old mid new : RingWork) (first : ℕ) (list list_new : Demands) (batches : List DemandBatch) (out now out_new : Slots) → IsSameRing old mid → now.endpoints ≡ out.endpoints → length now.slots ≡ length out.slots
+pub gives_again : (old mid new : RingWork) (first : ℕ) (list list_new : Demands) (batches : List DemandBatch) (out now out_new : Slots) → IsSameRingWork old mid → now.endpoints ≡ out.endpoints → length now.slots ≡ length out.slots
     → GivesSlots mid new first list list_new batches now out_new → GivesSlots old new first list list_new batches out out_new
 gives_again old mid new first list list_new batches out now out_new same endpoints long gives =
     let none : List Flow = [] in

@@ -1,7 +1,8 @@
 -- The batches of a window, run by run.
-use Rattle.std.proofs.Common.{◌≡◌, ◌<◌, ◌≤◌, ◌+◌, ◌-◌, ◌*◌, ◌^◌, ℕ, zero, suc, List, [], ◌∷◌, ◌++◌, length, take, drop, replicate, refl, sym, ap, ◌∙◌, subst, arith}
+use Rattle.std.proofs.Common.{◌≡◌, ◌<◌, ◌≤◌, ◌+◌, ◌-◌, ◌*◌, ◌^◌, ℕ, List, [], ◌∷◌, ◌++◌, length, take, drop, replicate, refl, sym, ap, ◌∙◌, subst, arith}
 use Rattle.std.proofs.lemmas.Nat.{mul-le}
 use Rattle.std.proofs.lemmas.List.{length-append, length-drop, length-replicate, length-take-le, take_all, take_at, drop_at, take-append-drop}
+use Rattle.list_facts.proofs.Lists.{take_on}
 use Rattle.greedy_rules.specs.declared.flows.Flow.{Flow}
 use Rattle.greedy_rules.specs.declared.flows.Item.{Item}
 use Rattle.greedy_rules.specs.Batches.{DemandBatch}
@@ -11,6 +12,7 @@ use Rattle.greedy_rules.specs.Fronts.{SchedulesGoOn, EveryBatchHasItsSlots}
 use Rattle.greedy_rules.specs.Recorded.{MayBeApplied}
 use Rattle.greedy_rules.specs.Room.{FlowsFitPairs}
 use Rattle.alloc_pipeline.specs.Ring.{pairs_of}
+use Rattle.alloc_pipeline.proofs.RingLemmas.{left_before}
 use Rattle.slot_batches.specs.NextList.{IsListBefore, EveryBatchLeavesAList, EveryBatchKeepsItsFlows}
 
 -- a list to which a batch may be applied has at most an item for each flow between the endpoints
@@ -20,19 +22,6 @@ few_items endpoints b k list (batch ∷ batches) pairs some may =
     let applies = may.0 in
     let fit = pairs endpoints batch.entries list applies.rises applies.opens applies.once applies.below applies.apart in
     omega (arith, fit)
-
-slots_on : (k b : ℕ) → k * b + 1 + b ≡ (k + 1) * b + 1
-slots_on k b = grind arith
-
--- batches leave a list before the slot that follows them
-pub left_before : (endpoints b k : ℕ) (list : List Item) (batches : List DemandBatch) → EveryBatchLeavesAList → MayBeApplied endpoints b k list batches → IsListBefore (first_slot b k) list
-    → IsListBefore (first_slot b (k + length batches)) (rest_from b k list batches)
-left_before endpoints b k list [] leaves may before = let here : k ≡ k + 0 = omega arith in subst (λ (n : ℕ). IsListBefore (first_slot b n) list) here before
-left_before endpoints b k list (batch ∷ batches) leaves may before =
-    let then : List Item = list_then b k batch list in
-    let after = leaves (is_barred batch.limits) (first_slot b k) b batch.entries list (omega arith) may.0.rises may.0.opens before in
-    let number : k + 1 + length batches ≡ k + length (batch ∷ batches) = omega arith in
-    subst (λ (n : ℕ). IsListBefore (first_slot b n) (rest_from b (k + 1) then batches)) number (left_before endpoints b (k + 1) then batches leaves may.1 (subst (λ (n : ℕ). IsListBefore n then) (slots_on k b) after))
 
 -- lists only grow
 lists_grow : (b k : ℕ) (list : List Item) (batches : List DemandBatch) → EveryBatchKeepsItsFlows → length list ≤ length (rest_from b k list batches)
@@ -117,11 +106,6 @@ stand_first b k found batches total served list slots counts places are =
       first = ap (take (served * b)) are.slots_are ∙ take_at first rest (served * b) long;
       empty = ap (drop (served * b)) are.slots_are ∙ (drop_at first rest (served * b) long ∙ ap (λ (n : ℕ). replicate (n - served * b) none) (sym total_is));
     }
-
-pub take_on : {X : Type 0} (n m : ℕ) (xs : List X) → take (n + m) xs ≡ take n xs ++ take m (drop n xs)
-take_on zero m xs = ap (λ (k : ℕ). take k xs) (let q : 0 + m ≡ m = omega arith in q)
-take_on {X} (suc n) m [] = take_all {A = X} (suc n + m) [] (omega arith) ∙ sym (take_all {A = X} m [] (omega arith))
-take_on (suc n) m (x ∷ xs) = ap (λ (k : ℕ). take k (x ∷ xs)) (let q : suc n + m ≡ suc (n + m) = omega arith in q) ∙ ap (λ ys. x ∷ ys) (take_on n m xs)
 
 -- a run of those behind the first
 pub run_behind : (served n : ℕ) (batches : List DemandBatch) → take (served + n) batches ≡ take served batches ++ take n (take (length batches - served) (drop served batches))

@@ -1,6 +1,5 @@
 -- The slots of one table, put into empty places of another, flow by flow.
-use Rattle.std.proofs.Common.{◌||◌, Bool, true, false, is_some, ◌≡◌, ◌<◌, ◌≤◌, ◌+◌, ◌-◌, ℕ, zero, suc, List, [], ◌∷◌, ◌++◌, length, get_or, set, take, drop, replicate, Option, Some, None, nat_lt, All, IfSome, refl, sym, ap, ◌∙◌, subst, arith}
-use Rattle.std.specs.List.{fold}
+use Rattle.std.proofs.Common.{◌≡◌, ◌<◌, ◌≤◌, ◌+◌, ◌-◌, ℕ, zero, suc, List, [], ◌∷◌, ◌++◌, length, get_or, set, take, drop, replicate, Option, Some, None, nat_lt, All, IfSome, refl, sym, ap, ◌∙◌, subst, arith}
 use Rattle.std.proofs.lemmas.Bool.{cond-true, lt-ltb, eq-eqb, ne_eqb}
 use Rattle.std.proofs.lemmas.List.{append-nil, append_assoc, length-append, length-take, length-take-le, take_at, drop_at, get_or_at, set_at, set-set, set-get_or, get_or-set_same, take_more, take-append-drop}
 use Rattle.std.proofs.lemmas.List.Elements.{All-nil, All-cons, All-head, All-tail, All-append, All-weaker}
@@ -9,6 +8,7 @@ use Rattle.greedy_rules.specs.Slot.{slot_with}
 use Rattle.greedy_rules.specs.Schedule.{slot_in}
 use Rattle.greedy_rules.specs.SlotTable.{destination_of, flows_from, AreCells}
 use Rattle.greedy_rules.proofs.Facts.{this_source, other_source}
+use Rattle.greedy_rules.proofs.RowLemmas.{destination-low, flows_from-append}
 
 -- a source above all of a slot's sends nothing, and comes last
 pub sends_nothing : (source : ℕ) (slot : List Flow) → All (λ flow. flow.src < source) slot → destination_of slot source ≡ None
@@ -23,36 +23,12 @@ comes_last flow (next ∷ slot) below =
     cond-true (nat_lt next.src flow.src) (next ∷ slot_with flow slot) (flow ∷ (next ∷ slot)) (lt-ltb _ _ (All-head (λ (f : Flow). f.src < flow.src) next slot below))
     ∙ ap (λ (fs : List Flow). next ∷ fs) (comes_last flow slot (All-tail (λ (f : Flow). f.src < flow.src) next slot below))
 
--- a row in parts: the flows of its first places, and of those behind them
-flows_append : (src : ℕ) (xs ys : List (Option ℕ)) → flows_from src (xs ++ ys) ≡ flows_from src xs ++ flows_from (src + length xs) ys
-flows_append src [] ys = let here : src ≡ src + 0 = omega arith in ap (λ (n : ℕ). flows_from n ys) here
-flows_append src (None ∷ xs) ys =
-    let on : src + 1 + length xs ≡ src + suc (length xs) = omega arith in
-    flows_append (src + 1) xs ys ∙ ap (λ (n : ℕ). flows_from (src + 1) xs ++ flows_from n ys) on
-flows_append src (Some dst ∷ xs) ys =
-    let on : src + 1 + length xs ≡ src + suc (length xs) = omega arith in
-    ap (λ (fs : List Flow). record { src = src; dst = dst } ∷ fs) (flows_append (src + 1) xs ys ∙ ap (λ (n : ℕ). flows_from (src + 1) xs ++ flows_from n ys) on)
-
 flows_below : (src : ℕ) (cells : List (Option ℕ)) → All (λ flow. flow.src < src + length cells) (flows_from src cells)
 flows_below src [] = All-nil (λ (f : Flow). f.src < src + 0)
 flows_below src (None ∷ cells) = All-weaker (λ (f : Flow). f.src < src + 1 + length cells) (λ (f : Flow). f.src < src + suc (length cells)) (λ flow below. omega (arith, below)) (flows_from (src + 1) cells) (flows_below (src + 1) cells)
 flows_below src (Some dst ∷ cells) =
     All-cons (λ (f : Flow). f.src < src + suc (length cells)) (record { src = src; dst = dst }) (flows_from (src + 1) cells) (omega arith)
     (All-weaker (λ (f : Flow). f.src < src + 1 + length cells) (λ (f : Flow). f.src < src + suc (length cells)) (λ flow below. omega (arith, below)) (flows_from (src + 1) cells) (flows_below (src + 1) cells))
-
--- whether a place has a destination, or one before it had
-abbrev or_sends : Bool → Option ℕ → Bool
-or_sends sends to = sends || is_some to
-
-stays_true : (row : List (Option ℕ)) → fold or_sends true row ≡ true
-stays_true [] = refl
-stays_true (to ∷ row) = stays_true row
-
--- places in which nobody sends have no flows
-pub no_flows : (src : ℕ) (row : List (Option ℕ)) → fold or_sends false row ≡ false → flows_from src row ≡ []
-no_flows src [] none = refl
-no_flows src (None ∷ row) none = no_flows (src + 1) row none
-no_flows src (Some dst ∷ row) none = let both : true ≡ false = sym (stays_true row) ∙ none in absurd (cc)
 
 -- where the flows of a row go to endpoints, its places name these
 pub cells_within : (endpoints n src : ℕ) (cells : List (Option ℕ)) → endpoints ≤ n → All (λ flow. (flow.src < endpoints) × (flow.dst < endpoints)) (flows_from src cells) → AreCells n cells
@@ -84,7 +60,7 @@ one_more front first at few d below =
     let here : first + length (take at few) ≡ first + at = omega (arith, length-take-le at few (omega arith)) in
     append_assoc front (flows_from first (take at few)) (flows_from (first + at) (get_or few at d ∷ []))
     ∙ ap (λ (fs : List Flow). front ++ fs)
-    (ap (λ (n : ℕ). flows_from first (take at few) ++ flows_from n (get_or few at d ∷ [])) (sym here) ∙ (sym (flows_append first (take at few) (get_or few at d ∷ [])) ∙ ap (flows_from first) (sym (take_more few at d below))))
+    (ap (λ (n : ℕ). flows_from first (take at few) ++ flows_from n (get_or few at d ∷ [])) (sym here) ∙ (sym (flows_from-append first (take at few) (get_or few at d ∷ [])) ∙ ap (flows_from first) (sym (take_more few at d below))))
 
 -- all that a slot has after the first places comes below the next one
 pub below_next : (front : List Flow) (first at : ℕ) (few : List (Option ℕ)) → at ≤ length few → All (λ flow. flow.src < first) front → All (λ flow. flow.src < first + at) (front ++ flows_from first (take at few))
@@ -111,20 +87,14 @@ cut at row rest few left within rest_is split =
     let taken : take (at + length few) row ≡ front ++ few = ap (take (at + length few)) whole ∙ take_at (front ++ few) left (at + length few) count in
     record {
       left_is = ap (drop (at + length few)) whole ∙ drop_at (front ++ few) left (at + length few) count;
-      flows = sym (ap (flows_from 0) taken ∙ (flows_append 0 front few ∙ ap (λ (n : ℕ). flows_from 0 front ++ flows_from n few) there));
+      flows = sym (ap (flows_from 0) taken ∙ (flows_from-append 0 front few ∙ ap (λ (n : ℕ). flows_from 0 front ++ flows_from n few) there));
       below = subst (λ (n : ℕ). All (λ (f : Flow). f.src < n) (flows_from 0 front)) there (flows_below 0 front);
       few_is = sym (take_at few left (length few) refl) ∙ ap (take (length few)) (sym here);
     }
 
-none_before : (k src : ℕ) (cells : List (Option ℕ)) → src < k → destination_of (flows_from k cells) src ≡ None
-none_before k src [] low = refl
-none_before k src (None ∷ cells) low = none_before (k + 1) src cells (omega arith)
-none_before k src (Some dst ∷ cells) low =
-    other_source src (record { src = k; dst = dst }) (flows_from (k + 1) cells) (ne_eqb _ _ (λ same. omega arith)) ∙ none_before (k + 1) src cells (omega arith)
-
 cell_from : (k i src : ℕ) (cells : List (Option ℕ)) (d : Option ℕ) → src ≡ k + i → i < length cells → get_or cells i d ≡ destination_of (flows_from k cells) src
 cell_from k i src [] d is below = absurd (omega (arith, below))
-cell_from k zero src (None ∷ cells) d is below = sym (none_before (k + 1) src cells (omega arith))
+cell_from k zero src (None ∷ cells) d is below = sym (destination-low (k + 1) src cells (omega arith))
 cell_from k (suc i) src (None ∷ cells) d is below = cell_from (k + 1) i src cells d (omega arith) (omega (arith, below))
 cell_from k zero src (Some dst ∷ cells) d is below = sym (this_source src (record { src = k; dst = dst }) (flows_from (k + 1) cells) (eq-eqb k src (omega (arith, is))))
 cell_from k (suc i) src (Some dst ∷ cells) d is below =

@@ -1,21 +1,23 @@
 -- Words of slots: of endpoints, and of flows.
-use Rattle.std.proofs.Common.{◌≡◌, ◌≢◌, ◌<◌, ◌≤◌, ◌+◌, ◌-◌, ◌*◌, ◌%◌, ◌^◌, ℕ, zero, suc, List, [], ◌∷◌, length, get_or, set, replicate, Bool, true, false, ◌&&◌, ◌||◌, ◌==◌, nat_lt, nat_eq, max, min, bit_and, bit_or, w64, Option, Some, None, All, AllPairs, refl, sym, ap, ◌∙◌, subst, arith, inl, inr, ◌⊎◌}
+use Rattle.std.proofs.Common.{◌≡◌, ◌≢◌, ◌<◌, ◌≤◌, ◌+◌, ◌-◌, ◌*◌, ◌%◌, ◌^◌, ℕ, zero, suc, List, length, get_or, set, replicate, Bool, true, false, ◌&&◌, ◌||◌, ◌==◌, nat_lt, nat_eq, max, bit_and, bit_or, w64, Option, Some, None, refl, sym, ap, ◌∙◌, subst, arith, inl, inr, ◌⊎◌}
 use Rattle.std.specs.Int.{bit_at}
 use Rattle.std.specs.Option.{option_eq}
-use Rattle.std.proofs.lemmas.Bool.{cases_eq, cases_lt, cases_Bool, eq-eqb, ne_eqb, and_from, and_parts, and_left, and_right, or_cases, or_right, lt-ltb, le-ltb, ltb-true, both_ways}
+use Rattle.std.proofs.lemmas.Bool.{cases_eq, cases_lt, cases_Bool, eq-eqb, ne_eqb, and_parts, and_left, and_right, or_cases, or_right, lt-ltb, le-ltb, ltb-true, both_ways}
 use Rattle.std.proofs.lemmas.Nat.{same_from_place}
-use Rattle.std.proofs.lemmas.Nat.Bits.{bit_at-lt, bit_at_and, bit_at_or, bit_at_ones, bit_at_ones_above, bit_at_set_same, bit_at_set_other}
+use Rattle.std.proofs.lemmas.Nat.Bits.{bit_at-lt, bit_at_or, bit_at_set_same, bit_at_set_other}
 use Rattle.std.proofs.lemmas.List.{get_or-set_same, get_or-set_other, get_or-replicate}
-use Rattle.std.proofs.lemmas.List.Elements.{All-head, All-tail}
-use Rattle.list_facts.proofs.Pairs.{AllPairs-head, AllPairs-tail}
 use Rattle.greedy_rules.specs.declared.flows.Flow.{Flow}
 use Rattle.greedy_rules.specs.Flows.{same_flow}
 use Rattle.greedy_rules.specs.Slot.{has_flow}
 use Rattle.greedy_rules.specs.Schedule.{slot_in}
 use Rattle.greedy_rules.specs.SlotTable.{destination_of}
-use Rattle.greedy_rules.proofs.Facts.{this_source, other_source, same_flow-true}
+use Rattle.greedy_rules.proofs.Facts.{same_flow-true}
+use Rattle.greedy_rules.proofs.TableLemmas.{next_row}
+use Rattle.greedy_rules.proofs.SlotSources.{Rises, flow_goes}
+use Rattle.greedy_rules.proofs.FlowOrder.{same_flow-refl}
 use Rattle.endpoint_bitmaps.specs.Slots.{has_slot}
 use Rattle.endpoint_bitmaps.proofs.Facts.{has_slot-none}
+use Rattle.endpoint_bitmaps.proofs.WordLemmas.{has_slot-both}
 use Rattle.window_allocation.specs.Needs.{place_of}
 use Rattle.window_allocation.specs.Reach.{IsEarliest, ShowSlots, IsFirstBatch}
 
@@ -31,26 +33,6 @@ either_bit (suc (suc x)) y x_is y_is = absurd (omega arith)
 -- the slots of either of two words
 pub has_slot-either : (a b k : ℕ) → has_slot (bit_or a b) k ≡ (has_slot a k || has_slot b k)
 has_slot-either a b k = ap (λ (n : ℕ). n == 1) (bit_at_or a b k) ∙ either_bit (bit_at a k) (bit_at b k) (bit_at-lt a k) (bit_at-lt b k)
-
-both_bits : (x y : ℕ) → x < 2 → y < 2 → (min x y == 1) ≡ ((x == 1) && (y == 1))
-both_bits zero zero x_is y_is = refl
-both_bits zero (suc zero) x_is y_is = refl
-both_bits zero (suc (suc y)) x_is y_is = absurd (omega arith)
-both_bits (suc zero) zero x_is y_is = refl
-both_bits (suc zero) (suc zero) x_is y_is = refl
-both_bits (suc zero) (suc (suc y)) x_is y_is = absurd (omega arith)
-both_bits (suc (suc x)) y x_is y_is = absurd (omega arith)
-
--- the slots that two words have in common
-pub has_slot-both : (a b k : ℕ) → has_slot (bit_and a b) k ≡ (has_slot a k && has_slot b k)
-has_slot-both a b k = ap (λ (n : ℕ). n == 1) (bit_at_and a b k) ∙ both_bits (bit_at a k) (bit_at b k) (bit_at-lt a k) (bit_at-lt b k)
-
--- the first slots
-pub has_slot-first : (n k : ℕ) → has_slot (2 ^ n - 1) k ≡ nat_lt k n
-has_slot-first n k = elim (cases_lt k n) [
-  | inl below ↦ ap (λ (m : ℕ). m == 1) (bit_at_ones n k below) ∙ sym (lt-ltb k n below)
-  | inr from ↦ ap (λ (m : ℕ). m == 1) (bit_at_ones_above n k from) ∙ sym (le-ltb k n from)
-]
 
 or_false : (b : Bool) → b ≡ (b || false)
 or_false true = refl
@@ -88,9 +70,6 @@ more_slots words place slots other at within is =
       | inr there ↦ inl (ap (λ (n : ℕ). has_slot n at) (sym (get_or-set_other words place other word 0 there)) ∙ is)
     ]
 
-same_flow-refl : (flow : Flow) → same_flow flow flow ≡ true
-same_flow-refl flow = and_from _ _ (eq-eqb flow.src flow.src refl) (eq-eqb flow.dst flow.dst refl)
-
 -- the words of flows, where that of one names a slot more
 pub more_flow_slots : (n slot : ℕ) (words : List ℕ) (one flow : Flow) (at : ℕ) → slot < 64 → one.src < n → one.dst < n → flow.src < n → flow.dst < n → place_of n one.src one.dst < length words
     → has_slot (get_or (set words (place_of n one.src one.dst) (bit_or (get_or words (place_of n one.src one.dst) 0) (1 * 2 ^ slot % 2 ^ 64))) (place_of n flow.src flow.dst) 0) at
@@ -116,37 +95,6 @@ more_flow_slots n slot words one flow at few one_src one_dst src dst within =
           both_ways (same_flow one flow) other (ap (same_flow one) (sym flows) ∙ same_flow-refl one) in
           ap (λ (m : ℕ). has_slot m at) (get_or-set_other words here there word 0 apart)
           ∙ (or_false (has_slot (get_or words there 0) at) ∙ ap (λ (b : Bool). has_slot (get_or words there 0) at || b) (sym (and_right (at == slot) (same_flow one flow) other)))
-    ]
-
-abbrev Rises : List Flow → Type 0
-Rises slot = AllPairs (λ f g. f.src < g.src) slot
-
-none_above : (slot : List Flow) (flow : Flow) → All (λ f. flow.src < f.src) slot → has_flow slot flow ≡ false
-none_above [] flow above = refl
-none_above (f ∷ slot) flow above =
-    let first : flow.src < f.src = All-head (λ g. flow.src < g.src) f slot above in
-    let other : (f.src == flow.src) ≡ false = ne_eqb f.src flow.src (λ same. omega arith) in
-    ap (λ (c : Bool). (c && (f.dst == flow.dst)) || has_flow slot flow) other
-    ∙ none_above slot flow (All-tail (λ g. flow.src < g.src) f slot above)
-
--- a slot has a flow where its source sends to its destination
-flow_goes : (slot : List Flow) (flow : Flow) → Rises slot → has_flow slot flow ≡ option_eq nat_eq (destination_of slot flow.src) (Some flow.dst)
-flow_goes [] flow rises = refl
-flow_goes (f ∷ slot) flow rises =
-    let later : All (λ g. f.src < g.src) slot = AllPairs-head (λ f g. f.src < g.src) f slot rises in
-    let rest = flow_goes slot flow (AllPairs-tail (λ f g. f.src < g.src) f slot rises) in
-    elim (cases_eq f.src flow.src) [
-      | inl here ↦
-          let same : (f.src == flow.src) ≡ true = eq-eqb f.src flow.src here in
-          let none : has_flow slot flow ≡ false = none_above slot flow (subst (λ (n : ℕ). All (λ g. n < g.src) slot) here later) in
-          ap (λ (c : Bool). (c && (f.dst == flow.dst)) || has_flow slot flow) same
-          ∙ (ap (λ (c : Bool). (f.dst == flow.dst) || c) none
-          ∙ (sym (or_false (f.dst == flow.dst))
-          ∙ sym (ap (λ (o : Option ℕ). option_eq nat_eq o (Some flow.dst)) (this_source flow.src f slot same))))
-      | inr there ↦
-          let other : (f.src == flow.src) ≡ false = ne_eqb f.src flow.src there in
-          ap (λ (c : Bool). (c && (f.dst == flow.dst)) || has_flow slot flow) other
-          ∙ (rest ∙ sym (ap (λ (o : Option ℕ). option_eq nat_eq o (Some flow.dst)) (other_source flow.src f slot other)))
     ]
 
 -- so many sources of a slot were looked at: the next one's flow is noted, if it sends
@@ -258,9 +206,6 @@ earliest_slots n count b slots words flow at src dst show named one =
           ∙ (sym (show flow earlier src dst) ∙ one.none earlier before);
     }
 
-next_end : (batch b : ℕ) → (batch + 1) * b ≡ batch * b + b
-next_end batch b = grind arith
-
 -- what stands up to the end of the next batch, where no slot was found before it
 pub found_first : (slots first batch b at : ℕ) → ((earlier : ℕ) → earlier < batch * b → has_slot slots earlier ≡ false) → ((k : ℕ) → has_slot first k ≡ nat_lt k ((batch + 1) * b))
     → has_slot (bit_and slots first) at ≡ true → (has_slot slots at ≡ true) × IsFirstBatch b slots at
@@ -271,7 +216,7 @@ found_first slots first batch b at none first_is is =
       record {
         batch = batch;
         from = elim (cases_lt at (batch * b)) [ inl below ↦ absurd (both_ways _ (none at below) both.0) | inr above ↦ above ];
-        before = omega (arith, within, next_end batch b);
+        before = omega (arith, within, next_row batch b);
         none = none;
       },
     )

@@ -47,10 +47,6 @@ none_picked aside (item ∷ items) all =
     cond-false (not (aside item)) (item ∷ picked aside items) (picked aside items) (ap not (All-head (λ x. aside x ≡ true) item items all))
     ∙ none_picked aside items (All-tail (λ x. aside x ≡ true) item items all)
 
-pub none_left : {X : Type 0} (xs : List X) → length xs ≡ 0 → xs ≡ []
-none_left [] none = refl
-none_left (x ∷ xs) none = absurd (omega arith)
-
 pub parts_in_order : (xs : List Item) → IsInOrder xs → xs ≡ never_served xs ++ once_served xs
 parts_in_order [] up = refl
 parts_in_order (x ∷ xs) up =

@@ -13,7 +13,7 @@ use Rattle.greedy_rules.specs.Room.{FlowsFitPairs}
 use Rattle.greedy_rules.specs.Balance.{EveryBatchBalances}
 use Rattle.greedy_rules.specs.SlotTable.{Slots}
 use Rattle.slot_batches.specs.NextList.{IsListBefore}
-use Rattle.alloc_pipeline.specs.Ring.{RingWork, IsSameRing, MayAllocate, pairs_of}
+use Rattle.alloc_pipeline.specs.Ring.{RingWork, IsSameRingWork, MayAllocate, pairs_of}
 use Rattle.clos_topology.specs.Network.{Network, endpoints_of}
 use Rattle.clos_topology.specs.Links.{IsClean}
 use Rattle.clos_topology.specs.NetSlots.{limits_of}
@@ -23,7 +23,7 @@ use Rattle.window_allocation.specs.Nets.{AreOfNet}
 use Rattle.window_allocation.specs.Standing.{Allocated, HasAllocated}
 use Rattle.window_allocation.specs.Windows.{IsWindowOf}
 use Rattle.window_allocation.proofs.PartLemmas.{parts_may}
-use Rattle.window_allocation.specs.Ready.{AnyPartMayBeApplied, IsFit, IsReady, EveryWindowIsReady}
+use Rattle.window_allocation.specs.Ready.{AnyPartMayBeApplied, IsFit, HalfIsReady, EveryWindowIsReady}
 
 -- the list that recorded batches leave fits where all flows do
 fits : (endpoints : ℕ) (batches : List DemandBatch) (list : List Item) → FlowsFitPairs → IsLeftBy endpoints batches list → length list ≤ pairs_of endpoints
@@ -56,7 +56,7 @@ fit_slot net b earlier batches window recorded slots count whole at d below =
     subst (IsFit net) here (record { matching = slot.matching; flows = slot.in_range.in_range; degrees = slot.keeps })
 
 pub ready : (net : Network) (most : ℕ) (earlier batches : List DemandBatch) (half : Allocated) → HasAllocated net most earlier half → AreOfNet net (earlier ++ batches)
-    → RecordedBatchesMayBeApplied → LaterBatchesMayBeApplied → EveryRecordedSlot → FrontsAreFronts → EveryBatchHasItsSlots → FlowsFitPairs → EveryBatchBalances → IsReady net earlier batches half
+    → RecordedBatchesMayBeApplied → LaterBatchesMayBeApplied → EveryRecordedSlot → FrontsAreFronts → EveryBatchHasItsSlots → FlowsFitPairs → EveryBatchBalances → HalfIsReady net earlier batches half
 ready net most earlier batches half has recorded all later slots fronts count fit balances =
     let b : ℕ = half.b in
     let n : ℕ = endpoints_of net in
@@ -91,10 +91,10 @@ exact slots window places n is same =
 same_sizes : (ring : RingWork) (endpoints batches b : ℕ) → ring.endpoints ≡ endpoints → ring.batches ≡ batches → ring.b ≡ b → ring ≡ record ring { endpoints = endpoints; batches = batches; b = b }
 same_sizes ring endpoints batches b e n s = λ i. record ring { endpoints = e i; batches = n i; b = s i }
 
-pub has_allocated_more : (net : Network) (most : ℕ) (earlier batches : List DemandBatch) (old new : Allocated) → HasAllocated net most earlier old → AreOfNet net (earlier ++ batches) → IsReady net earlier batches old
+pub has_allocated_more : (net : Network) (most : ℕ) (earlier batches : List DemandBatch) (old new : Allocated) → HasAllocated net most earlier old → AreOfNet net (earlier ++ batches) → HalfIsReady net earlier batches old
     → new.b ≡ old.b → new.batches ≡ old.batches + length batches → new.list.items ≡ rest_from old.b old.batches old.list.items batches
     → IsListBefore (first_slot old.b (old.batches + length batches)) new.list.items
-    → length new.list.items + new.list.spare ≡ length old.list.items + old.list.spare → IsSameRing old.ring new.ring → new.paths.net ≡ old.paths.net → new.paths.slots ≡ old.paths.slots → HasAllocated net most (earlier ++ batches) new
+    → length new.list.items + new.list.spare ≡ length old.list.items + old.list.spare → IsSameRingWork old.ring new.ring → new.paths.net ≡ old.paths.net → new.paths.slots ≡ old.paths.slots → HasAllocated net most (earlier ++ batches) new
 has_allocated_more network most earlier batches old new has recorded is_ready b number list before spare same net slots = record {
   recorded = recorded;
   number = omega (arith, has.number, length-append earlier batches);
@@ -143,7 +143,7 @@ pub ring_endpoints : (net : Network) (most : ℕ) (earlier : List DemandBatch) (
 ring_endpoints net most earlier half has = ap (λ (r : RingWork). r.endpoints) has.ring
 
 -- its ring may allocate them, into a table that was opened for their slots
-pub may_allocate : (net : Network) (earlier batches : List DemandBatch) (half : Allocated) (table : Slots) (size : ℕ) → HasAllocated net half.ring.batches earlier half → IsReady net earlier batches half → length batches ≤ half.ring.batches
+pub may_allocate : (net : Network) (earlier batches : List DemandBatch) (half : Allocated) (table : Slots) (size : ℕ) → HasAllocated net half.ring.batches earlier half → HalfIsReady net earlier batches half → length batches ≤ half.ring.batches
     → first_slot half.b (half.batches + length batches) ≤ 2 ^ 32 → size ≡ half.b → table.endpoints ≡ half.ring.endpoints → table.slots ≡ replicate (length batches * size) [] → MayAllocate half.ring half.batches half.list batches table
 may_allocate net earlier batches half table size has is_ready count numbers same serves zeros =
     let none : List Flow = [] in
@@ -163,7 +163,7 @@ may_allocate net earlier batches half table size has is_ready count numbers same
     }
 
 -- and any part of its list
-pub parts_may_be : (net : Network) (earlier batches : List DemandBatch) (half : Allocated) → HasAllocated net half.ring.batches earlier half → IsReady net earlier batches half
+pub parts_may_be : (net : Network) (earlier batches : List DemandBatch) (half : Allocated) → HasAllocated net half.ring.batches earlier half → HalfIsReady net earlier batches half
     → AnyPartMayBeApplied half.ring.endpoints half.ring.b half.batches half.list.items batches
 parts_may_be net earlier batches half has is_ready =
     subst (λ (n : ℕ). AnyPartMayBeApplied n half.ring.b half.batches half.list.items batches) (sym (ring_endpoints net half.ring.batches earlier half has))
@@ -183,7 +183,7 @@ table_is earlier batches half opened slots size has same zeros is =
     (is ∙ ap (λ (m : ℕ). schedule_from m half.batches half.list.items batches ++ replicate (length opened - n * m) none) ring) places
 
 pub few_slots : (earlier batches : List DemandBatch) (half : Allocated) (slots : List (List Flow)) → HasAllocated half.paths.net half.ring.batches earlier half → slots ≡ schedule_from half.b half.batches half.list.items batches
-    → IsReady half.paths.net earlier batches half → length batches ≤ half.ring.batches → length slots ≤ half.paths.slots
+    → HalfIsReady half.paths.net earlier batches half → length batches ≤ half.ring.batches → length slots ≤ half.paths.slots
 few_slots earlier batches half slots has is is_ready few =
     omega (arith, ap length is, is_ready.number, has.colours, mul-le (length batches) half.b half.ring.batches half.b few (omega arith))
 
@@ -196,7 +196,7 @@ list_below net most batches half has all =
 pub record IsTold (batches : List DemandBatch) (half : Allocated) (slots : List (List Flow)) : Type 0 where
   pub earlier : List DemandBatch
   pub has : HasAllocated half.paths.net half.ring.batches earlier half
-  pub ready : IsReady half.paths.net earlier batches half
+  pub ready : HalfIsReady half.paths.net earlier batches half
   pub is : slots ≡ schedule_from half.b half.batches half.list.items batches
   pub fit : All (IsFit half.paths.net) slots
 

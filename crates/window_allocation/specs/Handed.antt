@@ -10,28 +10,28 @@ use Rattle.ring_core.specs.Windows.{window_of}
 use Rattle.alloc_pipeline.specs.Ring.{moved_by}
 
 -- batches that follow one another, and whether the ring was handed them; it was not where they are passed over
-pub record Part : Type 0 where
+pub record HandedPart : Type 0 where
   pub batches : List DemandBatch
   pub to_ring : Bool
 
 -- the slots of a part, the first of its batches batch k, on the list that it finds: those that the ring gives, or none
-abbrev pub slots_of_part : ℕ → ℕ → List Item → Part → List (List Flow)
+abbrev pub slots_of_part : ℕ → ℕ → List Item → HandedPart → List (List Flow)
 slots_of_part b k list part = if part.to_ring then schedule_from b k list part.batches else replicate (length part.batches * b) []
 
 -- how many pieces have gone through the edges then
-abbrev pub moved_by_part : ℕ → ℕ → ℕ → List Item → Part → List ℕ → List ℕ
+abbrev pub moved_by_part : ℕ → ℕ → ℕ → List Item → HandedPart → List ℕ → List ℕ
 moved_by_part b k workers list part moved = if part.to_ring then moved_by (window_of list part.batches k b workers) 0 moved else moved
 
 -- parts one after the other: their batches, their slots, and the pieces, each part on the list that the ones before it leave
-abbrev pub batches_of : List Part → List DemandBatch
+abbrev pub batches_of : List HandedPart → List DemandBatch
 batches_of [] = []
 batches_of (part ∷ parts) = part.batches ++ batches_of parts
 
-abbrev pub slots_over : ℕ → ℕ → List Item → List Part → List (List Flow)
+abbrev pub slots_over : ℕ → ℕ → List Item → List HandedPart → List (List Flow)
 slots_over b k list [] = []
 slots_over b k list (part ∷ parts) = slots_of_part b k list part ++ slots_over b (k + length part.batches) (rest_from b k list part.batches) parts
 
-abbrev pub moved_over : ℕ → ℕ → ℕ → List Item → List Part → List ℕ → List ℕ
+abbrev pub moved_over : ℕ → ℕ → ℕ → List Item → List HandedPart → List ℕ → List ℕ
 moved_over b k workers list [] moved = moved
 moved_over b k workers list (part ∷ parts) moved =
     moved_over b (k + length part.batches) workers (rest_from b k list part.batches) parts (moved_by_part b k workers list part moved)
@@ -39,7 +39,7 @@ moved_over b k workers list (part ∷ parts) moved =
 -- the list on which a window's batches were run, and their parts
 pub record Handed : Type 0 where
   pub items : List Item
-  pub parts : List Part
+  pub parts : List HandedPart
 
 -- so many pieces once all of these were run, one after the other, each from batch k on
 abbrev pub moved_over_all : ℕ → ℕ → ℕ → List Handed → List ℕ → List ℕ
@@ -47,7 +47,7 @@ moved_over_all b k workers [] moved = moved
 moved_over_all b k workers (handed ∷ later) moved = moved_over_all b k workers later (moved_over b k workers handed.items handed.parts moved)
 
 -- a part that is passed over has no entries
-abbrev pub IsPassedEmpty : Part → Type 0
+abbrev pub IsPassedEmpty : HandedPart → Type 0
 IsPassedEmpty part = part.to_ring ≡ false → All (λ batch. batch.entries ≡ []) part.batches
 
 -- what was handed on of a window: the items of its list that are not set aside, in their order, and every batch but those passed

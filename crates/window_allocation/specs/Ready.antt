@@ -33,7 +33,7 @@ pub record IsFit (net : Network) (slot : List Flow) : Type 0 where
   pub degrees : IsWithinCores net slot
 
 -- a half that has allocated the earlier batches may allocate these, and their slots are the next of the schedule
-pub record IsReady (net : Network) (earlier batches : List DemandBatch) (half : Allocated) : Type 0 where
+pub record HalfIsReady (net : Network) (earlier batches : List DemandBatch) (half : Allocated) : Type 0 where
   pub may : MayBeApplied (endpoints_of net) half.b half.batches half.list.items batches
   pub parts : AnyPartMayBeApplied (endpoints_of net) half.b half.batches half.list.items batches
   pub few : length half.list.items ≤ pairs_of (endpoints_of net)
@@ -45,4 +45,4 @@ pub record IsReady (net : Network) (earlier batches : List DemandBatch) (half : 
 
 abbrev pub EveryWindowIsReady : Type 0
 EveryWindowIsReady =
-    (net : Network) (most : ℕ) (earlier batches : List DemandBatch) (half : Allocated) → HasAllocated net most earlier half → AreOfNet net (earlier ++ batches) → IsReady net earlier batches half
+    (net : Network) (most : ℕ) (earlier batches : List DemandBatch) (half : Allocated) → HasAllocated net most earlier half → AreOfNet net (earlier ++ batches) → HalfIsReady net earlier batches half

@@ -6,9 +6,9 @@ use Rattle.greedy_rules.specs.Demands.{Demands}
 use Rattle.greedy_rules.specs.Schedule.{first_slot, schedule_from, rest_from}
 use Rattle.greedy_rules.specs.SlotTable.{Slots}
 use Rattle.slot_batches.specs.NextList.{IsListBefore}
-use Rattle.alloc_pipeline.specs.Ring.{RingWork, IsSameRing}
+use Rattle.alloc_pipeline.specs.Ring.{RingWork, IsSameRingWork}
 use Rattle.window_allocation.specs.declared.runs.Runs.{Runs}
-use Rattle.window_allocation.specs.Handed.{Part, IsPassedEmpty, slots_of_part, moved_by_part, batches_of, slots_over, moved_over}
+use Rattle.window_allocation.specs.Handed.{HandedPart, IsPassedEmpty, slots_of_part, moved_by_part, batches_of, slots_over, moved_over}
 
 -- its table is for the slots of a whole window of the ring's, which has at most 16 batches of at most 64 slots
 pub record HasRunTable (runs : Runs) : Type 0 where
@@ -27,11 +27,11 @@ pub record GivesSlots (ring_old ring_new : RingWork) (first_batch : ℕ) (list_o
   -- the table holds their slots, and no others
   pub slots : out_new.slots ≡ schedule_from ring_old.b first_batch list_old.items batches ++ replicate (length out_old.slots - length batches * ring_old.b) []
   pub endpoints : out_new.endpoints ≡ out_old.endpoints
-  pub same : IsSameRing ring_old ring_new
+  pub same : IsSameRingWork ring_old ring_new
 
 -- so many batches at the front of others were played by the ring, or passed over: the slots, and the pieces on its edges
 pub record IsPlayed (b k workers : ℕ) (list : List Item) (batches : List DemandBatch) (moved_old moved_new : List ℕ) : Type 0 where
-  pub part : Part
+  pub part : HandedPart
   pub are : part.batches ≡ batches
   pub passed : IsPassedEmpty part
   pub given : slots_of_part b k list part ≡ schedule_from b k list part.batches
@@ -39,7 +39,7 @@ pub record IsPlayed (b k workers : ℕ) (list : List Item) (batches : List Deman
 
 -- batches were played over a list, part by part
 pub record ArePlayed (b k workers : ℕ) (list : List Item) (batches : List DemandBatch) (moved_old moved_new : List ℕ) : Type 0 where
-  pub parts : List Part
+  pub parts : List HandedPart
   pub are : batches_of parts ≡ batches
   pub passed : All IsPassedEmpty parts
   pub given : slots_over b k list parts ≡ schedule_from b k list batches

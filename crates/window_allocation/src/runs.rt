@@ -1,7 +1,7 @@
 //! The ring, which is handed what of a window may change.
 ghost use Rattle.std.specs.Prelude.{◌≡◌, ◌<◌, ◌≤◌, ◌+◌, ◌-◌, ◌*◌, [], ◌++◌, length, take, drop, replicate, IfOk};
 ghost use Rattle.greedy_rules.specs.Schedule.{schedule_from, rest_from};
-ghost use Rattle.alloc_pipeline.specs.Ring.{IsRing as MayBeOpened, IsSameRing, MayAllocate, moved_by, pairs_of};
+ghost use Rattle.alloc_pipeline.specs.Ring.{IsRingSize as MayBeOpened, IsSameRingWork, MayAllocate, moved_by, pairs_of};
 ghost use Rattle.window_allocation.specs.Idle.{HasIdleFront};
 ghost use Rattle.window_allocation.specs.Picked.{HasRoomFor, IsReached};
 ghost use Rattle.window_allocation.specs.Ready.{AnyPartMayBeApplied, MaySetAside};
@@ -272,7 +272,7 @@ impl Runs {
         requires places { (passed + length batches.now) * self.old.ring.b ≤ length out.old.slots }
         requires empty { drop (passed * self.old.ring.b) out.old.slots ≡ replicate (length out.old.slots - passed * self.old.ring.b) [] }
         ensures table { HasRunTable self.new }
-        ensures same { IsSameRing self.old.ring self.new.ring }
+        ensures same { IsSameRingWork self.old.ring self.new.ring }
         ensures some { 0 < result }
         ensures count { result ≤ length batches.now }
         ensures list { list.new.items ≡ rest_from self.old.ring.b first_batch list.old.items (take result batches.now) }
@@ -310,7 +310,7 @@ impl Runs {
         requires places { (passed + length batches.now) * self.old.ring.b ≤ length out.old.slots }
         requires empty { drop (passed * self.old.ring.b) out.old.slots ≡ replicate (length out.old.slots - passed * self.old.ring.b) [] }
         ensures table { HasRunTable self.new }
-        ensures same { IsSameRing self.old.ring self.new.ring }
+        ensures same { IsSameRingWork self.old.ring self.new.ring }
         ensures list { list.new.items ≡ rest_from self.old.ring.b first_batch list.old.items batches.now }
         ensures spare { length list.new.items + list.new.spare ≡ length list.old.items + list.old.spare }
         ensures slots { out.new.slots ≡ (take (passed * self.old.ring.b) out.old.slots ++ schedule_from self.old.ring.b first_batch list.old.items batches.now) ++ replicate (length out.old.slots - (passed + length batches.now) * self.old.ring.b) [] }

@@ -1,4 +1,3 @@
-mod Crossing
 mod ReplayBeside
 mod Rings
 pub mod PlanCounts
@@ -6,7 +5,6 @@ pub mod StepCounts
 pub mod PlanLemmas
 pub mod EngineLemmas
 pub mod EngineFacts
-pub mod ReplayCores
 pub mod ReplayTables
 pub mod ReplaySteps
 pub mod ReplayPublish

@@ -1,24 +1,19 @@
 -- What a plan comes to for each flow.
-use Rattle.std.proofs.Common.{◌≡◌, ◌+◌, ◌*◌, ℕ, List, [], ◌∷◌, drop, false, Option, Some, None, refl, ap, ◌∙◌, arith}
-use Rattle.std.proofs.lemmas.Bool.{cond-false}
+use Rattle.std.proofs.Common.{◌≡◌, ◌+◌, ◌*◌, ℕ, List, [], ◌∷◌, drop, false, refl, ap, arith}
 use Rattle.std.proofs.lemmas.List.Sums.{sum_by-cons}
 use Rattle.std.proofs.lemmas.List.Elements.{All-head, All-tail}
 use Rattle.greedy_rules.specs.declared.flows.Flow.{Flow}
-use Rattle.greedy_rules.specs.declared.flows.Entry.{Entry}
 use Rattle.greedy_rules.specs.Batches.{DemandBatch, entry_of}
-use Rattle.greedy_rules.specs.Demands.{item_of, need_in, need_with}
+use Rattle.greedy_rules.specs.Demands.{item_of, need_in}
 use Rattle.greedy_rules.specs.Allocation.{slots_of}
 use Rattle.greedy_rules.specs.Schedule.{schedule, rest}
 use Rattle.greedy_rules.specs.Balance.{AreInOrder, clears, added_by, added_of, NoneClears, EveryScheduleBalances}
+use Rattle.greedy_rules.proofs.RecordedLemmas.{first_need}
 use Rattle.trace_text.specs.Trace.{TraceContent}
 use Rattle.trace_text.specs.Valid.{IsTrace}
 use Rattle.plan_rounds.specs.Asked.{EveryPlanAddsWhatIsAsked}
 use Rattle.plan_rounds.specs.Batches.{plan_batches}
 use Rattle.window_engine.specs.Counts.{AllIsAllocatedOrPending}
-
-first_need : (entry : Option Entry) → clears entry ≡ false → need_with entry 0 ≡ added_by entry
-first_need None kept = refl
-first_need (Some entry) kept = ap (λ (n : ℕ). n + entry.add) (cond-false {A = ℕ} entry.clear 0 0 kept) ∙ omega arith
 
 balanced : (b : ℕ) (batches : List DemandBatch) (flow : Flow) → EveryScheduleBalances → AreInOrder [] batches → NoneClears flow batches
     → added_of flow batches ≡ slots_of flow (schedule b batches) + need_in (item_of (rest b batches) flow)

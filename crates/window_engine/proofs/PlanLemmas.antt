@@ -1,9 +1,10 @@
 -- What a plan stands for, at its start and after a step, and what it tells of a flow at the end.
-use Rattle.std.proofs.Common.{◌≡◌, ◌<◌, ◌≤◌, ◌+◌, ◌-◌, ◌*◌, ℕ, zero, suc, List, [], ◌∷◌, ◌++◌, length, get_or, take, drop, not, ◌==◌, Option, Some, None, refl, sym, ap, ◌∙◌, subst, arith}
+use Rattle.std.proofs.Common.{◌≡◌, ◌<◌, ◌≤◌, ◌+◌, ◌-◌, ◌*◌, ℕ, List, [], ◌++◌, length, get_or, take, drop, not, ◌==◌, Option, Some, None, refl, sym, ap, ◌∙◌, subst, arith}
 use Rattle.std.proofs.lemmas.Bool.{cond-true, cond-false, eq-eqb, ne_eqb}
 use Rattle.std.proofs.lemmas.Nat.{mul-add-lt, mul-le}
-use Rattle.std.proofs.lemmas.List.{get_or_default, length-take, length-drop, take_all, take_at, drop_at, take-append-drop}
+use Rattle.std.proofs.lemmas.List.{get_or_default, length-take, length-drop, take_at, drop_at, take-append-drop}
 use Rattle.std.proofs.SliceLists.{take_long}
+use Rattle.list_facts.proofs.Lists.{joined}
 use Rattle.greedy_rules.specs.declared.flows.Flow.{Flow}
 use Rattle.greedy_rules.specs.declared.flows.Item.{Item}
 use Rattle.greedy_rules.specs.Batches.{DemandBatch}
@@ -20,7 +21,7 @@ use Rattle.trace_text.specs.Valid.{total_asked, IsTrace}
 use Rattle.window_engine.specs.declared.counts.Counts.{Counts}
 use Rattle.window_allocation.specs.Nets.{AreOfNet}
 use Rattle.plan_rounds.specs.Asked.{EveryPlanAddsWhatIsAsked}
-use Rattle.plan_rounds.specs.Batches.{Round, plan_batches, EveryPlanIsRecorded}
+use Rattle.plan_rounds.specs.Batches.{AskedRound, plan_batches, EveryPlanIsRecorded}
 use Rattle.plan_rounds.specs.Standing.{Collected, HasCollected}
 use Rattle.window_engine.specs.Counts.{plan_counts, counts_of, EveryPlanBalances}
 use Rattle.window_allocation.specs.Standing.{Allocated, HasAllocated}
@@ -31,20 +32,13 @@ use Rattle.window_allocation.specs.Windows.{WindowContent, IsWindowOf, jobs_for}
 use Rattle.window_allocation.specs.Giving.{MayGive}
 use Rattle.window_engine.specs.Step.{StepContent, StepIsPlanned, window_slots}
 use Rattle.window_allocation.specs.Needs.{place_of}
-use Rattle.window_allocation.proofs.WindowLemmas.{HasNext, Goes}
-use Rattle.window_engine.proofs.Rings.{ring_holds, ring_serves}
+use Rattle.window_allocation.proofs.WindowLemmas.{HasNext, Goes, ring_endpoints}
+use Rattle.window_engine.proofs.Rings.{ring_holds}
 
 -- ---- the next window of a plan
 
 pub window_fits : (engine : PlanState) → engine.collection.rounds ≤ engine.rounds → (plan_window engine ≤ engine.g) × (engine.collection.rounds + plan_window engine ≤ engine.rounds)
 window_fits engine within = (omega arith, omega arith)
-
-pub joined : {X : Type 0} (n m : ℕ) (xs : List X) → take n xs ++ take m (drop n xs) ≡ take (n + m) xs
-joined zero m xs = ap (λ (k : ℕ). take k xs) (omega arith)
-joined (suc n) m [] = take_all m [] (omega arith) ∙ sym (take_all (suc n + m) [] (omega arith))
-joined {X = X} (suc n) m (x ∷ xs) =
-    let on : suc n + m ≡ suc (n + m) = omega arith in
-    ap (λ (ys : List X). x ∷ ys) (joined n m xs) ∙ ap (λ (k : ℕ). take k (x ∷ xs)) (sym on)
 
 -- the batches so far, and those of the next window, are recorded
 pub window_recorded : (trace : TraceContent) (k n : ℕ) → IsTrace trace → EveryPlanIsRecorded → EveryFrontIsRecorded → AreOfNet trace.net (take k (plan_batches trace) ++ take n (drop k (plan_batches trace)))
@@ -86,7 +80,7 @@ stands_next trace old new batches stands g endpoints rounds are collected on all
     let k : ℕ = old.collection.rounds in
     let plan : List DemandBatch = plan_batches trace in
     let so_far : take k plan ++ batches ≡ take new.collection.rounds plan = ap (λ (bs : List DemandBatch). take k plan ++ bs) are ∙ (joined k (plan_window old) plan ∙ ap (λ (m : ℕ). take m plan) (sym on)) in
-    let serves : new.allocation.ring.endpoints ≡ endpoints_of trace.net = ring_serves _ _ _ _ allocated in
+    let serves : new.allocation.ring.endpoints ≡ endpoints_of trace.net = ring_endpoints _ _ _ _ allocated in
     record {
       window = (omega (arith, stands.window.0), omega (arith, stands.window.1));
       endpoints = endpoints ∙ stands.endpoints;
@@ -130,7 +124,7 @@ next_allocated trace engine batches count new sound stands recorded front are go
 pub pending_room : (trace : TraceContent) (engine : PlanState) (batches : List DemandBatch) (new : Allocated) (pending : List ℕ) → PlanStands trace engine → HasAllocated trace.net engine.g batches new → length pending ≡ length engine.pending
     → length pending ≡ new.ring.endpoints * new.ring.endpoints
 pending_room trace engine batches new pending stands has same =
-    let serves : new.ring.endpoints ≡ endpoints_of trace.net = ring_serves _ _ _ _ has in
+    let serves : new.ring.endpoints ≡ endpoints_of trace.net = ring_endpoints _ _ _ _ has in
     same ∙ (stands.pending_room ∙ sym (ap (λ (m : ℕ). m * m) serves))
 
 pub window_numbers : (trace : TraceContent) (engine : PlanState) (batches : List DemandBatch) (count : ℕ) → IsTrace trace → PlanStands trace engine → EveryPlanIsRecorded → count ≡ plan_window engine
@@ -232,7 +226,7 @@ tells trace engine flow asked pending sound stands balances adds recorded done s
     let total : asked ≡ total_asked trace.asked flow.src flow.dst =
     asked_is
     ∙ (ap (λ (p : ℕ). get_or half.asked p 0) place
-    ∙ (stands.collected.asked.at flow.src flow.dst s d ∙ ap (λ (rs : List Round). total_asked rs flow.src flow.dst) (all_asked trace half.rounds sound ended))) in
+    ∙ (stands.collected.asked.at flow.src flow.dst s d ∙ ap (λ (rs : List AskedRound). total_asked rs flow.src flow.dst) (all_asked trace half.rounds sound ended))) in
     let need : pending ≡ need_in (item_of (rest b plan) flow) =
     pending_is
     ∙ (get_or_default engine.pending at pending 0 (omega (arith, stands.pending_room, within, there))

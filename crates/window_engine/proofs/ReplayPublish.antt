@@ -7,9 +7,9 @@ use Rattle.clos_topology.specs.Network.{Network, endpoints_of}
 use Rattle.clos_topology.specs.Limits.{IsNetwork}
 use Rattle.clos_topology.specs.Links.{IsClean}
 use Rattle.clos_topology.specs.NetSlots.{SlotCores, AreSlotCores}
-use Rattle.path_workers.specs.CoreTable.{core_of}
-use Rattle.lane_rounds.specs.State.{RoundsState}
-use Rattle.slot_publisher.specs.Window.{Window}
+use Rattle.path_workers.specs.CoreTable.{core_of, CoreSlots}
+use Rattle.replay_rounds.specs.State.{RoundsState}
+use Rattle.replay_rounds.specs.Window.{PublisherWindow}
 use Rattle.trace_text.specs.Trace.{TraceContent}
 use Rattle.trace_text.specs.Valid.{IsTrace}
 use Rattle.trace_run.specs.Run.{Setting, replayed}
@@ -22,13 +22,12 @@ use Rattle.window_engine.specs.Replay.{ReplayState, replay_run, ReplayStands}
 use Rattle.window_allocation.specs.Standing.{Allocated, HasAllocated}
 use Rattle.window_allocation.specs.Needs.{Needs}
 use Rattle.greedy_rules.specs.SlotTable.{Slots}
-use Rattle.path_workers.specs.CoreTable.{CoreSlots}
 use Rattle.window_allocation.specs.declared.window.Span.{Span}
 use Rattle.window_allocation.specs.Windows.{WindowContent, IsWindowOf}
-use Rattle.window_engine.proofs.ReplayCores.{AgreeBelow, between-same, stands-with}
+use Rattle.window_allocation.proofs.WindowLemmas.{ring_endpoints}
+use Rattle.replay_rounds.proofs.ReplayCores.{AgreeBelow, between-same, stands-with}
 use Rattle.window_engine.proofs.ReplayTables.{clean_cores, with_table, table-before, table-there, table-named}
 use Rattle.window_engine.proofs.ReplaySteps.{next_batches, replay_span, replay_window}
-use Rattle.window_engine.proofs.Rings.{ring_serves}
 
 -- the rounds that the next window collects
 abbrev pub window_of : TraceContent → ReplayState → ℕ
@@ -38,7 +37,7 @@ window_of trace engine = min engine.lanes.g (trace.rounds - engine.lanes.collect
 abbrev pub collected_more : RoundsContent → ℕ → List RoundsState → RoundsContent
 collected_more all n states = record all { collected = all.collected + n; counted = all.published; lanes = states }
 
-abbrev pub published_more : RoundsContent → ℕ → ℕ → List RoundsState → Window → RoundsContent
+abbrev pub published_more : RoundsContent → ℕ → ℕ → List RoundsState → PublisherWindow → RoundsContent
 published_more all n counted states window = record all { collected = all.collected + n; published = all.collected; counted = counted; lanes = states; window = window }
 
 -- ---- the window may be published
@@ -122,7 +121,7 @@ frames old mid new n count collects publishes all =
     ∙ ap (λ (k : ℕ). record old { collected = old.collected + n; published = k; counted = old.published; lanes = new.lanes; window = new.window }) all)
 
 -- what a replay stands for whose parts are these
-stands_parts : Replays → (trace : TraceContent) (cores : SlotCores) (engine : ReplayState) (counted : ℕ) (states : List RoundsState) (window : Window) (new : ReplayState) → IsTrace trace → ReplayStands trace cores engine
+stands_parts : Replays → (trace : TraceContent) (cores : SlotCores) (engine : ReplayState) (counted : ℕ) (states : List RoundsState) (window : PublisherWindow) (new : ReplayState) → IsTrace trace → ReplayStands trace cores engine
     → new.lanes ≡ published_more engine.lanes (window_of trace engine) counted states window → window.first_batch ≡ engine.lanes.published → new.rounds ≡ engine.rounds → lanes.AllRoundsStand trace cores new.lanes
     → new.waiting ≡ (rounds_played (replay_run trace cores engine) trace engine.lanes.collected (window_of trace engine)).batches
     → HasAllocated trace.net engine.lanes.g (replayed (replay_run trace cores engine) engine.lanes.collected).batches new.allocation → new.allocation.b ≡ engine.allocation.b → length new.pending ≡ length engine.pending
@@ -134,7 +133,7 @@ stands_parts laws trace cores engine counted states window new sound stands lane
     let m : ℕ = engine.lanes.published in
     let r : ℕ = engine.lanes.collected in
     let n : ℕ = window_of trace engine in
-    let serves : new.allocation.ring.endpoints ≡ endpoints_of trace.net = ring_serves _ _ _ _ allocated in
+    let serves : new.allocation.ring.endpoints ≡ endpoints_of trace.net = ring_endpoints _ _ _ _ allocated in
     record {
       rounds = rounds ∙ stands.rounds;
       lanes = subst (lanes.AllRoundsStand trace cores) lanes_are all;
@@ -238,4 +237,4 @@ stands_next laws trace cores engine mid last window new sound stands collects ne
     ends
     ∙ (ap (λ (x : RoundsContent). record x { counted = new.lanes.counted; lanes = new.lanes.lanes }) after
     ∙ ap (published_more engine.lanes n new.lanes.counted new.lanes.lanes) (sym same)) in
-    stands_after laws trace cores engine new sound stands parts (ap (λ (w : Window). w.first_batch) same ∙ first) rounds (ends_so (publishes.stands trace cores sound all is)) waiting allocated size pending ended all_counted
+    stands_after laws trace cores engine new sound stands parts (ap (λ (w : PublisherWindow). w.first_batch) same ∙ first) rounds (ends_so (publishes.stands trace cores sound all is)) waiting allocated size pending ended all_counted

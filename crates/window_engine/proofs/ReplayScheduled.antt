@@ -19,11 +19,11 @@ use Rattle.window_engine.proofs.ReplayTables.{core_below}
 
 -- ---- cores that are below 64
 
-few : Option ℕ → Option ℕ
+pub few : Option ℕ → Option ℕ
 few None = None
 few (Some core) = cond (nat_lt core 64) (Some core) None
 
-few-below : (core : Option ℕ) → IfSome (few core) (λ c. c < 64)
+pub few-below : (core : Option ℕ) → IfSome (few core) (λ c. c < 64)
 unfolding few
 few-below None = tt
 few-below (Some core) =
@@ -39,7 +39,7 @@ few-same None cores most below = refl
 few-same (Some core) cores most below = cond-true (nat_lt core 64) (Some core) None (lt-ltb core 64 (omega (arith, below)))
 
 -- a slot is as clean with cores that are the same for its sources
-clean-same : (hosts cores : ℕ) (slot : List Flow) (one other : CoreOf) → All (λ (flow : Flow). one flow.src ≡ other flow.src) slot → IsClean hosts cores slot one → IsClean hosts cores slot other
+pub clean-same : (hosts cores : ℕ) (slot : List Flow) (one other : CoreOf) → All (λ (flow : Flow). one flow.src ≡ other flow.src) slot → IsClean hosts cores slot one → IsClean hosts cores slot other
 clean-same hosts cores slot one other same clean = record {
   named = λ k d below.
       let flow : Flow = get_or slot k d in

@@ -1,56 +1,29 @@
 -- The cores that a window names, in the place of those named before for its slots.
-use Rattle.std.proofs.Common.{◌≡◌, ◌≢◌, ◌<◌, ◌≤◌, ◌+◌, ◌-◌, ◌==◌, ℕ, List, [], ◌∷◌, cond, Option, Some, None, All, MatchOption, IfSome, sym, ap, ◌∙◌, subst, inl, inr, ◌⊎◌, arith}
+use Rattle.std.proofs.Common.{◌≡◌, ◌≢◌, ◌<◌, ◌≤◌, ◌+◌, ◌-◌, ℕ, List, cond, Option, Some, None, MatchOption, IfSome, sym, ap, ◌∙◌, subst, inl, inr, arith}
 use Rattle.std.specs.Prelude.{nat_lt}
-use Rattle.std.proofs.lemmas.Bool.{cases_Bool, cond-true, cond-false, eq-eqb, eqb-true, ltb-true, ltb-false, lt-ltb, le-ltb}
-use Rattle.std.proofs.lemmas.List.Elements.{All-nil, All-cons, All-head, All-tail}
+use Rattle.std.proofs.lemmas.Bool.{cases_Bool, cond-true, cond-false, ltb-true, ltb-false, lt-ltb, le-ltb}
 use Rattle.greedy_rules.specs.declared.flows.Flow.{Flow}
 use Rattle.greedy_rules.specs.Limits.{rack_of}
-use Rattle.clos_topology.specs.declared.graph.Edge.{Edge}
 use Rattle.clos_topology.specs.Network.{Network}
 use Rattle.clos_topology.specs.Limits.{IsNetwork}
 use Rattle.clos_topology.specs.Links.{CoreOf, HasItsCore, IsClean}
-use Rattle.clos_topology.specs.RackGraph.{rack_edges}
 use Rattle.clos_topology.specs.NetSlots.{SlotCores, AreSlotCores}
 use Rattle.path_workers.specs.Coloured.{NamesNoOther}
 use Rattle.path_workers.specs.CoreTable.{CoreSlots, core_of}
+use Rattle.path_workers.proofs.NamedCores.{Below, found}
 use Rattle.replay_rounds.specs.Standing.{AreOfTable}
-use Rattle.window_engine.proofs.ReplayCores.{AgreeBelow}
+use Rattle.replay_rounds.proofs.ReplayCores.{AgreeBelow}
 
 -- ---- a core that is named is below the number of cores
 
-abbrev pub IsBelow : ℕ → Option ℕ → Type 0
-IsBelow cores core = IfSome core (λ c. c < cores)
-
-pub core_below : (hosts cores : ℕ) (named : CoreOf) (flow : Flow) → HasItsCore hosts cores named flow → IsBelow cores (named flow.src)
+pub core_below : (hosts cores : ℕ) (named : CoreOf) (flow : Flow) → HasItsCore hosts cores named flow → Below cores (named flow.src)
 core_below hosts cores named flow own = below (named flow.src) own
   where
     below : (core : Option ℕ) → MatchOption core (rack_of hosts flow.src ≡ rack_of hosts flow.dst) (λ c. (rack_of hosts flow.src ≢ rack_of hosts flow.dst) × (c < cores)) → IfSome core (λ c. c < cores)
     below None own = tt
     below (Some c) own = own.1
 
--- a source has such a core, or sends nothing to another rack
-found : (hosts cores : ℕ) (named : CoreOf) (slot : List Flow) (source : ℕ) → All (HasItsCore hosts cores named) slot
-    → All (λ (edge : Edge). edge.source ≢ source) (rack_edges hosts slot) ⊎ IsBelow cores (named source)
-found hosts cores named [] source own = inl (All-nil (λ (edge : Edge). edge.source ≢ source))
-found hosts cores named (flow ∷ slot) source own =
-    let Other : Edge → Type 0 = λ edge. edge.source ≢ source in
-    let edge : Edge = record { source = flow.src; left = rack_of hosts flow.src; right = rack_of hosts flow.dst } in
-    let within = rack_of hosts flow.src == rack_of hosts flow.dst in
-    elim (found hosts cores named slot source (All-tail (HasItsCore hosts cores named) flow slot own)) [
-      | inr below ↦ inr below
-      | inl others ↦
-          elim (cases_Bool (flow.src == source)) [
-            | inl same ↦ inr (subst (λ (n : ℕ). IsBelow cores (named n)) (eqb-true flow.src source same) (core_below hosts cores named flow (All-head (HasItsCore hosts cores named) flow slot own)))
-            | inr apart ↦
-                let other : flow.src ≢ source = λ same. let equal = eq-eqb flow.src source same in absurd cc in
-                elim (cases_Bool within) [
-                  | inl inside ↦ inl (subst (All Other) (sym (cond-true within (rack_edges hosts slot) (edge ∷ rack_edges hosts slot) inside)) others)
-                  | inr between ↦ inl (subst (All Other) (sym (cond-false within (rack_edges hosts slot) (edge ∷ rack_edges hosts slot) between)) (All-cons Other edge (rack_edges hosts slot) other others))
-                ]
-          ]
-    ]
-
-fewer : (most cores : ℕ) (core : Option ℕ) → cores ≤ most → IsBelow cores core → IfSome core (λ c. c < most)
+fewer : (most cores : ℕ) (core : Option ℕ) → cores ≤ most → Below cores core → IfSome core (λ c. c < most)
 fewer most cores None few below = tt
 fewer most cores (Some c) few below = omega (arith, below)
 

@@ -5,9 +5,7 @@ use Rattle.std.proofs.lemmas.Nat.{div_below, le-div}
 use Rattle.trace_run.specs.Windows.{collected_after}
 use Rattle.window_engine.specs.Plan.{EveryPlanTakesItsSteps}
 use Rattle.window_engine.specs.Replay.{EveryReplayTakesItsSteps}
-
-one_more : (steps g : ℕ) → suc steps * g ≡ steps * g + g
-one_more steps g = grind arith
+use Rattle.replay_rounds.proofs.ReplayCores.{one_more}
 
 rounds_are : (g rounds steps : ℕ) → collected_after g rounds steps ≡ min (steps * g) rounds
 rounds_are g rounds zero = let none : 0 * g ≡ 0 = omega arith in omega arith

@@ -1,6 +1,10 @@
 pub use Rattle.window_allocation.specs.Scheduled
 pub use Rattle.window_allocation.specs.Windows
 pub use Rattle.plan_rounds.specs.Batches
+pub use Rattle.path_workers.specs.Coloured
+pub use Rattle.path_workers.specs.CoreTable
+pub use Rattle.window_allocation.specs.Nets
+pub use Rattle.plan_rounds.specs.Asked
 pub mod Counts
 pub mod Plan
 pub mod Step

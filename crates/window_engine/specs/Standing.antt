@@ -82,8 +82,8 @@ run_of trace cores engine = setting_of trace engine.b engine.g cores
 -- ---- steps
 
 -- the rounds of the next window
-abbrev pub window_of : EngineState → ℕ
-window_of engine = min engine.g (engine.rounds - engine.collected)
+abbrev pub engine_window : EngineState → ℕ
+engine_window engine = min engine.g (engine.rounds - engine.collected)
 
 -- the batches that a step allocates: those that it collects in a plan, and in a replay those that wait
 abbrev pub batches_to_allocate : EngineRun → List DemandBatch → List DemandBatch
@@ -99,23 +99,23 @@ pub record HasStepped (old new : EngineState) (step : StepContent) : Type 0 wher
   pub rounds : new.rounds ≡ old.rounds
   pub workers : new.allocation.ring.workers ≡ old.allocation.ring.workers
   pub paths : new.allocation.paths.paths ≡ old.allocation.paths.paths
-  pub collected : new.collected ≡ old.collected + window_of old
-  pub span : step.collected ≡ record { first = old.collected; count = window_of old }
+  pub collected : new.collected ≡ old.collected + engine_window old
+  pub span : step.collected ≡ record { first = old.collected; count = engine_window old }
   pub jobs : new.allocation.paths.jobs ≡ old.allocation.paths.jobs + jobs_for step.window.span.count old.b old.allocation.paths.paths
   pub handed : HandsOn old.allocation (batches_to_allocate old.run step.played.batches) new.allocation step.window
 
 -- that window is the next one of the plan, and was allocated
 pub record HasPlannedWindow (trace : TraceContent) (old new : EngineState) (step : StepContent) : Type 0 where
   pub stands : StandsForPlan trace new
-  pub allocated : new.allocated ≡ old.allocated + window_of old
-  pub planned : StepIsPlanned trace old.b old.collected (window_of old) step
+  pub allocated : new.allocated ≡ old.allocated + engine_window old
+  pub planned : StepIsPlanned trace old.b old.collected (engine_window old) step
 
 -- that window is the next one of the replay with these cores, and the one before was allocated
 pub record HasReplayedWindow (trace : TraceContent) (cores : SlotCores) (old new : EngineState) (step : StepContent) : Type 0 where
   -- it goes on standing for these cores where they are, for these slots, the ones given
   pub stands : HasCoresOf old.b step cores → StandsForReplay trace cores new
   pub allocated : new.allocated ≡ old.collected
-  pub played : step.played ≡ rounds_played (run_of trace cores old) trace old.collected (window_of old)
+  pub played : step.played ≡ rounds_played (run_of trace cores old) trace old.collected (engine_window old)
   pub span : step.window.span ≡ record { first = old.allocated; count = old.collected - old.allocated }
   pub window : IsWindowOf trace.net old.b (slots_between (run_of trace cores old) old.allocated old.collected) step.window
   -- what the rounds collected so far show, whatever cores are named, and that no loss, delay, repeat or boot harms

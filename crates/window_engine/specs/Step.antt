@@ -5,7 +5,7 @@ use Rattle.greedy_rules.specs.declared.flows.Flow.{Flow}
 use Rattle.greedy_rules.specs.Batches.{DemandBatch}
 use Rattle.greedy_rules.specs.Schedule.{first_slot, schedule}
 use Rattle.clos_topology.specs.NetSlots.{SlotCores}
-use Rattle.window_allocation.specs.declared.window.Span.{Span}
+pub use Rattle.window_allocation.specs.declared.window.Span.{Span}
 use Rattle.window_allocation.specs.Windows.{WindowContent, IsWindowOf}
 use Rattle.trace_text.specs.Trace.{TraceContent}
 use Rattle.trace_text.specs.Valid.{IsTrace}

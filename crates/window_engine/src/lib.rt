@@ -24,7 +24,7 @@ pub use counts::Counts;
 pub use engine::Engine;
 pub use laws::{every_plan_balances, every_plan_has_its_slots, every_plan_takes_its_steps};
 pub use no_memory::NoMemory;
-pub use plan_rounds::every_plan_is_recorded;
+pub use plan_rounds::{every_plan_adds_what_is_asked, every_plan_is_recorded};
 pub use replay_laws::{every_replay_has_cores, every_replay_takes_its_steps};
 pub use setting::Setting;
 pub use step::Step;

@@ -4,7 +4,7 @@ ghost use Rattle.std.specs.Prelude.{◌≡◌, ◌<◌, ◌≤◌, ◌+◌, ◌-
 ghost use Rattle.flow_ledger.specs.FlowCount.{pending};
 ghost use Rattle.endpoint_history.specs.Lane.{LaneHistory};
 ghost use Rattle.endpoint_history.specs.Counts.{Allocation, allocated, owed};
-ghost use Rattle.arbiter_lane.specs.Standing.{StandsFor};
+ghost use Rattle.arbiter_lane.specs.Standing.{LaneStandsFor};
 ghost use Rattle.arbiter_lane.specs.declared.line.LaneLine.{LaneLine as LineOf};
 ghost use Rattle.both_ends_rows.specs.Callers.{IsServed};
 
@@ -31,7 +31,7 @@ fn is_owed(lane: &Lane, dst: u16) -> bool
     requires { dst < lane.now.endpoints }
     ensures pending { result ≡ true → (line : LineOf) → slice_get lane.now.lines dst ≡ Some line → 1 ≤ pending line.count }
     ensures owed { result ≡ true → (history : LaneHistory) (allocations : List Allocation) →
-        StandsFor lane.now history allocations →
+        LaneStandsFor lane.now history allocations →
         allocated history allocations dst + 1 ≤ owed lane.now.g history dst }
 {
     match lane.count(dst) {

@@ -5,8 +5,8 @@ ghost use Rattle.fcp_framing.specs.Versions.{IsVersion};
 ghost use Rattle.endpoint_history.specs.Counts.{Allocation, allocated, owed};
 ghost use Rattle.endpoint_history.specs.Rounds.{Round};
 ghost use Rattle.endpoint_history.specs.Steps.{lane_of};
-ghost use Rattle.lane_rounds.specs.Standing.{StandsFor, played_by};
-ghost use Rattle.both_ends_rows.specs.Callers.{HasPlayedRounds, told_of};
+ghost use Rattle.lane_rounds.specs.Standing.{RoundsStandFor, played_by};
+ghost use Rattle.both_ends_rows.specs.Callers.{HasPlayedRounds, told_of_one};
 
 use super::{Outside, QUIET, REFUSED, ROWS, Row, Shown, TAKEN, told, what_comes};
 use arbiter_lane::conditions_suffice;
@@ -43,7 +43,7 @@ struct Caller {
 fn is_owed(rounds: &LaneRounds, dst: u16) -> bool
     requires { dst < rounds.now.lane.endpoints }
     ensures { result ≡ true → (played : List Round) (allocations : List Allocation) →
-        StandsFor rounds.now played allocations →
+        RoundsStandFor rounds.now played allocations →
         allocated (lane_of (played_by rounds.now played).steps) allocations dst + 1 ≤ owed rounds.now.lane.g (lane_of (played_by rounds.now played).steps) dst }
 {
     match rounds.count(dst) {

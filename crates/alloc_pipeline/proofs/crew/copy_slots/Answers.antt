@@ -3,9 +3,9 @@ use Rattle.std.proofs.lemmas.Nat.{mul-le}
 use Rattle.std.proofs.lemmas.List.{take_all, length-replicate}
 use Rattle.greedy_rules.specs.declared.flows.Flow.{Flow}
 use Rattle.greedy_rules.specs.Schedule.{schedule_from}
+use Rattle.greedy_rules.proofs.TableLemmas.{next_row}
 use Rattle.ring_core.specs.States.{WorkerState}
-use Rattle.ring_core.specs.Windows.{Window, slots_in}
-use Rattle.ring_core.proofs.StreamLemmas.{row_on}
+use Rattle.ring_core.specs.Windows.{Window, slots_of_stage}
 use Rattle.alloc_pipeline.specs.Crews.{HavePlayedOut}
 use Rattle.alloc_pipeline.proofs.Copied.{scheduled, one_copied, worker_here, ended_stage}
 use Rattle.alloc_pipeline.proofs.crew.copy_slots.Goals as goal
@@ -45,7 +45,7 @@ copy-requires-clause-places c =
     let here = worker_here window.workers (length c.args.workers.now) stage c.args.workers.now v all.some all.count all.count c.index-workers-stage.is in
     let it = all.crewed (stage % window.workers) v here in
     let most = mul-le (stage + 1) c.args.b c.args.stages c.args.b (omega (arith, c.loop-stage-test.true)) (omega arith) in
-    omega (arith, c.slots.ensures.count, it.b_is, row_on stage c.args.b, most, c.requires.places, c.loop-stage.invariant.places)
+    omega (arith, c.slots.ensures.count, it.b_is, next_row stage c.args.b, most, c.requires.places, c.loop-stage.invariant.places)
 
 pub loop-stage-init : goal.loop-stage-init
 loop-stage-init c =
@@ -69,7 +69,7 @@ loop-stage-preserved c =
     let it = all.crewed (stage % window.workers) v here in
     let fits : (stage + 1) * window.b ≤ length c.args.out.now.slots = omega (arith, ap (λ (n : ℕ). (stage + 1) * n) all.b_is, most, c.requires.places) in
     one_copied window stage c.slots.result.now.slots c.loop-stage.out.slots c.copy.new.self.slots (stage * c.args.b) (length c.args.out.now.slots) (omega (arith, c.loop-stage-test.true, all.stages_are))
-    (c.slots.ensures.slots window.batches out.ends out.plays ∙ ap (λ (w : Window). slots_in w stage) out.in_window) (c.slots.ensures.count ∙ (it.b_is ∙ sym all.b_is)) (ap (λ (n : ℕ). stage * n) (sym all.b_is)) fits
+    (c.slots.ensures.slots window.batches out.ends out.plays ∙ ap (λ (w : Window). slots_of_stage w stage) out.in_window) (c.slots.ensures.count ∙ (it.b_is ∙ sym all.b_is)) (ap (λ (n : ℕ). stage * n) (sym all.b_is)) fits
     (was.slots endpoints most_batches window all) (was.count endpoints most_batches window all) c.copy.ensures.slots in
     let p = c.requires.played in
     record {

@@ -1,8 +1,9 @@
 use denote.Param.Send.{IsSync, sendable, param_send, given_sync, shr_send, shr_slice_send}
 use Rattle.std.proofs.Crossing.{crosses}
-use Rattle.alloc_pipeline.proofs.Crossing.{player_send, queue_sync, batch_sync}
+use Rattle.alloc_pipeline.proofs.Crossing.{player_send, queue_sync}
 use mir.Syntax.{named}
 use Rattle.greedy_rules.specs.contracts.batches.Batch as Batch
+use Rattle.greedy_rules.proofs.Crossing.{batch_sync}
 use Rattle.alloc_pipeline.proofs.play.+play_all.Lts-play_all as lts
 use Rattle.core.specs.contracts.atomic.AtomicBool as AtomicBool
 use Rattle.std.proofs.Common.{◌≡◌, ℕ, ◌+◌, ◌<◌, ◌≤◌, ◌⊎◌, inl, inr, length, arith, [], ◌∷◌, ◌++◌, ◌∙◌}

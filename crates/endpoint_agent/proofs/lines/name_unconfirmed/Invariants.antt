@@ -1,12 +1,12 @@
 use Rattle.std.proofs.Common.{◌≡◌, ◌≤◌, ◌-◌}
 use Rattle.endpoint_agent.specs.Lines.{unconfirmed_in}
-use Rattle.endpoint_agent.specs.State.{AreMarked}
+use Rattle.endpoint_agent.specs.State.{UnconfirmedAreMarked}
 use Rattle.endpoint_agent.proofs.lines.name_unconfirmed.Given as goal
 
 abbrev pub invariant-loop-dst : goal.invariant-loop-dst
 invariant-loop-dst l = record {
   named : l.demands.items ≡ unconfirmed_in l.acknowledged l.dst l.lines;
-  marked : AreMarked l.acknowledged l.unconfirmed l.lines;
+  marked : UnconfirmedAreMarked l.acknowledged l.unconfirmed l.lines;
   most : l.dst ≤ 256;
 }
 

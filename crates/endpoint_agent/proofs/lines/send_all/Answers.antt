@@ -4,7 +4,7 @@ use Rattle.fcp_framing.specs.declared.packet.Told.{Told}
 use Rattle.endpoint_history.specs.Sending.{Slot, sent_of}
 use Rattle.endpoint_agent.specs.declared.lines.Sent.{Sent}
 use Rattle.endpoint_agent.specs.State.{line_at}
-use Rattle.endpoint_agent.specs.Lines.{slots_sent, with_sent, slots_after, left_in}
+use Rattle.endpoint_agent.specs.Lines.{slots_sent, with_sent, slots_from_first, left_in}
 use Rattle.endpoint_agent.proofs.Walking.{no_told, told_at, slot_at, to, sent-step, counted-step, slots_after-next}
 use Rattle.endpoint_agent.proofs.lines.send_all.Goals as goal
 
@@ -30,7 +30,7 @@ loop-slot-preserved c =
     let offset : c.args.first_slot + c.from.result ≡ slot = ap (λ (n : ℕ). c.args.first_slot + n) c.from.ensures in
     let appended = rw offset at c.send_one.ensures.sent in
     let line = c.send_one.new.line in
-    let rest = slots_after c.args.first_slot (drop (i + 1) told) in
+    let rest = slots_from_first c.args.first_slot (drop (i + 1) told) in
     let next = slots_after-next c.args.first_slot i told within in
     record {
       whole = omega (arith, length-set lines t.dst line, invariant.whole);

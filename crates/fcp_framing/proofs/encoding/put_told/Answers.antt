@@ -2,7 +2,7 @@ use Rattle.std.proofs.Common.{◌≡◌, ◌+◌, ◌*◌, ◌∷◌, [], get_or
 use Rattle.std.specs.Int.{w16, to_be_bytes}
 use Rattle.fcp_framing.specs.declared.packet.Told.{Told}
 use Rattle.fcp_framing.specs.Spelling.{told_bytes}
-use Rattle.fcp_framing.specs.Fields.{told_in}
+use Rattle.fcp_framing.specs.Fields.{told_in_bytes}
 use Rattle.fcp_framing.proofs.Entries.{told_line, FitsTold}
 use Rattle.fcp_framing.proofs.Buffers.{wrote_then, wrote_line, with_bytes-none}
 use Rattle.fcp_framing.proofs.encoding.put_told.Goals as goal
@@ -21,6 +21,6 @@ loop-slot-preserved c =
     record {
       place = omega (arith, c.loop-slot.invariant.place);
       whole = c.put_u16.array_long;
-      list = wrote_line c.args.start 4 c.loop-slot.end told_bytes told_in FitsTold told_line c.args.told.now c.loop-slot.slot-index blank c.args.buf.now c.loop-slot.buf c.put_u16.new.buf
+      list = wrote_line c.args.start 4 c.loop-slot.end told_bytes told_in_bytes FitsTold told_line c.args.told.now c.loop-slot.slot-index blank c.args.buf.now c.loop-slot.buf c.put_u16.new.buf
           c.loop-slot-test.true place (omega (arith, c.told-buf, c.requires)) c.loop-slot.invariant.list entry;
     }

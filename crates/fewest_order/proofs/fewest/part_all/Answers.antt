@@ -3,7 +3,7 @@ use Rattle.std.proofs.Math.Seq.{take-add}
 use Rattle.std.proofs.lemmas.List.{length-drop, length-take-le, take_rest}
 use Rattle.greedy_rules.specs.declared.flows.Item.{Item}
 use Rattle.greedy_rules.specs.declared.flows.Entry.{Entry}
-use Rattle.fewest_order.specs.FewestFirst.{kept_of, raised_of, lowered_of}
+use Rattle.fewest_order.specs.FewestFirst.{kept_items, raised_of, lowered_of}
 use Rattle.fewest_order.proofs.FewestLemmas.{parts_length, kept_of-append, raised_of-append, lowered_of-append}
 use Rattle.fewest_order.proofs.fewest.part_all.Goals as goal
 
@@ -32,10 +32,10 @@ loop-from-preserved c =
     let parts = parts_length entries (take n rest) in
     record {
       within = omega (arith, facts.within, ap length (take_rest items was.from), length-drop was.from items, was.invariant.within);
-      kept = more (kept_of entries) items was.from n c.args.kept.now.items was.kept.items now.kept.items (kept_of-append entries) was.invariant.kept facts.kept;
+      kept = more (kept_items entries) items was.from n c.args.kept.now.items was.kept.items now.kept.items (kept_of-append entries) was.invariant.kept facts.kept;
       raised = more (raised_of entries) items was.from n c.args.raised.now.items was.raised.items now.raised.items (raised_of-append entries) was.invariant.raised facts.raised;
       lowered = more (lowered_of entries) items was.from n c.args.lowered.now.items was.lowered.items now.lowered.items (lowered_of-append entries) was.invariant.lowered facts.lowered;
-      kept_len = omega (arith, ap length facts.kept, length-append was.kept.items (kept_of entries (take n rest)), long, parts, was.invariant.kept_len, now.kept.ok.0, was.kept.ok.0);
+      kept_len = omega (arith, ap length facts.kept, length-append was.kept.items (kept_items entries (take n rest)), long, parts, was.invariant.kept_len, now.kept.ok.0, was.kept.ok.0);
       raised_len = omega (arith, ap length facts.raised, length-append was.raised.items (raised_of entries (take n rest)), long, parts, was.invariant.raised_len, now.raised.ok.0, was.raised.ok.0);
       lowered_len = omega (arith, ap length facts.lowered, length-append was.lowered.items (lowered_of entries (take n rest)), long, parts, was.invariant.lowered_len, now.lowered.ok.0, was.lowered.ok.0);
       kept_room = omega (arith, facts.kept_room, was.invariant.kept_room);

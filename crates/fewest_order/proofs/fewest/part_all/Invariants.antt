@@ -1,12 +1,12 @@
 use Rattle.std.proofs.Common.{◌≡◌, ◌≤◌, ◌+◌, ◌-◌, ◌++◌, length, take}
 use Rattle.std.specs.Prelude.{vec_len, vec_capacity}
-use Rattle.fewest_order.specs.FewestFirst.{kept_of, raised_of, lowered_of}
+use Rattle.fewest_order.specs.FewestFirst.{kept_items, raised_of, lowered_of}
 use Rattle.fewest_order.proofs.fewest.part_all.Given as goal
 
 abbrev pub invariant-loop-from : goal.invariant-loop-from
 invariant-loop-from l = record {
   within : l.from ≤ length l.items;
-  kept : l.kept.items ≡ l.fn.kept.items ++ kept_of l.batch.entries (take l.from l.items);
+  kept : l.kept.items ≡ l.fn.kept.items ++ kept_items l.batch.entries (take l.from l.items);
   raised : l.raised.items ≡ l.fn.raised.items ++ raised_of l.batch.entries (take l.from l.items);
   lowered : l.lowered.items ≡ l.fn.lowered.items ++ lowered_of l.batch.entries (take l.from l.items);
   kept_len : vec_len l.kept ≤ vec_len l.fn.kept + l.from;

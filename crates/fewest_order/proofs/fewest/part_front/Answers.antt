@@ -4,7 +4,7 @@ use Rattle.std.proofs.lemmas.Bool.{cond-true}
 use Rattle.std.proofs.lemmas.List.{append-nil, length-take-le, take_more}
 use Rattle.greedy_rules.specs.declared.flows.Item.{Item}
 use Rattle.greedy_rules.specs.declared.flows.Entry.{Entry}
-use Rattle.fewest_order.specs.FewestFirst.{kept_of, raised_of, lowered_of}
+use Rattle.fewest_order.specs.FewestFirst.{kept_items, raised_of, lowered_of}
 use Rattle.fewest_order.proofs.FewestLemmas.{stay_parts, kept_of-append, raised_of-append, lowered_of-append}
 use Rattle.fewest_order.proofs.fewest.part_front.Goals as goal
 
@@ -57,10 +57,10 @@ returns-clause-kept c =
     let one : List Item = get_or items stay nothing ∷ [] in
     let more : front ++ one ≡ take (stay + 1) items = sym (take_more items stay nothing below) in
     c.part.ensures.kept entries c.with_entry-item.ensures
-    ∙ (ap (λ (xs : List Item). xs ++ kept_of entries one) copied
-    ∙ (append_assoc c.args.kept.now.items front (kept_of entries one)
+    ∙ (ap (λ (xs : List Item). xs ++ kept_items entries one) copied
+    ∙ (append_assoc c.args.kept.now.items front (kept_items entries one)
     ∙ ap (λ (xs : List Item). c.args.kept.now.items ++ xs)
-    (ap (λ (xs : List Item). xs ++ kept_of entries one) (sym same.kept) ∙ (sym (kept_of-append entries front one) ∙ ap (kept_of entries) more))))
+    (ap (λ (xs : List Item). xs ++ kept_items entries one) (sym same.kept) ∙ (sym (kept_of-append entries front one) ∙ ap (kept_items entries) more))))
 
 pub returns-clause-raised : goal.returns-clause-raised
 returns-clause-raised c =

@@ -5,7 +5,7 @@ use Rattle.greedy_rules.specs.Examples.{remaining}
 use Rattle.clos_topology.specs.Network.{endpoints_of}
 use Rattle.report_text.specs.declared.line.Line.{Line}
 use Rattle.run_lines.proofs.FlowLemmas.{source_more, sources_whole}
-use Rattle.text_output.proofs.OutputLemmas.{Passes-after, Passes-broken}
+use Rattle.run_lines.proofs.OutputLemmas.{Passes-after, Passes-broken}
 use Rattle.fewest_plan.specs.Text.{flow_lines_by}
 use Rattle.fewest_plan.proofs.FlowLemmas.{left_by}
 use Rattle.fewest_plan.proofs.flows.put_flows.Goals as goal

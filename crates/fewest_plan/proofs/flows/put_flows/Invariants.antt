@@ -1,7 +1,7 @@
 use Rattle.greedy_rules.specs.Examples.{remaining}
 use Rattle.clos_topology.specs.Network.{endpoints_of}
 use Rattle.run_lines.specs.Text.{text_of, each_source}
-use Rattle.text_output.specs.Output.{Passed}
+use Rattle.run_lines.specs.Output.{Passed}
 use Rattle.fewest_plan.specs.Text.{flow_lines_by}
 use Rattle.fewest_plan.proofs.flows.put_flows.Given as goal
 

@@ -2,12 +2,12 @@ use Rattle.std.proofs.Common.{◌≡◌, ◌<◌, ◌+◌, ◌-◌, ◌++◌, Li
 use Rattle.greedy_rules.specs.declared.flows.Flow.{Flow}
 use Rattle.greedy_rules.specs.Demands.{item_of, need_in}
 use Rattle.greedy_rules.specs.Examples.{remaining}
+use Rattle.greedy_rules.specs.Cells.{flow_of}
 use Rattle.clos_topology.specs.Network.{endpoints_of}
 use Rattle.report_text.specs.declared.line.Line.{Line}
-use Rattle.window_engine.specs.declared.counts.Counts.{Counts}
-use Rattle.run_lines.specs.Text.{text_of, flow_lines_of, each_destination}
-use Rattle.run_lines.proofs.FlowLemmas.{flow_of, destination_more, destinations_whole}
-use Rattle.text_output.proofs.OutputLemmas.{Passes-after, Passes-broken}
+use Rattle.run_lines.specs.Text.{Counts, text_of, flow_lines_of, each_destination}
+use Rattle.run_lines.proofs.FlowLemmas.{destination_more, destinations_whole}
+use Rattle.run_lines.proofs.OutputLemmas.{Passes-after, Passes-broken}
 use Rattle.window_allocation.specs.Needs.{place_of}
 use Rattle.fewest_plan.specs.Text.{flow_lines_by}
 use Rattle.fewest_plan.proofs.FlowLemmas.{told}

@@ -1,6 +1,6 @@
 use Rattle.greedy_rules.specs.Examples.{remaining}
 use Rattle.run_lines.specs.Text.{text_of, each_destination}
-use Rattle.text_output.specs.Output.{Passed}
+use Rattle.run_lines.specs.Output.{Passed}
 use Rattle.fewest_plan.specs.Text.{flow_lines_by}
 use Rattle.fewest_plan.proofs.flows.put_source.Given as goal
 

@@ -4,7 +4,7 @@ use Rattle.greedy_rules.specs.Schedule.{first_slot}
 use Rattle.window_allocation.specs.Scheduled.{cores_from}
 use Rattle.run_lines.specs.Text.{text_of, no_batch, entry_line, slots_lines}
 use Rattle.run_lines.proofs.BatchTexts.{batch_text}
-use Rattle.text_output.proofs.OutputLemmas.{Passes-after, Passes-stopped}
+use Rattle.run_lines.proofs.OutputLemmas.{Passes-after, Passes-stopped}
 use Rattle.fewest_plan.proofs.TextLemmas.{step_of}
 use Rattle.fewest_plan.proofs.plan.put_batch.Goals as goal
 

@@ -2,8 +2,8 @@ use Rattle.std.proofs.Common.{◌≡◌, ◌++◌, sym, ap, ◌∙◌, ℕ, List
 use Rattle.greedy_rules.specs.Examples.{remaining}
 use Rattle.report_text.specs.declared.line.Line.TheVariants as line
 use Rattle.run_lines.specs.Text.{line_text, text_of}
-use Rattle.run_text.proofs.OutputLemmas.{Ends-stopped}
 use Rattle.run_text.proofs.PlanLemmas.{end_text}
+use Rattle.run_lines.proofs.OutputLemmas.{Ends-stopped}
 use Rattle.fewest_plan.specs.Text.{flows_lines_by, fewest_text}
 use Rattle.fewest_plan.proofs.TextLemmas.{plan_parts}
 use Rattle.fewest_plan.proofs.plan.put_lines.Goals as goal

@@ -2,7 +2,7 @@ use Rattle.std.proofs.Common.{◌≤◌, ◌+◌, ◌*◌, ℕ, refl, arith}
 use Rattle.greedy_rules.specs.Examples.{remaining}
 use Rattle.clos_topology.specs.NetSlots.{SlotCores}
 use Rattle.run_text.proofs.CoreLemmas.{spliced}
-use Rattle.fewest_plan.specs.Standing.{window_of}
+use Rattle.fewest_plan.specs.Standing.{planner_window}
 use Rattle.fewest_plan.proofs.CoreLemmas.{scheduled_spliced}
 use Rattle.fewest_plan.proofs.TextLemmas.{rounds_step, rounds_stop}
 use Rattle.fewest_plan.proofs.plan.put_rounds.Goals as goal
@@ -13,7 +13,7 @@ loop-planner-preserved g c =
     let b : ℕ = c.args.b in
     let old = c.loop-planner.planner in
     let k : ℕ = old.collection.rounds in
-    let n : ℕ = window_of trace old in
+    let n : ℕ = planner_window trace old in
     let inside : k + n ≤ trace.rounds = omega (arith, c.loop-planner.invariant.stands.collected.within) in
     let (there, scheduled, passed) = c.loop-planner.invariant.passed in
     let (here, clean, passes) = c.in_ok-put_step.ensures.passes in
@@ -34,7 +34,7 @@ returns-in_err-put_step-clause-passes g c =
     let b : ℕ = c.args.b in
     let old = c.loop-planner.planner in
     let k : ℕ = old.collection.rounds in
-    let n : ℕ = window_of trace old in
+    let n : ℕ = planner_window trace old in
     let inside : k + n ≤ trace.rounds = omega (arith, c.loop-planner.invariant.stands.collected.within) in
     let (there, scheduled, passed) = c.loop-planner.invariant.passed in
     let (here, clean, passes) = c.in_err-put_step.ensures.passes in

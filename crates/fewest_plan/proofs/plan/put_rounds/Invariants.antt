@@ -2,7 +2,7 @@ use Rattle.std.proofs.Common.{◌≡◌, ◌-◌}
 use Rattle.greedy_rules.specs.Examples.{remaining}
 use Rattle.run_lines.specs.Text.{text_of}
 use Rattle.run_lines.specs.Output.{Passed}
-use Rattle.fewest_plan.specs.Progress.{rounds_lines}
+use Rattle.fewest_plan.specs.Progress.{fewest_rounds_lines}
 use Rattle.fewest_plan.specs.Scheduled.{WithCoresBy}
 use Rattle.fewest_plan.specs.Standing.{HasPlanned}
 use Rattle.fewest_plan.proofs.plan.put_rounds.Given as goal
@@ -12,7 +12,7 @@ invariant-loop-planner g l = record {
   stands : HasPlanned l.trace l.planner;
   size : l.planner.b ≡ l.b;
   passed : WithCoresBy remaining l.b l.trace (λ cores.
-      Passed l.initial.output l.output (text_of (rounds_lines cores l.b l.planner.collection.rounds l.trace)));
+      Passed l.initial.output l.output (text_of (fewest_rounds_lines cores l.b l.planner.collection.rounds l.trace)));
 }
 
 abbrev pub decreases-loop-planner : goal.decreases-loop-planner

@@ -9,7 +9,7 @@ use Rattle.greedy_rules.specs.Allocation.{batch_slots, list_after_slots_by}
 use Rattle.greedy_rules.specs.Schedule.{first_slot, slots_then_by, list_then_by, rest_from_by}
 use Rattle.greedy_rules.specs.Examples.{remaining}
 use Rattle.run_lines.specs.Text.{no_batch}
-use Rattle.fewest_plan.specs.Barred.{batch_of}
+use Rattle.fewest_plan.specs.Barred.{batch_of_round}
 use Rattle.fewest_plan.proofs.WindowLemmas.{rest_more, slots_more}
 use Rattle.fewest_plan.proofs.planner.serve_all.Goals as goal
 
@@ -21,13 +21,13 @@ loop-at-preserved c =
     let list : List Item = c.args.order.now.items in
     let left : List Item = rest_from_by remaining b c.args.first list (take at batches) in
     let below : at < length batches = c.loop-at-test.true in
-    let batch : c.index-batches-at.result ≡ batch_of batches at = c.index-batches-at.is ∙ get_or_default batches at c.index-batches-at.result no_batch below in
+    let batch : c.index-batches-at.result ≡ batch_of_round batches at = c.index-batches-at.is ∙ get_or_default batches at c.index-batches-at.result no_batch below in
     let number : (c.args.first + at) * c.from.result + 1 ≡ first_slot b (c.args.first + at) = ap (λ (n : ℕ). (c.args.first + at) * n + 1) c.from.ensures in
     let size : c.loop-at.order.b ≡ b = c.loop-at.invariant.same_b ∙ c.requires.b in
-    let slots : c.slots.result.now.slots ≡ slots_then_by remaining b (c.args.first + at) (batch_of batches at) left =
+    let slots : c.slots.result.now.slots ≡ slots_then_by remaining b (c.args.first + at) (batch_of_round batches at) left =
     c.slots.ensures.slots
     ∙ (c.in_ok-serve.ensures.slots ∙ (λ i. batch_slots (is_barred (batch i).limits) (number i) (size i) (after_batch_by remaining (batch i).entries (c.loop-at.invariant.list i)))) in
-    let items : c.serve.new.self.items ≡ list_then_by remaining b (c.args.first + at) (batch_of batches at) left =
+    let items : c.serve.new.self.items ≡ list_then_by remaining b (c.args.first + at) (batch_of_round batches at) left =
     c.in_ok-serve.ensures.list ∙ (λ i. list_after_slots_by remaining (is_barred (batch i).limits) (number i) (size i) (after_batch_by remaining (batch i).entries (c.loop-at.invariant.list i))) in
     let count : length c.slots.result.now.slots ≡ b = c.slots.ensures.count ∙ (c.in_ok-serve.ensures.b ∙ size) in
     let place : at * c.from-in-loop-at.result ≡ at * b = ap (λ (n : ℕ). at * n) c.from-in-loop-at.ensures in

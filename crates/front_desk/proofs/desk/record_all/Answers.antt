@@ -2,7 +2,7 @@ use Rattle.std.proofs.Common.{◌≡◌, List, Some, length, map, set, get_or, s
 use Rattle.std.proofs.lemmas.List.{length-set, map-set}
 use Rattle.std.proofs.lemmas.Option.{slice_get-get_or}
 use Rattle.front_desk.specs.State.{LineState}
-use Rattle.front_desk.specs.Answers.{entries_from}
+use Rattle.front_desk.specs.Answers.{desk_entries_from}
 use Rattle.front_desk.specs.Standing.{state_of}
 use Rattle.front_desk.proofs.Lines.{lines-set, state_at, length-states}
 use Rattle.front_desk.proofs.Entering.{closed-here, next, entries-none, entries-above, entries-more, recorded_to, recorded-none, recorded-here, recorded-more, recorded-all, take-all}
@@ -65,4 +65,4 @@ pub returns-clause-entries : goal.returns-clause-entries
 returns-clause-entries c =
     let states = map state_of c.args.lines.now in
     c.loop-endpoint.invariant.entries.entries_are
-    ∙ ap (λ (ls : List LineState). entries_from (length c.args.lines.now) 0 ls) (take-all states c.loop-endpoint.endpoint (omega (arith, length-states c.args.lines.now, c.loop-endpoint.invariant.many, c.loop-endpoint-test.false)))
+    ∙ ap (λ (ls : List LineState). desk_entries_from (length c.args.lines.now) 0 ls) (take-all states c.loop-endpoint.endpoint (omega (arith, length-states c.args.lines.now, c.loop-endpoint.invariant.many, c.loop-endpoint-test.false)))

@@ -12,6 +12,6 @@ returns-clause-reads c =
       endpoint_is = ap (λ lane. lane.endpoint) made.ensures.frame ∙ opened.endpoint;
       endpoints_are = ap (λ lane. lane.endpoints) made.ensures.frame ∙ opened.endpoints;
       round = ap (λ lane. lane.round) made.ensures.frame ∙ opened.stands.round;
-      stands = subst (λ (told : List Told). lanes.StandsFor made.new.self (MakesDown 0 told ∷ []) []) c.new.ensures (made.ensures.stands [] [] opened.stands);
+      stands = subst (λ (told : List Told). lanes.LaneStandsFor made.new.self (MakesDown 0 told ∷ []) []) c.new.ensures (made.ensures.stands [] [] opened.stands);
       answers_are = refl;
     }

@@ -28,10 +28,10 @@ loop-dst-preserved c =
       };
       may_ask = (Asks a.0 a.1 ∷ calls, c.ask.ensures.stands calls stands, may.3);
       stands = λ calls stood.
-          subst (λ (h : AgentHistory). agents.StandsFor c.ask.new.self h) (sym (ap (λ (xs : List (ℕ × ℕ)). with_each (λ (x : ℕ × ℕ). Asks x.0 x.1) xs calls) (take_more asks i (0, 0) c.loop-dst-test.true) ∙ with_each-more (λ (x : ℕ × ℕ). Asks x.0 x.1) (take i asks) a calls))
+          subst (λ (h : AgentHistory). agents.AgentStandsFor c.ask.new.self h) (sym (ap (λ (xs : List (ℕ × ℕ)). with_each (λ (x : ℕ × ℕ). Asks x.0 x.1) xs calls) (take_more asks i (0, 0) c.loop-dst-test.true) ∙ with_each-more (λ (x : ℕ × ℕ). Asks x.0 x.1) (take i asks) a calls))
           (c.ask.ensures.stands (with_each (λ (x : ℕ × ℕ). Asks x.0 x.1) (take i asks) calls) (inv.stands calls stood));
     }
 
 pub returns-clause-stands : goal.returns-clause-stands
 returns-clause-stands c = λ calls stood.
-    subst (λ (xs : List (ℕ × ℕ)). agents.StandsFor c.loop-dst.agent (with_each (λ (x : ℕ × ℕ). Asks x.0 x.1) xs calls)) (take_all c.loop-dst.dst-index c.args.asks.now (omega (arith, c.loop-dst-test.false))) (c.loop-dst.invariant.stands calls stood)
+    subst (λ (xs : List (ℕ × ℕ)). agents.AgentStandsFor c.loop-dst.agent (with_each (λ (x : ℕ × ℕ). Asks x.0 x.1) xs calls)) (take_all c.loop-dst.dst-index c.args.asks.now (omega (arith, c.loop-dst-test.false))) (c.loop-dst.invariant.stands calls stood)

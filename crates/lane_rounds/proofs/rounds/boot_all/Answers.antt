@@ -25,11 +25,11 @@ loop-preserved c =
       };
       epoch = omega (arith, next, c.loop.invariant.epoch);
       stands = λ calls stood.
-          subst (λ (h : AgentHistory). agents.StandsFor c.boot.new.self h) (sym (ap (λ (xs : List ℕ). with_each Boots xs calls) (sym (replicate_more counter version)) ∙ with_each-more Boots (replicate counter version) version calls))
+          subst (λ (h : AgentHistory). agents.AgentStandsFor c.boot.new.self h) (sym (ap (λ (xs : List ℕ). with_each Boots xs calls) (sym (replicate_more counter version)) ∙ with_each-more Boots (replicate counter version) version calls))
           (c.boot.ensures.stands (with_each Boots (replicate counter version) calls) (c.loop.invariant.stands calls stood));
     }
 
 pub returns-clause-stands : goal.returns-clause-stands
 returns-clause-stands c = λ calls stood.
     let all : c.loop.counter ≡ c.args.boots = omega (arith, c.loop-test.false, c.loop.auto.counter-end) in
-    subst (λ (n : ℕ). agents.StandsFor c.loop.agent (with_each Boots (replicate n c.args.version) calls)) all (c.loop.invariant.stands calls stood)
+    subst (λ (n : ℕ). agents.AgentStandsFor c.loop.agent (with_each Boots (replicate n c.args.version) calls)) all (c.loop.invariant.stands calls stood)

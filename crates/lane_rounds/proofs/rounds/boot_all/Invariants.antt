@@ -9,5 +9,5 @@ abbrev pub invariant-loop : goal.invariant-loop
 invariant-loop l = record {
   same : IsSameAgent l.initial.agent l.agent;
   epoch : l.agent.epoch ≡ l.initial.agent.epoch + l.counter;
-  stands : (calls : AgentHistory) → agents.StandsFor l.initial.agent calls → agents.StandsFor l.agent (with_each Boots (replicate l.counter l.version) calls);
+  stands : (calls : AgentHistory) → agents.AgentStandsFor l.initial.agent calls → agents.AgentStandsFor l.agent (with_each Boots (replicate l.counter l.version) calls);
 }

@@ -41,9 +41,9 @@ returns-in-Some-clause-stands c = λ calls packets stood due each.
     let bytes = take c.in-Some.length c.args.buf.now in
     let none = c.requires.alone (subst IsSome (sym c.in-Some.is) refl) in
     let same : IsSameAgent agent agent = record { me = refl; endpoints = refl; b = refl; g = refl; round = refl; is_made = refl } in
-    at_hand-comes (spell_down agent.me) (IsReadDown agent.me agent.endpoints agent.b) (λ heard. agents.StandsFor agent (hearing round heard calls)) (λ heard. agents.StandsFor new (hearing round heard calls))
+    at_hand-comes (spell_down agent.me) (IsReadDown agent.me agent.endpoints agent.b) (λ heard. agents.AgentStandsFor agent (hearing round heard calls)) (λ heard. agents.AgentStandsFor new (hearing round heard calls))
     (due_in (with_packet round bytes world).flights round) packets bytes (c.packets_pass_at_once.ensures.due world round bytes none)
-    (λ heard p q b stood. subst (λ (h : AgentHistory). agents.StandsFor new h) (sym (with_each-more (TakesDown round) heard p calls)) (heard-one agent agent new round bytes p (hearing round heard calls) same c.take_down.ensures.stands b q stood))
+    (λ heard p q b stood. subst (λ (h : AgentHistory). agents.AgentStandsFor new h) (sym (with_each-more (TakesDown round) heard p calls)) (heard-one agent agent new round bytes p (hearing round heard calls) same c.take_down.ensures.stands b q stood))
     (subst (λ (at_hand : Option ℕ). due_in (with_at_hand round at_hand c.args.buf.now world).flights round ≡ map (spell_down agent.me) packets) c.in-Some.is due)
     each stood
 

@@ -20,7 +20,7 @@ loop-length-init c =
       same = record { me = refl; endpoints = refl; b = refl; g = refl; round = refl; is_made = refl };
       may_hear = c.requires.may_hear;
       stands = λ calls packets stood is each.
-          none-yet (spell_down was.me) (IsReadDown was.me was.endpoints was.b) (λ heard. agents.StandsFor was (hearing c.args.round heard calls)) due packets is each stood;
+          none-yet (spell_down was.me) (IsReadDown was.me was.endpoints was.b) (λ heard. agents.AgentStandsFor was (hearing c.args.round heard calls)) due packets is each stood;
       carried = λ departures it. carried-begins c.args.world.now c.args.round departures it;
     }
 
@@ -74,9 +74,9 @@ loop-length-preserved c =
         may'.1,
       );
       stands = λ calls packets stood is each.
-          one-more (spell_down was.me) (IsReadDown was.me was.endpoints was.b) (λ heard. agents.StandsFor agent (hearing c.args.round heard calls)) (λ heard. agents.StandsFor new (hearing c.args.round heard calls))
+          one-more (spell_down was.me) (IsReadDown was.me was.endpoints was.b) (λ heard. agents.AgentStandsFor agent (hearing c.args.round heard calls)) (λ heard. agents.AgentStandsFor new (hearing c.args.round heard calls))
           before after packets bytes c.in-Some.ensures.first c.arrive.ensures.taken
-          (λ heard p q b stood. subst (λ (h : AgentHistory). agents.StandsFor new h) (sym (with_each-more (TakesDown c.args.round) heard p calls)) (heard-one was agent new c.args.round bytes p (hearing c.args.round heard calls) same c.take_down.ensures.stands b q stood))
+          (λ heard p q b stood. subst (λ (h : AgentHistory). agents.AgentStandsFor new h) (sym (with_each-more (TakesDown c.args.round) heard p calls)) (heard-one was agent new c.args.round bytes p (hearing c.args.round heard calls) same c.take_down.ensures.stands b q stood))
           (inv.stands calls packets stood is each);
       carried = λ departures it. carried-asked c.loop-length.world c.arrive.new.self c.args.round departures c.arrive.ensures.stands (inv.carried departures it);
     }
@@ -84,7 +84,7 @@ loop-length-preserved c =
 pub returns-clause-stands : goal.returns-clause-stands
 returns-clause-stands c = λ calls packets stood is each.
     let was : AgentState = c.args.agent.now in
-    all-come (spell_down was.me) (IsReadDown was.me was.endpoints was.b) (λ heard. agents.StandsFor c.loop-length.agent (hearing c.args.round heard calls))
+    all-come (spell_down was.me) (IsReadDown was.me was.endpoints was.b) (λ heard. agents.AgentStandsFor c.loop-length.agent (hearing c.args.round heard calls))
     (due_in c.loop-length.world.flights c.args.round) packets c.in_default.ensures.first (c.loop-length.invariant.stands calls packets stood is each)
 
 pub returns-clause-carried : goal.returns-clause-carried

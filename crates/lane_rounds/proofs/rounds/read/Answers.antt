@@ -19,9 +19,9 @@ returns-in-Some-clause-stands c = λ history allocations packets stood due each.
     let bytes = take c.in-Some.length c.args.buf.now in
     let none = c.requires.alone (subst IsSome (sym c.in-Some.is) refl) in
     let same : IsSameLane lane lane = record { endpoint = refl; endpoints = refl; b = refl; g = refl; round = refl; is_made = refl } in
-    at_hand-comes (spell_up lane.endpoint) (IsReadUp lane.endpoint lane.endpoints) (λ heard. lanes.StandsFor lane (reading round heard history) allocations) (λ heard. lanes.StandsFor new (reading round heard history) allocations)
+    at_hand-comes (spell_up lane.endpoint) (IsReadUp lane.endpoint lane.endpoints) (λ heard. lanes.LaneStandsFor lane (reading round heard history) allocations) (λ heard. lanes.LaneStandsFor new (reading round heard history) allocations)
     (due_in (with_packet round bytes world).flights round) packets bytes (c.packets_pass_at_once.ensures.due world round bytes none)
-    (λ heard p q b stood. subst (λ (h : LaneHistory). lanes.StandsFor new h allocations) (sym (with_each-more (TakesUp round) heard p history)) (read-one lane lane new round bytes p (reading round heard history) allocations same c.take_up.ensures.stands b q stood))
+    (λ heard p q b stood. subst (λ (h : LaneHistory). lanes.LaneStandsFor new h allocations) (sym (with_each-more (TakesUp round) heard p history)) (read-one lane lane new round bytes p (reading round heard history) allocations same c.take_up.ensures.stands b q stood))
     (subst (λ (at_hand : Option ℕ). due_in (with_at_hand round at_hand c.args.buf.now world).flights round ≡ map (spell_up lane.endpoint) packets) c.in-Some.is due)
     each stood
 

@@ -15,7 +15,7 @@ loop-length-init c =
     record {
       same = record { endpoint = refl; endpoints = refl; b = refl; g = refl; round = refl; is_made = refl };
       stands = λ history allocations packets stood is each.
-          none-yet (spell_up was.endpoint) (IsReadUp was.endpoint was.endpoints) (λ heard. lanes.StandsFor was (reading c.args.round heard history) allocations) (due_in c.args.world.now.flights c.args.round) packets is each stood;
+          none-yet (spell_up was.endpoint) (IsReadUp was.endpoint was.endpoints) (λ heard. lanes.LaneStandsFor was (reading c.args.round heard history) allocations) (due_in c.args.world.now.flights c.args.round) packets is each stood;
       carried = λ departures it. carried-begins c.args.world.now c.args.round departures it;
     }
 
@@ -38,9 +38,9 @@ loop-length-preserved c =
         is_made = took.same.is_made ∙ same.is_made;
       };
       stands = λ history allocations packets stood is each.
-          one-more (spell_up was.endpoint) (IsReadUp was.endpoint was.endpoints) (λ heard. lanes.StandsFor lane (reading c.args.round heard history) allocations) (λ heard. lanes.StandsFor new (reading c.args.round heard history) allocations)
+          one-more (spell_up was.endpoint) (IsReadUp was.endpoint was.endpoints) (λ heard. lanes.LaneStandsFor lane (reading c.args.round heard history) allocations) (λ heard. lanes.LaneStandsFor new (reading c.args.round heard history) allocations)
           (due_in c.loop-length.world.flights c.args.round) (due_in c.arrive.new.self.flights c.args.round) packets bytes c.in-Some.ensures.first c.arrive.ensures.taken
-          (λ heard p q b stood. subst (λ (h : LaneHistory). lanes.StandsFor new h allocations) (sym (with_each-more (TakesUp c.args.round) heard p history)) (read-one was lane new c.args.round bytes p (reading c.args.round heard history) allocations same took.stands b q stood))
+          (λ heard p q b stood. subst (λ (h : LaneHistory). lanes.LaneStandsFor new h allocations) (sym (with_each-more (TakesUp c.args.round) heard p history)) (read-one was lane new c.args.round bytes p (reading c.args.round heard history) allocations same took.stands b q stood))
           (inv.stands history allocations packets stood is each);
       carried = λ departures it. carried-asked c.loop-length.world c.arrive.new.self c.args.round departures c.arrive.ensures.stands (inv.carried departures it);
     }
@@ -48,7 +48,7 @@ loop-length-preserved c =
 pub returns-clause-stands : goal.returns-clause-stands
 returns-clause-stands c = λ history allocations packets stood is each.
     let was : LaneState = c.args.lane.now in
-    all-come (spell_up was.endpoint) (IsReadUp was.endpoint was.endpoints) (λ heard. lanes.StandsFor c.loop-length.lane (reading c.args.round heard history) allocations)
+    all-come (spell_up was.endpoint) (IsReadUp was.endpoint was.endpoints) (λ heard. lanes.LaneStandsFor c.loop-length.lane (reading c.args.round heard history) allocations)
     (due_in c.loop-length.world.flights c.args.round) packets c.in_default.ensures.first (c.loop-length.invariant.stands history allocations packets stood is each)
 
 pub returns-clause-carried : goal.returns-clause-carried

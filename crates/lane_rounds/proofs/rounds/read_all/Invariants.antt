@@ -14,9 +14,9 @@ use Rattle.lane_rounds.proofs.rounds.read_all.Given as goal
 abbrev pub invariant-loop-length : goal.invariant-loop-length
 invariant-loop-length l = record {
   same : IsSameLane l.initial.lane l.lane;
-  stands : (history : LaneHistory) (allocations : List Allocation) (packets : List UpPacket) → lanes.StandsFor l.initial.lane history allocations → due_in l.initial.world.flights l.round ≡ map (spell_up l.initial.lane.endpoint) packets →
+  stands : (history : LaneHistory) (allocations : List Allocation) (packets : List UpPacket) → lanes.LaneStandsFor l.initial.lane history allocations → due_in l.initial.world.flights l.round ≡ map (spell_up l.initial.lane.endpoint) packets →
       Each (IsReadUp l.initial.lane.endpoint l.initial.lane.endpoints) packets →
-      HaveCome (spell_up l.initial.lane.endpoint) (IsReadUp l.initial.lane.endpoint l.initial.lane.endpoints) (λ heard. lanes.StandsFor l.lane (reading l.round heard history) allocations) (due_in l.world.flights l.round) packets;
+      HaveCome (spell_up l.initial.lane.endpoint) (IsReadUp l.initial.lane.endpoint l.initial.lane.endpoints) (λ heard. lanes.LaneStandsFor l.lane (reading l.round heard history) allocations) (due_in l.world.flights l.round) packets;
   carried : (departures : List Departure) → HasCarried l.initial.world l.round departures → HasCarried l.world (l.round + 1) departures;
 }
 

@@ -4,7 +4,7 @@ use Rattle.arbiter_lane.specs.State.{LaneState}
 use Rattle.arbiter_lane.specs.Standing as lanes
 use Rattle.arbiter_lane.specs.Refusals.{up_refusal}
 use Rattle.lane_rounds.specs.Raw.{Raw}
-use Rattle.lane_rounds.specs.Refused.{with_arrival, numbered}
+use Rattle.lane_rounds.specs.Refused.{with_arrival, numbered_refusal}
 use Rattle.lane_rounds.proofs.Raw.{HasRead, read-more, read-begins, read-ends, for_same}
 use Rattle.lane_rounds.proofs.rounds.read_raw.Goals as goal
 
@@ -39,8 +39,8 @@ loop-packet-preserved c =
       stands = λ history allocations stood.
           read-more was.endpoint was.endpoints c.args.round raw r left history allocations lane c.read_one.new.lane c.args.refused.now c.loop-packet.refused c.read_one.new.refused
           (subst (λ (rs : List Raw). HasRead was.endpoint was.endpoints c.args.round raw rs history allocations lane c.args.refused.now c.loop-packet.refused) (drop_more raw i r c.loop-packet-test.true ∙ ap (λ (x : Raw). x ∷ left) (sym c.packet-item.is)) (inv.stands history allocations stood))
-          (λ before it. for_same was lane same (λ endpoint endpoints. lanes.StandsFor c.read_one.new.lane (with_arrival endpoint endpoints c.args.round r.bytes before) allocations) (c.read_one.ensures.stands before allocations it))
-          (λ before it. for_same was lane same (λ endpoint endpoints. c.read_one.new.refused ≡ c.loop-packet.refused ++ numbered r.place (up_refusal endpoint endpoints before r.bytes)) (c.in_ok-read_one.ensures.refused before allocations it));
+          (λ before it. for_same was lane same (λ endpoint endpoints. lanes.LaneStandsFor c.read_one.new.lane (with_arrival endpoint endpoints c.args.round r.bytes before) allocations) (c.read_one.ensures.stands before allocations it))
+          (λ before it. for_same was lane same (λ endpoint endpoints. c.read_one.new.refused ≡ c.loop-packet.refused ++ numbered_refusal r.place (up_refusal endpoint endpoints before r.bytes)) (c.in_ok-read_one.ensures.refused before allocations it));
     }
 
 pub returns-clause-stands : goal.returns-clause-stands

@@ -5,7 +5,7 @@ use Rattle.greedy_rules.specs.declared.limits.Limits.{Limits}
 use Rattle.greedy_rules.specs.Batches.{DemandBatch, IsAboveLast}
 use Rattle.clos_topology.specs.Network.{endpoints_of}
 use Rattle.trace_text.specs.declared.ask.Ask.{Ask}
-use Rattle.plan_rounds.specs.Batches.{is_asked}
+use Rattle.plan_rounds.specs.Batches.{is_asked_for}
 use Rattle.window_allocation.specs.Needs.{place_of}
 use Rattle.plan_rounds.proofs.AskLemmas.{opens_is}
 use Rattle.plan_rounds.proofs.RoundAsks.{entry_by, asks_entries, ask_above, ask_in_range}
@@ -39,7 +39,7 @@ loop-ask-preserved c =
     let before = take c.args.round trace.asked in
     let range = ask_in_range trace c.args.round asks i none c.net.ensures.sound c.requires.round c.asks_in-ask-items.ensures c.loop-ask-test.true in
     let place : c.place.result ≡ place_of (endpoints_of trace.net) ask.src ask.dst = c.place.ensures.place ∙ ap (λ (n : ℕ). place_of n ask.src ask.dst) c.endpoints-endpoints.ensures.number in
-    let opens : (get_or c.args.asked.now c.place.result 0 == 0) ≡ not (is_asked before ask.src ask.dst) =
+    let opens : (get_or c.args.asked.now c.place.result 0 == 0) ≡ not (is_asked_for before ask.src ask.dst) =
     ap (λ (n : ℕ). get_or c.args.asked.now n 0 == 0) place ∙ opens_is trace c.args.round ask.src ask.dst c.args.asked.now 0 c.net.ensures.sound range.0 range.1 c.requires.tallies in
     let entry : Bool → Entry = λ b. record { flow = record { src = ask.src; dst = ask.dst }; opens = b; clear = false; add = ask.slots } in
     record {

@@ -7,9 +7,9 @@ use Rattle.ring_core.proofs.OpeningLemmas.{own_more, own_none}
 use Rattle.std.proofs.lemmas.List.Elements.{All-set}
 use Rattle.greedy_rules.specs.Batches.{DemandBatch}
 use Rattle.greedy_rules.specs.Demands.{AreBelow, opened}
-use Rattle.slot_batches.specs.Stands.{StageState, endpoints_of, batch_size_of}
+use Rattle.greedy_rules.proofs.TableLemmas.{next_row}
+use Rattle.slot_batches.specs.Stands.{StageState, stage_endpoints, batch_size_of}
 use Rattle.ring_core.specs.Workers.{own_stage}
-use Rattle.ring_core.proofs.StreamLemmas.{row_on}
 use Rattle.std.proofs.lemmas.Bool.{cases_lt}
 use Rattle.ring_core.proofs.BeginLemmas.{ended_within, own_before, slots_fit, first_fits, batch_is, one_begun}
 use Rattle.ring_core.proofs.worker.begin_stages.Goals as goal
@@ -50,7 +50,7 @@ pub begin-requires-clause-in_range : goal.begin-requires-clause-in_range
 begin-requires-clause-in_range c =
     let own : StageState = get_or c.loop-own.own-items c.loop-own.own-index c.own-item.result in
     let here = c.loop-own.invariant.in_range c.loop-own.own-index c.own-item.result (omega (arith, c.loop-own-test.true, c.loop-own.invariant.count)) in
-    subst (λ (batch : DemandBatch). AreBelow (endpoints_of own) (opened batch.entries)) (sym c.index-batches-stage.is) (here c.loop-own.stage c.index-batches-stage.result c.if-stage-batches.false)
+    subst (λ (batch : DemandBatch). AreBelow (stage_endpoints own) (opened batch.entries)) (sym c.index-batches-stage.is) (here c.loop-own.stage c.index-batches-stage.result c.if-stage-batches.false)
 
 pub begin-requires-clause-none : goal.begin-requires-clause-none
 begin-requires-clause-none c =
@@ -77,14 +77,14 @@ loop-own-preserved c =
     let stage_is : c.loop-own.stage ≡ own_stage c.args.workers c.args.number at = was.stage in
     let number = ap (λ (b : ℕ). (c.args.first_batch + c.loop-own.stage) * b + 1) c.from.ensures in
     record {
-      stage = omega (arith, row_on at c.args.workers, stage_is, c.from-stage-in-loop-own.ensures);
+      stage = omega (arith, next_row at c.args.workers, stage_is, c.from-stage-in-loop-own.ensures);
       near = omega (arith, c.if-stage-batches.false, c.from-stage-in-loop-own.ensures);
       count = length-set c.loop-own.own-items at new ∙ was.count;
-      in_range = All-set (λ stage. All (λ batch. AreBelow (endpoints_of stage) (opened batch.entries)) batches) c.loop-own.own-items at new
+      in_range = All-set (λ stage. All (λ batch. AreBelow (stage_endpoints stage) (opened batch.entries)) batches) c.loop-own.own-items at new
           (subst (λ (n : ℕ). All (λ (batch : DemandBatch). AreBelow n (opened batch.entries)) batches) (sym work.same_endpoints) (was.in_range at c.own-item.result within)) was.in_range;
       endpoints = λ endpoints all.
           let all_so = was.endpoints endpoints all in
-          All-set (λ stage. endpoints_of stage ≡ endpoints) c.loop-own.own-items at new (work.same_endpoints ∙ all_so at c.own-item.result within) all_so;
+          All-set (λ stage. stage_endpoints stage ≡ endpoints) c.loop-own.own-items at new (work.same_endpoints ∙ all_so at c.own-item.result within) all_so;
       sizes = All-set (λ stage. batch_size_of stage ≡ c.args.b) c.loop-own.own-items at new (work.same_size ∙ was.sizes at c.own-item.result within) was.sizes;
       rest = λ place d from inside.
           let other : slice_index_or (set c.loop-own.own-items at new) place d ≡ slice_index_or c.loop-own.own-items place d = get_or-set_other c.loop-own.own-items at place new d (λ same. omega (arith, same, from)) in
@@ -122,7 +122,7 @@ returns-then-stage-batches-clause-begun c = λ endpoints all place state below i
 
 pub returns-then-stage-batches-clause-endpoints : goal.returns-then-stage-batches-clause-endpoints
 returns-then-stage-batches-clause-endpoints c = λ endpoints all.
-    subst (All (λ stage. endpoints_of stage ≡ endpoints)) (sym (kept c.loop-own.own-items c.loop-own.own-index c.own-item.result)) (c.loop-own.invariant.endpoints endpoints all)
+    subst (All (λ stage. stage_endpoints stage ≡ endpoints)) (sym (kept c.loop-own.own-items c.loop-own.own-index c.own-item.result)) (c.loop-own.invariant.endpoints endpoints all)
 
 pub returns-then-stage-batches-clause-sizes : goal.returns-then-stage-batches-clause-sizes
 returns-then-stage-batches-clause-sizes c =

@@ -1,5 +1,6 @@
 use Rattle.std.proofs.Common.{◌≡◌, ◌+◌, ◌-◌, ◌++◌, List, ℕ, Option, sym, ap, ◌∙◌, inl, arith}
 use Rattle.greedy_rules.specs.declared.flows.Flow.{Flow}
+use Rattle.greedy_rules.specs.Cells.{flow_of}
 use Rattle.clos_topology.specs.Network.{endpoints_of}
 use Rattle.report_text.specs.declared.line.Line.{Line}
 use Rattle.window_engine.specs.declared.counts.Counts.{Counts}
@@ -7,7 +8,7 @@ use Rattle.window_engine.specs.Batches.{plan_batches}
 use Rattle.window_engine.specs.Counts.{counts_of}
 use Rattle.run_lines.specs.Text.{text_of, flow_lines_of, flow_lines, each_destination}
 use Rattle.text_output.proofs.OutputLemmas.{Passes-after, Passes-broken}
-use Rattle.run_lines.proofs.FlowLemmas.{flow_of, destination_more, destinations_whole}
+use Rattle.run_lines.proofs.FlowLemmas.{destination_more, destinations_whole}
 use Rattle.run_lines.proofs.flows.put_source.Goals as goal
 
 pub counts-requires-clause-stands : goal.counts-requires-clause-stands

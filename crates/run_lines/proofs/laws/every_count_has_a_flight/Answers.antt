@@ -1,6 +1,6 @@
 use Rattle.std.proofs.Common.{◌≤◌, ◌+◌, Option, IfSome, sym, subst, inl, inr}
 use Rattle.std.proofs.lemmas.Bool.{cond-true, cond-false, cases_Bool}
-use Rattle.endpoint_history.specs.Entries.{had}
+use Rattle.trace_run.specs.Entries.{had}
 use Rattle.trace_run.specs.Histories.{lane_after}
 use Rattle.window_engine.specs.declared.counts.Counts.{Counts}
 use Rattle.run_lines.proofs.laws.every_count_has_a_flight.Goals as goal

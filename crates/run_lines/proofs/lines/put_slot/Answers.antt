@@ -1,7 +1,7 @@
 use Rattle.std.proofs.Common.{ℕ, List, Option, map, ap, ◌∙◌}
 use Rattle.greedy_rules.specs.declared.flows.Flow.{Flow}
 use Rattle.greedy_rules.specs.SlotTable.{flows_from}
-use Rattle.edge_colouring.specs.Cores.{core_in}
+use Rattle.path_workers.specs.Cores.{core_in}
 use Rattle.path_workers.specs.CoreTable.{core_of}
 use Rattle.run_lines.specs.Text.{text_of, slot_line}
 use Rattle.text_output.proofs.OutputLemmas.{Passes-same}

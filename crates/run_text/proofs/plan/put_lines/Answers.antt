@@ -1,8 +1,8 @@
 use Rattle.std.proofs.Common.{◌≡◌, ◌++◌, sym, ap, ◌∙◌, ℕ, List}
 use Rattle.report_text.specs.declared.line.Line.TheVariants as line
 use Rattle.run_lines.specs.Text.{line_text, text_of, flows_lines}
+use Rattle.text_output.proofs.OutputLemmas.{Ends-stopped}
 use Rattle.run_text.specs.PlanText.{plan_text}
-use Rattle.run_text.proofs.OutputLemmas.{Ends-stopped}
 use Rattle.run_text.proofs.PlanLemmas.{end_text, plan_parts}
 use Rattle.run_text.proofs.plan.put_lines.Goals as goal
 

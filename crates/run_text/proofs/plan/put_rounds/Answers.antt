@@ -1,10 +1,10 @@
 use Rattle.std.proofs.Common.{◌≡◌, ◌≢◌, ◌*◌, ℕ, refl, sym, ap, ◌∙◌, arith, rules}
 use Rattle.clos_topology.specs.NetSlots.{SlotCores}
-use Rattle.window_engine.specs.Standing.{window_of}
+use Rattle.window_engine.specs.Standing.{engine_window}
 use Rattle.window_engine.proofs.EngineFacts.{plan_within, plan_whole}
 use Rattle.run_lines.specs.Text.{text_of}
+use Rattle.text_output.proofs.OutputLemmas.{Passes-same}
 use Rattle.run_text.specs.Progress.{rounds_lines}
-use Rattle.run_text.proofs.OutputLemmas.{Passes-same}
 use Rattle.run_text.proofs.CoreLemmas.{spliced, scheduled_spliced}
 use Rattle.run_text.proofs.StepLemmas.{rounds_step, rounds_stop}
 use Rattle.run_text.proofs.plan.put_rounds.Goals as goal
@@ -14,7 +14,7 @@ loop-engine-preserved g c =
     let trace = c.args.trace.now in
     let b : ℕ = c.args.b in
     let old = c.loop-engine.engine in
-    let n : ℕ = window_of old in
+    let n : ℕ = engine_window old in
     let (there, scheduled, passed) = c.loop-engine.invariant.passed in
     let (here, clean, passes) = c.in_ok-put_step.ensures.passes in
     let cores : SlotCores = spliced (old.collected * b) (n * b) here there in
@@ -33,7 +33,7 @@ returns-in_err-put_step-clause-passes g c =
     let trace = c.args.trace.now in
     let b : ℕ = c.args.b in
     let old = c.loop-engine.engine in
-    let n : ℕ = window_of old in
+    let n : ℕ = engine_window old in
     let (there, scheduled, passed) = c.loop-engine.invariant.passed in
     let (here, clean, passes) = c.in_err-put_step.ensures.passes in
     let cores : SlotCores = spliced (old.collected * b) (n * b) here there in (

@@ -1,7 +1,7 @@
 use Rattle.std.proofs.Common.{ℕ, ◌∙◌, inl}
-use Rattle.window_engine.specs.Standing.{window_of}
+use Rattle.window_engine.specs.Standing.{engine_window}
 use Rattle.run_lines.specs.Steps.{cores_of_step}
-use Rattle.run_text.proofs.OutputLemmas.{Passes-same, OnOk-always}
+use Rattle.text_output.proofs.OutputLemmas.{Passes-same, OnOk-always}
 use Rattle.run_text.proofs.CoreLemmas.{clean_in_window}
 use Rattle.run_text.proofs.StepLemmas.{is_window, step_clean, step_text}
 use Rattle.run_text.proofs.plan.put_step.Goals as goal
@@ -14,7 +14,7 @@ returns-in_err-step-clause-passes g c =
     let trace = c.args.trace.now in
     let engine = c.args.engine.now in (
       c.requires.cores.0,
-      clean_in_window c.args.b engine.collected (window_of engine) trace c.requires.cores.0 c.requires.cores.1,
+      clean_in_window c.args.b engine.collected (engine_window engine) trace c.requires.cores.0 c.requires.cores.1,
       c.texts_follow.ensures.no_memory c.from_residual.ensures.1,
     )
 

@@ -1,5 +1,5 @@
 use Rattle.std.proofs.Common.{◌≡◌, ◌<◌, ◌*◌, length, refl, ap, ◌∙◌, ℕ, arith}
-use Rattle.window_allocation.specs.declared.window.Span.{Span}
+use Rattle.window_engine.specs.Step.{Span}
 use Rattle.run_lines.specs.Steps.{cores_of_step}
 use Rattle.run_text.proofs.BatchTexts.{batches_more, batches_whole}
 use Rattle.run_text.proofs.plan.put_window.Goals as goal

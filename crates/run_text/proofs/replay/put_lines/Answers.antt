@@ -5,9 +5,9 @@ use Rattle.trace_text.specs.Trace.{TraceContent}
 use Rattle.trace_run.specs.Run.{Setting}
 use Rattle.replay_rounds.specs.Setting.{setting_of}
 use Rattle.run_lines.specs.Text.{counts_lines, line_text, text_of}
+use Rattle.text_output.proofs.OutputLemmas.{Ends-stopped}
 use Rattle.run_text.specs.ReplayScheduled.{AreReplayCores, WithReplayCores}
 use Rattle.run_text.specs.ReplayText.{all_steps_lines, replay_text}
-use Rattle.run_text.proofs.OutputLemmas.{Ends-stopped}
 use Rattle.run_text.proofs.PlanLemmas.{end_text, parts_with_end}
 use Rattle.run_text.proofs.ReplayLoop.{same_run}
 use Rattle.window_engine.specs.Standing.{run_of}

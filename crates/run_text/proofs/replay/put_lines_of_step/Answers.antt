@@ -1,7 +1,7 @@
 use Rattle.std.proofs.Common.{◌≡◌, ◌≤◌, ◌+◌, ◌*◌, ℕ, refl, sym, ap, ◌∙◌, arith}
 use Rattle.std.proofs.lemmas.Nat.{mul-le}
 use Rattle.greedy_rules.specs.Schedule.{first_slot}
-use Rattle.window_allocation.specs.declared.window.Span.{Span}
+use Rattle.window_engine.specs.Step.{Span}
 use Rattle.run_text.proofs.ReplaySteps.{step_parts}
 use Rattle.run_text.proofs.replay.put_lines_of_step.Goals as goal
 

@@ -2,14 +2,14 @@ use Rattle.std.proofs.Common.{◌≡◌, ◌<◌, ◌≤◌, ◌+◌, ◌-◌, �
 use Rattle.greedy_rules.specs.declared.flows.Flow.{Flow}
 use Rattle.clos_topology.specs.NetSlots.{SlotCores}
 use Rattle.replay_rounds.specs.Standing.{slots_between}
-use Rattle.window_allocation.specs.declared.window.Span.{Span}
+use Rattle.window_engine.specs.Step.{Span}
 use Rattle.run_lines.specs.Text.{text_of}
 use Rattle.run_lines.specs.Steps.{StepIsPlayed, cores_of_step}
+use Rattle.text_output.proofs.OutputLemmas.{Passes-same, never_ok, OnOk-always}
 use Rattle.run_text.specs.ReplayProgress.{HasSlots, step_text_lines, GivesStep}
-use Rattle.run_text.proofs.OutputLemmas.{Passes-same, never_ok, OnOk-always}
 use Rattle.run_text.proofs.ReplayCores.{clean_between, limited, limited-named}
 use Rattle.run_text.proofs.ReplaySteps.{is_played, has_slots, window_clean, has_cores_of, next_text}
-use Rattle.window_engine.specs.Standing.{run_of, window_of}
+use Rattle.window_engine.specs.Standing.{run_of, engine_window}
 use Rattle.window_engine.proofs.EngineFacts.{replay_within}
 use Rattle.run_text.proofs.replay.put_step.Goals as goal
 
@@ -36,7 +36,7 @@ put_lines_of_step-requires-clause-played g c =
     let old = c.args.replay.now in
     let (cores, stands) = c.requires.stands in
     let step = c.in_ok-step.step in
-    let count : ℕ = window_of old in
+    let count : ℕ = engine_window old in
     let within : old.collected + count ≤ trace.rounds = omega (arith, (replay_within stands).rounds, (replay_within stands).within) in
     is_played (run_of trace cores old) trace old.collected count step c.every_refusal_has_a_number.ensures c.requires.accepted within (ap (λ (s : Span). s.first) c.in_ok-step.ensures.stepped.span) (c.in_ok-step.ensures.replayed cores stands).played
 

@@ -6,9 +6,9 @@ use Rattle.replay_rounds.specs.Setting.{setting_of}
 use Rattle.replay_rounds.specs.Standing.{slots_between}
 use Rattle.window_engine.specs.Scheduled.{AreClean}
 use Rattle.run_lines.specs.Text.{text_of}
+use Rattle.text_output.proofs.OutputLemmas.{Passes-same, never_ok}
 use Rattle.run_text.specs.ReplayScheduled.{AreReplayCores}
 use Rattle.run_text.specs.ReplayText.{steps_lines, steps_of}
-use Rattle.run_text.proofs.OutputLemmas.{Passes-same, never_ok}
 use Rattle.run_text.proofs.CoreLemmas.{spliced}
 use Rattle.run_text.proofs.ReplayCores.{replay_spliced, places}
 use Rattle.run_text.proofs.ReplaySteps.{after_step, all_steps}

@@ -4,20 +4,18 @@ use Rattle.greedy_rules.specs.declared.flows.Item.{Item}
 use Rattle.greedy_rules.specs.Batches.{DemandBatch}
 use Rattle.greedy_rules.specs.Demands.{HasEachFlowOnce, AreBelow, item_of, need_in}
 use Rattle.greedy_rules.specs.Schedule.{schedule}
+use Rattle.greedy_rules.proofs.BatchLemmas.{no_batch}
 use Rattle.clos_topology.specs.Network.{Network, endpoints_of}
 use Rattle.schedule_audit.specs.Lines.{Path, Place, paths}
 use Rattle.schedule_audit.specs.Numbered.{Numbered}
 use Rattle.schedule_audit.specs.Totals.{Total, is_wrong_total, first_total}
-use Rattle.schedule_audit.specs.Wrong.{places_from}
+use Rattle.schedule_audit.specs.Wrong.{slot_places_from}
 use Rattle.schedule_audit.specs.Judged.{earlier, PathsStand}
-use Rattle.schedule_audit.specs.Played.{ArePlayed}
+use Rattle.schedule_audit.specs.Played.{AuditIsPlayed}
 use Rattle.schedule_audit.proofs.ReadBatches.{read_off}
 use Rattle.schedule_audit.proofs.SendOrder.{number}
 use Rattle.schedule_audit.proofs.Finished.{next-batch, front-long, numbers-fit, all-played, told, figures-are, found-is, short-is}
 use Rattle.schedule_audit.proofs.auditor.first_wrong.Goals as goal
-
-abbrev no_batch : DemandBatch
-no_batch = record { entries = []; limits = record { hosts = 0; cores = 0 } }
 
 pub play-requires-clause-numbers : goal.play-requires-clause-numbers
 play-requires-clause-numbers c =
@@ -55,8 +53,8 @@ play-requires-clause-played c =
       get_or off.batches round no_batch,
       drop (round + 1) off.batches,
       front-long off.batches round (omega (arith, less)),
-      subst (λ (n : Network). ArePlayed n b (take round off.batches) (get_or off.batches round no_batch ∷ drop (round + 1) off.batches) c.loop-round.played c.loop-round.judges) (sym c.loop-round.invariant.net)
-          (subst (λ (xs : List DemandBatch). ArePlayed net b (take round off.batches) xs c.loop-round.played c.loop-round.judges) next.0 (c.loop-round.invariant.played lines x.1 off)),
+      subst (λ (n : Network). AuditIsPlayed n b (take round off.batches) (get_or off.batches round no_batch ∷ drop (round + 1) off.batches) c.loop-round.played c.loop-round.judges) (sym c.loop-round.invariant.net)
+          (subst (λ (xs : List DemandBatch). AuditIsPlayed net b (take round off.batches) xs c.loop-round.played c.loop-round.judges) next.0 (c.loop-round.invariant.played lines x.1 off)),
     )
 
 pub loop-round-preserved : goal.loop-round-preserved
@@ -68,11 +66,11 @@ loop-round-preserved c =
       played = λ lines collects off.
           let less : round < length off.batches = (let most = c.loop-round-test.true in let all = c.unwrap_or-rounds.ensures ∙ collects.rounds in omega (arith, most, all, off.many)) in
           let next = next-batch off.batches round no_batch less in
-          subst (λ (xs : List DemandBatch). ArePlayed net b xs (drop (round + 1) off.batches) c.play.new.self c.play.new.judges) next.1
-          (subst (λ (n : Network). ArePlayed n b (take round off.batches ++ get_or off.batches round no_batch ∷ []) (drop (round + 1) off.batches) c.play.new.self c.play.new.judges) c.loop-round.invariant.net
+          subst (λ (xs : List DemandBatch). AuditIsPlayed net b xs (drop (round + 1) off.batches) c.play.new.self c.play.new.judges) next.1
+          (subst (λ (n : Network). AuditIsPlayed n b (take round off.batches ++ get_or off.batches round no_batch ∷ []) (drop (round + 1) off.batches) c.play.new.self c.play.new.judges) c.loop-round.invariant.net
           (c.in_ok-play.ensures.played (take round off.batches) (get_or off.batches round no_batch) (drop (round + 1) off.batches) (front-long off.batches round (omega (arith, less)))
-          (subst (λ (n : Network). ArePlayed n b (take round off.batches) (get_or off.batches round no_batch ∷ drop (round + 1) off.batches) c.loop-round.played c.loop-round.judges) (sym c.loop-round.invariant.net)
-          (subst (λ (xs : List DemandBatch). ArePlayed net b (take round off.batches) xs c.loop-round.played c.loop-round.judges) next.0 (c.loop-round.invariant.played lines collects off)))));
+          (subst (λ (n : Network). AuditIsPlayed n b (take round off.batches) (get_or off.batches round no_batch ∷ drop (round + 1) off.batches) c.loop-round.played c.loop-round.judges) (sym c.loop-round.invariant.net)
+          (subst (λ (xs : List DemandBatch). AuditIsPlayed net b (take round off.batches) xs c.loop-round.played c.loop-round.judges) next.0 (c.loop-round.invariant.played lines collects off)))));
       net = c.in_ok-play.ensures.text.net ∙ c.loop-round.invariant.net;
       paths = ap (λ v. v.items) c.in_ok-play.ensures.text.paths ∙ c.loop-round.invariant.paths;
       sends = ap (λ v. v.items) c.in_ok-play.ensures.text.sends ∙ c.loop-round.invariant.sends;
@@ -126,7 +124,7 @@ first_missed-send-requires c =
     let round = c.loop-round.round in
     let many : length off.batches ≡ round = (let last = c.loop-round-test.false in let end = c.loop-round.auto.round-end in let all = c.unwrap_or-rounds.ensures ∙ x.1.rounds in omega (arith, last, end, all, off.many)) in
     let played = all-played net b round off.batches c.loop-round.played c.loop-round.judges many (c.loop-round.invariant.played lines x.1 off) in
-    (places_from 1 (schedule b off.batches), played.judged.sends)
+    (slot_places_from 1 (schedule b off.batches), played.judged.sends)
 
 pub returns : goal.returns
 returns c = λ lines collects small none.
@@ -138,7 +136,7 @@ returns c = λ lines collects small none.
     let many : length off.batches ≡ round = (let last = c.loop-round-test.false in let end = c.loop-round.auto.round-end in let all = c.unwrap_or-rounds.ensures ∙ collects.rounds in omega (arith, last, end, all, off.many)) in
     let played = all-played net b round off.batches c.loop-round.played judges many (c.loop-round.invariant.played lines collects off) in
     let figures = figures-are net b lines off c.schedules_go_on.ensures.front c.every_slot_is_in_range.ensures c.every_slots_flows_are_of_entries.ensures.slots c.loop-round.played c.loop-round.judges c.in_ok-left.left played (λ flow. c.in_ok-left.ensures flow ∙ ap (λ (items : List Item). need_in (item_of items flow)) c.list.ensures) in
-    let places = places_from 1 (schedule b off.batches) in
+    let places = slot_places_from 1 (schedule b off.batches) in
     let short = short-is net b lines off c.loop-round.played judges _ c.len-paths.result played (let same = ap (λ (ps : List (Numbered Path)). length ps) collects.paths in omega (arith, c.len-paths.ensures, same)) refl in
     c.earlier-2.ensures
     ∙ (ap (λ (o : Option ℕ). earlier c.first_wrong-path.result o) c.earlier.ensures

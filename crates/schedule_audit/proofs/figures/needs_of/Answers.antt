@@ -1,6 +1,6 @@
 use Rattle.std.proofs.Common.{◌<◌, ℕ, length, cond, sym, ap, ◌∙◌, arith}
 use Rattle.greedy_rules.specs.Flows.{same_flow}
-use Rattle.schedule_audit.specs.FlowNumbers.{number_of}
+use Rattle.schedule_audit.specs.FlowNumbers.{flow_number_of}
 use Rattle.schedule_audit.proofs.SendSteps.{get-is}
 use Rattle.schedule_audit.proofs.NeedSteps.{needs-more}
 use Rattle.schedule_audit.proofs.figures.needs_of.Goals as goal
@@ -14,6 +14,6 @@ loop-at-preserved c =
     let within : at < length items = omega (arith, c.loop-at-test.true, c.len-at-end.ensures) in
     record {
       needs = needs-more items at item old c.set.new.self c.requires.once within (sym (get-is items at item item c.item-item.ensures)) c.loop-at.invariant.needs
-          (λ other. c.set.ensures.numbers other ∙ ap (λ (n : ℕ). cond (same_flow item.flow other) n (number_of old other)) c.from.ensures);
+          (λ other. c.set.ensures.numbers other ∙ ap (λ (n : ℕ). cond (same_flow item.flow other) n (flow_number_of old other)) c.from.ensures);
       endpoints = c.set.ensures.endpoints ∙ c.loop-at.invariant.endpoints;
     }

@@ -1,7 +1,7 @@
 use Rattle.std.proofs.Common.{◌≡◌, ◌||◌, [], ◌∷◌, length, true, false, sym, ap, ◌∙◌, subst}
 use Rattle.std.proofs.lemmas.List.{nil_from_length}
 use Rattle.std.proofs.lemmas.Bool.{eqb-true}
-use Rattle.schedule_audit.specs.Reading.{AreLines}
+use Rattle.schedule_audit.specs.Reading.{ReadsLines}
 use Rattle.schedule_audit.specs.Lines.{records, reaches}
 use Rattle.schedule_audit.proofs.FirstLines.{comes_first, empty_text, shorter}
 use Rattle.schedule_audit.proofs.Passes.{reaches-more}
@@ -33,5 +33,5 @@ pub returns : goal.returns
 returns c = λ lines are.
     let so_far = c.loop-rest.invariant lines are in
     let done : c.loop-rest.rest.now ≡ [] = nil_from_length c.loop-rest.rest.now (eqb-true (length c.loop-rest.rest.now) 0 (sym c.is_empty.ensures ∙ c.loop-rest-test.false)) in
-    let none : so_far.0 ≡ [] = empty_text so_far.0 (subst (λ xs. AreLines xs so_far.0) done so_far.1) in
+    let none : so_far.0 ≡ [] = empty_text so_far.0 (subst (λ xs. ReadsLines xs so_far.0) done so_far.1) in
     sym (so_far.2 ∙ ap (λ xs. reaches c.args.batch (records xs)) none)

@@ -3,20 +3,20 @@ use Rattle.std.proofs.lemmas.List.Elements.{All-head}
 use Rattle.greedy_rules.specs.declared.flows.Flow.{Flow}
 use Rattle.greedy_rules.specs.SlotTable.{flows_from}
 use Rattle.clos_topology.specs.Network.{endpoints_of}
-use Rattle.schedule_audit.specs.Walked.{in_slot, StandApart, AreBetween}
+use Rattle.schedule_audit.specs.Walked.{in_slot, StandApart, FlowsAreBetween}
 use Rattle.schedule_audit.proofs.passing.count_cell.Goals as goal
 
 pub count-requires-clause-src : goal.count-requires-clause-src
 count-requires-clause-src c =
     let endpoints = endpoints_of c.args.judges.now.net in
     (All-head (λ (f : Flow). (f.src < endpoints) × (f.dst < endpoints)) (record { src = c.args.src; dst = c.in-Some.dst }) []
-    (subst (λ (to : Option ℕ). AreBetween endpoints (flows_from c.args.src (to ∷ []))) c.in-Some.is c.requires.flows)).0
+    (subst (λ (to : Option ℕ). FlowsAreBetween endpoints (flows_from c.args.src (to ∷ []))) c.in-Some.is c.requires.flows)).0
 
 pub count-requires-clause-dst : goal.count-requires-clause-dst
 count-requires-clause-dst c =
     let endpoints = endpoints_of c.args.judges.now.net in
     (All-head (λ (f : Flow). (f.src < endpoints) × (f.dst < endpoints)) (record { src = c.args.src; dst = c.in-Some.dst }) []
-    (subst (λ (to : Option ℕ). AreBetween endpoints (flows_from c.args.src (to ∷ []))) c.in-Some.is c.requires.flows)).1
+    (subst (λ (to : Option ℕ). FlowsAreBetween endpoints (flows_from c.args.src (to ∷ []))) c.in-Some.is c.requires.flows)).1
 
 pub returns-in-Some-clause-stands : goal.returns-in-Some-clause-stands
 returns-in-Some-clause-stands c = λ held counted before apart.

@@ -3,7 +3,7 @@ use Rattle.std.proofs.lemmas.List.{take_all}
 use Rattle.greedy_rules.specs.SlotTable.{flows_from}
 use Rattle.clos_topology.specs.Network.{Network, endpoints_of}
 use Rattle.schedule_audit.specs.Lines.{Place}
-use Rattle.schedule_audit.specs.Walked.{in_slot, StandApart, AreBetween}
+use Rattle.schedule_audit.specs.Walked.{in_slot, StandApart, FlowsAreBetween}
 use Rattle.schedule_audit.proofs.SendSteps.{get-is, some-get}
 use Rattle.schedule_audit.proofs.WalkSteps.{cell-between, cells-before, row-step, same-text}
 use Rattle.schedule_audit.proofs.passing.count_row.Goals as goal
@@ -13,7 +13,7 @@ count_cell-requires-clause-flows c =
     let row = c.args.row.now in
     let src = c.loop-src.src in
     let within : src < length row = omega (arith, c.loop-src-test.true, c.requires.row) in
-    subst (λ (net : Network). AreBetween (endpoints_of net) (flows_from src (get_or row src None ∷ []))) (sym c.loop-src.invariant.text.net)
+    subst (λ (net : Network). FlowsAreBetween (endpoints_of net) (flows_from src (get_or row src None ∷ []))) (sym c.loop-src.invariant.text.net)
     (cell-between (endpoints_of c.args.judges.now.net) src row (get_or row src None) within (sym (get-is row src (get_or row src None) (get_or row src None) (some-get row src None within))) c.requires.flows)
 
 pub count_cell-requires-clause-stands : goal.count_cell-requires-clause-stands

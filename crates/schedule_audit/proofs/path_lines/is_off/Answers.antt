@@ -1,9 +1,10 @@
 use Rattle.std.proofs.Common.{◌≡◌, not, ◌||◌, ◌∷◌, true, false, sym, ap, ◌∙◌, subst}
 use Rattle.std.specs.List.{list_any}
+use Rattle.list_facts.proofs.Bools.{not-not}
 use Rattle.schedule_audit.specs.Lines.{Path}
 use Rattle.schedule_audit.specs.Wrong.{same_place, share_a_link, has_wrong_core}
-use Rattle.schedule_audit.specs.Marks.{AreMarked}
-use Rattle.schedule_audit.proofs.PathSteps.{off-here, off-marked, not-not}
+use Rattle.schedule_audit.specs.Marks.{PathsAreMarked}
+use Rattle.schedule_audit.proofs.PathSteps.{off-here, off-marked}
 use Rattle.schedule_audit.proofs.path_lines.is_off.Goals as goal
 
 pub returns-clause-off : goal.returns-clause-off
@@ -21,4 +22,4 @@ returns-clause-off c = λ before upto marked.
 pub returns-clause-marked : goal.returns-clause-marked
 returns-clause-marked c = λ before upto marked fine.
     let same : same_place c.args.place c.args.path.place ≡ true = sym c.same_place.ensures ∙ c.if-not-same_place.false in
-    subst (λ (p : Path). AreMarked c.args.net.now c.take.new.self (p ∷ before)) (off-marked c.args.place c.args.path same) (c.take.ensures.taken before upto marked)
+    subst (λ (p : Path). PathsAreMarked c.args.net.now c.take.new.self (p ∷ before)) (off-marked c.args.place c.args.path same) (c.take.ensures.taken before upto marked)

@@ -5,7 +5,7 @@ use Rattle.clos_topology.specs.Network.{endpoints_of}
 use Rattle.schedule_audit.specs.Collecting.{CollectsUpTo}
 use Rattle.schedule_audit.specs.Lines.{Recorded, records}
 use Rattle.schedule_audit.specs.Misplaced.{cannot_stand}
-use Rattle.schedule_audit.specs.Reading.{AreLines}
+use Rattle.schedule_audit.specs.Reading.{ReadsLines}
 use Rattle.schedule_audit.proofs.CollectLemmas.{collects-more, collects-all}
 use Rattle.schedule_audit.proofs.FirstLines.{comes_first, empty_text, goes_on, no_lines, shorter}
 use Rattle.schedule_audit.proofs.Passes.{Reached, at_first, found_after_end, found_here, one_more, with_end, without_end}
@@ -75,7 +75,7 @@ loop-rest-preserved c =
           c.if-ended.false good (c.misplaces.ensures.stands reached.before reached.stands c.if-misplaces.false) in
           let so_far = collects-more lines more.after line old c.take.new.self (subst (λ after. CollectsUpTo lines after old) is collects) c.in_ok-take.ensures in
           subst (λ b. (reached : Reached net lines later (c.take.new.self.lines + 1) b c.misplaces.new.standing.last c.misplaces.new.standing.sums) × CollectsUpTo lines reached.after c.take.new.self) (sym c.is_end-ended.ensures) (more, so_far);
-      behind = (before ++ line ∷ [], λ after are. subst (AreLines c.args.text.now) (sym (append_assoc before (line ∷ []) after)) (goes (line ∷ after) (goes_on rest later line after c.first_line-line.ensures are)));
+      behind = (before ++ line ∷ [], λ after are. subst (ReadsLines c.args.text.now) (sym (append_assoc before (line ∷ []) after)) (goes (line ∷ after) (goes_on rest later line after c.first_line-line.ensures are)));
       bound = omega (arith, less, c.loop-rest.invariant.bound, c.in_ok-take.ensures.lines);
       endpoints = c.misplaces.ensures.endpoints ∙ c.loop-rest.invariant.endpoints;
     }
@@ -101,7 +101,7 @@ returns-clause-collected c = λ none lines are.
     let rest = c.loop-rest.rest.now in
     let done : rest ≡ [] = nil_from_length rest (eqb-true (length rest) 0 (sym c.is_empty.ensures ∙ c.loop-rest-test.false)) in
     let (reached, collects) = c.loop-rest.invariant.reached lines are in
-    let nothing : reached.after ≡ [] = empty_text reached.after (subst (λ xs. AreLines xs reached.after) done reached.are) in
+    let nothing : reached.after ≡ [] = empty_text reached.after (subst (λ xs. ReadsLines xs reached.after) done reached.are) in
     collects-all lines c.loop-rest.collected (subst (λ after. CollectsUpTo lines after c.loop-rest.collected) nothing collects)
 
 pub returns-clause-lines : goal.returns-clause-lines
@@ -109,4 +109,4 @@ returns-clause-lines c =
     let rest = c.loop-rest.rest.now in
     let done : rest ≡ [] = nil_from_length rest (eqb-true (length rest) 0 (sym c.is_empty.ensures ∙ c.loop-rest-test.false)) in
     let (before, goes) = c.loop-rest.invariant.behind in
-    (before ++ [], goes [] (subst (λ xs. AreLines xs []) (sym done) no_lines))
+    (before ++ [], goes [] (subst (λ xs. ReadsLines xs []) (sym done) no_lines))

@@ -1,7 +1,7 @@
 use Rattle.std.proofs.Common.{◌≡◌, ◌≤◌, ◌+◌, ◌-◌, ℕ, List, All, length, drop, take, min, arith}
 use Rattle.std.proofs.lemmas.List.{length-take}
 use Rattle.greedy_rules.specs.declared.flows.Item.{Item}
-use Rattle.slot_batches.specs.Rests.{Rests}
+use Rattle.slot_batches.specs.Rests.{ItemRests}
 use Rattle.slot_batches.proofs.DoubtLemmas.{front_then}
 use Rattle.slot_batches.proofs.resting.resting_front.Goals as goal
 
@@ -21,7 +21,7 @@ within items at fours few more before few_is fours_within more_within =
 
 pub returns-then-more-few-clause-rest : goal.returns-then-more-few-clause-rest
 returns-then-more-few-clause-rest c = λ entries marked.
-    front (Rests entries c.args.unopened c.args.filling.now.maps) c.args.items.now c.loop-at.at c.resting_fours-at.result c.min-few.result c.resting_ones-more.result (c.loop-at.invariant.rest entries marked)
+    front (ItemRests entries c.args.unopened c.args.filling.now.maps) c.args.items.now c.loop-at.at c.resting_fours-at.result c.min-few.result c.resting_ones-more.result (c.loop-at.invariant.rest entries marked)
     c.resting_fours-at.ensures.within (c.resting_fours-at.ensures.rest entries marked) c.resting_ones-more.ensures.within (c.resting_ones-more.ensures.rest entries marked)
 
 pub loop-at-preserved : goal.loop-at-preserved
@@ -29,6 +29,6 @@ loop-at-preserved c = record {
   within = within c.args.items.now c.loop-at.at c.resting_fours-at.result c.min-few.result c.resting_ones-more.result c.loop-at.invariant.within c.min-few.ensures c.resting_fours-at.ensures.within
       c.resting_ones-more.ensures.within;
   rest = λ entries marked.
-      front (Rests entries c.args.unopened c.args.filling.now.maps) c.args.items.now c.loop-at.at c.resting_fours-at.result c.min-few.result c.resting_ones-more.result (c.loop-at.invariant.rest entries marked)
+      front (ItemRests entries c.args.unopened c.args.filling.now.maps) c.args.items.now c.loop-at.at c.resting_fours-at.result c.min-few.result c.resting_ones-more.result (c.loop-at.invariant.rest entries marked)
       c.resting_fours-at.ensures.within (c.resting_fours-at.ensures.rest entries marked) c.resting_ones-more.ensures.within (c.resting_ones-more.ensures.rest entries marked);
 }

@@ -2,7 +2,7 @@ use Rattle.std.proofs.Common.{◌++◌, [], List, sym, ap, ◌∙◌}
 use Rattle.std.specs.List.{cons_option}
 use Rattle.std.proofs.lemmas.List.{append_assoc}
 use Rattle.greedy_rules.specs.declared.flows.Entry.{Entry}
-use Rattle.takeover_core.specs.Entries.{entry_at, row_of}
+use Rattle.takeover_core.specs.Entries.{entry_at, entries_row}
 use Rattle.takeover_core.proofs.Rising.{row_more}
 use Rattle.takeover_core.proofs.entries.push_rises.Goals as goal
 
@@ -17,7 +17,7 @@ loop-dst-preserved c =
     record {
       entries = is.entries
           ∙ (ap (λ (xs : List Entry). xs ++ one) was.entries
-          ∙ (append_assoc before (row_of told published c.args.src c.loop-dst.dst) one
+          ∙ (append_assoc before (entries_row told published c.args.src c.loop-dst.dst) one
           ∙ ap (λ (xs : List Entry). before ++ xs) (sym (row_more (entry_at told published c.args.src) c.loop-dst.dst))));
       above = is.above;
       limits = is.limits ∙ was.limits;

@@ -1,16 +1,12 @@
-use Rattle.std.proofs.Common.{List, Result, Ok, Err, OnOk, get_or, sym, ap, ◌∙◌, subst}
+use Rattle.std.proofs.Common.{List, get_or, sym, ap, ◌∙◌, subst}
 use Rattle.takeover_history.specs.declared.event.Event.{Event}
 use Rattle.takeover_history.specs.declared.event.Event.TheVariants.{Ask}
 use Rattle.takeover_history.specs.Steps.{log_of}
-use Rattle.takeover_core.specs.Standing.{StandsFor}
-use Rattle.text_output.specs.declared.output.Stop.{Stop}
+use Rattle.takeover_core.specs.Standing.{PairStandsFor}
+use Rattle.text_output.proofs.OutputLemmas.{OnOk-always}
 use Rattle.takeover_text.specs.Progress.{first_events, latest_outcome}
 use Rattle.takeover_text.proofs.Fronts.{event_at, events_more}
 use Rattle.takeover_text.proofs.events.put_event.Goals as goal
-
-always : {P : Type 0} (r : Result (Unit {0}) Stop) → P → OnOk r P
-always (Ok t) p = p
-always (Err e) p = tt
 
 pub step-requires : goal.step-requires
 step-requires g c =
@@ -23,7 +19,7 @@ put_outcome-requires-clause-taken g c =
     let script = c.args.script.now in
     let event : Event = get_or c.events.result.now c.args.at (Ask 0 0 0) in
     let at_place = event_at script c.events.result.now c.args.at (Ask 0 0 0) c.events.ensures c.requires.at in
-    subst (λ (es : List Event). StandsFor script.pair c.step.new.self es) (sym (events_more script c.args.at event at_place))
+    subst (λ (es : List Event). PairStandsFor script.pair c.step.new.self es) (sym (events_more script c.args.at event at_place))
     (c.in_ok-outcome.ensures.stands script.pair (first_events script c.args.at) c.requires.taken (c.requires.script.may c.args.at event at_place))
 
 pub put_outcome-requires-clause-outcome : goal.put_outcome-requires-clause-outcome
@@ -39,5 +35,5 @@ returns-clause-taken g c =
     let script = c.args.script.now in
     let event : Event = get_or c.events.result.now c.args.at (Ask 0 0 0) in
     let at_place = event_at script c.events.result.now c.args.at (Ask 0 0 0) c.events.ensures c.requires.at in
-    always c.put_outcome.result (subst (λ (es : List Event). StandsFor script.pair c.step.new.self es) (sym (events_more script c.args.at event at_place))
+    OnOk-always c.put_outcome.result (subst (λ (es : List Event). PairStandsFor script.pair c.step.new.self es) (sym (events_more script c.args.at event at_place))
     (c.in_ok-outcome.ensures.stands script.pair (first_events script c.args.at) c.requires.taken (c.requires.script.may c.args.at event at_place)))

@@ -3,7 +3,7 @@ use Rattle.std.proofs.lemmas.List.{length-reverse, length-take-le}
 use Rattle.report_text.specs.declared.line.Line.TheVariants as line
 use Rattle.takeover_history.specs.declared.event.Event.{Event}
 use Rattle.takeover_history.specs.declared.event.Event.TheVariants.{Ask, Publish}
-use Rattle.takeover_history.specs.Events.{Log, Issue}
+use Rattle.takeover_history.specs.Events.{Log}
 use Rattle.takeover_history.specs.Events as fact
 use Rattle.takeover_history.specs.Fits.{EveryLogHasFew}
 use Rattle.takeover_history.specs.Laws.{EachBatchIsItsNodes}
@@ -11,7 +11,7 @@ use Rattle.takeover_history.specs.Steps.{done, log_of}
 use Rattle.text_output.specs.Text.{line_text, text_of}
 use Rattle.text_output.proofs.OutputLemmas.{Passes-nothing, Passes-same}
 use Rattle.script_text.specs.Content.{ScriptContent}
-use Rattle.takeover_text.specs.Lines.{place_of}
+use Rattle.takeover_text.specs.Lines.{refusal_place}
 use Rattle.takeover_text.specs.Progress.{first_events, log_after}
 use Rattle.takeover_text.proofs.Batches.{batch_is, slots_are, slots_fit, batch_text}
 use Rattle.takeover_text.proofs.Fronts.{event_at, events_more}
@@ -86,5 +86,5 @@ returns-in-Refused g c =
     let place = c.place_of.ensures.place in
     Passes-same c.put_line-in-Refused.ensures
     (ap (λ (p : ℕ). line_text (line.Declined (c.args.at + 2) p)) place
-    ∙ (ap (λ (n : ℕ). line_text (line.Declined n (place_of name))) (sym row)
-    ∙ one_line (line.Declined (length log + 1) (place_of name)) _ (refusal_shown script.pair log name (sym c.requires.outcome ∙ c.in-Refused.is))))
+    ∙ (ap (λ (n : ℕ). line_text (line.Declined n (refusal_place name))) (sym row)
+    ∙ one_line (line.Declined (length log + 1) (refusal_place name)) _ (refusal_shown script.pair log name (sym c.requires.outcome ∙ c.in-Refused.is))))

@@ -1,9 +1,10 @@
 use Rattle.std.proofs.Common.{ℕ, List, length, arith}
 use Rattle.report_text.specs.declared.line.Line.{Line}
 use Rattle.text_output.proofs.OutputLemmas.{Passes-after, Passes-broken, Passes-same}
+use Rattle.text_output.proofs.ItemTexts.{numbers_more}
 use Rattle.takeover_text.specs.Lines.{totals_of}
 use Rattle.takeover_text.specs.Progress.{log_after}
-use Rattle.takeover_text.proofs.NumberedLines.{numbers_more, numbers_whole, numbers_all}
+use Rattle.takeover_text.proofs.NumberedLines.{numbers_whole, numbers_all}
 use Rattle.takeover_text.proofs.totals.put_totals.Goals as goal
 
 pub loop-src-preserved : goal.loop-src-preserved

@@ -1,25 +1,14 @@
-use Rattle.std.proofs.Common.{◌≡◌, ◌+◌, ◌++◌, [], ℕ, List, length, Result, Ok, Err, IsErrAnd, OnOk, refl, sym, ap, ◌∙◌, arith}
+use Rattle.std.proofs.Common.{◌≡◌, ◌+◌, ◌++◌, ℕ, List, length, refl, sym, ap, ◌∙◌, arith}
 use Rattle.std.proofs.lemmas.List.{append_assoc, length-reverse}
 use Rattle.report_text.specs.declared.line.Line.TheVariants as line
 use Rattle.takeover_history.specs.declared.event.Event.{Event}
 use Rattle.takeover_history.specs.Events.{Log}
-use Rattle.text_output.specs.Content.{OutputContent}
-use Rattle.text_output.specs.Output.{Passes, Ends}
 use Rattle.text_output.specs.Text.{line_text, text_of}
-use Rattle.text_output.specs.declared.output.Stop.{Stop}
-use Rattle.text_output.proofs.OutputLemmas.{Passes-after, Passes-stopped, Passes-broken}
-use Rattle.takeover_text.specs.Lines.{lines_by, total_lines}
+use Rattle.text_output.proofs.OutputLemmas.{Passes-after, Passes-stopped, Passes-broken, Ends-stopped}
+use Rattle.takeover_text.specs.Lines.{takeover_lines, total_lines}
 use Rattle.takeover_text.specs.Progress.{log_after, first_events}
 use Rattle.takeover_text.proofs.Fronts.{events_all, text_parts}
 use Rattle.takeover_text.proofs.write.put_lines.Goals as goal
-
-never_ok : (P : Type 0) (e : Stop) (r : Result (Unit {0}) Stop) → IsErrAnd r (λ d. d ≡ e) → OnOk r P
-never_ok P e (Ok t) is = absurd is
-never_ok P e (Err d) is = tt
-
--- a text that stops ends there
-Ends-stopped : {a b : OutputContent} {x : List ℕ} {r : Result (Unit {0}) Stop} (e : Stop) → Passes a b x r → IsErrAnd r (λ d. d ≡ e) → Ends a b x r
-Ends-stopped {b = b} {r = r} e passes is = record { passes = passes; empty = never_ok (b.gathered ≡ []) e r is }
 
 pub returns-in_err-pair : goal.returns-in_err-pair
 returns-in_err-pair g c = Ends-stopped _ (c.texts_follow.ensures.no_memory c.from_residual.ensures.1) c.from_residual.ensures.1
@@ -34,13 +23,13 @@ returns-in_err-put_totals g c =
     let log : Log = log_after script (length script.events) in
     let ended : List ℕ = line_text (line.End (length log + 2)) in
     Ends-stopped _ (Passes-broken _ c.in_ok-put_events.ensures.passes c.in_err-put_totals.ensures c.from_residual-in_err-put_totals.ensures.1
-    (text_parts script ∙ sym (append_assoc (text_of (lines_by script.pair log)) (text_of (total_lines script.pair log)) ended))) c.from_residual-in_err-put_totals.ensures.1
+    (text_parts script ∙ sym (append_assoc (text_of (takeover_lines script.pair log)) (text_of (total_lines script.pair log)) ended))) c.from_residual-in_err-put_totals.ensures.1
 
 pub returns : goal.returns
 returns g c =
     let script = c.args.script.now in
     let log : Log = log_after script (length script.events) in
-    let by : List ℕ = text_of (lines_by script.pair log) in
+    let by : List ℕ = text_of (takeover_lines script.pair log) in
     let totals : List ℕ = text_of (total_lines script.pair log) in
     let rows : length c.events.result.now + 2 ≡ length log + 2 =
     omega (arith, ap (λ (es : List Event). length es) c.events.ensures, (c.running_counts_serve.ensures.few script.pair (first_events script (length script.events))).0, ap (λ (es : List Event). length es) (events_all script), length-reverse script.events) in

@@ -1,10 +1,11 @@
 use Rattle.std.proofs.Common.{◌<◌, ℕ, List, Option, length, map, sym, ap, ◌∙◌}
 use Rattle.greedy_rules.specs.declared.flows.Flow.{Flow}
+use Rattle.greedy_rules.proofs.RowLemmas.{no_flows}
 use Rattle.edge_colouring.specs.Cores.{core_in}
 use Rattle.report_text.specs.declared.line.Line.{Line}
 use Rattle.text_output.specs.Text.{text_of, slot_line}
 use Rattle.text_output.proofs.OutputLemmas.{Passes-after, Passes-broken, Passes-nothing, Passes-same}
-use Rattle.text_output.proofs.RowTexts.{row_more, row_whole, no_flows}
+use Rattle.text_output.proofs.RowTexts.{row_more, row_whole}
 use Rattle.text_output.proofs.slots.put_few.Goals as goal
 
 pub returns-then-not-has_sender : goal.returns-then-not-has_sender

@@ -1,7 +1,8 @@
 use Rattle.std.proofs.Common.{◌≡◌, ℕ, ◌+◌, ◌*◌, filter, ap, ◌∙◌, arith}
+use Rattle.list_facts.proofs.Lists.{filter-few}
 use Rattle.trace_text.specs.Events.{packet_rank}
 use Rattle.trace_text.specs.Ranks.{has_rank_in}
-use Rattle.trace_text.proofs.EventFacts.{filter-shorter, packets-of}
+use Rattle.trace_text.proofs.EventFacts.{packets-of}
 use Rattle.trace_text.proofs.packets.packets_of.Goals as goal
 
 pub returns-clause-packets : goal.returns-clause-packets
@@ -17,4 +18,4 @@ returns-clause-packets c =
 pub returns-clause-few : goal.returns-clause-few
 returns-clause-few c =
     let (keys, are, low) = c.requires.starts in
-    rw (c.of_round.ensures.part 1 keys are low) (filter-shorter (has_rank_in packet_rank (c.args.key * 1) ((c.args.key + 1) * 1)) c.args.packets.now)
+    rw (c.of_round.ensures.part 1 keys are low) (filter-few (has_rank_in packet_rank (c.args.key * 1) ((c.args.key + 1) * 1)) c.args.packets.now)

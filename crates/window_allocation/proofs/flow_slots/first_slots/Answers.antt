@@ -1,7 +1,7 @@
 use Rattle.std.proofs.Common.{◌≡◌, ◌<◌, ◌-◌, ℕ, ap, ◌∙◌, arith, nat_lt}
 use Rattle.std.proofs.lemmas.Nat.{one_shl}
 use Rattle.endpoint_bitmaps.specs.Slots.{has_slot}
-use Rattle.window_allocation.proofs.SlotWords.{has_slot-first}
+use Rattle.endpoint_bitmaps.proofs.WordLemmas.{has_slot-first}
 use Rattle.window_allocation.proofs.flow_slots.first_slots.Goals as goal
 
 pub returns-then-count-ge64 : goal.returns-then-count-ge64

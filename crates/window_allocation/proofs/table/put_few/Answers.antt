@@ -3,7 +3,8 @@ use Rattle.std.proofs.lemmas.List.{take_all}
 use Rattle.greedy_rules.specs.declared.flows.Flow.{Flow}
 use Rattle.greedy_rules.specs.Schedule.{slot_in}
 use Rattle.greedy_rules.specs.SlotTable.{flows_from}
-use Rattle.window_allocation.proofs.SlotLemmas.{no_flows, got, got_none, got_more, one_more, below_next}
+use Rattle.greedy_rules.proofs.RowLemmas.{no_flows}
+use Rattle.window_allocation.proofs.SlotLemmas.{got, got_none, got_more, one_more, below_next}
 use Rattle.window_allocation.proofs.table.put_few.Goals as goal
 
 pub returns-then-not-has_sender-clause-slots : goal.returns-then-not-has_sender-clause-slots

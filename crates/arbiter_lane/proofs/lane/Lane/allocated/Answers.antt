@@ -3,7 +3,7 @@ use Rattle.std.proofs.lemmas.Option.{slice_get-get_or}
 use Rattle.arbiter_lane.specs.declared.line.LaneLine.{LaneLine as LineOf}
 use Rattle.arbiter_lane.specs.Lines.{AllocatesSlots}
 use Rattle.arbiter_lane.specs.State.{LaneState, IsSoundLane}
-use Rattle.arbiter_lane.specs.Standing.{StandsFor}
+use Rattle.arbiter_lane.specs.Standing.{LaneStandsFor}
 use Rattle.arbiter_lane.specs.contracts.lane.Lane.{the_view}
 use Rattle.arbiter_lane.proofs.Allocating.{counted, allocates_at, room_left, stands-allocated, sound-allocated}
 use Rattle.arbiter_lane.proofs.Marking.{marked-allocated}
@@ -56,4 +56,4 @@ returns-then-batch-self-clause-stands c = λ history allocations stands.
     record { opened = refl; entered = refl; count = record { demanded = c.allocate.ensures.demanded; allocated = c.allocate.ensures.allocated; acknowledged = c.allocate.ensures.acknowledged; lost = c.allocate.ensures.lost } } in
     let become = allocates_at was c.args.dst c.args.batch c.args.n line new c.if-batch-self.true at_it changes in
     let past : c.args.batch < was.round = subst (λ (l : LaneState). c.args.batch < l.round) (sym c.self.view_is) c.requires.recorded in
-    stands-allocated was (set was.lines c.args.dst new) c.args.dst c.args.batch c.args.n history allocations past become (subst (λ (l : LaneState). StandsFor l history allocations) (sym c.self.view_is) stands)
+    stands-allocated was (set was.lines c.args.dst new) c.args.dst c.args.batch c.args.n history allocations past become (subst (λ (l : LaneState). LaneStandsFor l history allocations) (sym c.self.view_is) stands)

@@ -4,7 +4,7 @@ use Rattle.endpoint_history.specs.Packets.{Resets}
 use Rattle.endpoint_history.specs.Lane.{TakesUp, epoch_of}
 use Rattle.std.proofs.lemmas.Bool.{lt-ltb}
 use Rattle.arbiter_lane.specs.State.{LaneState}
-use Rattle.arbiter_lane.specs.Standing.{StandsFor}
+use Rattle.arbiter_lane.specs.Standing.{LaneStandsFor}
 use Rattle.arbiter_lane.specs.Lines.{HasStartedAgain}
 use Rattle.arbiter_lane.specs.contracts.lane.Lane.{the_view}
 use Rattle.arbiter_lane.proofs.Held.{Become-written}
@@ -39,4 +39,4 @@ returns-clause-stands c = λ history allocations stands.
     let greater : was.epoch < c.args.epoch = omega (arith, c.requires.epoch, ap (λ (l : LaneState). l.epoch) c.self.view_is) in
     stands-begun c.lanes_count_slots.ensures.resets was c.args.self.now.round c.args.epoch c.args.version c.new-self-inside.result c.restart.new.self lines history allocations
     (ap (λ (l : LaneState). l.round) c.self.view_is) greater c.new-self-inside.ensures.stands c.restart.ensures.version c.restart.ensures.stands become
-    (subst (λ (l : LaneState). StandsFor l history allocations) (sym c.self.view_is) stands)
+    (subst (λ (l : LaneState). LaneStandsFor l history allocations) (sym c.self.view_is) stands)

@@ -5,7 +5,7 @@ use Rattle.arbiter_lane.specs.declared.line.LaneLine.{LaneLine as LineOf}
 use Rattle.endpoint_history.specs.CountLaws.{CountsAddUp}
 use Rattle.endpoint_history.specs.Counts.{Allocation}
 use Rattle.endpoint_history.specs.Lane.{LaneHistory}
-use Rattle.arbiter_lane.specs.Standing.{StandsFor, FlowIsWithinLedger}
+use Rattle.arbiter_lane.specs.Standing.{LaneStandsFor, FlowIsWithinLedger}
 use Rattle.arbiter_lane.specs.State.{LaneState, IsSoundLane}
 use Rattle.arbiter_lane.specs.contracts.lane.Lane.{the_view}
 use Rattle.arbiter_lane.proofs.Held.{told-is-owed}
@@ -20,7 +20,7 @@ read_line was now dst line view_is sound within is =
 
 -- what is told to it is owed
 read_told : CountsAddUp → (was now : LaneState) (dst : ℕ) (line : LineOf) → was ≡ now → IsSoundLane was → slice_get now.lines dst ≡ Some line →
-    (history : LaneHistory) (allocations : List Allocation) → StandsFor now history allocations → FlowIsWithinLedger now.g history allocations dst
+    (history : LaneHistory) (allocations : List Allocation) → LaneStandsFor now history allocations → FlowIsWithinLedger now.g history allocations dst
 read_told sums was now dst line view_is sound here history allocations stands =
     told-is-owed sums now (subst IsSoundLane view_is sound) history allocations dst line here stands
 

@@ -7,9 +7,9 @@ use Rattle.endpoint_history.specs.Packets.{Telling as TellingOf}
 use Rattle.endpoint_history.specs.Packets.{DownPacket, slots_to, framed_down}
 use Rattle.endpoint_history.specs.Lane.{MakesDown, numbers, packet_down}
 use Rattle.arbiter_lane.specs.Lines.{LosesSlots}
-use Rattle.arbiter_lane.specs.Parts.{AreMarked, packet_with, slots_to_tell, lost_by}
+use Rattle.arbiter_lane.specs.Parts.{RisenAreMarked, packet_with, slots_to_tell, lost_by}
 use Rattle.arbiter_lane.specs.State.{LaneState, AreAllocated, AreSlots}
-use Rattle.arbiter_lane.specs.Standing.{StandsFor}
+use Rattle.arbiter_lane.specs.Standing.{LaneStandsFor}
 use Rattle.arbiter_lane.specs.contracts.lane.Lane.{the_view}
 use Rattle.arbiter_lane.proofs.Held.{Become-written}
 use Rattle.arbiter_lane.proofs.Making.{told-from, room-for, stands-made, tells-made, sound-made, stands-quiet, tells-quiet, sound-quiet, packet-made, packet-none, bytes-made, true-of, true-of_none, rules-made}
@@ -53,7 +53,7 @@ returns-then-self-eq0-clause-spelled c = λ history allocations stands.
 pub returns-then-self-eq0-clause-stands : goal.returns-then-self-eq0-clause-stands
 returns-then-self-eq0-clause-stands c = λ history allocations stands.
     stands-quiet c.lanes_count_slots.ensures.making (the_view c.self.inside) c.args.round c.args.told.now.items history allocations c.if-self-eq0.true
-    (subst (λ (l : LaneState). StandsFor l history allocations) (sym c.self.view_is) stands)
+    (subst (λ (l : LaneState). LaneStandsFor l history allocations) (sym c.self.view_is) stands)
 
 -- ---- the slots are told
 
@@ -120,7 +120,7 @@ invariant_of-self-2 c =
         tells-made was c.args.round slots c.tell.new.sent lines before.1.0 before.1.1 before.0.sent_version begun are before.1.2 before.1.3,
       ),
       marked-written c.tell.new.risen c.self.inside.lines c.deref_mut.result.now c.tell.new.lines c.deref_mut.ensures.value c.tell.ensures.lines.as_many
-          (c.tell.ensures.marked (subst (AreMarked c.self.inside.risen) (sym c.deref_mut.ensures.value) before.2)),
+          (c.tell.ensures.marked (subst (RisenAreMarked c.self.inside.risen) (sym c.deref_mut.ensures.value) before.2)),
     )
 
 pub returns-clause-packet : goal.returns-clause-packet
@@ -136,7 +136,7 @@ returns-clause-packet c = λ history allocations stood.
     (c.saturating_sub-batch.ensures ∙ ap (λ g. c.args.round - 2 * g) c.from.ensures) (c.slots_told-told.ensures.slots ∙ ap (λ (l : LaneState). slots_to_tell l c.args.round slots) (sym c.self.view_is)) c.slots_told-told.ensures.few c.tell.ensures.sent c.tell.ensures.content c.tell.ensures.version c.tell.ensures.newest
     (Become-written (λ dst. LosesSlots (lost_by was.sent c.slots_told-told.result.now dst)) c.self.inside.lines c.deref_mut.result.now c.tell.new.lines c.deref_mut.ensures.value c.tell.ensures.lines) in
     let begun : 0 < was.epoch = above was.epoch c.if-self-eq0.false in
-    let stands = subst (λ (l : LaneState). StandsFor l history allocations) (sym c.self.view_is) stood in
+    let stands = subst (λ (l : LaneState). LaneStandsFor l history allocations) (sym c.self.view_is) stood in
     let header : c.put_header.new.down ≡ packet_with was c.self.inside.down.seq c.self.inside.down.batch c.self.inside.down.told.items = c.put_header.ensures.header in
     let down_is : down ≡ packet_with was c.tell.new.sent.outstanding.newest down.batch down.told.items =
     c.tell.ensures.down ∙ ap (λ (d : Down). record d { seq = c.tell.new.sent.outstanding.newest; batch = down.batch; told = down.told }) header in
@@ -158,7 +158,7 @@ returns-clause-spelled c = λ history allocations stood.
     (c.saturating_sub-batch.ensures ∙ ap (λ g. c.args.round - 2 * g) c.from.ensures) (c.slots_told-told.ensures.slots ∙ ap (λ (l : LaneState). slots_to_tell l c.args.round slots) (sym c.self.view_is)) c.slots_told-told.ensures.few c.tell.ensures.sent c.tell.ensures.content c.tell.ensures.version c.tell.ensures.newest
     (Become-written (λ dst. LosesSlots (lost_by was.sent c.slots_told-told.result.now dst)) c.self.inside.lines c.deref_mut.result.now c.tell.new.lines c.deref_mut.ensures.value c.tell.ensures.lines) in
     let begun : 0 < was.epoch = above was.epoch c.if-self-eq0.false in
-    let stands = subst (λ (l : LaneState). StandsFor l history allocations) (sym c.self.view_is) stood in
+    let stands = subst (λ (l : LaneState). LaneStandsFor l history allocations) (sym c.self.view_is) stood in
     let header : c.put_header.new.down ≡ packet_with was c.self.inside.down.seq c.self.inside.down.batch c.self.inside.down.told.items = c.put_header.ensures.header in
     let down_is : down ≡ packet_with was c.tell.new.sent.outstanding.newest down.batch down.told.items =
     c.tell.ensures.down ∙ ap (λ (d : Down). record d { seq = c.tell.new.sent.outstanding.newest; batch = down.batch; told = down.told }) header in
@@ -186,5 +186,5 @@ returns-clause-stands c = λ history allocations stood.
     (c.saturating_sub-batch.ensures ∙ ap (λ g. c.args.round - 2 * g) c.from.ensures) (c.slots_told-told.ensures.slots ∙ ap (λ (l : LaneState). slots_to_tell l c.args.round slots) (sym c.self.view_is)) c.slots_told-told.ensures.few c.tell.ensures.sent c.tell.ensures.content c.tell.ensures.version c.tell.ensures.newest
     (Become-written (λ dst. LosesSlots (lost_by was.sent c.slots_told-told.result.now dst)) c.self.inside.lines c.deref_mut.result.now c.tell.new.lines c.deref_mut.ensures.value c.tell.ensures.lines) in
     let begun : 0 < was.epoch = above was.epoch c.if-self-eq0.false in
-    let stands = subst (λ (l : LaneState). StandsFor l history allocations) (sym c.self.view_is) stood in
+    let stands = subst (λ (l : LaneState). LaneStandsFor l history allocations) (sym c.self.view_is) stood in
     stands-made c.lanes_count_slots.ensures.making was c.args.round slots c.tell.new.sent lines history allocations before.0.sent_version told.version begun (told.done (numbers was.g history) stands.sent) told.change stands

@@ -1,12 +1,12 @@
 use Rattle.std.proofs.Common.{◌≡◌, ◌++◌, ◌∷◌, sym, ◌∙◌, ap, subst}
 use Rattle.std.specs.List.{filter_map, range_with_len}
 use Rattle.std.specs.Vec.{with_items}
-use Rattle.endpoint_history.specs.Entries.{entry_of}
+use Rattle.endpoint_history.specs.Entries.{next_entry}
 use Rattle.endpoint_history.specs.Lane.{Records}
 use Rattle.arbiter_lane.specs.Lines.{IsEntered}
-use Rattle.arbiter_lane.specs.Parts.{CanRise, AreMarked, entries_on}
+use Rattle.arbiter_lane.specs.Parts.{CanRise, RisenAreMarked, entries_on}
 use Rattle.arbiter_lane.specs.State.{LaneState}
-use Rattle.arbiter_lane.specs.Standing.{StandsFor}
+use Rattle.arbiter_lane.specs.Standing.{LaneStandsFor}
 use Rattle.arbiter_lane.specs.contracts.lane.Lane.{the_view}
 use Rattle.arbiter_lane.proofs.Held.{Become-written, each-told-is-owed}
 use Rattle.arbiter_lane.proofs.Recording.{can_rise, entries-are, stands-recorded, sound-recorded}
@@ -17,7 +17,7 @@ pub record-requires-clause-can_rise : goal.record-requires-clause-can_rise
 record-requires-clause-can_rise c = subst CanRise (sym c.deref_mut.ensures.value) (can_rise (the_view c.self.inside) c.self.invariant.0)
 
 pub record-requires-clause-marked : goal.record-requires-clause-marked
-record-requires-clause-marked c = subst (AreMarked c.self.inside.risen) (sym c.deref_mut.ensures.value) c.self.invariant.2
+record-requires-clause-marked c = subst (RisenAreMarked c.self.inside.risen) (sym c.deref_mut.ensures.value) c.self.invariant.2
 
 pub invariant_of-self-2 : goal.invariant_of-self-2
 invariant_of-self-2 c =
@@ -37,8 +37,8 @@ returns-clause-entries c = λ history allocations stands.
     c.in_ok-record.ensures.entries
     ∙ ap (λ xs. c.args.batch.now.entries ++ xs)
     (ap (λ ls. entries_on ls was.endpoint was.is_reset) c.deref_mut.ensures.value
-    ∙ (entries-are was history allocations c.self.invariant.0.as_many (subst (λ (l : LaneState). StandsFor l history allocations) (sym c.self.view_is) stands)
-    ∙ ap (λ (l : LaneState). filter_map (entry_of l.endpoint l.g history) (range_with_len 0 l.endpoints)) c.self.view_is))
+    ∙ (entries-are was history allocations c.self.invariant.0.as_many (subst (λ (l : LaneState). LaneStandsFor l history allocations) (sym c.self.view_is) stands)
+    ∙ ap (λ (l : LaneState). filter_map (next_entry l.endpoint l.g history) (range_with_len 0 l.endpoints)) c.self.view_is))
 
 pub returns-clause-stands : goal.returns-clause-stands
 returns-clause-stands c = λ history allocations stands.
@@ -46,7 +46,7 @@ returns-clause-stands c = λ history allocations stands.
     let lines = (with_items c.self.inside.lines c.record.new.lines).items in
     let become = Become-written (λ dst. IsEntered) c.self.inside.lines c.deref_mut.result.now c.record.new.lines c.deref_mut.ensures.value c.in_ok-record.ensures.entered in
     let now : was.round ≡ c.args.round = ap (λ (l : LaneState). l.round) c.self.view_is ∙ sym c.requires.round in
-    stands-recorded was c.args.round lines history allocations now (subst (λ (l : LaneState). StandsFor l history allocations) (sym c.self.view_is) stands) become
+    stands-recorded was c.args.round lines history allocations now (subst (λ (l : LaneState). LaneStandsFor l history allocations) (sym c.self.view_is) stands) become
 
 pub returns-clause-told : goal.returns-clause-told
 returns-clause-told c = λ history allocations stands dst below.

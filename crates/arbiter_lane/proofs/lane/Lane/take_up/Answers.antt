@@ -10,7 +10,7 @@ use Rattle.endpoint_history.specs.Packets.{Telling as TellingOf}
 use Rattle.endpoint_history.specs.Packets.{Resets, Requests, up_packet}
 use Rattle.endpoint_history.specs.Lane.{TakesUp, arrived, numbers}
 use Rattle.arbiter_lane.specs.State.{LaneState, AreSlots}
-use Rattle.arbiter_lane.specs.Standing.{StandsFor}
+use Rattle.arbiter_lane.specs.Standing.{LaneStandsFor}
 use Rattle.arbiter_lane.specs.Refusals.{up_refusal}
 use Rattle.arbiter_lane.specs.declared.refusal.UpRefused.TheVariants as refused
 use Rattle.arbiter_lane.specs.contracts.lane.Lane.{the_view}
@@ -18,7 +18,7 @@ use Rattle.arbiter_lane.proofs.Held.{Become-written, open-told}
 use Rattle.arbiter_lane.proofs.Hearing.{heard_lane, HearsRequest, HasHeardRequest, stands-heard, sound-heard, tells-heard}
 use Rattle.arbiter_lane.proofs.Taking.{request_in, request-is, reset-is, version_rules, names_others, refusal-request, IfSome-then, stands-old_epoch, stands-version, stands-unsynced, stands-again}
 use Rattle.arbiter_lane.proofs.Marking.{marked-written}
-use Rattle.arbiter_lane.specs.Parts.{AreMarked}
+use Rattle.arbiter_lane.specs.Parts.{RisenAreMarked}
 use Rattle.arbiter_lane.proofs.lane.Lane.take_up.Goals as goal
 
 -- ---- what is refused, and a reset that comes again
@@ -26,29 +26,29 @@ use Rattle.arbiter_lane.proofs.lane.Lane.take_up.Goals as goal
 pub returns-then-self-2-clause-stands : goal.returns-then-self-2-clause-stands
 returns-then-self-2-clause-stands c = λ own history allocations stood.
     let was : LaneState = the_view c.self.inside in
-    let stands = subst (λ (l : LaneState). StandsFor l history allocations) (sym c.self.view_is) stood in
-    subst (λ (up : Up). StandsFor was (TakesUp c.args.round (up_packet up) ∷ history) allocations) c.in_default.ensures.read
+    let stands = subst (λ (l : LaneState). LaneStandsFor l history allocations) (sym c.self.view_is) stood in
+    subst (λ (up : Up). LaneStandsFor was (TakesUp c.args.round (up_packet up) ∷ history) allocations) c.in_default.ensures.read
     (stands-old_epoch c.lanes_count_slots.ensures.reading c.lanes_count_slots.ensures.resets was c.args.round c.decode_up.new.into history allocations c.if-self-2.true stands)
 
 pub returns-then-not-self-clause-stands : goal.returns-then-not-self-clause-stands
 returns-then-not-self-clause-stands c = λ own history allocations stood.
     let was : LaneState = the_view c.self.inside in
-    let stands = subst (λ (l : LaneState). StandsFor l history allocations) (sym c.self.view_is) stood in
-    subst (λ (up : Up). StandsFor was (TakesUp c.args.round (up_packet up) ∷ history) allocations) c.in_default.ensures.read
+    let stands = subst (λ (l : LaneState). LaneStandsFor l history allocations) (sym c.self.view_is) stood in
+    subst (λ (up : Up). LaneStandsFor was (TakesUp c.args.round (up_packet up) ∷ history) allocations) c.in_default.ensures.read
     (stands-unsynced c.lanes_count_slots.ensures.reading was c.args.round c.decode_up.new.into history allocations c.if-not-self.true c.if-self-3.true stands)
 
 pub returns-then-self-4-clause-stands : goal.returns-then-self-4-clause-stands
 returns-then-self-4-clause-stands c = λ own history allocations stood.
     let was : LaneState = the_view c.self.inside in
-    let stands = subst (λ (l : LaneState). StandsFor l history allocations) (sym c.self.view_is) stood in
-    subst (λ (up : Up). StandsFor was (TakesUp c.args.round (up_packet up) ∷ history) allocations) c.in_default.ensures.read
+    let stands = subst (λ (l : LaneState). LaneStandsFor l history allocations) (sym c.self.view_is) stood in
+    subst (λ (up : Up). LaneStandsFor was (TakesUp c.args.round (up_packet up) ∷ history) allocations) c.in_default.ensures.read
     (stands-version c.lanes_count_slots.ensures.reading c.lanes_count_slots.ensures.resets was c.args.round c.decode_up.new.into history allocations c.if-self-3.false c.if-self-4.true stands)
 
 pub returns-then-self-5-clause-stands : goal.returns-then-self-5-clause-stands
 returns-then-self-5-clause-stands c = λ own history allocations stood.
     let was : LaneState = the_view c.self.inside in
-    let stands = subst (λ (l : LaneState). StandsFor l history allocations) (sym c.self.view_is) stood in
-    subst (λ (up : Up). StandsFor was (TakesUp c.args.round (up_packet up) ∷ history) allocations) c.in_default.ensures.read
+    let stands = subst (λ (l : LaneState). LaneStandsFor l history allocations) (sym c.self.view_is) stood in
+    subst (λ (up : Up). LaneStandsFor was (TakesUp c.args.round (up_packet up) ∷ history) allocations) c.in_default.ensures.read
     (stands-again c.lanes_count_slots.ensures.resets was c.args.round c.decode_up.new.into history allocations c.if-self-5.true c.if-self-3.false stands)
 
 -- ---- a reset
@@ -62,10 +62,10 @@ begin-requires-clause-version c = version_rules c.self.inside.endpoints c.args.b
 pub returns-then-self-3-clause-stands : goal.returns-then-self-3-clause-stands
 returns-then-self-3-clause-stands c = λ own history allocations stood.
     let was : LaneState = the_view c.self.inside in
-    let stands = subst (λ (l : LaneState). StandsFor l history allocations) (sym c.self.view_is) stood in
+    let stands = subst (λ (l : LaneState). LaneStandsFor l history allocations) (sym c.self.view_is) stood in
     let now : was.round ≡ c.args.round = ap (λ (l : LaneState). l.round) c.self.view_is ∙ sym c.requires.round in
-    subst (λ p. StandsFor c.begin.new.self (TakesUp c.args.round p ∷ history) allocations) (sym (reset-is c.decode_up.new.into c.if-not-self.false) ∙ ap up_packet c.in_default.ensures.read)
-    (subst (λ r. StandsFor c.begin.new.self (TakesUp r (Resets c.decode_up.new.into.epoch c.decode_up.new.into.version) ∷ history) allocations) now (c.begin.ensures.stands history allocations stands))
+    subst (λ p. LaneStandsFor c.begin.new.self (TakesUp c.args.round p ∷ history) allocations) (sym (reset-is c.decode_up.new.into c.if-not-self.false) ∙ ap up_packet c.in_default.ensures.read)
+    (subst (λ r. LaneStandsFor c.begin.new.self (TakesUp r (Resets c.decode_up.new.into.epoch c.decode_up.new.into.version) ∷ history) allocations) now (c.begin.ensures.stands history allocations stands))
 
 -- ---- a request
 
@@ -113,13 +113,13 @@ invariant_of-self-2 c =
       ),
       marked-written c.take_request.new.risen c.self.inside.lines c.deref_mut.result.now c.take_request.new.lines c.deref_mut.ensures.value
           (c.take_request.ensures.lines (arrived before.1.0) (numbers was.g before.1.0) before.1.2.arrived before.1.2.sent).as_many
-          (c.take_request.ensures.marked (subst (AreMarked c.self.inside.risen) (sym c.deref_mut.ensures.value) before.2)),
+          (c.take_request.ensures.marked (subst (RisenAreMarked c.self.inside.risen) (sym c.deref_mut.ensures.value) before.2)),
     )
 
 pub returns-clause-answer : goal.returns-clause-answer
 returns-clause-answer c = λ history allocations stood.
     let was : LaneState = the_view c.self.inside in
-    let stands = subst (λ (l : LaneState). StandsFor l history allocations) (sym c.self.view_is) stood in
+    let stands = subst (λ (l : LaneState). LaneStandsFor l history allocations) (sym c.self.view_is) stood in
     let up = c.decode_up.new.into in
     c.take_request.ensures.answer (arrived history) stands.arrived
     ∙ (sym (refusal-request was c.args.bytes.now up history allocations (sym c.in_default.ensures.refused) c.in_default.ensures.read c.if-self.false (omega (arith, c.if-self-2.false, c.if-self-3.false)) c.if-self-4.false c.if-self-5.false c.self.invariant.0.heard_version stands)
@@ -148,7 +148,7 @@ pub returns-clause-stands : goal.returns-clause-stands
 returns-clause-stands c = λ own history allocations stood.
     let was : LaneState = the_view c.self.inside in
     let before = c.self.invariant in
-    let stands = subst (λ (l : LaneState). StandsFor l history allocations) (sym c.self.view_is) stood in
+    let stands = subst (λ (l : LaneState). LaneStandsFor l history allocations) (sym c.self.view_is) stood in
     let up = c.decode_up.new.into in
     let heard_now = c.take_request.new.arrived in
     let sent = c.take_request.new.sent in
@@ -166,4 +166,4 @@ returns-clause-stands c = λ own history allocations stood.
           (c.take_request.ensures.lines (arrived history) (numbers was.g history) stands.arrived stands.sent);
     } in
     let stands_now = stands-heard c.lanes_count_slots.ensures.reading was c.args.round (request_in up) heard_now sent lines history allocations heard stands in
-    subst (λ p. StandsFor (heard_lane was heard_now sent lines) (TakesUp c.args.round p ∷ history) allocations) (sym (request-is up c.if-self-5.false) ∙ ap up_packet c.in_default.ensures.read) stands_now
+    subst (λ p. LaneStandsFor (heard_lane was heard_now sent lines) (TakesUp c.args.round p ∷ history) allocations) (sym (request-is up c.if-self-5.false) ∙ ap up_packet c.in_default.ensures.read) stands_now

@@ -1,7 +1,7 @@
 use Rattle.std.proofs.Common.{◌≡◌, ◌<◌, ◌+◌, ◌*◌, ◌==◌, ℕ, List, Bool, Option, set, cond, ap, ◌∙◌, subst, arith}
 use Rattle.std.specs.Int.{bit_at}
 use Rattle.std.specs.Option.{is_none}
-use Rattle.edge_colouring.specs.Holders.{shown}
+use Rattle.edge_colouring.specs.Holders.{holders_shown}
 use Rattle.edge_colouring.proofs.ShownLemmas.{rack_fits, none_is, shown-written}
 use Rattle.edge_colouring.proofs.ports.Ports.put.Goals as goal
 
@@ -24,6 +24,6 @@ returns c =
     let none : c.is_none.result ≡ is_none c.args.edge = none_is c.args.edge c.is_none.result c.is_none.ensures in
     let bits : (i : ℕ) → i < 64 → bit_at c.with_bit.result i ≡ cond (i == c.args.core) (cond (is_none c.args.edge) 1 0) (bit_at c.index-mask.result.now i) =
     subst (λ (b : Bool). (i : ℕ) → i < 64 → bit_at c.with_bit.result i ≡ cond (i == c.args.core) (cond b 1 0) (bit_at c.index-mask.result.now i)) none c.with_bit.ensures in
-    (λ i. shown (set free.items c.args.rack c.with_bit.result) (set holders.items c.place.result (c.unwrap_or.ensures i)))
+    (λ i. holders_shown (set free.items c.args.rack c.with_bit.result) (set holders.items c.place.result (c.unwrap_or.ensures i)))
     ∙ (shown-written free.items holders.items c.args.rack c.args.core c.index-mask.result.now c.with_bit.result c.place.result c.args.edge c.requires.core (omega (arith, fits.1, c.requires.core, holders.ok.0)) (omega (arith, fits.0, free.ok.0)) c.index-mask.ensures c.place.ensures bits
     ∙ ap (λ (side : List (Option ℕ)). set side (c.args.rack * 64 + c.args.core) c.args.edge) c.self.view_is)

@@ -5,7 +5,7 @@ use Rattle.endpoint_history.specs.Agent.{Asks}
 use Rattle.endpoint_agent.specs.declared.lines.FlowLine.{FlowLine}
 use Rattle.endpoint_agent.specs.contracts.agent.Agent.{the_view}
 use Rattle.endpoint_agent.specs.Lines.{with_asked}
-use Rattle.endpoint_agent.specs.Standing.{StandsFor}
+use Rattle.endpoint_agent.specs.Standing.{AgentStandsFor}
 use Rattle.endpoint_agent.specs.State.{AgentState, line_at}
 use Rattle.endpoint_agent.proofs.Calls.{line_at-asks, StandsFor-asks}
 use Rattle.endpoint_agent.proofs.Sound.{Sound-asks, Kept-asks}
@@ -51,4 +51,4 @@ returns-then-n-gt0-clause-stands c = λ history stands.
     let within : dst < length agent.lines = omega (arith, c.requires.destination, endpoints, sound.as_many) in
     let read : found ≡ line_at agent.lines dst = c.index_mut-line.ensures.value ∙ get_or_default agent.lines dst found no_line within in
     let asks = line_at-asks agent.lines dst n (agent.sent.outstanding.newest + 1) line within (asked_line found n c.self.inside.request.seq agent.sent.outstanding.newest c.if-n-gt0.true same.number ∙ ap (with_asked (agent.sent.outstanding.newest + 1) n) read) in
-    StandsFor-asks agent history dst n (set agent.lines dst line) (subst (λ (a : AgentState). StandsFor a history) (sym c.self.view_is) stands) asks
+    StandsFor-asks agent history dst n (set agent.lines dst line) (subst (λ (a : AgentState). AgentStandsFor a history) (sym c.self.view_is) stands) asks

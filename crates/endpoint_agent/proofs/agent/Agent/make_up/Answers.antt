@@ -11,8 +11,8 @@ use Rattle.endpoint_history.specs.Agent.{AgentHistory, MakesUp, packet_up}
 use Rattle.endpoint_agent.specs.declared.lines.FlowLine.{FlowLine}
 use Rattle.endpoint_agent.specs.contracts.agent.Agent.{the_view}
 use Rattle.endpoint_agent.specs.Lines.{unconfirmed_in}
-use Rattle.endpoint_agent.specs.Standing.{StandsFor}
-use Rattle.endpoint_agent.specs.State.{AgentState, AreMarked}
+use Rattle.endpoint_agent.specs.Standing.{AgentStandsFor}
+use Rattle.endpoint_agent.specs.State.{AgentState, UnconfirmedAreMarked}
 use Rattle.endpoint_agent.proofs.Calls.{may_of}
 use Rattle.endpoint_agent.proofs.Making.{resets, IsRenewed, made, Sound-resets}
 use Rattle.endpoint_agent.proofs.Packets.{reset-is, reset-ok, request_in, request-is, request-ok}
@@ -43,7 +43,7 @@ returns-then-not-self-clause-packet c = λ history stands.
     let agent : AgentState = the_view c.self.inside in
     let begun : agent.has_begun ≡ false = c.if-not-self.true in
     subst (Bytes history (take c.encode_reset.result c.encode_reset.new.buf)) c.self.view_is
-    (c.encode_reset.ensures.bytes ∙ ap up_bytes (reset-is agent history (subst (λ (a : AgentState). StandsFor a history) (sym c.self.view_is) stands) begun))
+    (c.encode_reset.ensures.bytes ∙ ap up_bytes (reset-is agent history (subst (λ (a : AgentState). AgentStandsFor a history) (sym c.self.view_is) stands) begun))
 
 pub returns-then-not-self-clause-spelled : goal.returns-then-not-self-clause-spelled
 returns-then-not-self-clause-spelled c = λ history stands.
@@ -52,14 +52,14 @@ returns-then-not-self-clause-spelled c = λ history stands.
     let begun : agent.has_begun ≡ false = c.if-not-self.true in
     let bytes = take c.encode_reset.result c.encode_reset.new.buf in
     subst (Spells history bytes) c.self.view_is
-    (subst (λ (up : Up). SpellsUp agent.endpoints bytes up) (reset-is agent history (subst (λ (a : AgentState). StandsFor a history) (sym c.self.view_is) stands) begun)
+    (subst (λ (up : Up). SpellsUp agent.endpoints bytes up) (reset-is agent history (subst (λ (a : AgentState). AgentStandsFor a history) (sym c.self.view_is) stands) begun)
     (c.encode_reset.ensures.spelled agent.endpoints (reset-ok agent sound)))
 
 pub returns-then-not-self-clause-stands : goal.returns-then-not-self-clause-stands
 returns-then-not-self-clause-stands c = λ history stands.
     let agent : AgentState = the_view c.self.inside in
     let (sound, calls, same) = c.self.invariant in
-    resets agent history sound (subst (λ (a : AgentState). StandsFor a history) (sym c.self.view_is) stands) c.if-not-self.true
+    resets agent history sound (subst (λ (a : AgentState). AgentStandsFor a history) (sym c.self.view_is) stands) c.if-not-self.true
 
 -- ---- a request
 
@@ -113,7 +113,7 @@ pub renew-requires-clause-marked : goal.renew-requires-clause-marked
 renew-requires-clause-marked c =
     let agent : AgentState = the_view c.self.inside in
     let (sound, calls, same) = c.self.invariant in
-    subst (AreMarked agent.acknowledged c.self.inside.unconfirmed) (sym c.deref.ensures.value) same.marked
+    subst (UnconfirmedAreMarked agent.acknowledged c.self.inside.unconfirmed) (sym c.deref.ensures.value) same.marked
 
 pub encode_req-requires : goal.encode_req-requires
 encode_req-requires c =
@@ -148,7 +148,7 @@ invariant_of-self-2 c =
     let is = made c.agents_count_slots.ensures.taking agent history sent new.demands.items sound once stands c.if-not-self.false renewal in (
       is.sound,
       (MakesUp ∷ history, is.stands),
-      Kept-makes agent _ new.seq c.renew.new.unconfirmed (subst (AreMarked agent.acknowledged c.renew.new.unconfirmed) c.deref.ensures.value r.marked) (λ i. agent.lines) (omega arith)
+      Kept-makes agent _ new.seq c.renew.new.unconfirmed (subst (UnconfirmedAreMarked agent.acknowledged c.renew.new.unconfirmed) c.deref.ensures.value r.marked) (λ i. agent.lines) (omega arith)
           (seq-by agent sent c.self.inside.request new same.number r.again r.number),
     )
 
@@ -162,7 +162,7 @@ returns-clause-packet c = λ history stands.
     let after : AgentState = record agent { sent = sent; named = new.demands.items; is_made = true } in
     let once : agent.is_made ≡ false = ap (λ (a : AgentState). a.is_made) c.self.view_is ∙ c.requires.once in
     let renewal = renewed-by agent sent c.self.inside.request new c.deref.result.now c.deref.ensures.value (λ i. agent.named) r.again r.number r.named r.stands r.version in
-    let here = subst (λ (a : AgentState). StandsFor a history) (sym c.self.view_is) stands in
+    let here = subst (λ (a : AgentState). AgentStandsFor a history) (sym c.self.view_is) stands in
     let is = made c.agents_count_slots.ensures.taking agent history sent new.demands.items sound once here c.if-not-self.false renewal in
     let seq = seq-by agent sent c.self.inside.request new same.number r.again r.number in
     let ack = c.ack-high.ensures in
@@ -180,7 +180,7 @@ returns-clause-spelled c = λ history stands.
     let after : AgentState = record agent { sent = sent; named = new.demands.items; is_made = true } in
     let once : agent.is_made ≡ false = ap (λ (a : AgentState). a.is_made) c.self.view_is ∙ c.requires.once in
     let renewal = renewed-by agent sent c.self.inside.request new c.deref.result.now c.deref.ensures.value (λ i. agent.named) r.again r.number r.named r.stands r.version in
-    let here = subst (λ (a : AgentState). StandsFor a history) (sym c.self.view_is) stands in
+    let here = subst (λ (a : AgentState). AgentStandsFor a history) (sym c.self.view_is) stands in
     let is = made c.agents_count_slots.ensures.taking agent history sent new.demands.items sound once here c.if-not-self.false renewal in
     let seq = seq-by agent sent c.self.inside.request new same.number r.again r.number in
     let ack = c.ack-high.ensures in
@@ -201,5 +201,5 @@ returns-clause-stands c = λ history stands.
     let r = c.renew.ensures in
     let once : agent.is_made ≡ false = ap (λ (a : AgentState). a.is_made) c.self.view_is ∙ c.requires.once in
     let renewal = renewed-by agent sent c.self.inside.request new c.deref.result.now c.deref.ensures.value (λ i. agent.named) r.again r.number r.named r.stands r.version in
-    let here = subst (λ (a : AgentState). StandsFor a history) (sym c.self.view_is) stands in
+    let here = subst (λ (a : AgentState). AgentStandsFor a history) (sym c.self.view_is) stands in
     (made c.agents_count_slots.ensures.taking agent history sent new.demands.items sound once here c.if-not-self.false renewal).stands

@@ -17,7 +17,7 @@ use Rattle.endpoint_agent.specs.contracts.agent.Agent.{the_view}
 use Rattle.endpoint_agent.specs.Carrying.{bare_numbers}
 use Rattle.endpoint_agent.specs.Lines.{with_missed}
 use Rattle.endpoint_agent.specs.Refusals.{IsOwn}
-use Rattle.endpoint_agent.specs.Standing.{StandsFor}
+use Rattle.endpoint_agent.specs.Standing.{AgentStandsFor}
 use Rattle.endpoint_agent.specs.State.{AgentState, line_at, IsSound}
 use Rattle.endpoint_agent.specs.Timely.{MayTake}
 use Rattle.endpoint_agent.proofs.Calls.{StandsFor-passed, Read, acknowledges-more}
@@ -27,14 +27,14 @@ use Rattle.endpoint_agent.proofs.Sound.{All-lines, Sound-reads, Kept-makes, Kept
 use Rattle.endpoint_agent.proofs.agent.Agent.take_down.Goals as goal
 
 abbrev After : AgentState → ℕ → AgentHistory → DownPacket → Type 0
-After agent round history packet = StandsFor agent (TakesDown round packet ∷ history)
+After agent round history packet = AgentStandsFor agent (TakesDown round packet ∷ history)
 
 -- ---- of another epoch or version
 
 pub returns-then-self-2-clause-stands : goal.returns-then-self-2-clause-stands
 returns-then-self-2-clause-stands c = λ own history stood.
     let now : AgentState = the_view c.self.inside in
-    let stands = subst (λ (a : AgentState). StandsFor a history) (sym c.self.view_is) stood in
+    let stands = subst (λ (a : AgentState). AgentStandsFor a history) (sym c.self.view_is) stood in
     let down : Down = c.decode_down.new.into in
     let is : down ≡ down_of c.args.bytes.now = c.in_default.ensures.read in
     let epoch : c.self.inside.epoch ≡ epoch_of history = stands.epoch in
@@ -45,7 +45,7 @@ returns-then-self-2-clause-stands c = λ own history stood.
 pub returns-then-self-3-clause-stands : goal.returns-then-self-3-clause-stands
 returns-then-self-3-clause-stands c = λ own history stood.
     let now : AgentState = the_view c.self.inside in
-    let stands = subst (λ (a : AgentState). StandsFor a history) (sym c.self.view_is) stood in
+    let stands = subst (λ (a : AgentState). AgentStandsFor a history) (sym c.self.view_is) stood in
     let down : Down = c.decode_down.new.into in
     let is : down ≡ down_of c.args.bytes.now = c.in_default.ensures.read in
     let version : c.self.inside.version ≡ version_of history = stands.version in
@@ -57,11 +57,11 @@ returns-then-self-3-clause-stands c = λ own history stood.
 
 may_take : (agent now : AgentState) (round : ℕ) (bytes : List ℕ) (down : Down) → agent ≡ now → down ≡ down_of bytes → IsSound agent → IsMine agent down
     → IsOwn now.me now.endpoints now.b bytes → round ≡ now.round → round < 100000
-    → ((history : AgentHistory) → StandsFor agent history → Fresh ≡ receive_verdict (reorder_of agent.arrived.version) (arrived history) down.seq)
-    → (history : AgentHistory) × StandsFor now history × (IsOwn now.me now.endpoints now.b bytes → takes history (down_packet (down_of bytes)) ≡ true → MayTake now.g history round (down_packet (down_of bytes)))
+    → ((history : AgentHistory) → AgentStandsFor agent history → Fresh ≡ receive_verdict (reorder_of agent.arrived.version) (arrived history) down.seq)
+    → (history : AgentHistory) × AgentStandsFor now history × (IsOwn now.me now.endpoints now.b bytes → takes history (down_packet (down_of bytes)) ≡ true → MayTake now.g history round (down_packet (down_of bytes)))
     → HasRoom agent round (down_packet down)
 may_take agent now round bytes down view is sound mine own at rounds fresh (history, stands, may) =
-    let stands_here = subst (λ (a : AgentState). StandsFor a history) (sym view) stands in
+    let stands_here = subst (λ (a : AgentState). AgentStandsFor a history) (sym view) stands in
     let here : round ≡ agent.round = at ∙ sym (ap (λ (a : AgentState). a.round) view) in
     let it = takes-it agent history down stands_here sound mine (fresh history stands_here) in
     let may_here : MayTake agent.g history agent.round (down_packet down) =
@@ -101,7 +101,7 @@ take_slots-requires-clause-late c = λ some.
     let own : IsOwn c.args.self.now.me c.args.self.now.endpoints c.args.self.now.b c.args.bytes.now =
     subst (λ (a : AgentState). IsOwn a.me a.endpoints a.b c.args.bytes.now) c.self.view_is
     (record { spelled = sym c.in_default.ensures.refused; destination = ap (λ (d : Down). d.dst) (sym is) ∙ mine.destination }) in
-    let fresh : (history : AgentHistory) → StandsFor agent history → Fresh ≡ receive_verdict (reorder_of agent.arrived.version) (arrived history) down.seq = λ history stands.
+    let fresh : (history : AgentHistory) → AgentStandsFor agent history → Fresh ≡ receive_verdict (reorder_of agent.arrived.version) (arrived history) down.seq = λ history stands.
     sym c.in-Fresh.is ∙ c.take.ensures.verdict (arrived history) stands.arrived in
     let may = may_take agent c.args.self.now c.args.round c.args.bytes.now down c.self.view_is is sound mine own c.requires.round c.requires.rounds fresh c.requires.may_take in
     let late = may.late some in
@@ -130,12 +130,12 @@ invariant_of-self-in-Fresh c =
     let own : IsOwn c.args.self.now.me c.args.self.now.endpoints c.args.self.now.b c.args.bytes.now =
     subst (λ (a : AgentState). IsOwn a.me a.endpoints a.b c.args.bytes.now) c.self.view_is
     (record { spelled = sym c.in_default.ensures.refused; destination = ap (λ (d : Down). d.dst) (sym is) ∙ mine.destination }) in
-    let fresh : (history : AgentHistory) → StandsFor agent history → Fresh ≡ receive_verdict (reorder_of agent.arrived.version) (arrived history) down.seq = λ history stands.
+    let fresh : (history : AgentHistory) → AgentStandsFor agent history → Fresh ≡ receive_verdict (reorder_of agent.arrived.version) (arrived history) down.seq = λ history stands.
     sym c.in-Fresh.is ∙ c.take.ensures.verdict (arrived history) stands.arrived in
     let may = may_take agent c.args.self.now c.args.round c.args.bytes.now down c.self.view_is is sound mine own c.requires.round c.requires.rounds fresh c.requires.may_take in
     let slots = slots-by agent c.args.round down c.self.inside.lines c.deref_mut.result.now c.take_slots.new.lines c.self.inside.waiting c.take_slots.new.waiting c.self.inside.request.seq
     c.deref_mut.ensures.value c.deref_mut.ensures.len same.number (λ i. agent.lines) (λ i. agent.waiting) c.take_slots.ensures.length c.take_slots.ensures.lines c.take_slots.ensures.waiting c.take_slots.ensures.others in
-    let read : (history : AgentHistory) → StandsFor agent history → Read agent history (down_packet down) c.take.new.self c.read_ack-self-inside.new.sent c.read_ack-self-inside.result = λ history stands. (
+    let read : (history : AgentHistory) → AgentStandsFor agent history → Read agent history (down_packet down) c.take.new.self c.read_ack-self-inside.new.sent c.read_ack-self-inside.result = λ history stands. (
       c.take.ensures.stands (arrived history) stands.arrived,
       c.read_ack-self-inside.ensures.stands (bare_numbers agent.endpoints agent.g history) stands.sent,
       c.read_ack-self-inside.ensures.acknowledged (bare_numbers agent.endpoints agent.g history) stands.sent,
@@ -162,16 +162,16 @@ returns-in-Fresh-clause-stands c = λ is_own history stands.
     let is : down ≡ down_of c.args.bytes.now = c.in_default.ensures.read in
     let spelled : SpellsDown agent.endpoints agent.b c.args.bytes.now down = c.in_default.ensures.spelled in
     let mine : IsMine agent down = record { rules = spelled.rules; destination = c.if-self.false; epoch = c.if-self-2.false; version = c.if-self-3.false } in
-    let here = subst (λ (a : AgentState). StandsFor a history) (sym c.self.view_is) stands in
+    let here = subst (λ (a : AgentState). AgentStandsFor a history) (sym c.self.view_is) stands in
     let own : IsOwn c.args.self.now.me c.args.self.now.endpoints c.args.self.now.b c.args.bytes.now =
     subst (λ (a : AgentState). IsOwn a.me a.endpoints a.b c.args.bytes.now) c.self.view_is
     (record { spelled = sym c.in_default.ensures.refused; destination = ap (λ (d : Down). d.dst) (sym is) ∙ mine.destination }) in
-    let fresh : (history : AgentHistory) → StandsFor agent history → Fresh ≡ receive_verdict (reorder_of agent.arrived.version) (arrived history) down.seq = λ history stands.
+    let fresh : (history : AgentHistory) → AgentStandsFor agent history → Fresh ≡ receive_verdict (reorder_of agent.arrived.version) (arrived history) down.seq = λ history stands.
     sym c.in-Fresh.is ∙ c.take.ensures.verdict (arrived history) stands.arrived in
     let may = may_take agent c.args.self.now c.args.round c.args.bytes.now down c.self.view_is is sound mine own c.requires.round c.requires.rounds fresh c.requires.may_take in
     let slots = slots-by agent c.args.round down c.self.inside.lines c.deref_mut.result.now c.take_slots.new.lines c.self.inside.waiting c.take_slots.new.waiting c.self.inside.request.seq
     c.deref_mut.ensures.value c.deref_mut.ensures.len same.number (λ i. agent.lines) (λ i. agent.waiting) c.take_slots.ensures.length c.take_slots.ensures.lines c.take_slots.ensures.waiting c.take_slots.ensures.others in
-    let read : (history : AgentHistory) → StandsFor agent history → Read agent history (down_packet down) c.take.new.self c.read_ack-self-inside.new.sent c.read_ack-self-inside.result = λ history stands. (
+    let read : (history : AgentHistory) → AgentStandsFor agent history → Read agent history (down_packet down) c.take.new.self c.read_ack-self-inside.new.sent c.read_ack-self-inside.result = λ history stands. (
       c.take.ensures.stands (arrived history) stands.arrived,
       c.read_ack-self-inside.ensures.stands (bare_numbers agent.endpoints agent.g history) stands.sent,
       c.read_ack-self-inside.ensures.acknowledged (bare_numbers agent.endpoints agent.g history) stands.sent,
@@ -194,7 +194,7 @@ invariant_of-self-in-Old c =
     let spelled : SpellsDown agent.endpoints agent.b c.args.bytes.now down = c.in_default.ensures.spelled in
     let mine : IsMine agent down = record { rules = spelled.rules; destination = c.if-self.false; epoch = c.if-self-2.false; version = c.if-self-3.false } in
     let (history, stands) = calls in
-    let read : (history : AgentHistory) → StandsFor agent history → Read agent history (down_packet down) c.take.new.self c.read_ack-self-inside.new.sent c.read_ack-self-inside.result = λ history stands. (
+    let read : (history : AgentHistory) → AgentStandsFor agent history → Read agent history (down_packet down) c.take.new.self c.read_ack-self-inside.new.sent c.read_ack-self-inside.result = λ history stands. (
       c.take.ensures.stands (arrived history) stands.arrived,
       c.read_ack-self-inside.ensures.stands (bare_numbers agent.endpoints agent.g history) stands.sent,
       c.read_ack-self-inside.ensures.acknowledged (bare_numbers agent.endpoints agent.g history) stands.sent,
@@ -217,8 +217,8 @@ returns-in-Old-clause-stands c = λ own history stands.
     let is : down ≡ down_of c.args.bytes.now = c.in_default.ensures.read in
     let spelled : SpellsDown agent.endpoints agent.b c.args.bytes.now down = c.in_default.ensures.spelled in
     let mine : IsMine agent down = record { rules = spelled.rules; destination = c.if-self.false; epoch = c.if-self-2.false; version = c.if-self-3.false } in
-    let here = subst (λ (a : AgentState). StandsFor a history) (sym c.self.view_is) stands in
-    let read : (history : AgentHistory) → StandsFor agent history → Read agent history (down_packet down) c.take.new.self c.read_ack-self-inside.new.sent c.read_ack-self-inside.result = λ history stands. (
+    let here = subst (λ (a : AgentState). AgentStandsFor a history) (sym c.self.view_is) stands in
+    let read : (history : AgentHistory) → AgentStandsFor agent history → Read agent history (down_packet down) c.take.new.self c.read_ack-self-inside.new.sent c.read_ack-self-inside.result = λ history stands. (
       c.take.ensures.stands (arrived history) stands.arrived,
       c.read_ack-self-inside.ensures.stands (bare_numbers agent.endpoints agent.g history) stands.sent,
       c.read_ack-self-inside.ensures.acknowledged (bare_numbers agent.endpoints agent.g history) stands.sent,
@@ -236,7 +236,7 @@ invariant_of-self-in-Repeat c =
     let spelled : SpellsDown agent.endpoints agent.b c.args.bytes.now down = c.in_default.ensures.spelled in
     let mine : IsMine agent down = record { rules = spelled.rules; destination = c.if-self.false; epoch = c.if-self-2.false; version = c.if-self-3.false } in
     let (history, stands) = calls in
-    let read : (history : AgentHistory) → StandsFor agent history → Read agent history (down_packet down) c.take.new.self c.read_ack-self-inside.new.sent c.read_ack-self-inside.result = λ history stands. (
+    let read : (history : AgentHistory) → AgentStandsFor agent history → Read agent history (down_packet down) c.take.new.self c.read_ack-self-inside.new.sent c.read_ack-self-inside.result = λ history stands. (
       c.take.ensures.stands (arrived history) stands.arrived,
       c.read_ack-self-inside.ensures.stands (bare_numbers agent.endpoints agent.g history) stands.sent,
       c.read_ack-self-inside.ensures.acknowledged (bare_numbers agent.endpoints agent.g history) stands.sent,
@@ -259,8 +259,8 @@ returns-in-Repeat-clause-stands c = λ own history stands.
     let is : down ≡ down_of c.args.bytes.now = c.in_default.ensures.read in
     let spelled : SpellsDown agent.endpoints agent.b c.args.bytes.now down = c.in_default.ensures.spelled in
     let mine : IsMine agent down = record { rules = spelled.rules; destination = c.if-self.false; epoch = c.if-self-2.false; version = c.if-self-3.false } in
-    let here = subst (λ (a : AgentState). StandsFor a history) (sym c.self.view_is) stands in
-    let read : (history : AgentHistory) → StandsFor agent history → Read agent history (down_packet down) c.take.new.self c.read_ack-self-inside.new.sent c.read_ack-self-inside.result = λ history stands. (
+    let here = subst (λ (a : AgentState). AgentStandsFor a history) (sym c.self.view_is) stands in
+    let read : (history : AgentHistory) → AgentStandsFor agent history → Read agent history (down_packet down) c.take.new.self c.read_ack-self-inside.new.sent c.read_ack-self-inside.result = λ history stands. (
       c.take.ensures.stands (arrived history) stands.arrived,
       c.read_ack-self-inside.ensures.stands (bare_numbers agent.endpoints agent.g history) stands.sent,
       c.read_ack-self-inside.ensures.acknowledged (bare_numbers agent.endpoints agent.g history) stands.sent,

@@ -2,7 +2,7 @@ use Rattle.std.proofs.Common.{rules, ◌≡◌, ◌<◌, ℕ, false, ◌&&◌, l
 use Rattle.endpoint_bitmaps.specs.Slots.{has_slot}
 use Rattle.endpoint_bitmaps.proofs.WordLemmas.{has_slot-none}
 use Rattle.std.specs.Prelude.{vec_len}
-use Rattle.endpoint_bitmaps.specs.FreeSlots.{FreeSlots, may_send, may_receive}
+use Rattle.endpoint_bitmaps.specs.FreeSlots.{FreeSlots, is_free_to_send, may_receive}
 use Rattle.endpoint_bitmaps.proofs.MapLemmas.{none_common}
 use Rattle.endpoint_bitmaps.proofs.RackLemmas.{rack_read, common_within, common_between}
 use Rattle.endpoint_bitmaps.proofs.free_maps.FreeMaps.common.Goals as goal
@@ -20,7 +20,7 @@ returns-then-from-to c = λ slot.
     (rack_read (vec_len m.senders) m.limits m.senders.items m.receivers.items m.racks.items m.leaving.taken.items m.leaving.left.items m.entering.taken.items m.entering.left.items c.self.invariant.0
     c.args.dst c.index-to.result.now dst_below c.index-to.ensures)
     c.if-from-to.true
-    (c.may_share-free.ensures slot ∙ ap (λ (v : FreeSlots). may_send v c.args.src slot && may_receive v c.args.dst slot) (sym c.self.view_is)))
+    (c.may_share-free.ensures slot ∙ ap (λ (v : FreeSlots). is_free_to_send v c.args.src slot && may_receive v c.args.dst slot) (sym c.self.view_is)))
 
 pub returns-else-from-to : goal.returns-else-from-to
 returns-else-from-to c = λ slot.
@@ -35,11 +35,11 @@ returns-else-from-to c = λ slot.
     (rack_read (vec_len m.senders) m.limits m.senders.items m.receivers.items m.racks.items m.leaving.taken.items m.leaving.left.items m.entering.taken.items m.entering.left.items c.self.invariant.0
     c.args.dst c.index-to.result.now dst_below c.index-to.ensures)
     c.if-from-to.false c.index.ensures c.index-else-from-to.ensures
-    (c.may_share-free.ensures slot ∙ ap (λ (v : FreeSlots). may_send v c.args.src slot && may_receive v c.args.dst slot) (sym c.self.view_is)))
+    (c.may_share-free.ensures slot ∙ ap (λ (v : FreeSlots). is_free_to_send v c.args.src slot && may_receive v c.args.dst slot) (sym c.self.view_is)))
 
 pub returns-then-free-eq0 : goal.returns-then-free-eq0
 returns-then-free-eq0 c = λ slot.
     let maps = c.args.self.now in
-    let none : false ≡ (may_send maps c.args.src slot && may_receive maps c.args.dst slot) =
+    let none : false ≡ (is_free_to_send maps c.args.src slot && may_receive maps c.args.dst slot) =
     sym (ap (λ (n : ℕ). has_slot n slot) c.if-free-eq0.true ∙ has_slot-none slot) ∙ c.may_share-free.ensures slot in
     has_slot-none slot ∙ none_common maps c.args.src c.args.dst slot none

@@ -5,7 +5,7 @@ use Rattle.std.proofs.lemmas.List.{take_at}
 use Rattle.std.specs.Prelude.{vec_len}
 use Rattle.greedy_rules.specs.Limits.{rack_of}
 use Rattle.endpoint_bitmaps.specs.Slots.{has_slot, count_below}
-use Rattle.endpoint_bitmaps.specs.FreeSlots.{FreeSlots, is_common, may_send, may_receive, has_links, leaving_in, entering_in, rack_in, is_between}
+use Rattle.endpoint_bitmaps.specs.FreeSlots.{FreeSlots, is_common, is_free_to_send, may_receive, has_links, leaving_in, entering_in, rack_in, is_between_racks}
 use Rattle.endpoint_bitmaps.proofs.CountLemmas.{is_among_lowest-same}
 use Rattle.endpoint_bitmaps.proofs.WordLemmas.{has_slot-above, has_slot-none, lowest_is}
 use Rattle.endpoint_bitmaps.proofs.NamingLemmas.{names_some}
@@ -46,10 +46,10 @@ take_slots-requires-clause-some c =
     let common : ℕ = c.common-common.result in
     let slot : ℕ = trailing_zeros w64 common in
     let in_common : has_slot common slot ≡ true = lowest_is common (search rules) c.if-common-eq0.false in
-    let both = (and_parts (may_send maps c.args.src slot && may_receive maps c.args.dst slot) (not (is_between maps c.args.src c.args.dst) || has_links maps c.args.src c.args.dst slot) (sym (c.common-common.ensures slot) ∙ in_common)).0 in
+    let both = (and_parts (is_free_to_send maps c.args.src slot && may_receive maps c.args.dst slot) (not (is_between_racks maps c.args.src c.args.dst) || has_links maps c.args.src c.args.dst slot) (sym (c.common-common.ensures slot) ∙ in_common)).0 in
     names_some (get_or c.deref_mut.result.now c.args.src 0) slot
     (ap (λ (words : List ℕ). has_slot (get_or words c.args.src 0) slot) c.deref_mut.ensures.value
-    ∙ ap (λ (v : FreeSlots). may_send v c.args.src slot) c.self.view_is ∙ (and_parts (may_send maps c.args.src slot) (may_receive maps c.args.dst slot) both).0)
+    ∙ ap (λ (v : FreeSlots). is_free_to_send v c.args.src slot) c.self.view_is ∙ (and_parts (is_free_to_send maps c.args.src slot) (may_receive maps c.args.dst slot) both).0)
 
 pub returns-clause-lowest : goal.returns-clause-lowest
 returns-clause-lowest c = λ slot.
@@ -89,18 +89,18 @@ returns-clause-taken c =
           ap (λ (words : List ℕ). has_slot (get_or words endpoint 0) slot) all_left
           ∙ c.take_slots.ensures.words endpoint slot
           ∙ ap (λ (words : List ℕ). has_slot (get_or words endpoint 0) slot && not ((endpoint == src) && has_slot taken slot)) c.deref_mut.ensures.value
-          ∙ ap (λ (v : FreeSlots). may_send v endpoint slot && not ((endpoint == src) && has_slot taken slot)) view_is;
+          ∙ ap (λ (v : FreeSlots). is_free_to_send v endpoint slot && not ((endpoint == src) && has_slot taken slot)) view_is;
       receivers = λ endpoint slot.
           without_taken m.receivers.items dst c.index_mut.result.now taken endpoint slot dst_below receiver_fits taken_fits c.index_mut.ensures.value
           ∙ ap (λ (v : FreeSlots). may_receive v endpoint slot && not ((endpoint == dst) && has_slot taken slot)) view_is;
       leaving = λ rack slot below.
           links_taken m.limits.hosts src dst c.index-from.result.now c.index-from.result.now c.index-to.result.now (rack_of m.limits.hosts src) slot (has_slot taken) m.leaving.taken.items
           c.take_links-taken.new.leaving.taken.items below from_is from_is to_is c.take_links-taken.ensures.leaving rack
-          ∙ ap (λ (v : FreeSlots). leaving_in v rack slot + cond ((rack == rack_in v src) && (is_between v src dst && has_slot taken slot)) 1 0) view_is;
+          ∙ ap (λ (v : FreeSlots). leaving_in v rack slot + cond ((rack == rack_in v src) && (is_between_racks v src dst && has_slot taken slot)) 1 0) view_is;
       entering = λ rack slot below.
           links_taken m.limits.hosts src dst c.index-to.result.now c.index-from.result.now c.index-to.result.now (rack_of m.limits.hosts dst) slot (has_slot taken) m.entering.taken.items
           c.take_links-taken.new.entering.taken.items below to_is from_is to_is c.take_links-taken.ensures.entering rack
-          ∙ ap (λ (v : FreeSlots). entering_in v rack slot + cond ((rack == rack_in v dst) && (is_between v src dst && has_slot taken slot)) 1 0) view_is;
+          ∙ ap (λ (v : FreeSlots). entering_in v rack slot + cond ((rack == rack_in v dst) && (is_between_racks v src dst && has_slot taken slot)) 1 0) view_is;
     }
 
 pub returns-then-common-eq0-clause-count : goal.returns-then-common-eq0-clause-count

@@ -1,7 +1,7 @@
 use Rattle.std.proofs.Common.{length, set, sym, ◌∙◌, ap, subst}
 use Rattle.std.proofs.lemmas.List.{length-set}
 use Rattle.front_desk.specs.State.{LineState, IsSeatOf}
-use Rattle.front_desk.specs.Standing.{AreLines}
+use Rattle.front_desk.specs.Standing.{AreDeskLines}
 use Rattle.front_desk.proofs.Lines.{found, lines-set, closed}
 use Rattle.front_desk.proofs.desk.Desk.close.Goals as goal
 
@@ -28,7 +28,7 @@ invariant_of-self c =
     let lines = c.self.inside.lines.items in
     let at = c.endpoint-endpoint.result in
     let it = found lines c.args.self.now c.args.seat.endpoint at c.index_mut.result.now c.requires.seat.0 c.self.view_is c.endpoint-endpoint.ensures c.requires.seat.1 c.index_mut.ensures.value in
-    subst (λ n. AreLines n (set lines at c.close.new.self)) (sym (length-set lines at c.close.new.self))
+    subst (λ n. AreDeskLines n (set lines at c.close.new.self)) (sym (length-set lines at c.close.new.self))
     (lines-set (length lines) lines at c.index_mut.result.now c.close.new.self c.self.invariant it.here c.close.ensures.line)
 
 pub returns : goal.returns

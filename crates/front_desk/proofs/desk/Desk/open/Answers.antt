@@ -1,7 +1,7 @@
 use Rattle.std.proofs.Common.{◌+◌, List, [], ◌∷◌, ◌++◌, sym, subst, arith}
 use Rattle.front_desk.specs.State.{SeatState}
 use Rattle.front_desk.specs.declared.line.Line.{Line}
-use Rattle.front_desk.specs.Standing.{AreLines}
+use Rattle.front_desk.specs.Standing.{AreDeskLines}
 use Rattle.front_desk.proofs.Lines.{HaveOpened, opened-more}
 use Rattle.front_desk.proofs.desk.Desk.open.Goals as goal
 
@@ -16,4 +16,4 @@ loop-endpoint-preserved c =
 pub invariant_of-result : goal.invariant_of-result
 invariant_of-result c =
     let some = c.loop-endpoint.invariant in
-    subst (λ n. AreLines n c.loop-endpoint.lines.items) (omega (arith, some.many, c.loop-endpoint-test.false, c.loop-endpoint.auto.endpoint-end)) some.stand
+    subst (λ n. AreDeskLines n c.loop-endpoint.lines.items) (omega (arith, some.many, c.loop-endpoint-test.false, c.loop-endpoint.auto.endpoint-end)) some.stand

@@ -1,7 +1,7 @@
 use Rattle.std.proofs.Common.{◌≤◌, ◌∷◌, sym, ◌∙◌, ap, subst}
 use Rattle.arbiter_lane.specs.State.{LaneState}
 use Rattle.lane_rounds.specs.State.{RoundsState}
-use Rattle.lane_rounds.specs.Standing.{StandsFor}
+use Rattle.lane_rounds.specs.Standing.{RoundsStandFor}
 use Rattle.lane_rounds.proofs.Playing.{stands-allocated}
 use Rattle.lane_rounds.specs.contracts.rounds.LaneRounds.{the_view}
 use Rattle.lane_rounds.proofs.rounds.LaneRounds.allocated.Goals as goal
@@ -31,4 +31,4 @@ invariant_of-self c = λ whole.
 pub returns-clause-stands : goal.returns-clause-stands
 returns-clause-stands c = λ rounds allocations stood.
     stands-allocated (the_view c.self.inside) c.allocated.new.self (record { dst = c.args.dst; batch = c.args.batch; slots = c.args.n }) rounds allocations c.allocated.ensures.frame c.allocated.ensures.stands
-    (subst (λ (s : RoundsState). StandsFor s rounds allocations) (sym c.self.view_is) stood)
+    (subst (λ (s : RoundsState). RoundsStandFor s rounds allocations) (sym c.self.view_is) stood)

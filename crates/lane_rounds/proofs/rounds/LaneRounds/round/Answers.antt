@@ -5,7 +5,7 @@ use Rattle.loss_world.specs.InTransit.{Held, due_in}
 use Rattle.endpoint_history.specs.Packets.{DownPacket, UpPacket}
 use Rattle.endpoint_history.specs.Agent.{AgentHistory, Boots, Asks, MakesUp, packet_up}
 use Rattle.endpoint_history.specs.Counts.{Allocation}
-use Rattle.endpoint_history.specs.Entries.{entry_of}
+use Rattle.endpoint_history.specs.Entries.{next_entry}
 use Rattle.endpoint_history.specs.Lane.{LaneHistory}
 use Rattle.endpoint_history.specs.Rounds.{Round}
 use Rattle.endpoint_history.specs.Sending.{sent_in}
@@ -17,7 +17,7 @@ use Rattle.arbiter_lane.specs.Standing as lanes
 use Rattle.lane_rounds.specs.Raw.{Raw}
 use Rattle.lane_rounds.specs.Outside.{round_with}
 use Rattle.lane_rounds.specs.Refused.{with_raw, refused_in}
-use Rattle.lane_rounds.specs.Standing.{StandsFor, HasCarried, IsUpOf, spell_down, spell_up, played_by}
+use Rattle.lane_rounds.specs.Standing.{RoundsStandFor, HasCarried, IsUpOf, spell_down, spell_up, played_by}
 use Rattle.lane_rounds.specs.Rounds.{HasRoundMore, GivesRound}
 use Rattle.lane_rounds.specs.State.{RoundsState, with_each, MayAsk}
 use Rattle.lane_rounds.specs.Parts.{Each, IsReadDown, IsReadUp, hearing, reading, handed, with_at_hand}
@@ -45,10 +45,10 @@ ask_all-requires c =
     let number_is : number ≡ was.lane.round = c.requires.may.round ∙ sym (ap (λ (s : RoundsState). s.lane.round) is) in
     let first : HasSizes was.agent e n b g = record { me = one.endpoint; endpoints = one.endpoints; b = one.b; g = one.g } in
     let sizes = sizes-after was.agent c.boot_all.new.agent e n b g c.boot_all.ensures.same first in
-    let asks = subst (λ (s : RoundsState). (calls : AgentHistory) × agents.StandsFor s.agent calls × MayAsk s.lane.endpoint s.lane.endpoints (with_each Boots (replicate events.boots events.version) calls) events.asks) (sym is) c.requires.may.asks in
+    let asks = subst (λ (s : RoundsState). (calls : AgentHistory) × agents.AgentStandsFor s.agent calls × MayAsk s.lane.endpoint s.lane.endpoints (with_each Boots (replicate events.boots events.version) calls) events.asks) (sym is) c.requires.may.asks in
     let (calls, stands, may) = asks in
     record {
-      may_ask = subst (λ (xs : List (ℕ × ℕ)). (calls : AgentHistory) × agents.StandsFor c.boot_all.new.agent calls × MayAsk c.boot_all.new.agent.me c.boot_all.new.agent.endpoints calls xs) (sym c.as_slice.ensures) (
+      may_ask = subst (λ (xs : List (ℕ × ℕ)). (calls : AgentHistory) × agents.AgentStandsFor c.boot_all.new.agent calls × MayAsk c.boot_all.new.agent.me c.boot_all.new.agent.endpoints calls xs) (sym c.as_slice.ensures) (
         with_each Boots (replicate events.boots events.version) calls,
         c.boot_all.ensures.stands calls stands,
         to_sizes c.boot_all.new.agent e n b g sizes (λ x y z w. MayAsk x y (with_each Boots (replicate events.boots events.version) calls) events.asks) may,
@@ -73,8 +73,8 @@ hear-requires-clause-may_hear c =
     let asked : AgentState = c.ask_all.new.agent in
     let first : HasSizes was.agent e n b g = record { me = one.endpoint; endpoints = one.endpoints; b = one.b; g = one.g } in
     let asked_sizes = sizes-after c.boot_all.new.agent asked e n b g c.ask_all.ensures.same (sizes-after was.agent c.boot_all.new.agent e n b g c.boot_all.ensures.same first) in
-    let asks : (calls : AgentHistory) → agents.StandsFor was.agent calls → agents.StandsFor asked (with_each (λ (a : ℕ × ℕ). Asks a.0 a.1) events.asks (with_each Boots (replicate events.boots events.version) calls)) = λ calls stood.
-    subst (λ (xs : List (ℕ × ℕ)). agents.StandsFor asked (with_each (λ (a : ℕ × ℕ). Asks a.0 a.1) xs (with_each Boots (replicate events.boots events.version) calls))) c.as_slice.ensures
+    let asks : (calls : AgentHistory) → agents.AgentStandsFor was.agent calls → agents.AgentStandsFor asked (with_each (λ (a : ℕ × ℕ). Asks a.0 a.1) events.asks (with_each Boots (replicate events.boots events.version) calls)) = λ calls stood.
+    subst (λ (xs : List (ℕ × ℕ)). agents.AgentStandsFor asked (with_each (λ (a : ℕ × ℕ). Asks a.0 a.1) xs (with_each Boots (replicate events.boots events.version) calls))) c.as_slice.ensures
     (c.ask_all.ensures.stands (with_each Boots (replicate events.boots events.version) calls) (c.boot_all.ensures.stands calls stood)) in
     let laws : WorldLaws = record { alike = c.rounds_are_read_in_order.ensures.alike; framed = c.packets_are_framed_alike.ensures; back = c.what_is_encoded_is_read_back.ensures; one = c.arrivals_are_given_in_order.ensures.one_by_one } in
     let order = c.rounds_are_calls.ensures.order in
@@ -109,8 +109,8 @@ invariant_of-self-2 c = λ done_whole.
     let asked : AgentState = c.ask_all.new.agent in
     let first : HasSizes was.agent e n b g = record { me = one.endpoint; endpoints = one.endpoints; b = one.b; g = one.g } in
     let asked_sizes = sizes-after c.boot_all.new.agent asked e n b g c.ask_all.ensures.same (sizes-after was.agent c.boot_all.new.agent e n b g c.boot_all.ensures.same first) in
-    let asks : (calls : AgentHistory) → agents.StandsFor was.agent calls → agents.StandsFor asked (with_each (λ (a : ℕ × ℕ). Asks a.0 a.1) events.asks (with_each Boots (replicate events.boots events.version) calls)) = λ calls stood.
-    subst (λ (xs : List (ℕ × ℕ)). agents.StandsFor asked (with_each (λ (a : ℕ × ℕ). Asks a.0 a.1) xs (with_each Boots (replicate events.boots events.version) calls))) c.as_slice.ensures
+    let asks : (calls : AgentHistory) → agents.AgentStandsFor was.agent calls → agents.AgentStandsFor asked (with_each (λ (a : ℕ × ℕ). Asks a.0 a.1) events.asks (with_each Boots (replicate events.boots events.version) calls)) = λ calls stood.
+    subst (λ (xs : List (ℕ × ℕ)). agents.AgentStandsFor asked (with_each (λ (a : ℕ × ℕ). Asks a.0 a.1) xs (with_each Boots (replicate events.boots events.version) calls))) c.as_slice.ensures
     (c.ask_all.ensures.stands (with_each Boots (replicate events.boots events.version) calls) (c.boot_all.ensures.stands calls stood)) in
     let laws : WorldLaws = record { alike = c.rounds_are_read_in_order.ensures.alike; framed = c.packets_are_framed_alike.ensures; back = c.what_is_encoded_is_read_back.ensures; one = c.arrivals_are_given_in_order.ensures.one_by_one } in
     let order = c.rounds_are_calls.ensures.order in
@@ -153,15 +153,15 @@ invariant_of-self-2 c = λ done_whole.
       makes_down = c.in_ok-down.ensures.stands;
       spells_down = c.post_down.ensures.spelled;
       carries_down = c.in_ok-down.ensures.carried;
-      hears = by_sizes asked e n b g asked_sizes (λ x y z w. (calls : AgentHistory) (packets : List DownPacket) → agents.StandsFor asked calls → due_in below.flights number ≡ map (spell_down x) packets → Each (IsReadDown x y z) packets → agents.StandsFor heard (hearing number packets calls)) c.hear.ensures.stands;
+      hears = by_sizes asked e n b g asked_sizes (λ x y z w. (calls : AgentHistory) (packets : List DownPacket) → agents.AgentStandsFor asked calls → due_in below.flights number ≡ map (spell_down x) packets → Each (IsReadDown x y z) packets → agents.AgentStandsFor heard (hearing number packets calls)) c.hear.ensures.stands;
       goes_down = c.hear.ensures.carried;
       makes_up = c.post_up.ensures.stands;
-      spells_up = by_sizes heard e n b g heard_sizes (λ x y z w. (calls : AgentHistory) → agents.StandsFor heard calls → IsUpOf x y (packet_up y w calls)) c.post_up.ensures.spelled;
-      carries_up = by_sizes heard e n b g heard_sizes (λ x y z w. (calls : AgentHistory) (departures : List Departure) → agents.StandsFor heard calls → HasCarried was.up number departures → HasCarried above number (departures ++ handed (spell_up x) number events.up (Some (packet_up y w calls)))) c.in_ok-up.ensures.carried;
-      reads = lane_sizes told_to e n b g told_sizes (λ x y z w. (history : LaneHistory) (allocations : List Allocation) (packets : List UpPacket) → lanes.StandsFor told_to history allocations → due_in above.flights number ≡ map (spell_up x) packets → Each (IsReadUp x y) packets → lanes.StandsFor read_by (reading number packets history) allocations) c.read.ensures.stands;
+      spells_up = by_sizes heard e n b g heard_sizes (λ x y z w. (calls : AgentHistory) → agents.AgentStandsFor heard calls → IsUpOf x y (packet_up y w calls)) c.post_up.ensures.spelled;
+      carries_up = by_sizes heard e n b g heard_sizes (λ x y z w. (calls : AgentHistory) (departures : List Departure) → agents.AgentStandsFor heard calls → HasCarried was.up number departures → HasCarried above number (departures ++ handed (spell_up x) number events.up (Some (packet_up y w calls)))) c.in_ok-up.ensures.carried;
+      reads = lane_sizes told_to e n b g told_sizes (λ x y z w. (history : LaneHistory) (allocations : List Allocation) (packets : List UpPacket) → lanes.LaneStandsFor told_to history allocations → due_in above.flights number ≡ map (spell_up x) packets → Each (IsReadUp x y) packets → lanes.LaneStandsFor read_by (reading number packets history) allocations) c.read.ensures.stands;
       goes_up = c.read.ensures.carried;
-      reads_raw = subst (λ (raw : List Raw). (history : LaneHistory) (allocations : List Allocation) → lanes.StandsFor read_by history allocations → lanes.StandsFor raw_by (with_raw e n number raw history) allocations) c.as_slice-2.ensures
-          (lane_sizes read_by e n b g read_sizes (λ x y z w. (history : LaneHistory) (allocations : List Allocation) → lanes.StandsFor read_by history allocations → lanes.StandsFor raw_by (with_raw x y number c.as_slice-2.result.now history) allocations) c.in_ok-read_raw.ensures.stands);
+      reads_raw = subst (λ (raw : List Raw). (history : LaneHistory) (allocations : List Allocation) → lanes.LaneStandsFor read_by history allocations → lanes.LaneStandsFor raw_by (with_raw e n number raw history) allocations) c.as_slice-2.ensures
+          (lane_sizes read_by e n b g read_sizes (λ x y z w. (history : LaneHistory) (allocations : List Allocation) → lanes.LaneStandsFor read_by history allocations → lanes.LaneStandsFor raw_by (with_raw x y number c.as_slice-2.result.now history) allocations) c.in_ok-read_raw.ensures.stands);
       records = c.in_ok-record.ensures.stands;
       sends = c.send_due.ensures.stands;
       last = done_sizes;
@@ -205,8 +205,8 @@ returns-clause-played c =
     let asked : AgentState = c.ask_all.new.agent in
     let first : HasSizes was.agent e n b g = record { me = one.endpoint; endpoints = one.endpoints; b = one.b; g = one.g } in
     let asked_sizes = sizes-after c.boot_all.new.agent asked e n b g c.ask_all.ensures.same (sizes-after was.agent c.boot_all.new.agent e n b g c.boot_all.ensures.same first) in
-    let asks : (calls : AgentHistory) → agents.StandsFor was.agent calls → agents.StandsFor asked (with_each (λ (a : ℕ × ℕ). Asks a.0 a.1) events.asks (with_each Boots (replicate events.boots events.version) calls)) = λ calls stood.
-    subst (λ (xs : List (ℕ × ℕ)). agents.StandsFor asked (with_each (λ (a : ℕ × ℕ). Asks a.0 a.1) xs (with_each Boots (replicate events.boots events.version) calls))) c.as_slice.ensures
+    let asks : (calls : AgentHistory) → agents.AgentStandsFor was.agent calls → agents.AgentStandsFor asked (with_each (λ (a : ℕ × ℕ). Asks a.0 a.1) events.asks (with_each Boots (replicate events.boots events.version) calls)) = λ calls stood.
+    subst (λ (xs : List (ℕ × ℕ)). agents.AgentStandsFor asked (with_each (λ (a : ℕ × ℕ). Asks a.0 a.1) xs (with_each Boots (replicate events.boots events.version) calls))) c.as_slice.ensures
     (c.ask_all.ensures.stands (with_each Boots (replicate events.boots events.version) calls) (c.boot_all.ensures.stands calls stood)) in
     let laws : WorldLaws = record { alike = c.rounds_are_read_in_order.ensures.alike; framed = c.packets_are_framed_alike.ensures; back = c.what_is_encoded_is_read_back.ensures; one = c.arrivals_are_given_in_order.ensures.one_by_one } in
     let order = c.rounds_are_calls.ensures.order in
@@ -249,15 +249,15 @@ returns-clause-played c =
       makes_down = c.in_ok-down.ensures.stands;
       spells_down = c.post_down.ensures.spelled;
       carries_down = c.in_ok-down.ensures.carried;
-      hears = by_sizes asked e n b g asked_sizes (λ x y z w. (calls : AgentHistory) (packets : List DownPacket) → agents.StandsFor asked calls → due_in below.flights number ≡ map (spell_down x) packets → Each (IsReadDown x y z) packets → agents.StandsFor heard (hearing number packets calls)) c.hear.ensures.stands;
+      hears = by_sizes asked e n b g asked_sizes (λ x y z w. (calls : AgentHistory) (packets : List DownPacket) → agents.AgentStandsFor asked calls → due_in below.flights number ≡ map (spell_down x) packets → Each (IsReadDown x y z) packets → agents.AgentStandsFor heard (hearing number packets calls)) c.hear.ensures.stands;
       goes_down = c.hear.ensures.carried;
       makes_up = c.post_up.ensures.stands;
-      spells_up = by_sizes heard e n b g heard_sizes (λ x y z w. (calls : AgentHistory) → agents.StandsFor heard calls → IsUpOf x y (packet_up y w calls)) c.post_up.ensures.spelled;
-      carries_up = by_sizes heard e n b g heard_sizes (λ x y z w. (calls : AgentHistory) (departures : List Departure) → agents.StandsFor heard calls → HasCarried was.up number departures → HasCarried above number (departures ++ handed (spell_up x) number events.up (Some (packet_up y w calls)))) c.in_ok-up.ensures.carried;
-      reads = lane_sizes told_to e n b g told_sizes (λ x y z w. (history : LaneHistory) (allocations : List Allocation) (packets : List UpPacket) → lanes.StandsFor told_to history allocations → due_in above.flights number ≡ map (spell_up x) packets → Each (IsReadUp x y) packets → lanes.StandsFor read_by (reading number packets history) allocations) c.read.ensures.stands;
+      spells_up = by_sizes heard e n b g heard_sizes (λ x y z w. (calls : AgentHistory) → agents.AgentStandsFor heard calls → IsUpOf x y (packet_up y w calls)) c.post_up.ensures.spelled;
+      carries_up = by_sizes heard e n b g heard_sizes (λ x y z w. (calls : AgentHistory) (departures : List Departure) → agents.AgentStandsFor heard calls → HasCarried was.up number departures → HasCarried above number (departures ++ handed (spell_up x) number events.up (Some (packet_up y w calls)))) c.in_ok-up.ensures.carried;
+      reads = lane_sizes told_to e n b g told_sizes (λ x y z w. (history : LaneHistory) (allocations : List Allocation) (packets : List UpPacket) → lanes.LaneStandsFor told_to history allocations → due_in above.flights number ≡ map (spell_up x) packets → Each (IsReadUp x y) packets → lanes.LaneStandsFor read_by (reading number packets history) allocations) c.read.ensures.stands;
       goes_up = c.read.ensures.carried;
-      reads_raw = subst (λ (raw : List Raw). (history : LaneHistory) (allocations : List Allocation) → lanes.StandsFor read_by history allocations → lanes.StandsFor raw_by (with_raw e n number raw history) allocations) c.as_slice-2.ensures
-          (lane_sizes read_by e n b g read_sizes (λ x y z w. (history : LaneHistory) (allocations : List Allocation) → lanes.StandsFor read_by history allocations → lanes.StandsFor raw_by (with_raw x y number c.as_slice-2.result.now history) allocations) c.in_ok-read_raw.ensures.stands);
+      reads_raw = subst (λ (raw : List Raw). (history : LaneHistory) (allocations : List Allocation) → lanes.LaneStandsFor read_by history allocations → lanes.LaneStandsFor raw_by (with_raw e n number raw history) allocations) c.as_slice-2.ensures
+          (lane_sizes read_by e n b g read_sizes (λ x y z w. (history : LaneHistory) (allocations : List Allocation) → lanes.LaneStandsFor read_by history allocations → lanes.LaneStandsFor raw_by (with_raw x y number c.as_slice-2.result.now history) allocations) c.in_ok-read_raw.ensures.stands);
       records = c.in_ok-record.ensures.stands;
       sends = c.send_due.ensures.stands;
       last = done_sizes;
@@ -265,7 +265,7 @@ returns-clause-played c =
     let all = ran laws order was number events told asked heard made ended told_to read_by raw_by done below c.hear.new.world above c.read.new.world run in
     let new : RoundsState = record { agent = ended; lane = done; down = c.hear.new.world; up = c.read.new.world; is_whole = true } in
     let next : Round = round_in was events told in
-    let stands : (rounds : List Round) (allocations : List Allocation) → StandsFor was rounds allocations → StandsFor new (next ∷ rounds) allocations = λ rounds allocations stood.
+    let stands : (rounds : List Round) (allocations : List Allocation) → RoundsStandFor was rounds allocations → RoundsStandFor new (next ∷ rounds) allocations = λ rounds allocations stood.
     let it = all rounds allocations stood in
     stands-next e n b g number ended done c.hear.new.world c.read.new.world true next rounds allocations done_sizes it.number_is it.all in
     subst (λ (s : RoundsState). HasRoundMore s number (round_with s.lane.endpoint s.lane.endpoints events told) new) is
@@ -301,8 +301,8 @@ returns-clause-gives c =
     let asked : AgentState = c.ask_all.new.agent in
     let first : HasSizes was.agent e n b g = record { me = one.endpoint; endpoints = one.endpoints; b = one.b; g = one.g } in
     let asked_sizes = sizes-after c.boot_all.new.agent asked e n b g c.ask_all.ensures.same (sizes-after was.agent c.boot_all.new.agent e n b g c.boot_all.ensures.same first) in
-    let asks : (calls : AgentHistory) → agents.StandsFor was.agent calls → agents.StandsFor asked (with_each (λ (a : ℕ × ℕ). Asks a.0 a.1) events.asks (with_each Boots (replicate events.boots events.version) calls)) = λ calls stood.
-    subst (λ (xs : List (ℕ × ℕ)). agents.StandsFor asked (with_each (λ (a : ℕ × ℕ). Asks a.0 a.1) xs (with_each Boots (replicate events.boots events.version) calls))) c.as_slice.ensures
+    let asks : (calls : AgentHistory) → agents.AgentStandsFor was.agent calls → agents.AgentStandsFor asked (with_each (λ (a : ℕ × ℕ). Asks a.0 a.1) events.asks (with_each Boots (replicate events.boots events.version) calls)) = λ calls stood.
+    subst (λ (xs : List (ℕ × ℕ)). agents.AgentStandsFor asked (with_each (λ (a : ℕ × ℕ). Asks a.0 a.1) xs (with_each Boots (replicate events.boots events.version) calls))) c.as_slice.ensures
     (c.ask_all.ensures.stands (with_each Boots (replicate events.boots events.version) calls) (c.boot_all.ensures.stands calls stood)) in
     let laws : WorldLaws = record { alike = c.rounds_are_read_in_order.ensures.alike; framed = c.packets_are_framed_alike.ensures; back = c.what_is_encoded_is_read_back.ensures; one = c.arrivals_are_given_in_order.ensures.one_by_one } in
     let order = c.rounds_are_calls.ensures.order in
@@ -345,15 +345,15 @@ returns-clause-gives c =
       makes_down = c.in_ok-down.ensures.stands;
       spells_down = c.post_down.ensures.spelled;
       carries_down = c.in_ok-down.ensures.carried;
-      hears = by_sizes asked e n b g asked_sizes (λ x y z w. (calls : AgentHistory) (packets : List DownPacket) → agents.StandsFor asked calls → due_in below.flights number ≡ map (spell_down x) packets → Each (IsReadDown x y z) packets → agents.StandsFor heard (hearing number packets calls)) c.hear.ensures.stands;
+      hears = by_sizes asked e n b g asked_sizes (λ x y z w. (calls : AgentHistory) (packets : List DownPacket) → agents.AgentStandsFor asked calls → due_in below.flights number ≡ map (spell_down x) packets → Each (IsReadDown x y z) packets → agents.AgentStandsFor heard (hearing number packets calls)) c.hear.ensures.stands;
       goes_down = c.hear.ensures.carried;
       makes_up = c.post_up.ensures.stands;
-      spells_up = by_sizes heard e n b g heard_sizes (λ x y z w. (calls : AgentHistory) → agents.StandsFor heard calls → IsUpOf x y (packet_up y w calls)) c.post_up.ensures.spelled;
-      carries_up = by_sizes heard e n b g heard_sizes (λ x y z w. (calls : AgentHistory) (departures : List Departure) → agents.StandsFor heard calls → HasCarried was.up number departures → HasCarried above number (departures ++ handed (spell_up x) number events.up (Some (packet_up y w calls)))) c.in_ok-up.ensures.carried;
-      reads = lane_sizes told_to e n b g told_sizes (λ x y z w. (history : LaneHistory) (allocations : List Allocation) (packets : List UpPacket) → lanes.StandsFor told_to history allocations → due_in above.flights number ≡ map (spell_up x) packets → Each (IsReadUp x y) packets → lanes.StandsFor read_by (reading number packets history) allocations) c.read.ensures.stands;
+      spells_up = by_sizes heard e n b g heard_sizes (λ x y z w. (calls : AgentHistory) → agents.AgentStandsFor heard calls → IsUpOf x y (packet_up y w calls)) c.post_up.ensures.spelled;
+      carries_up = by_sizes heard e n b g heard_sizes (λ x y z w. (calls : AgentHistory) (departures : List Departure) → agents.AgentStandsFor heard calls → HasCarried was.up number departures → HasCarried above number (departures ++ handed (spell_up x) number events.up (Some (packet_up y w calls)))) c.in_ok-up.ensures.carried;
+      reads = lane_sizes told_to e n b g told_sizes (λ x y z w. (history : LaneHistory) (allocations : List Allocation) (packets : List UpPacket) → lanes.LaneStandsFor told_to history allocations → due_in above.flights number ≡ map (spell_up x) packets → Each (IsReadUp x y) packets → lanes.LaneStandsFor read_by (reading number packets history) allocations) c.read.ensures.stands;
       goes_up = c.read.ensures.carried;
-      reads_raw = subst (λ (raw : List Raw). (history : LaneHistory) (allocations : List Allocation) → lanes.StandsFor read_by history allocations → lanes.StandsFor raw_by (with_raw e n number raw history) allocations) c.as_slice-2.ensures
-          (lane_sizes read_by e n b g read_sizes (λ x y z w. (history : LaneHistory) (allocations : List Allocation) → lanes.StandsFor read_by history allocations → lanes.StandsFor raw_by (with_raw x y number c.as_slice-2.result.now history) allocations) c.in_ok-read_raw.ensures.stands);
+      reads_raw = subst (λ (raw : List Raw). (history : LaneHistory) (allocations : List Allocation) → lanes.LaneStandsFor read_by history allocations → lanes.LaneStandsFor raw_by (with_raw e n number raw history) allocations) c.as_slice-2.ensures
+          (lane_sizes read_by e n b g read_sizes (λ x y z w. (history : LaneHistory) (allocations : List Allocation) → lanes.LaneStandsFor read_by history allocations → lanes.LaneStandsFor raw_by (with_raw x y number c.as_slice-2.result.now history) allocations) c.in_ok-read_raw.ensures.stands);
       records = c.in_ok-record.ensures.stands;
       sends = c.send_due.ensures.stands;
       last = done_sizes;
@@ -366,7 +366,7 @@ returns-clause-gives c =
           let round = round_in was events told in
           let calls = reading number round.raw (read_calls n g number round (played_by was rounds)) in
           entries-are e n g number round rounds c.args.batch.now.entries c.record.new.batch.entries it.number_is
-          (lane_sizes raw_by e n b g raw_sizes (λ x y z w. c.record.new.batch.entries ≡ c.args.batch.now.entries ++ filter_map (entry_of x w calls) (range_with_len 0 y)) (c.in_ok-record.ensures.entries calls allocations it.raw));
+          (lane_sizes raw_by e n b g raw_sizes (λ x y z w. c.record.new.batch.entries ≡ c.args.batch.now.entries ++ filter_map (next_entry x w calls) (range_with_len 0 y)) (c.in_ok-record.ensures.entries calls allocations it.raw));
       sends = λ rounds allocations stood.
           let it = all rounds allocations stood in
           let round = round_in was events told in

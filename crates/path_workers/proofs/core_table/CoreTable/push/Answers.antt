@@ -5,7 +5,7 @@ use Rattle.std.proofs.lemmas.List.Elements.{All-push}
 use Rattle.std.proofs.lemmas.Nat.{row_fits}
 use Rattle.path_workers.specs.declared.core_table.Place.{Place}
 use Rattle.path_workers.specs.CoreTable.{CoreSlots}
-use Rattle.path_workers.specs.CoreRows.{row_there, rows_of}
+use Rattle.path_workers.specs.CoreRows.{row_there, rows_at_places}
 use Rattle.path_workers.proofs.TableLemmas.{IsWithin, rows_with}
 use Rattle.path_workers.proofs.core_table.CoreTable.push.Goals as goal
 
@@ -52,9 +52,9 @@ returns c =
     let row : List (Option ℕ) = c.args.row.now in
     let place : Place = record { from = c.len.result; len = length row } in
     let within : All (IsWithin (length t.cores.items)) t.places.items = λ k d below. omega (arith, t.cores.ok.0, c.self.invariant.within k d below) in
-    let rows : rows_of c.extend_from_slice.new.self.items c.push_reserved.new.self.items ≡ rows_of t.cores.items t.places.items ++ row ∷ [] =
-    ap (λ (xs : List (Option ℕ)). rows_of xs c.push_reserved.new.self.items) (written c)
-    ∙ (ap (rows_of (t.cores.items ++ row)) c.push_reserved.ensures.items
+    let rows : rows_at_places c.extend_from_slice.new.self.items c.push_reserved.new.self.items ≡ rows_at_places t.cores.items t.places.items ++ row ∷ [] =
+    ap (λ (xs : List (Option ℕ)). rows_at_places xs c.push_reserved.new.self.items) (written c)
+    ∙ (ap (rows_at_places (t.cores.items ++ row)) c.push_reserved.ensures.items
     ∙ rows_with t.cores.items row t.places.items place within (omega (arith, c.len.ensures, t.cores.ok.0)) (omega arith)) in
     let Shows : List (List (Option ℕ)) → CoreSlots = λ xs. record { slots = t.slots; endpoints = t.endpoints; rows = xs } in
     let Adds : CoreSlots → CoreSlots = λ s. record s { rows = s.rows ++ row ∷ [] } in

@@ -9,7 +9,7 @@ use Rattle.clos_topology.specs.RackGraph.{rack_edges}
 use Rattle.edge_colouring.specs.Degrees.{HasDegreesWithin}
 use Rattle.edge_colouring.specs.Colouring.{IsColouring, MakesClean}
 use Rattle.edge_colouring.specs.Cores.{core_in}
-use Rattle.path_workers.specs.Painters.{row_of}
+use Rattle.path_workers.specs.Painters.{cores_row}
 use Rattle.path_workers.specs.Coloured.{HasItsCores}
 use Rattle.path_workers.proofs.RowLemmas.{no_excess, at_ok, row_coloured, length-row}
 use Rattle.path_workers.proofs.PainterLemmas.{idle_row, regraphed, repainted, written_row, other_row}
@@ -103,7 +103,7 @@ row_cores c =
     (ap core_in (sym (c.copy_from_slice.ensures.after ∙ c.cores-2.ensures.cores)))
 
 -- where they stand
-row_stands : (c : goal.After-self-1) → HasItsCores c.args.self.now.net (slot_in c.args.slots.now.slots c.args.slot) (core_in (row_of (endpoints_of c.args.self.now.net) (with_items c.args.self.now.rows (put_mid (c.args.slot * c.endpoints-endpoints.result) (c.args.slot * c.endpoints-endpoints.result + c.endpoints-endpoints.result - c.args.slot * c.endpoints-endpoints.result) c.deref_mut.result.now c.copy_from_slice.new.self)).items c.args.slot))
+row_stands : (c : goal.After-self-1) → HasItsCores c.args.self.now.net (slot_in c.args.slots.now.slots c.args.slot) (core_in (cores_row (endpoints_of c.args.self.now.net) (with_items c.args.self.now.rows (put_mid (c.args.slot * c.endpoints-endpoints.result) (c.args.slot * c.endpoints-endpoints.result + c.endpoints-endpoints.result - c.args.slot * c.endpoints-endpoints.result) c.deref_mut.result.now c.copy_from_slice.new.self)).items c.args.slot))
 row_stands c =
     let count : ℕ = c.endpoints-endpoints.result in
     let from : ℕ = c.args.slot * count in

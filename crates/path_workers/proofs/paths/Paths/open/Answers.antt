@@ -1,9 +1,9 @@
 use Rattle.std.proofs.Common.{◌≡◌, ◌+◌, [], ◌∷◌, ◌++◌, All, sym, ap, ◌∙◌, subst, arith}
 use Rattle.std.proofs.lemmas.List.{map-append}
 use Rattle.std.proofs.lemmas.List.Elements.{All-push}
+use Rattle.list_facts.proofs.Lists.{next_number}
 use Rattle.path_workers.specs.declared.painter.Painter.{Painter}
 use Rattle.path_workers.specs.Painters.{numbers_of, IsPainter}
-use Rattle.path_workers.proofs.CrewLemmas.{next_number}
 use Rattle.path_workers.proofs.paths.Paths.open.Goals as goal
 
 pub loop-number-preserved : goal.loop-number-preserved

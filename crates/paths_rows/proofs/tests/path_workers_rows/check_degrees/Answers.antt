@@ -6,8 +6,8 @@ use Rattle.clos_topology.specs.declared.graph.Edge.{Edge}
 use Rattle.clos_topology.specs.RackGraph.{rack_edges}
 use Rattle.edge_colouring.specs.Degrees.{HasDegreesWithin}
 use Rattle.path_workers.specs.Coloured.{IsWithinCores}
+use Rattle.path_workers.proofs.RowLemmas.{at_ok}
 use Rattle.paths_rows.proofs.SlotLemmas.{slots_of_net}
-use Rattle.paths_rows.proofs.SlotLemmas.{at_ok}
 use Rattle.paths_rows.proofs.tests.path_workers_rows.check_degrees.Goals as goal
 
 pub load-requires-clause-endpoints : goal.load-requires-clause-endpoints

@@ -2,7 +2,7 @@ use Rattle.std.proofs.Common.{◌≡◌, ℕ, get_or, refl, ap, subst, arith, le
 use Rattle.ring_core.specs.States.{EdgeState}
 use Rattle.ring_core.specs.Windows.{window_of}
 use Rattle.ring_core.specs.Streams.{IsPieceAt}
-use Rattle.ring_core.specs.Edges.{sent_of}
+use Rattle.ring_core.specs.Edges.{sent_on_edge}
 use Rattle.ring_core.proofs.EdgeLemmas.{holds, old_at, gave_all, gave_others, gave_ends}
 use Rattle.ring_core.proofs.edge.ListLinkLink.push.Goals as goal
 
@@ -23,7 +23,7 @@ returns-clause-ready c =
     let old : EdgeState = get_or l.edges.now l.after c.index-self-after.result in
     let is : old ≡ get_or l.edges.now l.after old = ap (get_or l.edges.now l.after) c.index-self-after.is in
     let count = length-set l.edges.now l.after c.give.new.self in
-    let next = subst (λ (n : ℕ). IsPieceAt (record { window = window; worker = l.after }) n c.args.piece) (old_at window l.edges.now l.after old c.give.new.self r.1 is r.3 sent_of) c.requires.next in (
+    let next = subst (λ (n : ℕ). IsPieceAt (record { window = window; worker = l.after }) n c.args.piece) (old_at window l.edges.now l.after old c.give.new.self r.1 is r.3 sent_on_edge) c.requires.next in (
       (omega (arith, count, r.0), omega (arith, count, r.1), r.2, gave_all window l.edges.now l.after old c.give.new.self r.1 is r.3 c.give.result c.args.piece c.give.ensures.given c.give.ensures.taken next),
       (refl, refl, refl, refl, refl, refl, refl, refl, gave_others window l.edges.now l.after old c.give.new.self r.1 is r.3 l.before c.give.ensures.taken c.give.ensures.room),
     )

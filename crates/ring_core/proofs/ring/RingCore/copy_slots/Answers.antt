@@ -2,9 +2,9 @@ use Rattle.std.proofs.Common.{◌≡◌, ◌<◌, ◌≤◌, ◌+◌, ◌*◌, �
 use Rattle.std.proofs.lemmas.Nat.{mod_below, mul-le}
 use Rattle.std.proofs.lemmas.Option.{slice_get_read}
 use Rattle.greedy_rules.specs.Batches.{DemandBatch}
+use Rattle.greedy_rules.proofs.TableLemmas.{next_row}
 use Rattle.ring_core.specs.States.{RingState, WorkerState}
 use Rattle.ring_core.specs.Cores.{IsRing, IsPlaying, ends_in}
-use Rattle.ring_core.proofs.StreamLemmas.{row_on}
 use Rattle.ring_core.proofs.TakeLemmas.{ended_at, none_copied, stage_copied}
 use Rattle.ring_core.proofs.ring.RingCore.copy_slots.Goals as goal
 
@@ -52,7 +52,7 @@ copy-requires-clause-places c =
     let to = ap (λ (v : RingState). place * v.b) c.self.view_is in
     let size = (ring.each (stage % core.workers) w here).b_is in
     let all = mul-le (place + 1) core.b (c.args.passed + core.stages) core.b (omega (arith, below)) (omega arith) in
-    omega (arith, to, c.slots.ensures.count, size, row_on place core.b, all, c.requires.places, c.loop-stage.invariant.places)
+    omega (arith, to, c.slots.ensures.count, size, next_row place core.b, all, c.requires.places, c.loop-stage.invariant.places)
 
 pub loop-stage-init : goal.loop-stage-init
 loop-stage-init c =

@@ -7,7 +7,7 @@ use Rattle.ring_core.specs.contracts.ring.RingCore.{the_view}
 use Rattle.ring_core.specs.States.{EdgeState, RingState, WorkerState}
 use Rattle.ring_core.specs.Windows.{Window, worker_after}
 use Rattle.ring_core.specs.Workers.{Plays}
-use Rattle.ring_core.specs.Turns.{Answers}
+use Rattle.ring_core.specs.Turns.{TurnAnswers}
 use Rattle.ring_core.specs.Edges.{OthersStay, IsFoundEmpty, IsFoundFull, ends_between}
 use Rattle.ring_core.specs.Cores.{IsPlaying, window_in}
 use Rattle.ring_core.specs.Wholes.{with_list, whole_nodes}
@@ -103,7 +103,7 @@ returns-clause-answer c =
     let items = left_whole c.self.inside.workers c.send.new.self c.self.inside.whole new _ c.send.ensures.none (written (with_items c.self.inside.edges c.send.new.edges) new c.deref_mut-2.result.now c.deref_mut-2.ensures.value told.others.count) in
     let same : old ≡ worker = same_Some old worker (sym (here batches core number old c.turn_at.new.worker new playing below c.index_mut.ensures.value told.worker) ∙ is) in
     let at : (w : WorkerState) → (es : List EdgeState) → (n : ℕ) → (fs : List EdgeState) → Type 0 =
-    λ w es n fs. Answers batches w (ends_between window es number n) (ends_between window fs number n) (IsFoundEmpty fs number) (IsFoundFull fs n) c.turn_at.result in
+    λ w es n fs. TurnAnswers batches w (ends_between window es number n) (ends_between window fs number n) (IsFoundEmpty fs number) (IsFoundFull fs n) c.turn_at.result in
     subst (λ (fs : List EdgeState). at worker core.edges (worker_after core.workers number) fs) (sym items)
     (subst (λ (w : WorkerState). at w core.edges (worker_after core.workers number) new) same
     (subst (λ (es : List EdgeState). at old es (worker_after core.workers number) new) edges_are
@@ -158,7 +158,7 @@ returns-clause-moves c =
     subst (λ (es : List EdgeState). OthersStay number (worker_after core.workers number) es new) edges_are
     (subst (λ (n : ℕ). OthersStay number n c.deref_mut-2.result.now new) after told.others) in
     let at : (es : List EdgeState) → (n : ℕ) → Type 0 =
-    λ es n. Answers batches old (ends_between window es number n) (ends_between window new number n) (IsFoundEmpty new number) (IsFoundFull new n) c.turn_at.result in
+    λ es n. TurnAnswers batches old (ends_between window es number n) (ends_between window new number n) (IsFoundEmpty new number) (IsFoundFull new n) c.turn_at.result in
     let answer = subst (λ (es : List EdgeState). at es (worker_after core.workers number)) edges_are (subst (λ (n : ℕ). at c.deref_mut-2.result.now n) after told.answer) in
     let free = can old (here batches core number old c.turn_at.new.worker new playing below c.index_mut.ensures.value told.worker) in
     moves batches core playing number old free new others c.turn_at.result answer)

@@ -1,15 +1,15 @@
-use Rattle.std.proofs.Common.{◌≡◌, ◌<◌, ◌+◌, ◌*◌, drop, ℕ, List, ◌++◌, length, get_or, Bool, false, None, All, sym, ap, ◌∙◌, subst, arith}
-use Rattle.std.proofs.lemmas.List.{get_or_default, length-take}
+use Rattle.std.proofs.Common.{◌≡◌, ◌<◌, ◌+◌, ◌*◌, drop, ℕ, List, ◌++◌, length, Bool, false, None, All, sym, ap, ◌∙◌, subst, arith}
+use Rattle.std.proofs.lemmas.List.{length-take}
 use Rattle.greedy_rules.specs.declared.flows.Item.{Item}
 use Rattle.greedy_rules.specs.Batches.{DemandBatch, entry_of}
 use Rattle.greedy_rules.specs.Demands.{need_with}
 use Rattle.slot_batches.specs.Pieces.{Part, piece_at, part_of}
-use Rattle.slot_batches.specs.Stands.{endpoints_of, first_slot_of, IsSameWork, MayBeFed, Stands, ListsMayBeFed, StageState}
+use Rattle.slot_batches.specs.Stands.{stage_endpoints, first_slot_of, IsSameWork, MayBeFed, Stands, ListsMayBeFed, StageState}
 use Rattle.ring_core.specs.contracts.worker.Worker.{the_view}
 use Rattle.ring_core.specs.States.{WorkerState}
-use Rattle.ring_core.specs.Windows.{Window, batch_at, batch_of, first_slot_in, items_fed, list_before_stage}
+use Rattle.ring_core.specs.Windows.{Window, batch_of, first_slot_in, items_fed, list_before_stage}
 use Rattle.ring_core.specs.Streams.{IsPieceAt}
-use Rattle.ring_core.specs.Ends.{Ends}
+use Rattle.ring_core.specs.Ends.{WorkerEnds}
 use Rattle.slot_batches.specs.declared.piece.Piece.{Piece}
 use Rattle.ring_core.specs.Turns.{piece_to_push}
 use Rattle.slot_batches.specs.NextList.{EveryBatchLeavesAList}
@@ -17,6 +17,7 @@ use Rattle.ring_core.specs.Workers.{HasPlayed, Plays, StageIsAt}
 use Rattle.ring_core.proofs.PlayLemmas.{idle_state}
 use Rattle.ring_core.proofs.FeedLemmas.{some_left, piece_is, taken_short, one_piece_on, may_be_fed, needs_fit, at_more, fed_on}
 use Rattle.ring_core.proofs.worker.Worker.feed.Goals as goal
+use Rattle.ring_core.proofs.WindowLemmas.{batch_is}
 
 pub overflow_add-self : goal.overflow_add-self
 overflow_add-self c =
@@ -24,15 +25,11 @@ overflow_add-self c =
     let short = taken_short c.args.batches.now plays.0 c.args.self.now plays.1.0 plays.1.1 plays.1.2 c.requires.going plays.2 c.every_batch_leaves_a_list.ensures.flows c.flows_fit_pairs.ensures in
     omega (arith, short, ap (λ (w : WorkerState). w.taken) c.self.view_is)
 
--- the batch that the code reads
-batch_is : (batches all : List DemandBatch) (stage : ℕ) (batch : DemandBatch) → all ≡ batches → stage < length batches → batch ≡ get_or batches stage batch → batch ≡ batch_at all stage
-batch_is batches all stage batch same below is = is ∙ (get_or_default batches stage batch _ below ∙ ap (λ (bs : List DemandBatch). batch_at bs stage) (sym same))
-
 -- what the present stage may be fed
-may_feed : (batches : List DemandBatch) (ends : Ends) (w : WorkerState) (fed given : ℕ) (batch : DemandBatch) (state : StageState) (part : Part) (played : HasPlayed batches ends w fed given)
+may_feed : (batches : List DemandBatch) (ends : WorkerEnds) (w : WorkerState) (fed given : ℕ) (batch : DemandBatch) (state : StageState) (part : Part) (played : HasPlayed batches ends w fed given)
     → w.stage < length batches → piece_to_push ends w ≡ None → batch ≡ batch_of ends.before.window w.stage → StageIsAt w.endpoints ends.before.window w.stage fed given state
     → part ≡ piece_at w.stage (list_before_stage ends.before.window w.stage) fed → EveryBatchLeavesAList → ListsMayBeFed
-    → Stands batch (items_fed ends.before.window w.stage fed) false given state × MayBeFed batch.entries (endpoints_of state) (first_slot_of state) (items_fed ends.before.window w.stage fed ++ part.items)
+    → Stands batch (items_fed ends.before.window w.stage fed) false given state × MayBeFed batch.entries (stage_endpoints state) (first_slot_of state) (items_fed ends.before.window w.stage fed ++ part.items)
 may_feed batches ends w fed given batch state part played below none batch_is at part_is leaves feed =
     let window : Window = ends.before.window in
     let inside : w.stage < length window.batches = omega (arith, below, ap length played.window.batches_are) in
@@ -41,14 +38,14 @@ may_feed batches ends w fed given batch state part played below none batch_is at
     let may = may_be_fed w.endpoints window w.stage fed given played.window.may inside leaves feed in
     rw batch_is (
       subst (λ (b : Bool). Stands (batch_of window w.stage) (items_fed window w.stage fed) b given state) (some_left batches ends w fed given played below none) at.stands,
-      subst (λ (l : List Item). MayBeFed (batch_of window w.stage).entries (endpoints_of state) (first_slot_of state) l) all
+      subst (λ (l : List Item). MayBeFed (batch_of window w.stage).entries (stage_endpoints state) (first_slot_of state) l) all
           (subst (λ (n : ℕ). MayBeFed (batch_of window w.stage).entries n (first_slot_of state) (items_fed window w.stage (fed + 1))) (sym at.work.same_endpoints)
           (subst (λ (n : ℕ). MayBeFed (batch_of window w.stage).entries w.endpoints n (items_fed window w.stage (fed + 1))) (sym at.work.same_first) may)),
     )
 
 -- what is asked of the worker, as its fields have it
 abbrev Asked : List DemandBatch → Piece → WorkerState → Type 0
-Asked batches piece w = ((ends : Ends) × Plays batches ends w × (piece_to_push ends w ≡ None) × IsPieceAt ends.before ends.taken piece) × (w.stage < length batches) × (w.held ≡ None)
+Asked batches piece w = ((ends : WorkerEnds) × Plays batches ends w × (piece_to_push ends w ≡ None) × IsPieceAt ends.before ends.taken piece) × (w.stage < length batches) × (w.held ≡ None)
 
 pub feed_stage-requires-clause-may : goal.feed_stage-requires-clause-may
 feed_stage-requires-clause-may c =

@@ -2,7 +2,7 @@ use Rattle.std.proofs.Common.{◌≡◌, ◌∙◌, inr, refl, sym, ap, subst}
 use Rattle.std.specs.Prelude.{is_some}
 use Rattle.slot_batches.specs.Pieces.{part_of}
 use Rattle.ring_core.specs.States.{WorkerState}
-use Rattle.ring_core.specs.Ends.{Ends}
+use Rattle.ring_core.specs.Ends.{WorkerEnds}
 use Rattle.ring_core.specs.Workers.{Plays}
 use Rattle.ring_core.proofs.PlayLemmas.{held_is, to_push}
 use Rattle.ring_core.proofs.PushLemmas.{pushes_next}
@@ -15,7 +15,7 @@ push-requires-clause-next g c =
 
 pub returns-in-Ok-clause-plays : goal.returns-in-Ok-clause-plays
 returns-in-Ok-clause-plays g c = λ batches plays.
-    subst (λ (e : Ends). Plays batches e c.count_sent.new.self) (sym c.in-Ok.ensures.pushed) (c.count_sent.ensures.plays batches (g.L.Link.ends c.args.link.now) (part_of c.args.piece) plays refl)
+    subst (λ (e : WorkerEnds). Plays batches e c.count_sent.new.self) (sym c.in-Ok.ensures.pushed) (c.count_sent.ensures.plays batches (g.L.Link.ends c.args.link.now) (part_of c.args.piece) plays refl)
 
 pub returns-in-Ok-clause-answer : goal.returns-in-Ok-clause-answer
 returns-in-Ok-clause-answer g c = λ batches plays.

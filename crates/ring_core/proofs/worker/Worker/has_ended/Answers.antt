@@ -1,7 +1,8 @@
 use Rattle.std.proofs.Common.{ap, arith}
 use Rattle.ring_core.specs.States.{WorkerState}
-use Rattle.ring_core.proofs.GoneLemmas.{le_of, all_gone}
+use Rattle.ring_core.proofs.GoneLemmas.{all_gone}
 use Rattle.ring_core.proofs.worker.Worker.has_ended.Goals as goal
+use Rattle.ring_core.proofs.FeedLemmas.{le_of}
 
 pub returns-clause-none : goal.returns-clause-none
 returns-clause-none c = λ played ends plays count is.

@@ -1,26 +1,21 @@
 use Rattle.std.proofs.Common.{◌≡◌, ◌∙◌, ◌<◌, ◌≤◌, ◌+◌, ◌*◌, ℕ, List, length, get_or, true, All, sym, ap, subst, arith}
-use Rattle.std.proofs.lemmas.List.{get_or_default}
 use Rattle.greedy_rules.specs.declared.flows.Item.{Item}
 use Rattle.greedy_rules.specs.Batches.{DemandBatch, entry_of}
 use Rattle.greedy_rules.specs.Demands.{need_with}
 use Rattle.slot_batches.specs.Pieces.{piece_count}
 use Rattle.slot_batches.specs.Settled.{slots_filled, settled}
-use Rattle.slot_batches.specs.Stands.{StageState, endpoints_of, batch_size_of, first_slot_of, MayBeFed}
+use Rattle.slot_batches.specs.Stands.{StageState, stage_endpoints, batch_size_of, first_slot_of, MayBeFed}
 use Rattle.ring_core.specs.contracts.worker.Worker.{the_view}
 use Rattle.ring_core.specs.States.{WorkerState}
-use Rattle.ring_core.specs.Windows.{Window, batch_at, batch_of, list_before_stage}
+use Rattle.ring_core.specs.Windows.{Window, batch_of, list_before_stage}
 use Rattle.ring_core.specs.Wholes.{StartsStage}
-use Rattle.ring_core.proofs.WindowLemmas.{few_items}
+use Rattle.ring_core.proofs.WindowLemmas.{few_items, batch_is}
 use Rattle.ring_core.proofs.ServeLemmas.{inside, begun, may_be_fed, left_is, left_fits, nodes_are, taken_fits, sent_fits, starts_next}
 use Rattle.ring_core.proofs.worker.Worker.serve_list.Goals as goal
 
 -- what is asked of the worker, as its fields have it
 abbrev Asked : List DemandBatch → List Item → ℕ → WorkerState → Type 0
 Asked batches items spare w = ((window : Window) × StartsStage batches window w × (items ≡ list_before_stage window w.stage)) × (w.stage < length batches) × (w.endpoints * w.endpoints ≤ spare)
-
--- the batch that the code reads
-batch_is : (batches all : List DemandBatch) (stage : ℕ) (batch : DemandBatch) → all ≡ batches → stage < length batches → batch ≡ get_or batches stage batch → batch ≡ batch_at all stage
-batch_is batches all stage batch same below is = is ∙ (get_or_default batches stage batch _ below ∙ ap (λ (bs : List DemandBatch). batch_at bs stage) (sym same))
 
 pub serve_list-requires-clause-begun : goal.serve_list-requires-clause-begun
 serve_list-requires-clause-begun c =
@@ -37,7 +32,7 @@ serve_list-requires-clause-may c =
     let asked : Asked batches c.args.items.now c.args.left.now.spare w = subst (Asked batches c.args.items.now c.args.left.now.spare) (sym c.self.view_is) (c.requires.starts, c.requires.going, c.requires.room) in
     let here = batch_is batches asked.0.0.batches w.stage c.index-batches-self.result asked.0.1.window.batches_are asked.1 c.index-batches-self.is in
     let state : StageState = c.index_mut.result.now in
-    rw here (subst (MayBeFed (batch_of asked.0.0 w.stage).entries (endpoints_of state) (first_slot_of state)) (sym asked.0.2)
+    rw here (subst (MayBeFed (batch_of asked.0.0 w.stage).entries (stage_endpoints state) (first_slot_of state)) (sym asked.0.2)
     (may_be_fed batches asked.0.0 w asked.0.1 asked.1 state c.index_mut.ensures.value c.every_batch_leaves_a_list.ensures.next c.lists_may_be_fed.ensures))
 
 pub serve_list-requires-clause-needs : goal.serve_list-requires-clause-needs

@@ -4,15 +4,15 @@ use Rattle.greedy_rules.specs.Batches.{DemandBatch}
 use Rattle.slot_batches.specs.Stands.{StageState}
 use Rattle.ring_core.specs.contracts.worker.Worker.{the_view}
 use Rattle.ring_core.specs.States.{WorkerState}
-use Rattle.ring_core.specs.Windows.{slots_in}
-use Rattle.ring_core.specs.Ends.{Ends}
+use Rattle.ring_core.specs.Windows.{slots_of_stage}
+use Rattle.ring_core.specs.Ends.{WorkerEnds}
 use Rattle.ring_core.specs.Workers.{own_stage, HasPlayed, Plays, IsEndedStage, StageHasEnded}
 use Rattle.ring_core.proofs.PlayLemmas.{place_within}
 use Rattle.ring_core.proofs.BeginLemmas.{ended_within, place_of}
 use Rattle.ring_core.proofs.worker.Worker.slots.Goals as goal
 
 -- the place of an ended stage
-within : (batches : List DemandBatch) (ends : Ends) (w : WorkerState) (fed given place : ℕ) → HasPlayed batches ends w fed given → place < w.place → place < length w.stages
+within : (batches : List DemandBatch) (ends : WorkerEnds) (w : WorkerState) (fed given place : ℕ) → HasPlayed batches ends w fed given → place < w.place → place < length w.stages
 within batches ends w fed given place played before =
     place_within w (length batches) place played.is_worker played.count (ended_within w.workers w.number place w.place (length batches) before (omega (arith, played.stage, played.near)))
 
@@ -20,7 +20,7 @@ at_place : (w : WorkerState) (stage by place : ℕ) → by ≡ w.workers → w.n
 at_place w stage by place by_is below is = (λ i. is i / by_is i) ∙ place_of w.workers w.number place below
 
 -- what the code reads there
-read : (batches : List DemandBatch) (ends : Ends) (w : WorkerState) (fed given place at : ℕ) (state : StageState) → HasPlayed batches ends w fed given → place < w.place → at ≡ place → state ≡ get_or w.stages at state
+read : (batches : List DemandBatch) (ends : WorkerEnds) (w : WorkerState) (fed given place at : ℕ) (state : StageState) → HasPlayed batches ends w fed given → place < w.place → at ≡ place → state ≡ get_or w.stages at state
     → StageHasEnded w.endpoints ends.before.window (own_stage w.workers w.number place) state
 read batches ends w fed given place at state played before at_is is =
     played.ended place state before
@@ -42,7 +42,7 @@ returns-clause-slots c =
     let ended : IsEndedStage w c.args.stage = subst (λ (v : WorkerState). IsEndedStage v c.args.stage) (sym c.self.view_is) c.requires.3 in
     let at = at_place w c.args.stage c.from.result ended.0 c.from.ensures plays.2.is_worker.number ended.2 in
     let stage = read batches ends w plays.0 plays.1 ended.0 (c.args.stage / c.from.result) c.index.result.now plays.2 ended.1 at c.index.ensures in
-    c.slots.ensures.slots ∙ (stage.slots ∙ ap (slots_in ends.before.window) (sym ended.2)))
+    c.slots.ensures.slots ∙ (stage.slots ∙ ap (slots_of_stage ends.before.window) (sym ended.2)))
 
 pub returns-clause-endpoints : goal.returns-clause-endpoints
 returns-clause-endpoints c =

@@ -2,7 +2,8 @@ use Rattle.std.proofs.Common.{◌≡◌, ◌≤◌, List, [], ◌∷◌, ◌++�
 use Rattle.greedy_rules.specs.declared.limits.Limits.{Limits}
 use Rattle.greedy_rules.specs.Batches.{DemandBatch}
 use Rattle.greedy_rules.specs.Recorded.{AreRecorded, demand_of}
-use Rattle.rules_rows.proofs.AskLemmas.{adds_one, asks_recorded, none_recorded, recorded_more, demand_same}
+use Rattle.greedy_rules.proofs.RecordedLemmas.{AreRecordedAfter-more}
+use Rattle.rules_rows.proofs.AskLemmas.{adds_one, asks_recorded, none_recorded, demand_same}
 use Rattle.rules_rows.proofs.tests.ring_core_rows.window.Goals as goal
 
 abbrev racks : Limits
@@ -27,6 +28,6 @@ loop-preserved c =
     let items : c.push-in-loop.new.self.items ≡ old ++ none ∷ [] = c.in_ok-push-2.ensures.items ∙ ap (λ (b : DemandBatch). old ++ b ∷ []) c.with_limits.ensures in
     record {
       count = omega (arith, ap length items, length-append old (none ∷ []), was.count);
-      recorded = subst (AreRecorded 132 racks) (sym items) (recorded_more 132 racks [] old none was.recorded (none_recorded racks old was.demands));
+      recorded = subst (AreRecorded 132 racks) (sym items) (AreRecordedAfter-more 132 racks [] old none was.recorded (none_recorded racks old was.demands));
       demands = λ flow. subst (λ (bs : List DemandBatch). demand_of bs flow ≤ 1) (sym items) (omega (arith, demand_same old racks flow 0, was.demands flow));
     }

@@ -3,6 +3,8 @@ use Rattle.std.proofs.lemmas.List.{append-nil, append_assoc}
 use Rattle.std.proofs.lemmas.Nat.{mul-le}
 use Rattle.clos_topology.specs.Network.{endpoints_of}
 use Rattle.greedy_rules.specs.declared.flows.Flow.{Flow}
+use Rattle.greedy_rules.proofs.TableLemmas.{next_row}
+use Rattle.greedy_rules.specs.Cells.{flow_of}
 use Rattle.trace_run.specs.Run.{Setting}
 use Rattle.window_engine.specs.declared.counts.Counts.{Counts}
 use Rattle.window_engine.specs.Replay.{replay_counts}
@@ -12,12 +14,6 @@ use Rattle.run_text.proofs.SumLemmas.{counts_more}
 use Rattle.window_engine.specs.Standing.{run_of}
 use Rattle.window_engine.proofs.EngineFacts.{replay_within}
 use Rattle.run_text.proofs.sums.Sums.add_source.Goals as goal
-
-abbrev flow_of : ℕ → ℕ → Flow
-flow_of src dst = record { src = src; dst = dst }
-
-next_row : (src n : ℕ) → (src + 1) * n ≡ src * n + n
-next_row src n = grind arith
 
 pub counts-requires-clause-stands : goal.counts-requires-clause-stands
 counts-requires-clause-stands c = (c.args.trace.now, c.requires.accepted, inr c.requires.stands)

@@ -1,7 +1,7 @@
 use Rattle.std.proofs.Common.{◌≡◌, ◌<◌, ◌≤◌, ◌+◌, ℕ, length, get_or, cond, ◌&&◌, sym, subst, arith}
 use Rattle.greedy_rules.specs.declared.flows.Entry.{Entry}
 use Rattle.greedy_rules.specs.Flows.{same_flow}
-use Rattle.schedule_audit.specs.FlowNumbers.{number_of}
+use Rattle.schedule_audit.specs.FlowNumbers.{flow_number_of}
 use Rattle.schedule_audit.specs.Entered.{AreSized}
 use Rattle.schedule_audit.proofs.EntrySteps.{enters-more}
 use Rattle.schedule_audit.proofs.SendSteps.{get-is}
@@ -18,8 +18,8 @@ loop-at-preserved c =
     let small : entry.add ≤ 4294967295 = c.enter_one.ensures.small in
     record {
       enters = enters-more entries at entry c.args.slots.now c.args.self.now old c.enter_one.new.self c.len-at-end.ensures.rising within (subst (λ (e : Entry). e.add ≤ 4294967295) is small) c.loop-at.invariant.enters
-          (λ other. subst (λ (e : Entry). number_of c.enter_one.new.self.seen other ≡ cond (same_flow e.flow other) 1 (number_of old.seen other)) is (c.enter_one.ensures.seen other))
-          (λ other. subst (λ (e : Entry). number_of c.enter_one.new.self.added other ≡ cond (same_flow e.flow other) (number_of old.added e.flow + e.add) (number_of old.added other)) is (c.enter_one.ensures.added other))
-          (λ other. subst (λ (e : Entry). number_of c.enter_one.new.self.cleared other ≡ cond (e.clear && same_flow e.flow other) (number_of c.args.slots.now e.flow) (number_of old.cleared other)) is (c.enter_one.ensures.cleared other));
+          (λ other. subst (λ (e : Entry). flow_number_of c.enter_one.new.self.seen other ≡ cond (same_flow e.flow other) 1 (flow_number_of old.seen other)) is (c.enter_one.ensures.seen other))
+          (λ other. subst (λ (e : Entry). flow_number_of c.enter_one.new.self.added other ≡ cond (same_flow e.flow other) (flow_number_of old.added e.flow + e.add) (flow_number_of old.added other)) is (c.enter_one.ensures.added other))
+          (λ other. subst (λ (e : Entry). flow_number_of c.enter_one.new.self.cleared other ≡ cond (e.clear && same_flow e.flow other) (flow_number_of c.args.slots.now e.flow) (flow_number_of old.cleared other)) is (c.enter_one.ensures.cleared other));
       sized = subst (λ (n : ℕ). AreSized n c.enter_one.new.self) c.loop-at.invariant.sized.seen c.enter_one.ensures.sized;
     }

@@ -2,7 +2,7 @@ use Rattle.std.proofs.Common.{◌≡◌, ◌==◌, not, ℕ, List, ◌∷◌, ge
 use Rattle.std.proofs.lemmas.List.Elements.{All-cons}
 use Rattle.schedule_audit.specs.Lines.{Path}
 use Rattle.schedule_audit.specs.Wrong.{has_wrong_core}
-use Rattle.schedule_audit.specs.Marks.{AreMarks, up_of, down_of, rise_of, fall_of, link_at}
+use Rattle.schedule_audit.specs.Marks.{AreMarks, up_link, down_link, rise_of, fall_of, link_at}
 use Rattle.schedule_audit.proofs.MarkLemmas.{mark-more, mark-none}
 use Rattle.schedule_audit.proofs.SharedLinks.{leave-free, stay-free}
 use Rattle.schedule_audit.proofs.links.Links.take.Goals as goal
@@ -27,10 +27,10 @@ returns-in-Some-clause-taken c = λ before upto marked.
     let rises : rise_of net p ≡ Some c.place_of-from.result = ap (λ (o : Option ℕ). link_at net p.place.flow.src o) c.in-Some.is ∙ ap (λ (n : ℕ). Some n) (sym c.place_of-from.ensures.place) in
     let falls : fall_of net p ≡ Some c.place_of-to.result = ap (λ (o : Option ℕ). link_at net p.place.flow.dst o) c.in-Some.is ∙ ap (λ (n : ℕ). Some n) (sym c.place_of-to.ensures.place) in
     record {
-      up = subst (λ (ms : List ℕ). AreMarks up_of ms (p ∷ before)) (sym c.take-up.ensures.marks)
-          (mark-more up_of links.up.items before p p.place.flow.src refl (omega (arith, c.requires.marks.up, c.requires.src)) upto marked.up);
-      down = subst (λ (ms : List ℕ). AreMarks down_of ms (p ∷ before)) (sym c.take-down.ensures.marks)
-          (mark-more down_of links.down.items before p p.place.flow.dst refl (omega (arith, c.requires.marks.down, c.requires.dst)) upto marked.down);
+      up = subst (λ (ms : List ℕ). AreMarks up_link ms (p ∷ before)) (sym c.take-up.ensures.marks)
+          (mark-more up_link links.up.items before p p.place.flow.src refl (omega (arith, c.requires.marks.up, c.requires.src)) upto marked.up);
+      down = subst (λ (ms : List ℕ). AreMarks down_link ms (p ∷ before)) (sym c.take-down.ensures.marks)
+          (mark-more down_link links.down.items before p p.place.flow.dst refl (omega (arith, c.requires.marks.down, c.requires.dst)) upto marked.down);
       rise = subst (λ (ms : List ℕ). AreMarks (rise_of net) ms (p ∷ before)) (sym c.take-rise.ensures.marks)
           (mark-more (rise_of net) links.rise.items before p c.place_of-from.result rises (omega (arith, c.requires.marks.rise, c.place_of-from.ensures.within)) upto marked.rise);
       fall = subst (λ (ms : List ℕ). AreMarks (fall_of net) ms (p ∷ before)) (sym c.take-fall.ensures.marks)
@@ -53,10 +53,10 @@ returns-in-None-clause-taken c = λ before upto marked.
     let slot = p.place.slot in
     let links = c.args.self.now in
     record {
-      up = subst (λ (ms : List ℕ). AreMarks up_of ms (p ∷ before)) (sym c.take-up.ensures.marks)
-          (mark-more up_of links.up.items before p p.place.flow.src refl (omega (arith, c.requires.marks.up, c.requires.src)) upto marked.up);
-      down = subst (λ (ms : List ℕ). AreMarks down_of ms (p ∷ before)) (sym c.take-down.ensures.marks)
-          (mark-more down_of links.down.items before p p.place.flow.dst refl (omega (arith, c.requires.marks.down, c.requires.dst)) upto marked.down);
+      up = subst (λ (ms : List ℕ). AreMarks up_link ms (p ∷ before)) (sym c.take-up.ensures.marks)
+          (mark-more up_link links.up.items before p p.place.flow.src refl (omega (arith, c.requires.marks.up, c.requires.src)) upto marked.up);
+      down = subst (λ (ms : List ℕ). AreMarks down_link ms (p ∷ before)) (sym c.take-down.ensures.marks)
+          (mark-more down_link links.down.items before p p.place.flow.dst refl (omega (arith, c.requires.marks.down, c.requires.dst)) upto marked.down);
       rise = mark-none (rise_of net) links.rise.items before p (ap (λ (o : Option ℕ). link_at net p.place.flow.src o) c.in-None.is) marked.rise;
       fall = mark-none (fall_of net) links.fall.items before p (ap (λ (o : Option ℕ). link_at net p.place.flow.dst o) c.in-None.is) marked.fall;
       cores = All-cons (λ (q : Path). has_wrong_core net q.place.flow q.core ≡ false) p before c.requires.core marked.cores;

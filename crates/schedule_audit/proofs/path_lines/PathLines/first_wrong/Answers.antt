@@ -1,5 +1,7 @@
 use Rattle.std.proofs.Common.{◌∷◌, [], suc, drop, sym, ap, ◌∙◌, arith}
-use Rattle.schedule_audit.proofs.PathSteps.{line-here, past-end, is-none, first-found, first-left}
+use Rattle.list_facts.proofs.Lists.{drop_whole}
+use Rattle.greedy_rules.proofs.WalkLemmas.{none_is}
+use Rattle.schedule_audit.proofs.PathSteps.{first-found, first-left, drop-here}
 use Rattle.schedule_audit.proofs.path_lines.PathLines.first_wrong.Goals as goal
 
 pub returns-then-is_some : goal.returns-then-is_some
@@ -9,10 +11,10 @@ pub returns-then-self-len : goal.returns-then-self-len
 returns-then-self-len c = λ visited stands.
     let self = c.args.self.now in
     let line = c.index.result.now in
-    first-left c.args.net.now visited self stands (is-none self.bad (sym c.is_some.ensures ∙ c.if-is_some.false)) (line ∷ drop (suc self.next) self.lines.items)
-    (line-here self.next self.lines.items line (omega (arith, c.if-self-len.true, c.len.ensures)) ∙ ap (λ l. l ∷ drop (suc self.next) self.lines.items) (sym c.index.ensures))
+    first-left c.args.net.now visited self stands (none_is self.bad (sym c.is_some.ensures ∙ c.if-is_some.false)) (line ∷ drop (suc self.next) self.lines.items)
+    (drop-here self.next self.lines.items line (omega (arith, c.if-self-len.true, c.len.ensures)) ∙ ap (λ l. l ∷ drop (suc self.next) self.lines.items) (sym c.index.ensures))
 
 pub returns : goal.returns
 returns c = λ visited stands.
     let self = c.args.self.now in
-    first-left c.args.net.now visited self stands (is-none self.bad (sym c.is_some.ensures ∙ c.if-is_some.false)) [] (past-end self.next self.lines.items (omega (arith, c.if-self-len.false, c.len.ensures)))
+    first-left c.args.net.now visited self stands (none_is self.bad (sym c.is_some.ensures ∙ c.if-is_some.false)) [] (drop_whole self.next self.lines.items (omega (arith, c.if-self-len.false, c.len.ensures)))

@@ -1,6 +1,7 @@
 use Rattle.std.proofs.Common.{◌≡◌, ◌∷◌, suc, drop, false, None, refl, sym, ap, ◌∙◌, arith}
+use Rattle.greedy_rules.proofs.WalkLemmas.{none_is}
 use Rattle.schedule_audit.specs.Judged.{is_off}
-use Rattle.schedule_audit.proofs.PathSteps.{stays-bad, stays-done, turns-bad, goes-right, line-here, off-same, is-none, is-not-none}
+use Rattle.schedule_audit.proofs.PathSteps.{stays-bad, stays-done, turns-bad, goes-right, off-same, is-not-none, drop-here}
 use Rattle.schedule_audit.proofs.path_lines.PathLines.visit.Goals as goal
 
 pub returns-then-is_some-clause-stands : goal.returns-then-is_some-clause-stands
@@ -16,9 +17,9 @@ pub returns-then-is_off-clause-stands : goal.returns-then-is_off-clause-stands
 returns-then-is_off-clause-stands c = λ visited low stands.
     let old = c.args.self.now in
     let line = c.index-line.result.now in
-    let none : old.bad ≡ None = is-none old.bad (sym c.is_some.ensures ∙ c.if-is_some.false) in
+    let none : old.bad ≡ None = none_is old.bad (sym c.is_some.ensures ∙ c.if-is_some.false) in
     let here : drop old.next old.lines.items ≡ line ∷ drop (suc old.next) old.lines.items =
-    line-here old.next old.lines.items line (omega (arith, c.if-self-len.false, c.len.ensures)) ∙ ap (λ l. l ∷ drop (suc old.next) old.lines.items) (sym c.index-line.ensures) in
+    drop-here old.next old.lines.items line (omega (arith, c.if-self-len.false, c.len.ensures)) ∙ ap (λ l. l ∷ drop (suc old.next) old.lines.items) (sym c.index-line.ensures) in
     turns-bad c.args.net.now visited c.args.place old _ stands refl line none here
     (sym (c.is_off.ensures.off stands.before (stands.upto c.args.place.slot low) (stands.marked none)) ∙ c.if-is_off.true) refl
 
@@ -26,11 +27,11 @@ pub returns-else-is_off-clause-stands : goal.returns-else-is_off-clause-stands
 returns-else-is_off-clause-stands c = λ visited low stands.
     let old = c.args.self.now in
     let line = c.index-line.result.now in
-    let none : old.bad ≡ None = is-none old.bad (sym c.is_some.ensures ∙ c.if-is_some.false) in
+    let none : old.bad ≡ None = none_is old.bad (sym c.is_some.ensures ∙ c.if-is_some.false) in
     let upto = stands.upto c.args.place.slot low in
     let marked = stands.marked none in
     let here : drop old.next old.lines.items ≡ line ∷ drop (suc old.next) old.lines.items =
-    line-here old.next old.lines.items line (omega (arith, c.if-self-len.false, c.len.ensures)) ∙ ap (λ l. l ∷ drop (suc old.next) old.lines.items) (sym c.index-line.ensures) in
+    drop-here old.next old.lines.items line (omega (arith, c.if-self-len.false, c.len.ensures)) ∙ ap (λ l. l ∷ drop (suc old.next) old.lines.items) (sym c.index-line.ensures) in
     let right : is_off c.args.net.now c.args.place stands.before line.said ≡ false = sym (c.is_off.ensures.off stands.before upto marked) ∙ c.if-is_off.false in
     goes-right c.args.net.now visited c.args.place old _ stands refl line none here right (off-same c.args.net.now c.args.place stands.before line.said right) refl refl
     (c.is_off.ensures.marked stands.before upto marked c.if-is_off.false)

@@ -8,7 +8,7 @@ use Rattle.greedy_rules.specs.Schedule.{schedule}
 use Rattle.slot_batches.specs.NextList.{IsListBefore}
 use Rattle.clos_topology.specs.Network.{endpoints_of}
 use Rattle.schedule_audit.specs.Lines.{Recorded, Place}
-use Rattle.schedule_audit.specs.Wrong.{places_from}
+use Rattle.schedule_audit.specs.Wrong.{slot_places_from}
 use Rattle.schedule_audit.specs.Walked.{JudgesStand}
 use Rattle.schedule_audit.proofs.PlaySteps.{begins, given-is, among, applied, visited-before, slots-count, places-more, played-more}
 use Rattle.schedule_audit.proofs.rounds.Rounds.play.Goals as goal
@@ -76,7 +76,7 @@ walk-requires-clause-stands c =
     let net = c.args.judges.now.net in
     let b = c.args.b in
     let at : c.args.round * c.from.result + 1 ≡ length p.0 * b + 1 = ap (λ (n : ℕ). n * c.from.result + 1) (sym p.3) ∙ ap (λ (n : ℕ). length p.0 * n + 1) c.from.ensures in (
-      places_from 1 (schedule b p.0),
+      slot_places_from 1 (schedule b p.0),
       visited-before net b p.0 p.1 p.2 c.args.self.now p.4.played c.every_slot_is_in_range.ensures c.schedules_go_on.ensures.count p.4.judged.sizes (c.args.round * c.from.result + 1) at,
       p.4.judged,
     )
@@ -101,7 +101,7 @@ returns-clause-played c = λ front batch later long played.
       played = played-more net b front batch later self played.played fronts counts ranged leaves c.recorded_batches_may_be_applied.ensures.later c.args.judges.now played.judged c.in_ok-batch.batch number _ is at refl
           (ap (λ (n : ℕ). self.next + n) c.len.ensures.entries) c.enter.ensures.enters c.enter.ensures.sized out.list out.b out.endpoints;
       judged = subst (λ (ps : List Place). JudgesStand ps c.walk.new.judges)
-          (ap (λ (ss : List (List Flow)). places_from 1 (schedule b front) ++ places_from number ss) c.slots.ensures.slots
+          (ap (λ (ss : List (List Flow)). slot_places_from 1 (schedule b front) ++ slot_places_from number ss) c.slots.ensures.slots
           ∙ places-more net b front batch later self played.played fronts counts number c.in_ok-batch.batch c.serve.new.self.slots is at out.slots)
-          (c.walk.ensures.stands (places_from 1 (schedule b front)) before played.judged);
+          (c.walk.ensures.stands (slot_places_from 1 (schedule b front)) before played.judged);
     }

@@ -1,13 +1,14 @@
 use Rattle.std.proofs.Common.{◌<◌, ◌++◌, false, take, refl, sym, ap, ◌∙◌, subst}
 use Rattle.std.proofs.lemmas.List.Elements.{All-weaker}
+use Rattle.list_facts.proofs.Lists.{all_back}
 use Rattle.greedy_rules.specs.Demands.{AreBelow}
 use Rattle.slot_batches.specs.Feeding.{taken_up}
 use Rattle.slot_batches.specs.Marks.{AreMarked}
 use Rattle.slot_batches.specs.Parts.{fill_of}
-use Rattle.slot_batches.specs.Rests.{TakesNone, Rests}
+use Rattle.slot_batches.specs.Rests.{TakesNone, ItemRests}
 use Rattle.slot_batches.specs.ArrayStands.{ArrayState, HasBeenFed, MayBeFed, array_endpoints, array_first}
 use Rattle.slot_batches.proofs.FedLemmas.{may_feed_part}
-use Rattle.slot_batches.proofs.RestLemmas.{all_back, may_keep, fed_run}
+use Rattle.slot_batches.proofs.RestLemmas.{may_keep, fed_run}
 use Rattle.slot_batches.proofs.StandsLemmas.{stands_for_run}
 use Rattle.slot_batches.proofs.array_stage.ArrayStage.keep_resting.Goals as goal
 
@@ -39,7 +40,7 @@ keep-requires-clause-none c =
     let batch = c.args.batch.now in
     let inside = c.self.inside in
     let marked : AreMarked batch.entries c.deref.result.now = subst (AreMarked batch.entries) (ap (λ (s : ArrayState). s.marks) (sym c.self.view_is) ∙ sym c.deref.ensures.value) c.requires.may.2.marked in
-    All-weaker (Rests batch.entries inside.unopened inside.filling.maps) (TakesNone inside.filling.maps) (λ item rests. rests.takes_none) (take c.resting-count.result c.args.items.now)
+    All-weaker (ItemRests batch.entries inside.unopened inside.filling.maps) (TakesNone inside.filling.maps) (λ item rests. rests.takes_none) (take c.resting-count.result c.args.items.now)
     (c.resting-count.ensures.rest marked)
 
 pub returns-clause-stands : goal.returns-clause-stands

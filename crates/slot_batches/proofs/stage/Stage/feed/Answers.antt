@@ -5,7 +5,7 @@ use Rattle.greedy_rules.specs.Batches.{entry_of}
 use Rattle.greedy_rules.specs.Demands.{need_with}
 use Rattle.greedy_rules.specs.declared.flows.Item.{Item}
 use Rattle.slot_batches.specs.ArrayStands.{ArrayStands, array_endpoints, array_first}
-use Rattle.slot_batches.specs.Stands.{StageState, Stands, MayBeFed, endpoints_of, first_slot_of}
+use Rattle.slot_batches.specs.Stands.{StageState, Stands, MayBeFed, stage_endpoints, first_slot_of}
 use Rattle.slot_batches.proofs.NodeCounts.{one_more_node, nodes_short}
 use Rattle.slot_batches.proofs.stage.Stage.feed.Goals as goal
 
@@ -16,7 +16,7 @@ returns-clause-stands c = λ fed given with may.
     let inside = c.self.inside in
     let was = subst (λ (s : StageState). Stands batch fed false given s) (sym c.self.view_is) with in
     let is = c.front-item.ensures.front in
-    let feedable = subst (λ (s : StageState). MayBeFed batch.entries (endpoints_of s) (first_slot_of s) (fed ++ front)) (sym c.self.view_is) may in
+    let feedable = subst (λ (s : StageState). MayBeFed batch.entries (stage_endpoints s) (first_slot_of s) (fed ++ front)) (sym c.self.view_is) may in
     let one : length (take 1 c.front-item.new.chain) ≡ 1 = ap (λ (xs : List Item). length (take 1 xs)) c.front-item.ensures.same ∙ ap length is in
     record {
       arrays = subst (λ (xs : List Item). ArrayStands batch (fed ++ xs) false given c.feed.new.self) (sym is)
@@ -33,7 +33,7 @@ move_front-requires-clause-fits c =
     let given = c.requires.may.1 in
     let inside = c.self.inside in
     let was = subst (λ (s : StageState). Stands batch fed false given s) (sym c.self.view_is) c.requires.may.2 in
-    let feedable = subst (λ (s : StageState). MayBeFed batch.entries (endpoints_of s) (first_slot_of s) (fed ++ front)) (sym c.self.view_is) c.requires.may.3 in
+    let feedable = subst (λ (s : StageState). MayBeFed batch.entries (stage_endpoints s) (first_slot_of s) (fed ++ front)) (sym c.self.view_is) c.requires.may.3 in
     omega (arith, nodes_short batch fed front given (length inside.loose) inside.arrays was.arrays feedable was.nodes, ap length c.front-item.ensures.front)
 
 pub feed-requires-clause-need : goal.feed-requires-clause-need

@@ -1,7 +1,7 @@
 use Rattle.std.proofs.Common.{◌≡◌, ◌++◌, List, length, false, sym, ◌∙◌, subst}
 use Rattle.greedy_rules.specs.declared.flows.Item.{Item}
 use Rattle.slot_batches.specs.ArrayStands.{ArrayStands, array_endpoints, array_first}
-use Rattle.slot_batches.specs.Stands.{StageState, Stands, MayBeFed, endpoints_of, first_slot_of}
+use Rattle.slot_batches.specs.Stands.{StageState, Stands, MayBeFed, stage_endpoints, first_slot_of}
 use Rattle.slot_batches.proofs.NodeCounts.{more_nodes, nodes_short}
 use Rattle.slot_batches.proofs.stage.Stage.feed_all.Goals as goal
 
@@ -11,7 +11,7 @@ returns-clause-stands c = λ fed given with may.
     let list : List Item = c.args.from.now in
     let inside = c.self.inside in
     let was = subst (λ (s : StageState). Stands batch fed false given s) (sym c.self.view_is) with in
-    let feedable = subst (λ (s : StageState). MayBeFed batch.entries (endpoints_of s) (first_slot_of s) (fed ++ list)) (sym c.self.view_is) may in
+    let feedable = subst (λ (s : StageState). MayBeFed batch.entries (stage_endpoints s) (first_slot_of s) (fed ++ list)) (sym c.self.view_is) may in
     let is : c.read_all.new.items ≡ list = c.read_all.ensures.items in
     record {
       arrays = subst (λ (xs : List Item). ArrayStands batch (fed ++ xs) false given c.feed_items.new.self) is
@@ -27,5 +27,5 @@ read_all-requires-clause-fits c =
     let given = c.requires.may.1 in
     let inside = c.self.inside in
     let was = subst (λ (s : StageState). Stands batch fed false given s) (sym c.self.view_is) c.requires.may.2 in
-    let feedable = subst (λ (s : StageState). MayBeFed batch.entries (endpoints_of s) (first_slot_of s) (fed ++ list)) (sym c.self.view_is) c.requires.may.3 in
+    let feedable = subst (λ (s : StageState). MayBeFed batch.entries (stage_endpoints s) (first_slot_of s) (fed ++ list)) (sym c.self.view_is) c.requires.may.3 in
     nodes_short batch fed list given (length inside.loose) inside.arrays was.arrays feedable was.nodes

@@ -2,7 +2,7 @@ use Rattle.std.proofs.Common.{◌≡◌, ◌≤◌, ◌*◌, ◌/◌, ℕ, List,
 use Rattle.std.specs.Vec.{with_items}
 use Rattle.std.proofs.lemmas.List.{with_items_is}
 use Rattle.fcp_framing.specs.declared.packet.Told.{Told}
-use Rattle.slot_publisher.specs.Window.{Window, slots_with_cores}
+use Rattle.slot_publisher.specs.Window.{PublisherWindow, slots_with_cores}
 use Rattle.slot_publisher.specs.Places.{slots_of_lists, AreLists}
 use Rattle.slot_publisher.proofs.PlaceLemmas.{slots_as_put, lists_as_put, batches_held, few_batches}
 use Rattle.slot_publisher.proofs.publisher.Publisher.put.Goals as goal
@@ -12,9 +12,9 @@ put_lists-requires-clause-lists c =
     let inside = c.self.inside in
     let now = c.args.self.now in
     let count : ℕ = c.slots.result / c.from.result in
-    let b : inside.b ≡ now.b = ap (λ (w : Window). w.b) c.self.view_is in
-    let batches : inside.batches ≡ now.batches = ap (λ (w : Window). w.batches) c.self.view_is in
-    let endpoints : c.args.slots.now.endpoints ≡ inside.endpoints = c.requires.endpoints ∙ sym (ap (λ (w : Window). w.endpoints) c.self.view_is) in
+    let b : inside.b ≡ now.b = ap (λ (w : PublisherWindow). w.b) c.self.view_is in
+    let batches : inside.batches ≡ now.batches = ap (λ (w : PublisherWindow). w.batches) c.self.view_is in
+    let endpoints : c.args.slots.now.endpoints ≡ inside.endpoints = c.requires.endpoints ∙ sym (ap (λ (w : PublisherWindow). w.endpoints) c.self.view_is) in
     let held = batches_held c.slots.result c.from.result inside.b now.b (length c.args.slots.now.slots) c.from.ensures b c.slots.ensures.count c.self.invariant.0 c.requires.whole in
     let room : inside.batches * inside.b ≡ now.batches * now.b = ap (λ (m : ℕ). m * inside.b) batches ∙ ap (λ (m : ℕ). now.batches * m) b in
     let few : count ≤ inside.batches = few_batches count inside.batches inside.b c.self.invariant.0 (omega (arith, held, room, c.requires.room)) in
@@ -32,11 +32,11 @@ same_told : (c : goal.After-self-4-1) → (with_items c.self.inside.told.items c
 same_told c = with_items_is c.self.inside.told.items c.put_lists.new.told (omega (arith, c.put_lists.auto.told, c.deref_mut-2.ensures.len))
 
 same_endpoints : (c : goal.After-self-4-1) → c.args.slots.now.endpoints ≡ c.self.inside.endpoints
-same_endpoints c = c.requires.endpoints ∙ sym (ap (λ (w : Window). w.endpoints) c.self.view_is)
+same_endpoints c = c.requires.endpoints ∙ sym (ap (λ (w : PublisherWindow). w.endpoints) c.self.view_is)
 
 held : (c : goal.After-self-4-1) → count_of c * c.self.inside.b ≡ length c.args.slots.now.slots
 held c =
-    batches_held c.slots.result c.from.result c.self.inside.b c.args.self.now.b (length c.args.slots.now.slots) c.from.ensures (ap (λ (w : Window). w.b) c.self.view_is)
+    batches_held c.slots.result c.from.result c.self.inside.b c.args.self.now.b (length c.args.slots.now.slots) c.from.ensures (ap (λ (w : PublisherWindow). w.b) c.self.view_is)
     c.slots.ensures.count c.self.invariant.0 c.requires.whole
 
 few : (c : goal.After-self-4-1) → count_of c ≤ c.self.inside.batches
@@ -44,7 +44,7 @@ few c =
     let inside = c.self.inside in
     let now = c.args.self.now in
     let room : inside.batches * inside.b ≡ now.batches * now.b =
-    ap (λ (m : ℕ). m * inside.b) (ap (λ (w : Window). w.batches) c.self.view_is) ∙ ap (λ (m : ℕ). now.batches * m) (ap (λ (w : Window). w.b) c.self.view_is) in
+    ap (λ (m : ℕ). m * inside.b) (ap (λ (w : PublisherWindow). w.batches) c.self.view_is) ∙ ap (λ (m : ℕ). now.batches * m) (ap (λ (w : PublisherWindow). w.b) c.self.view_is) in
     few_batches (count_of c) inside.batches inside.b c.self.invariant.0 (omega (arith, held c, room, c.requires.room))
 
 pub invariant_of-self : goal.invariant_of-self
@@ -81,10 +81,10 @@ slots_put c =
 
 pub returns : goal.returns
 returns c = record {
-  endpoints = ap (λ (w : Window). w.endpoints) c.self.view_is;
-  batches = ap (λ (w : Window). w.batches) c.self.view_is;
-  b = ap (λ (w : Window). w.b) c.self.view_is;
+  endpoints = ap (λ (w : PublisherWindow). w.endpoints) c.self.view_is;
+  batches = ap (λ (w : PublisherWindow). w.batches) c.self.view_is;
+  b = ap (λ (w : PublisherWindow). w.b) c.self.view_is;
   first = refl;
-  count = ap (λ (b : ℕ). count_of c * b) (sym (ap (λ (w : Window). w.b) c.self.view_is)) ∙ held c;
+  count = ap (λ (b : ℕ). count_of c * b) (sym (ap (λ (w : PublisherWindow). w.b) c.self.view_is)) ∙ held c;
   slots = slots_put c;
 }

@@ -6,7 +6,7 @@ use Rattle.std.proofs.lemmas.Nat.{row_fits}
 use Rattle.std.proofs.lemmas.List.Elements.{All-take, All-drop, All-weaker}
 use Rattle.fcp_framing.specs.declared.packet.Told.{Told}
 use Rattle.fcp_framing.specs.Spelling.{IsCore}
-use Rattle.slot_publisher.specs.Window.{Window, RoutedFlow, slots_of_batch}
+use Rattle.slot_publisher.specs.Window.{PublisherWindow, RoutedFlow, slots_of_batch}
 use Rattle.slot_publisher.specs.Told.{packet_sent, slots_told, IsToldOf}
 use Rattle.slot_publisher.specs.Places.{list_at, count_at, slots_of_lists, IsToldList}
 use Rattle.slot_publisher.proofs.PlaceLemmas.{told_in_list, slots_in_lists, lists_fit, held_window}
@@ -98,7 +98,7 @@ returns c = record {
   destinations =
       let below : All (λ (told : Told). told.dst < c.self.inside.endpoints) (list_of c) =
       All-weaker (λ (told : Told). (told.dst < c.self.inside.endpoints) × IsCore told.core) (λ (told : Told). told.dst < c.self.inside.endpoints) (λ told names. names.0) (list_of c) (is_list c).names in
-      subst (λ (n : ℕ). All (λ (told : Told). told.dst < n) (given c)) (ap (λ (w : Window). w.endpoints) c.self.view_is)
+      subst (λ (n : ℕ). All (λ (told : Told). told.dst < n) (given c)) (ap (λ (w : PublisherWindow). w.endpoints) c.self.view_is)
       (subst (All (λ (told : Told). told.dst < c.self.inside.endpoints)) (sym (list c)) below);
   cores =
       subst (All (λ (told : Told). IsCore told.core)) (sym (list c))

@@ -1,22 +1,22 @@
 use Rattle.std.proofs.Common.{◌≡◌, ◌≤◌, ◌<◌, ◌+◌, ◌*◌, [], ◌∷◌, ℕ, zero, suc, List, length, cond, get_or, replicate, Option, None, refl, sym, ap, ◌∙◌, arith}
 use Rattle.std.proofs.lemmas.List.{length-replicate, get_or-replicate}
 use Rattle.takeover_history.specs.declared.lease.Holder.{Holder}
-use Rattle.takeover_history.specs.Events.{Setting}
+use Rattle.takeover_history.specs.Events.{PairSetting}
 use Rattle.takeover_core.specs.declared.node.Node.{Node}
 use Rattle.takeover_core.specs.declared.keeper.Keeper.{Keeper}
 use Rattle.takeover_core.specs.declared.endpoints.Endpoints.{Endpoints}
 use Rattle.takeover_core.specs.declared.published.Issued.{Issued}
 use Rattle.greedy_rules.specs.declared.flows.Flow.{Flow}
 use Rattle.greedy_rules.specs.Batches.{DemandBatch}
+use Rattle.greedy_rules.specs.Cells.{flow_of}
 use Rattle.std.specs.Prelude.{count_by}
 use Rattle.takeover_history.specs.Endpoints.{is_of}
-use Rattle.takeover_history.specs.Batches.{flow_of}
 use Rattle.takeover_core.specs.Sending.{sends_in}
 use Rattle.takeover_core.specs.Messages.{message_at, request_in, grant_in, is_holder}
-use Rattle.takeover_core.specs.Standing.{IsNodeOf, no_batch}
+use Rattle.takeover_core.specs.Standing.{IsNodeOf, no_issued_batch}
 use Rattle.takeover_core.proofs.pair.Pair.open.Goals as goal
 
-node_first : (setting : Setting) (number : ℕ) (node : Node) → node.boot ≡ 1 → node.lease ≡ None → node.used ≡ 0 → node.told.endpoints ≡ setting.endpoints → node.published.endpoints ≡ setting.endpoints
+node_first : (setting : PairSetting) (number : ℕ) (node : Node) → node.boot ≡ 1 → node.lease ≡ None → node.used ≡ 0 → node.told.endpoints ≡ setting.endpoints → node.published.endpoints ≡ setting.endpoints
     → setting.endpoints * setting.endpoints ≤ length node.list.items + node.list.spare → IsNodeOf setting [] number node
 node_first setting number node boots leases useds told published room = record {
   boot_is = boots;
@@ -29,7 +29,7 @@ node_first setting number node boots leases useds told published room = record {
   before = λ held is. absurd (cc);
 }
 
-two_of : (setting : Setting) (one other : Node) → IsNodeOf setting [] 0 one → IsNodeOf setting [] 1 other → (number : ℕ) (d : Node) → number < 2 → IsNodeOf setting [] number (get_or (one ∷ other ∷ []) number d)
+two_of : (setting : PairSetting) (one other : Node) → IsNodeOf setting [] 0 one → IsNodeOf setting [] 1 other → (number : ℕ) (d : Node) → number < 2 → IsNodeOf setting [] number (get_or (one ∷ other ∷ []) number d)
 two_of setting one other first second zero d below = first
 two_of setting one other first second (suc zero) d below = second
 two_of setting one other first second (suc (suc number)) d below = absurd (omega arith)
@@ -39,7 +39,7 @@ blank batch slots endpoints = record { generation = 0; batch = batch; slots = re
 
 pub returns : goal.returns
 returns c =
-    let setting : Setting = record { endpoints = c.args.endpoints; b = c.args.b; span = c.args.lease } in
+    let setting : PairSetting = record { endpoints = c.args.endpoints; b = c.args.b; span = c.args.lease } in
     let k = c.in_ok-open.ensures in
     let e = c.in_ok-open-5.ensures in
     let q = c.in_ok-open-6.ensures in
@@ -77,6 +77,6 @@ returns c =
       last_is = refl;
       none_is =
           ap (λ (b : DemandBatch). blank b c.in_ok-open-6.field-0.slots c.in_ok-open-6.field-0.endpoints) c.with_limits.ensures
-          ∙ (ap (λ (xs : List (List Flow)). blank (no_batch setting).batch xs c.in_ok-open-6.field-0.endpoints) (q.slots ∙ ap (λ (n : ℕ). replicate n []) c.from.ensures)
-          ∙ ap (λ (n : ℕ). blank (no_batch setting).batch (replicate c.args.b []) n) q.endpoints);
+          ∙ (ap (λ (xs : List (List Flow)). blank (no_issued_batch setting).batch xs c.in_ok-open-6.field-0.endpoints) (q.slots ∙ ap (λ (n : ℕ). replicate n []) c.from.ensures)
+          ∙ ap (λ (n : ℕ). blank (no_issued_batch setting).batch (replicate c.args.b []) n) q.endpoints);
     }

@@ -6,10 +6,10 @@ use Rattle.greedy_rules.specs.Batches.{DemandBatch}
 use Rattle.greedy_rules.specs.Schedule.{first_slot, slots_then, list_then}
 use Rattle.takeover_history.specs.declared.event.Event.TheVariants as event
 use Rattle.takeover_history.specs.declared.event.Refusal.TheVariants.{NoLease}
-use Rattle.takeover_history.specs.Events.{Issue, Published, Refused}
+use Rattle.takeover_history.specs.Events.{BatchIssue, Published, Refused}
 use Rattle.takeover_history.specs.Leases.{lease_of, used_of}
 use Rattle.takeover_history.specs.Batches.{issue_for}
-use Rattle.takeover_history.specs.Steps.{issued, log_of}
+use Rattle.takeover_history.specs.Steps.{issued_fact, log_of}
 use Rattle.takeover_history.proofs.Follow.{lease-node}
 use Rattle.takeover_core.specs.declared.node.Node.{Node}
 use Rattle.takeover_core.specs.declared.published.Issued.{Issued}
@@ -25,7 +25,7 @@ use Rattle.takeover_core.proofs.pair.Pair.publish.Goals as goal
 pub returns-in_default-clause-stands : goal.returns-in_default-clause-stands
 returns-in_default-clause-stands c = λ setting events s may.
     stands_refused setting c.args.self.now events (event.Publish c.args.node) NoLease
-    (ap (issued setting (log_of setting events) c.args.node) (sym (s.nodes_are c.args.node _ may.is_event).lease_is ∙ c.in_default.is)) s
+    (ap (issued_fact setting (log_of setting events) c.args.node) (sym (s.nodes_are c.args.node _ may.is_event).lease_is ∙ c.in_default.is)) s
 
 pub returns-then-used-self-clause-stands : goal.returns-then-used-self-clause-stands
 returns-then-used-self-clause-stands c = λ setting events s may.
@@ -33,7 +33,7 @@ returns-then-used-self-clause-stands c = λ setting events s may.
     let n = s.nodes_are c.args.node c.index-self-node.result may.is_event in
     let of_node : lease_of log c.args.node ≡ Some c.in-Some.lease = sym (s.nodes_are c.args.node _ may.is_event).lease_is ∙ c.in-Some.is in
     stands_refused setting c.args.self.now events (event.Publish c.args.node) NoLease
-    (ap (issued setting log c.args.node) of_node
+    (ap (issued_fact setting log c.args.node) of_node
     ∙ cond-false (nat_lt (used_of log c.args.node) setting.span) (Published (issue_for setting log c.in-Some.lease)) (Refused NoLease)
     (le-ltb (used_of log c.args.node) setting.span (omega (arith, n.used_is, s.keeper_is.span_is, c.if-used-self.true)))) s
 
@@ -97,7 +97,7 @@ returns-clause-answers c = λ setting events s may.
     let own = lease-node setting log node lease of_node in
     let number : lease.first + c.from.result ≡ lease.first + used_of log lease.holder.node = ap (λ (u : ℕ). lease.first + u) (c.from.ensures ∙ (n.used_is ∙ ap (λ (k : ℕ). used_of log k) (sym own))) in
     answers_by setting events (event.Publish node) (Published (issue_for setting log lease)) (outcome.Published (lease.first + c.from.result))
-    (ap (issued setting log node) of_node
+    (ap (issued_fact setting log node) of_node
     ∙ cond-true (nat_lt (used_of log node) setting.span) (Published (issue_for setting log lease)) (Refused NoLease) (lt-ltb (used_of log node) setting.span (omega (arith, n.used_is, s.keeper_is.span_is, c.if-used-self.false))))
     (ap (λ (m : ℕ). outcome.Published m) number)
 
@@ -114,7 +114,7 @@ returns-clause-stands c = λ setting events s may.
     let next = c.running_counts_serve.ensures.next setting events g in
     let keeps = then.keeps lease of_node in
     let number : lease.first + c.from.result ≡ lease.first + used_of log lease.holder.node = ap (λ (u : ℕ). lease.first + u) (c.from.ensures ∙ (n.used_is ∙ ap (λ (k : ℕ). used_of log k) (sym own))) in
-    let issue : Issue = issue_for setting log lease in
+    let issue : BatchIssue = issue_for setting log lease in
     let at = lease.first + c.from.result in
     let is = c.in_ok-batch.ensures in
     let before : Node = get_or c.args.self.now.nodes node c.index-self-node-2.result in
@@ -131,7 +131,7 @@ returns-clause-stands c = λ setting events s may.
     ∙ (ap (λ (b : ℕ). list_then b at (next_of c.args.self.now.endpoints before) items) s.b_is
     ∙ ap (λ (m : ℕ). list_then setting.b at (next_of m before) items) s.endpoints_are) in
     let befores = subst (λ (b : ℕ). All (λ item. item.last < first_slot b (at + 1)) c.publish.new.self.list.items) s.b_is is.before in
-    let fact = ap (issued setting log node) of_node
+    let fact = ap (issued_fact setting log node) of_node
     ∙ cond-true (nat_lt (used_of log node) setting.span) (Published issue) (Refused NoLease) (lt-ltb (used_of log node) setting.span (omega (arith, n.used_is, s.keeper_is.span_is, c.if-used-self.false))) in
     stands_by setting _ events (event.Publish node) (Published issue) fact (record {
       fits = s.fits;

@@ -7,7 +7,7 @@ use Rattle.takeover_history.specs.declared.event.Refusal.{Refusal}
 use Rattle.takeover_history.specs.declared.event.Refusal.TheVariants.{NoMessage}
 use Rattle.takeover_history.specs.Events.{Took, Refused}
 use Rattle.takeover_history.specs.Leases.{lease_of}
-use Rattle.takeover_history.specs.Steps.{taken, log_of}
+use Rattle.takeover_history.specs.Steps.{taken_fact, log_of}
 use Rattle.takeover_core.specs.Node.{begins_below}
 use Rattle.takeover_core.specs.declared.outcome.Outcome.TheVariants as outcome
 use Rattle.takeover_core.proofs.Noding.{taking, take-is, takes_own, takes_later, own_took, other_took}
@@ -17,7 +17,7 @@ use Rattle.takeover_core.proofs.pair.Pair.take.Goals as goal
 pub returns-in_default-clause-stands : goal.returns-in_default-clause-stands
 returns-in_default-clause-stands c = λ setting events s may.
     stands_refused setting _ events (event.Take c.args.node c.args.m) NoMessage
-    (ap (taken setting (log_of setting events) c.args.node) (s.keeper_is.answers c.args.m ∙ (sym c.granted.ensures ∙ c.in_default.is))) s
+    (ap (taken_fact setting (log_of setting events) c.args.node) (s.keeper_is.answers c.args.m ∙ (sym c.granted.ensures ∙ c.in_default.is))) s
 
 within : (o : Option Lease) (span most : ℕ) → ((lease : Lease) → o ≡ Some lease → lease.first + span < most) → IfSome o (λ last. last.first + span < most)
 within None span most below = tt

@@ -1,15 +1,15 @@
 use Rattle.std.proofs.Common.{◌≡◌, ◌<◌, ◌≤◌, ◌+◌, ◌∷◌, ℕ, List, length, subst, sym, arith}
 use Rattle.takeover_history.specs.declared.event.Event.{Event}
 use Rattle.greedy_rules.specs.declared.flows.Flow.{Flow}
-use Rattle.takeover_history.specs.Endpoints.{asked}
-use Rattle.takeover_history.specs.Events.{Setting}
+use Rattle.takeover_history.specs.Endpoints.{asked_of_flow}
+use Rattle.takeover_history.specs.Events.{PairSetting}
 use Rattle.takeover_history.specs.Steps.{log_of}
 use Rattle.takeover_core.specs.Outcomes.{IsEvent, MayFollow}
 use Rattle.takeover_rows.specs.Caller.{asked_by}
 use Rattle.takeover_rows.proofs.Asking.{asked_more, asks_fit, on_ok}
 use Rattle.takeover_rows.proofs.tests.Caller.step.Goals as goal
 
-may : (setting : Setting) (events : List Event) (event : Event) (endpoints count asks : ℕ) → setting.endpoints ≡ endpoints → length events ≡ count → ((flow : Flow) → asked (log_of setting events) flow ≤ asks) → IsEvent endpoints event × (count < 10000) × (asks + asked_by event ≤ 100000000) → MayFollow setting events event
+may : (setting : PairSetting) (events : List Event) (event : Event) (endpoints count asks : ℕ) → setting.endpoints ≡ endpoints → length events ≡ count → ((flow : Flow) → asked_of_flow (log_of setting events) flow ≤ asks) → IsEvent endpoints event × (count < 10000) × (asks + asked_by event ≤ 100000000) → MayFollow setting events event
 may setting events event endpoints count asks same counted most is = record {
   few = omega (arith, counted, is.1);
   is_event = subst (λ (n : ℕ). IsEvent n event) (sym same) is.0;

@@ -1,7 +1,7 @@
 use Rattle.std.proofs.Common.{◌≢◌, ◌<◌, ◌+◌, ◌/◌, ◌%◌, get_or, sum_by, subst, sym, ap, ◌∙◌, arith}
 use Rattle.std.proofs.lemmas.List.Elements.{All-push}
 use Rattle.trace_text.specs.Asks.{slots_asked, IsAmong}
-use Rattle.trace_text.specs.FlowSums.{held}
+use Rattle.trace_text.specs.FlowSums.{held_sum}
 use Rattle.trace_text.proofs.FlowFacts.{handed-out, done-more, kept, held-none, none-above}
 use Rattle.trace_text.proofs.flow_sums.FlowSums.drain_into.Goals as goal
 
@@ -30,7 +30,7 @@ loop-flow-preserved c =
             kept (λ k. (k / 256 < endpoints) × (k % 256 < endpoints) × (k / 256 ≢ k % 256)) before.slots.items after.slots.items flow long taken each,
           );
       sums = λ round src dst.
-          ap (λ (xs : _). sum_by (slots_asked round src dst) xs + held after round src dst) c.in_ok-push.ensures.items
+          ap (λ (xs : _). sum_by (slots_asked round src dst) xs + held_sum after round src dst) c.in_ok-push.ensures.items
           ∙ handed-out before.round flow before.slots.items c.loop-flow.summed.items round src dst low long after.round c.take-slots.result after.slots.items c.take-slots.ensures.round c.take-slots.ensures.number taken
           ∙ so_far.sums round src dst;
     }

@@ -1,7 +1,7 @@
 use Rattle.std.proofs.Common.{arith, refl}
 use Rattle.std.proofs.lemmas.List.Sums.{sum_by_push}
 use Rattle.trace_text.specs.Rows.{End}
-use Rattle.trace_text.specs.Earlier.{slots_of, slots_in_round}
+use Rattle.trace_text.specs.Earlier.{row_slots, slots_in_round}
 use Rattle.trace_text.proofs.RowFacts.{length-more, net-more, greatest_round-more, end_of-more}
 use Rattle.trace_text.proofs.EventRowFacts.{no_event, latest_fate-more}
 use Rattle.trace_text.proofs.PutFacts.{no_put}
@@ -19,8 +19,8 @@ returns-in-End c = λ before s.
       ended = rw (end_of-more before row, ← s.ended, allowed.1) refl;
       short = (allowed.2, allowed.3);
       table = s.table;
-      totals = λ src dst low low2. omega (arith, s.totals src dst low low2, sum_by_push (slots_of src dst) before row);
-      bounded = λ src dst. omega (arith, s.bounded src dst, sum_by_push (slots_of src dst) before row);
+      totals = λ src dst low low2. omega (arith, s.totals src dst low low2, sum_by_push (row_slots src dst) before row);
+      bounded = λ src dst. omega (arith, s.bounded src dst, sum_by_push (row_slots src dst) before row);
       asks = λ round src dst. omega (arith, s.asks round src dst, sum_by_push (slots_in_round round src dst) before row);
       tidy = s.tidy;
       among = s.among;

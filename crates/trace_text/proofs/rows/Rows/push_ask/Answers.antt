@@ -3,7 +3,7 @@ use Rattle.std.proofs.lemmas.Grind.{common_steps}
 use Rattle.std.proofs.lemmas.List.Sums.{sum_by_push}
 use Rattle.trace_text.specs.Asks.{IsAmong}
 use Rattle.trace_text.specs.Rows.{Ask}
-use Rattle.trace_text.specs.Earlier.{slots_of, slots_in_round, end_of}
+use Rattle.trace_text.specs.Earlier.{row_slots, slots_in_round, end_of}
 use Rattle.trace_text.specs.Standing.{endpoints_kept}
 use Rattle.trace_text.specs.declared.ask.Ask.{Ask as Asked}
 use Rattle.trace_text.proofs.RowFacts.{length-more, net-more, net-some, greatest_round-more, end_of-more, option_or-none, slots_of-bounded, few-endpoints}
@@ -61,7 +61,7 @@ returns c = λ before s.
       table = length-set totals c.place_of-at.result (c.index_mut.result.now + c.args.slots) ∙ s.table;
       totals = λ src dst low low2.
           rw (place, old) (table-more totals n c.args.round c.args.src c.args.dst c.args.slots src dst s.table c.requires.allowed.1 c.requires.allowed.2 low low2
-          ∙ ap (λ k. k + slots_of src dst row) (s.totals src dst low low2) ∙ sym (sum_by_push (slots_of src dst) before row));
+          ∙ ap (λ k. k + row_slots src dst row) (s.totals src dst low low2) ∙ sym (sum_by_push (row_slots src dst) before row));
       short = s.short;
       bounded = λ src dst. slots_of-bounded before c.args.round c.args.src c.args.dst c.args.slots src dst s.bounded (omega arith);
       tidy = c.add.ensures.tidy;

@@ -2,7 +2,7 @@ use Rattle.std.proofs.Common.{◌≡◌, ◌≤◌, ◌+◌, ◌*◌, refl, sym,
 use Rattle.std.proofs.lemmas.List.Sums.{sum_by_push}
 use Rattle.std.proofs.lemmas.List.Elements.{All-push}
 use Rattle.trace_text.specs.Rows.{Meets}
-use Rattle.trace_text.specs.Earlier.{slots_of, slots_in_round, end_of, greatest_round}
+use Rattle.trace_text.specs.Earlier.{row_slots, slots_in_round, end_of, greatest_round}
 use Rattle.trace_text.specs.Events.{IsFateAmong, way_number}
 use Rattle.trace_text.specs.Standing.{endpoints_kept}
 use Rattle.trace_text.proofs.RowFacts.{length-more, net-more, net-some, greatest_round-more, end_of-more, option_or-none}
@@ -24,9 +24,9 @@ returns c = λ before s.
       round = omega (arith, greatest_round-more before row, s.round, c.requires.allowed.0);
       ended = s.ended ∙ sym (end_of-more before row ∙ option_or-none (end_of before));
       table = s.table;
-      totals = λ src dst low low2. omega (arith, s.totals src dst low low2, sum_by_push (slots_of src dst) before row);
+      totals = λ src dst low low2. omega (arith, s.totals src dst low low2, sum_by_push (row_slots src dst) before row);
       short = s.short;
-      bounded = λ src dst. omega (arith, s.bounded src dst, sum_by_push (slots_of src dst) before row);
+      bounded = λ src dst. omega (arith, s.bounded src dst, sum_by_push (row_slots src dst) before row);
       asks = λ r src dst. omega (arith, s.asks r src dst, sum_by_push (slots_in_round r src dst) before row);
       tidy = s.tidy;
       among = s.among;

@@ -1,7 +1,7 @@
 use Rattle.std.proofs.Common.{◌≤◌, length, refl, sym, ◌∙◌, arith}
 use Rattle.std.proofs.lemmas.List.Sums.{sum_by_push}
 use Rattle.trace_text.specs.Rows.{Put}
-use Rattle.trace_text.specs.Earlier.{slots_of, slots_in_round, end_of}
+use Rattle.trace_text.specs.Earlier.{row_slots, slots_in_round, end_of}
 use Rattle.trace_text.specs.Fields.{bytes_of}
 use Rattle.trace_text.specs.Standing.{endpoints_kept}
 use Rattle.trace_text.proofs.HexFacts.{hex-bytes}
@@ -31,8 +31,8 @@ returns c = λ before s.
       ended = s.ended ∙ sym (end_of-more before row ∙ option_or-none (end_of before));
       short = s.short;
       table = s.table;
-      totals = λ src dst low low2. omega (arith, s.totals src dst low low2, sum_by_push (slots_of src dst) before row);
-      bounded = λ src dst. omega (arith, s.bounded src dst, sum_by_push (slots_of src dst) before row);
+      totals = λ src dst low low2. omega (arith, s.totals src dst low low2, sum_by_push (row_slots src dst) before row);
+      bounded = λ src dst. omega (arith, s.bounded src dst, sum_by_push (row_slots src dst) before row);
       asks = λ r src dst. omega (arith, s.asks r src dst, sum_by_push (slots_in_round r src dst) before row);
       tidy = s.tidy;
       among = s.among;

@@ -2,7 +2,7 @@ use Rattle.std.proofs.Common.{[], ◌∷◌, ◌++◌, length, refl, sym, ◌∙
 use Rattle.std.proofs.lemmas.List.Sums.{sum_by_push}
 use Rattle.std.proofs.lemmas.List.Elements.{All-push}
 use Rattle.trace_text.specs.Rows.{Raw}
-use Rattle.trace_text.specs.Earlier.{slots_of, slots_in_round, end_of}
+use Rattle.trace_text.specs.Earlier.{row_slots, slots_in_round, end_of}
 use Rattle.trace_text.specs.Events.{IsWithin, packet_from}
 use Rattle.trace_text.specs.Fields.{bytes_of}
 use Rattle.trace_text.proofs.HexFacts.{hex-bytes}
@@ -28,9 +28,9 @@ returns c = λ before s.
       round = omega (arith, greatest_round-more before row, s.round, c.requires.allowed.0);
       ended = s.ended ∙ sym (end_of-more before row ∙ option_or-none (end_of before));
       table = s.table;
-      totals = λ src dst low low2. omega (arith, s.totals src dst low low2, sum_by_push (slots_of src dst) before row);
+      totals = λ src dst low low2. omega (arith, s.totals src dst low low2, sum_by_push (row_slots src dst) before row);
       short = s.short;
-      bounded = λ src dst. omega (arith, s.bounded src dst, sum_by_push (slots_of src dst) before row);
+      bounded = λ src dst. omega (arith, s.bounded src dst, sum_by_push (row_slots src dst) before row);
       asks = λ r src dst. omega (arith, s.asks r src dst, sum_by_push (slots_in_round r src dst) before row);
       tidy = s.tidy;
       among = s.among;

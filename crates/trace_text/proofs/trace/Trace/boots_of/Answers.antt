@@ -1,12 +1,13 @@
 use Rattle.std.proofs.Common.{◌<◌, ◌+◌, ◌*◌, map, sym, ap, ◌∙◌, arith}
 use Rattle.std.specs.Prelude.{filter, sum_by}
+use Rattle.list_facts.proofs.Lists.{filter-few}
 use Rattle.clos_topology.specs.Network.{endpoints_of}
 use Rattle.trace_text.specs.Asks.{slots_asked}
 use Rattle.trace_text.specs.Events.{boot_rank, events_kept}
 use Rattle.trace_text.specs.Ranks.{has_rank_in}
 use Rattle.trace_text.specs.declared.events.Boot.{Boot}
 use Rattle.trace_text.proofs.ContentFacts.{boots_at-content_by}
-use Rattle.trace_text.proofs.EventFacts.{boots-of, filter-shorter}
+use Rattle.trace_text.proofs.EventFacts.{boots-of}
 use Rattle.trace_text.proofs.RankFacts.{within-round}
 use Rattle.trace_text.proofs.trace.Trace.boots_of.Goals as goal
 
@@ -43,7 +44,7 @@ returns-clause-few c =
     rw (c.between.ensures, is)
     (omega (
       arith,
-      filter-shorter (has_rank_in boot_rank c.boot_rank-rank.result (c.boot_rank-rank.result + 1)) (filter (has_rank_in boot_rank (c.args.round * 256) ((c.args.round + 1) * 256)) t.boots.items),
-      filter-shorter (has_rank_in boot_rank (c.args.round * 256) ((c.args.round + 1) * 256)) t.boots.items,
+      filter-few (has_rank_in boot_rank c.boot_rank-rank.result (c.boot_rank-rank.result + 1)) (filter (has_rank_in boot_rank (c.args.round * 256) ((c.args.round + 1) * 256)) t.boots.items),
+      filter-few (has_rank_in boot_rank (c.args.round * 256) ((c.args.round + 1) * 256)) t.boots.items,
       c.self.invariant.1.few,
     ))

@@ -7,7 +7,8 @@ use Rattle.greedy_rules.specs.declared.flows.Item.{Item}
 use Rattle.greedy_rules.specs.Schedule.{first_slot, rest_from, schedule_from}
 use Rattle.slot_batches.specs.Woven.{woven}
 use Rattle.slot_batches.specs.NextList.{IsListBefore}
-use Rattle.window_allocation.proofs.RunLemmas.{few_items, left_before}
+use Rattle.alloc_pipeline.proofs.RingLemmas.{left_before}
+use Rattle.window_allocation.proofs.RunLemmas.{few_items}
 use Rattle.window_allocation.proofs.HandedLemmas.{come_of_ring}
 use Rattle.window_allocation.proofs.ReachedLemmas.{may_run, tested_window, as_long, may_again, gives_again, come_after}
 use Rattle.window_allocation.proofs.runs.Runs.allocate_reached.Goals as goal

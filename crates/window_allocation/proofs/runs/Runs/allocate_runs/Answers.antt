@@ -6,7 +6,8 @@ use Rattle.greedy_rules.specs.Batches.{DemandBatch}
 use Rattle.greedy_rules.specs.Schedule.{first_slot, schedule_from, rest_from}
 use Rattle.slot_batches.specs.NextList.{IsListBefore}
 use Rattle.alloc_pipeline.specs.Ring.{RingWork}
-use Rattle.window_allocation.proofs.RunLemmas.{few_items, IsWindow, AreServed, none_served, all_served, go_on, run_served, left_before}
+use Rattle.alloc_pipeline.proofs.RingLemmas.{left_before}
+use Rattle.window_allocation.proofs.RunLemmas.{few_items, IsWindow, AreServed, none_served, all_served, go_on, run_served}
 use Rattle.window_allocation.specs.Runs.{IsPlayed}
 use Rattle.window_allocation.proofs.HandedLemmas.{none_played, played_on, all_played}
 use Rattle.window_allocation.proofs.runs.Runs.allocate_runs.Goals as goal

@@ -1,5 +1,5 @@
 use Rattle.std.proofs.Common.{◌≡◌, ◌+◌, ◌-◌, length, take}
-use Rattle.alloc_pipeline.specs.Ring.{IsSameRing}
+use Rattle.alloc_pipeline.specs.Ring.{IsSameRingWork}
 use Rattle.window_allocation.specs.Runs.{HasRunTable, ArePlayed}
 use Rattle.window_allocation.proofs.RunLemmas.{IsWindow, AreServed}
 use Rattle.window_allocation.proofs.runs.Runs.allocate_runs.Given as goal
@@ -7,7 +7,7 @@ use Rattle.window_allocation.proofs.runs.Runs.allocate_runs.Given as goal
 abbrev pub invariant-loop-served : goal.invariant-loop-served
 invariant-loop-served g l = record {
   table : HasRunTable l.self;
-  same : IsSameRing l.initial.self.ring l.self.ring;
+  same : IsSameRingWork l.initial.self.ring l.self.ring;
   window : IsWindow l.self.ring.endpoints l.self.ring.b l.first_batch l.fn.list.items l.batches (length l.fn.out.slots) (length l.fn.list.items + l.fn.list.spare);
   are : AreServed l.self.ring.b l.first_batch l.fn.list.items l.batches (length l.fn.out.slots) l.served l.list.items l.out.slots;
   spare : length l.list.items + l.list.spare ≡ length l.fn.list.items + l.fn.list.spare;

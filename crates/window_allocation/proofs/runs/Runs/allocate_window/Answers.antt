@@ -5,9 +5,10 @@ use Rattle.greedy_rules.specs.declared.flows.Flow.{Flow}
 use Rattle.greedy_rules.specs.Schedule.{first_slot, rest_from}
 use Rattle.slot_batches.specs.Woven.{woven, places_from}
 use Rattle.slot_batches.specs.NextList.{IsListBefore}
+use Rattle.alloc_pipeline.proofs.RingLemmas.{left_before}
 use Rattle.window_allocation.specs.Idle.{HasIdleFront}
 use Rattle.window_allocation.specs.Picked.{is_aside}
-use Rattle.window_allocation.proofs.RunLemmas.{few_items, left_before}
+use Rattle.window_allocation.proofs.RunLemmas.{few_items}
 use Rattle.window_allocation.proofs.PickedLemmas.{few_found, picked_window}
 use Rattle.window_allocation.proofs.IdleFronts.{idle_front}
 use Rattle.window_allocation.proofs.HandedLemmas.{none_played, all_played, come_of_ring, come_of_all}

@@ -3,11 +3,11 @@ use mathlib.Core.List.{[]}
 use mir.Syntax.{named}
 use Rattle.window_allocation.specs.contracts.allocation.Allocation as Allocation
 use Rattle.greedy_rules.specs.contracts.batches.Batch as Batch
+use Rattle.greedy_rules.proofs.Crossing.{batch_sync}
 use denote.Param.Send.{IsSend, IsSync, sendable, param_send, given_sync, mut_send, shr_slice_send}
 use Rattle.std.proofs.Crossing.{crosses}
 use Rattle.std.proofs.Crossing as heap
 use Rattle.window_allocation.proofs.Crossing.{allocation_send}
-use Rattle.window_engine.proofs.Crossing.{batch_sync}
 use Rattle.window_engine.proofs.replay.Replay.play_beside.Lts as lts
 use Rattle.window_engine.proofs.replay.Replay.play_beside.Given as given
 use Rattle.window_engine.specs.contracts.replay.Replay.play_beside as this

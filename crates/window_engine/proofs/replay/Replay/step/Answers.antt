@@ -7,10 +7,10 @@ use Rattle.window_engine.specs.Replay.{ReplayState, replay_run}
 use Rattle.window_allocation.specs.Standing.{Allocated, HasAllocated}
 use Rattle.window_allocation.specs.Windows.{WindowContent, jobs_for}
 use Rattle.window_allocation.specs.Giving.{HandsOn}
+use Rattle.window_allocation.proofs.WindowLemmas.{ring_endpoints}
 use Rattle.window_engine.proofs.ReplaySteps.{are_next, replay_allocated}
 use Rattle.window_engine.proofs.ReplayPublish.{MayPublish, seen_as, publishes_with, publish_next, publish_fits, lanes_after, stands_next}
 use Rattle.window_engine.proofs.ReplayBeside.{may_allocate, collects_beside, next_beside}
-use Rattle.window_engine.proofs.Rings.{ring_serves}
 use Rattle.window_engine.proofs.replay.Replay.step.Goals as goal
 
 pub play_beside-requires-clause-may_allocate : goal.play_beside-requires-clause-may_allocate
@@ -81,7 +81,7 @@ end-requires-clause-pending g c =
     let old = c.args.self.now in
     let (cores, stands) = c.requires.stands in
     let has = replay_allocated c.replays_hold.ensures trace cores old _ c.rounds-rounds.ensures.sound stands c.in_ok-played.ensures.given.stands in
-    let serves = ap (λ (half : Allocated). half.ring.endpoints) (ap (λ (e : ReplayState). e.allocation) c.self-2.view_is) ∙ ring_serves _ _ _ _ has in
+    let serves = ap (λ (half : Allocated). half.ring.endpoints) (ap (λ (e : ReplayState). e.allocation) c.self-2.view_is) ∙ ring_endpoints _ _ _ _ has in
     let same = ap (λ (e : ReplayState). length e.pending) c.self-2.view_is ∙ ap (λ (e : ReplayState). length e.pending) c.in_ok-played.ensures.others in
     same ∙ (stands.pending_room ∙ sym (ap (λ (n : ℕ). n * n) serves))
 

@@ -4,7 +4,7 @@ use Rattle.fcp_framing.specs.Refusals.{first_refusal, refuses_down}
 use Rattle.endpoint_history.specs.Agent.{TakesDown, takes}
 use Rattle.endpoint_history.specs.Packets.{down_packet}
 use Rattle.endpoint_agent.specs.Refusals.{IsOwn}
-use Rattle.endpoint_agent.specs.Standing.{StandsFor}
+use Rattle.endpoint_agent.specs.Standing.{AgentStandsFor}
 use Rattle.endpoint_agent.specs.State.{AgentState}
 use Rattle.endpoint_agent.specs.Timely.{MayTake}
 use Rattle.both_ends_rows.proofs.Hearing.{may-take, heard-one}
@@ -38,4 +38,4 @@ returns g c =
     c.take_down.new.self
     (ap (λ (s : AgentState). s.me) frame) (ap (λ (s : AgentState). s.endpoints) frame) (ap (λ (s : AgentState). s.b) frame) (ap (λ (s : AgentState). s.g) frame)
     (ap (λ (s : AgentState). s.round) frame) (ap (λ (s : AgentState). s.is_made) frame) (ap (λ (s : AgentState). s.epoch) frame)
-    (subst (λ (down : Down). StandsFor c.take_down.new.self (TakesDown it.round (down_packet down) ∷ is.calls)) (sym read) (c.take_down.ensures.stands own is.calls is.stands))
+    (subst (λ (down : Down). AgentStandsFor c.take_down.new.self (TakesDown it.round (down_packet down) ∷ is.calls)) (sym read) (c.take_down.ensures.stands own is.calls is.stands))

@@ -2,7 +2,7 @@ use Rattle.std.proofs.Common.{◌<◌, ℕ, List, ◌∷◌, refl, sym, subst, a
 use Rattle.fcp_framing.specs.declared.packet.Told.{Told}
 use Rattle.endpoint_history.specs.Conditions.{history_of, allocations_of}
 use Rattle.endpoint_history.specs.Lane.{MakesDown}
-use Rattle.arbiter_lane.specs.Standing.{StandsFor}
+use Rattle.arbiter_lane.specs.Standing.{LaneStandsFor}
 use Rattle.arbiter_lane.specs.State.{AreAllocated, AreSlots}
 use Rattle.both_ends_rows.proofs.Playing.{told-slots}
 use Rattle.both_ends_rows.proofs.Serving.{slot-allocated, served-told}
@@ -27,5 +27,5 @@ returns-clause-served g c =
     let it = c.args.self.now in
     let is = c.requires in
     served-told it.lane it.dst it.round it.before it.last c.make_down.new.self is c.make_down.ensures.frame
-    (subst (λ (told : List Told). StandsFor c.make_down.new.self (MakesDown it.round told ∷ history_of is.calls) (allocations_of is.calls)) c.told-told.ensures
+    (subst (λ (told : List Told). LaneStandsFor c.make_down.new.self (MakesDown it.round told ∷ history_of is.calls) (allocations_of is.calls)) c.told-told.ensures
     (c.make_down.ensures.stands (history_of is.calls) (allocations_of is.calls) is.stands))

@@ -1,4 +1,4 @@
--- The batches of a window may be read in another thread.
+-- What threads may share.
 use denote.Param.Send.{IsSync, sendable}
 use Rattle.std.proofs.Crossing.{crosses}
 use Rattle.greedy_rules.specs.contracts.batches.Batch as Batch

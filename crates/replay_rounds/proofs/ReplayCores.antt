@@ -18,7 +18,7 @@ use Rattle.endpoint_history.specs.Rounds.{Round}
 use Rattle.lane_rounds.specs.State.{RoundsState}
 use Rattle.lane_rounds.specs.Standing as lanes
 use Rattle.trace_text.specs.Trace.{TraceContent}
-use Rattle.trace_run.specs.Run.{Setting, Run, batch_of, told_at, told_from, told_of, told_in, recorded_by, next_rounds, after_round, replayed}
+use Rattle.trace_run.specs.Run.{Setting, Run, slots_in_batch, told_at, slots_told_from, told_of, told_in, recorded_together, next_rounds, after_round, replayed}
 use Rattle.trace_run.specs.Rest.{allocated_from}
 use Rattle.trace_run.specs.Fronts.{EveryRoundHasABatch}
 use Rattle.replay_rounds.specs.Setting.{byte_of, setting_of}
@@ -31,14 +31,14 @@ AgreeBelow number one other = (n : ℕ) → n < number → one n ≡ other n
 -- ---- what is told
 
 told_from-same : (one other : ℕ → ℕ) (endpoint offset : ℕ) (slots : List (List Flow)) → ((at : ℕ) → at < offset + length slots → one at ≡ other at)
-    → told_from one endpoint offset slots ≡ told_from other endpoint offset slots
+    → slots_told_from one endpoint offset slots ≡ slots_told_from other endpoint offset slots
 told_from-same one other endpoint offset [] same = refl
 told_from-same one other endpoint offset (slot ∷ slots) same =
-    let next : told_from one endpoint (offset + 1) slots ≡ told_from other endpoint (offset + 1) slots = told_from-same one other endpoint (offset + 1) slots (λ at below. same at (omega arith)) in
-    ap (λ (core : ℕ). told_at offset core (destination_of slot endpoint) ++ told_from one endpoint (offset + 1) slots) (same offset (omega arith))
+    let next : slots_told_from one endpoint (offset + 1) slots ≡ slots_told_from other endpoint (offset + 1) slots = told_from-same one other endpoint (offset + 1) slots (λ at below. same at (omega arith)) in
+    ap (λ (core : ℕ). told_at offset core (destination_of slot endpoint) ++ slots_told_from one endpoint (offset + 1) slots) (same offset (omega arith))
     ∙ ap (λ told. told_at offset (other offset) (destination_of slot endpoint) ++ told) next
 
-one_more : (k b : ℕ) → suc k * b ≡ k * b + b
+pub one_more : (k b : ℕ) → suc k * b ≡ k * b + b
 one_more k b = grind arith
 
 -- a slot of a batch comes before the first one of a later batch
@@ -48,7 +48,7 @@ slot_before b k published at before within = omega (arith, one_more k b, mul-le 
 told_of-same : (trace : TraceContent) (b g published : ℕ) (one other : SlotCores) (batches : List DemandBatch) (k endpoint : ℕ) → AgreeBelow (first_slot b published) one other → k < published
     → told_of (setting_of trace b g one) batches k endpoint ≡ told_of (setting_of trace b g other) batches k endpoint
 told_of-same trace b g published one other batches k endpoint agree before =
-    let slots : List (List Flow) = batch_of b k batches in
+    let slots : List (List Flow) = slots_in_batch b k batches in
     let few : length slots ≤ b = omega (arith, length-take b (drop (k * b) (schedule b batches))) in
     told_from-same (λ at. byte_of (one (first_slot b k + at) endpoint)) (λ at. byte_of (other (first_slot b k + at) endpoint)) endpoint 0 slots
     (λ at within. ap (λ (core : CoreOf). byte_of (core endpoint)) (agree (first_slot b k + at) (slot_before b k published at before (omega arith))))
@@ -80,7 +80,7 @@ run-same trace b g published one other (suc rounds) agree early =
     let s = setting_of trace b g one in
     let before : Run = replayed (setting_of trace b g other) rounds in
     ap (after_round s rounds) (run-same trace b g published one other rounds agree (omega arith))
-    ∙ ap (λ (next : ℕ → List Round). record { batches = before.batches ++ recorded_by s next ∷ []; rounds = next })
+    ∙ ap (λ (next : ℕ → List Round). record { batches = before.batches ++ recorded_together s next ∷ []; rounds = next })
     (next_rounds-same trace b g published one other rounds before agree (omega arith))
 
 -- ---- what stands for it
@@ -107,7 +107,7 @@ lane-same trace b g published counted collected one other endpoint lane agree fe
       round = stands.round;
       allocations = stands.allocations;
       counted = λ batch dst below. stands.counted batch dst below ∙ allocated-same trace b g published one other (cond (nat_lt dst 0) (counted + 1) counted) batch endpoint dst agree (counted_few (nat_lt dst 0) counted published g few some);
-      stands = subst (λ (run : Run). lanes.StandsFor lane (run.rounds endpoint) stands.allocations) (run-same trace b g published one other collected agree early) stands.stands;
+      stands = subst (λ (run : Run). lanes.RoundsStandFor lane (run.rounds endpoint) stands.allocations) (run-same trace b g published one other collected agree early) stands.stands;
     }
 
 routed-same : (one other : SlotCores) (number : ℕ) (slots : List (List Flow)) → AgreeBelow (number + length slots) one other → routed_from one number slots ≡ routed_from other number slots
