@@ -1,11 +1,13 @@
 -- A slot whose packets have their cores (the SIGCOMM 2014 Fastpass paper): no link is shared, and a core is named for the
 -- sources of its packets between racks alone. Before that, what a slot must be for this.
-use Rattle.std.specs.Prelude.{◌≡◌, ◌≢◌, ◌<◌, ℕ, List, None, IfSome, All}
+use Rattle.std.specs.Prelude.{◌≡◌, ◌≢◌, ◌<◌, ◌≤◌, ℕ, List, length, None, IfSome, All}
 use Rattle.greedy_rules.specs.declared.flows.Flow.{Flow}
 use Rattle.greedy_rules.specs.Limits.{KeepsLimits}
+use Rattle.greedy_rules.specs.Schedule.{slot_in}
 use Rattle.clos_topology.specs.Network.{Network, endpoints_of}
 use Rattle.clos_topology.specs.Links.{CoreOf, IsClean}
 use Rattle.clos_topology.specs.RackGraph.{rack_edges}
+use Rattle.path_workers.specs.CoreTable.{CoreSlots, core_of, NamesNone}
 
 -- a flow of a network
 abbrev pub IsFlowOf : Network → Flow → Type 0
@@ -31,3 +33,14 @@ EveryNamedCoreIsBelow = (hosts cores : ℕ) (slot : List Flow) (core_of : CoreOf
 pub record HasItsCores (net : Network) (slot : List Flow) (core_of : CoreOf) : Type 0 where
   pub clean : IsClean net.hosts net.cores slot core_of
   pub others : NamesNoOther net.hosts slot core_of
+
+-- each slot of a list has its cores in a table
+pub record HaveTheirCores (net : Network) (slots : List (List Flow)) (table : CoreSlots) : Type 0 where
+  -- no two packets of a slot use one link
+  pub clean : (at : ℕ) → at < length slots → IsClean net.hosts net.cores (slot_in slots at) (core_of table at)
+  -- a source that sends nothing to another rack has no core
+  pub others : (at : ℕ) → at < length slots → NamesNoOther net.hosts (slot_in slots at) (core_of table at)
+  -- each core that is named is one of the net's
+  pub below : (at : ℕ) → at < length slots → NamesBelow net.cores (core_of table at)
+  -- no core is named past the slots
+  pub past : (at : ℕ) → length slots ≤ at → NamesNone (core_of table at)

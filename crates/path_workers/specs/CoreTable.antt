@@ -10,6 +10,13 @@ pub record CoreSlots : Type 0 where
   pub endpoints : ℕ
   pub rows : List (List (Option ℕ))
 
+-- a table has room for what another has room for
+pub record HasRoomOf (old new : CoreSlots) : Type 0 where
+  -- as many slots
+  pub slots : new.slots ≡ old.slots
+  -- as many endpoints in each
+  pub endpoints : new.endpoints ≡ old.endpoints
+
 -- the core that a slot names for each source
 abbrev pub core_of : CoreSlots → ℕ → CoreOf
 core_of table slot = core_in (slice_index_or table.rows slot [])

@@ -25,3 +25,12 @@ times_taken slot taken = count_by (λ number. number == slot) taken
 -- each of the first slots, so many, was taken once more, and no other
 abbrev pub AreTakenOnce : ℕ → List ℕ → List ℕ → Type 0
 AreTakenOnce count old new = (slot : ℕ) → times_taken slot new ≡ times_taken slot old + (if nat_lt slot count then 1 else 0)
+
+-- what the workers have done once they have played the first slots, so many
+pub record HaveWorked (count : ℕ) (old new : PathWork) : Type 0 where
+  -- a job for each slot was put, and an end for each worker
+  pub jobs : new.jobs ≡ old.jobs + count + old.paths
+  -- each slot was taken once, by whichever worker
+  pub taken : AreTakenOnce count old.taken new.taken
+  -- and they are the same workers
+  pub same : AreTheSame old new

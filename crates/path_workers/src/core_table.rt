@@ -1,4 +1,4 @@
-ghost use Rattle.std.specs.Prelude.{◌≡◌, ◌<◌, ◌≤◌, ℕ, [], ◌∷◌, ◌++◌, length, IfOk};
+ghost use Rattle.std.specs.Prelude.{◌≡◌, ◌<◌, ◌≤◌, ◌+◌, ℕ, [], ◌∷◌, ◌++◌, length, IfOk, vec_len, vec_capacity};
 ghost use Rattle.std.specs.List.{slice_index_or};
 ghost use Rattle.path_workers.specs.CoreTable.{core_of, NamesNone};
 
@@ -69,7 +69,7 @@ impl CoreTable {
             from: self.cores.len() as u32,
             len: row.len() as u16,
         });
-        let _ = self.cores.extend_from_slice(row);
+        add_row(&mut self.cores, row);
     }
 
     /// How many slots there is room for.
@@ -111,4 +111,16 @@ impl CoreTable {
             None => None,
         }
     }
+}
+
+/// Puts a row behind the cores, which have room for it. For an empty one there is nothing to do.
+fn add_row(cores: &mut Vec<Option<u16>>, row: &[Option<u16>])
+    requires room { vec_len cores.old + length row.now ≤ vec_capacity cores.old }
+    ensures items { cores.new.items ≡ cores.old.items ++ row.now }
+    ensures capacity { vec_capacity cores.old ≤ vec_capacity cores.new }
+{
+    if row.is_empty() {
+        return;
+    }
+    let _ = cores.extend_from_slice(row);
 }

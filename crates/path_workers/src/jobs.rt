@@ -146,7 +146,22 @@ pub(crate) fn join(queue: &JobQueue, pass: &mut JobPass, other: JobPass)
 }
 
 /// Puts a job. A refused one is tried again.
+#[inline(always)]
 fn put<R: Wait>(rt: &R, queue: &JobQueue, pass: &mut JobPass, job: Job)
+    requires queue { IsPassOf queue.now pass.old }
+    requires parts { 0 < (view pass.old).parts }
+    ensures queue { IsPassOf queue.now pass.new }
+    ensures put { view pass.new ≡ hand (view pass.old).parts ((view pass.old).put ++ job ∷ []) (view pass.old).taken }
+{
+    if queue.try_push_as::<Puts>(pass, job).is_ok() {
+        return;
+    }
+    put_again(rt, queue, pass, job);
+}
+
+/// Puts a job that was refused.
+#[inline(never)]
+fn put_again<R: Wait>(rt: &R, queue: &JobQueue, pass: &mut JobPass, job: Job)
     requires queue { IsPassOf queue.now pass.old }
     requires parts { 0 < (view pass.old).parts }
     ensures queue { IsPassOf queue.now pass.new }
@@ -193,6 +208,7 @@ pub(crate) fn take(queue: &JobQueue, pass: &mut JobPass) -> Option<Job>
 }
 
 /// Takes a job with the pass that has every part. Where none is left, what was put is what was taken.
+#[inline(always)]
 pub(crate) fn take_last<R: Wait>(rt: &R, queue: &JobQueue, pass: &mut JobPass) -> Option<Job>
     requires queue { IsPassOf queue.now pass.old }
     requires parts { (view pass.old).parts ≡ 17 }
@@ -201,5 +217,8 @@ pub(crate) fn take_last<R: Wait>(rt: &R, queue: &JobQueue, pass: &mut JobPass) -
         ((view pass.new ≡ view pass.old) × ((h : AnyJob → ℕ) → weigh h (view pass.new).put ≡ weigh h (view pass.new).taken))
         (λ job. view pass.new ≡ hand (view pass.old).parts (view pass.old).put ((view pass.old).taken ++ job ∷ [])) }
 {
-    queue.pop_as::<Takes, R>(rt, pass)
+    match take(queue, pass) {
+        Some(job) => Some(job),
+        None => queue.pop_as::<Takes, R>(rt, pass),
+    }
 }

@@ -64,6 +64,7 @@ impl Painter {
     }
 
     /// Colours the slot that the job names, once the gate has let the worker pass. Answers whether it names one.
+    #[inline(always)]
     pub(crate) fn take_up<G: Gate>(&mut self, gate: &G, slots: &SlotTable, job: Job) -> bool
         requires may { MayPaint slots.now.slots self.old }
         ensures painted { HasPainted self.old.net (vec_len self.old.places) slots.now.slots self.new }
@@ -82,6 +83,7 @@ impl Painter {
     }
 
     /// Gives the slot's packets their cores.
+    #[inline(always)]
     fn paint(&mut self, slots: &SlotTable, slot: u16)
         requires slot { slot < length slots.now.slots }
         requires may { MayPaint slots.now.slots self.old }
@@ -113,6 +115,7 @@ impl Painter {
     }
 
     /// Where the cores of the slot's packets stand: in its own row, which is written, or in one that has them already.
+    #[inline(always)]
     fn make_row(&mut self, slots: &SlotTable, slot: u16) -> u16
         requires slot { slot < length slots.now.slots }
         requires may { MayPaint slots.now.slots self.old }
@@ -122,10 +125,24 @@ impl Painter {
         ensures number { self.new.number ≡ self.old.number }
     {
         every_colouring_makes_a_matching_clean();
-        limits_are_degrees();
         if slots.is_idle(slot) {
             return self.idle_place();
         }
+        self.make_other_row(slots, slot)
+    }
+
+    /// The same for a slot that need not be idle.
+    #[inline(never)]
+    fn make_other_row(&mut self, slots: &SlotTable, slot: u16) -> u16
+        requires slot { slot < length slots.now.slots }
+        requires may { MayPaint slots.now.slots self.old }
+        ensures painted { HasPainted self.old.net (vec_len self.old.places) slots.now.slots self.new }
+        ensures row { HasRow self.old.net (vec_len self.old.places) slots.now.slots self.new slot result }
+        ensures places { self.new.places ≡ self.old.places }
+        ensures number { self.new.number ≡ self.old.number }
+    {
+        every_colouring_makes_a_matching_clean();
+        limits_are_degrees();
         if let Some(place) = self.last_row(slots, slot) {
             return place;
         }

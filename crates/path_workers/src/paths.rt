@@ -4,11 +4,10 @@ ghost use Rattle.greedy_rules.specs.declared.flows.Flow.{Flow};
 ghost use Rattle.greedy_rules.specs.Matching.{IsMatching};
 ghost use Rattle.greedy_rules.specs.Schedule.{slot_in};
 ghost use Rattle.clos_topology.specs.Network.{Network, endpoints_of};
-ghost use Rattle.clos_topology.specs.Links.{IsClean};
 ghost use Rattle.edge_colouring.specs.Cores.{core_in};
-ghost use Rattle.path_workers.specs.PathWork.{AreTheSame, AreTakenOnce};
-ghost use Rattle.path_workers.specs.CoreTable.{core_of, NamesNone};
-ghost use Rattle.path_workers.specs.Coloured.{IsFlowOf, IsWithinCores, NamesNoOther, NamesBelow, HasItsCores};
+ghost use Rattle.path_workers.specs.PathWork.{HaveWorked};
+ghost use Rattle.path_workers.specs.CoreTable.{core_of, HasRoomOf, NamesNone};
+ghost use Rattle.path_workers.specs.Coloured.{IsFlowOf, IsWithinCores, HasItsCores, HaveTheirCores};
 ghost use Rattle.path_workers.specs.Painters.{numbers_of, IsPainter, HasPainted, MayPaint, HaveRows, has_row};
 
 use crate::core_table::CoreTable;
@@ -99,15 +98,9 @@ impl Paths {
         requires degrees { All (IsWithinCores self.old.net) slots.now.slots }
         requires slot_room { length slots.now.slots ≤ out.old.slots }
         requires endpoint_room { endpoints_of self.old.net ≤ out.old.endpoints }
-        ensures clean { (at : ℕ) → at < length slots.now.slots → IsClean self.old.net.hosts self.old.net.cores (slot_in slots.now.slots at) (core_of out.new at) }
-        ensures others { (at : ℕ) → at < length slots.now.slots → NamesNoOther self.old.net.hosts (slot_in slots.now.slots at) (core_of out.new at) }
-        ensures below { (at : ℕ) → at < length slots.now.slots → NamesBelow self.old.net.cores (core_of out.new at) }
-        ensures past { (at : ℕ) → length slots.now.slots ≤ at → NamesNone (core_of out.new at) }
-        ensures out_slots { out.new.slots ≡ out.old.slots }
-        ensures out_endpoints { out.new.endpoints ≡ out.old.endpoints }
-        ensures jobs { self.new.jobs ≡ self.old.jobs + length slots.now.slots + self.old.paths }
-        ensures taken { AreTakenOnce (length slots.now.slots) self.old.taken self.new.taken }
-        ensures same { AreTheSame self.old self.new }
+        ensures coloured { HaveTheirCores self.old.net slots.now.slots out.new }
+        ensures out { HasRoomOf out.old out.new }
+        ensures work { HaveWorked (length slots.now.slots) self.old self.new }
     {
         let workers = self.painters.len() as u16;
         let threads = workers > 1 && self.net.racks() > 1 && has_many(slots);

@@ -6,3 +6,4 @@ pub mod RefusalNames
 pub mod LineKinds
 pub mod Spelling
 pub mod ShortTable
+pub mod RowText

@@ -1,17 +1,22 @@
 //! Lines spelled one behind the other.
-ghost use Rattle.std.specs.Prelude.{◌≡◌, ◌+◌, ◌≤◌, [], ◌∷◌, ◌++◌, length, take, Option, IfOk, MatchBool};
+ghost use Rattle.std.specs.Prelude.{◌≡◌, ◌+◌, ◌≤◌, ◌↔◌, [], ◌∷◌, ◌++◌, length, take, Option, IfOk, IsTrue, MatchBool};
 ghost use Rattle.report_text.specs.Lines.{line_bytes, fields, core_field, HasName};
-ghost use Rattle.report_text.specs.Buffer.{HasRoom, IsFull};
+ghost use Rattle.report_text.specs.Buffer.{HasRoom, HasRoomFor, IsFull};
+ghost use Rattle.report_text.specs.SlotLines.{row_text};
 
 use crate::numeral::Numeral;
 use crate::put::put;
 use crate::short_fields::ShortFields;
+use crate::slot_lines::spell_packets;
 use crate::{Line, write_line};
 use std::alloc::{AllocError, Global};
 use std::marker::Model;
 
 /// The most bytes that a line takes, with its line feed.
 const LINE: usize = 192;
+
+/// The most bytes that a packet of a slot takes.
+const PACKET: usize = 64;
 
 /// How many bytes there are.
 const CAPACITY: usize = 65_536;
@@ -61,6 +66,14 @@ impl LineBuffer {
         self.end + LINE <= CAPACITY
     }
 
+    /// Whether there is room for so many packets of slots more.
+    pub fn has_room_for(&self, packets: usize) -> bool
+        requires { packets ≤ 1000 }
+        ensures { IsTrue result ↔ HasRoomFor packets self.now }
+    {
+        self.end + PACKET * packets <= CAPACITY
+    }
+
     /// Forgets all lines.
     pub fn clear(&mut self)
         ensures { self.new ≡ [] }
@@ -75,6 +88,23 @@ impl LineBuffer {
     {
         let buf = &mut self.bytes[..];
         self.end = spell_slot(&self.small, buf, self.end, slot, src, dst, core);
+    }
+
+    /// The packets of a slot that some sources send, the first of them `from`, each with the core at its place.
+    pub fn put_packets(
+        &mut self,
+        slot: &Numeral,
+        from: usize,
+        row: &[Option<u16>],
+        cores: &[Option<u16>],
+    )
+        requires sources { from + length row.now ≤ 1000 }
+        requires cores { from + length row.now ≤ length cores.now }
+        requires room { HasRoomFor (length row.now) self.old }
+        ensures { self.new ≡ self.old ++ row_text slot.now cores.now from row.now }
+    {
+        let buf = &mut self.bytes[..];
+        self.end = spell_packets(&self.small, buf, self.end, slot, from, row, cores);
     }
 
     /// A packet that its endpoint sent.
@@ -131,7 +161,7 @@ fn spell_slot(
     put(buf, at, b"\n")
 }
 
-fn spell_core(small: &ShortFields, buf: &mut [u8], at: usize, core: Option<u16>) -> usize
+pub(crate) fn spell_core(small: &ShortFields, buf: &mut [u8], at: usize, core: Option<u16>) -> usize
     requires { at + 16 ≤ length buf.old }
     ensures fits { result ≤ at + 11 }
     ensures written { take result buf.new ≡ take at buf.old ++ fields (core_field core ∷ []) }

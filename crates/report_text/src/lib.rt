@@ -4,7 +4,7 @@
 //! refusals. `buffer.rt` has `LineBuffer`, 64 KiB of lines taken once: the frequent lines are spelled where they will lie, the
 //! others by `write_line`. `numeral.rt` is a number spelled once for the lines that share it, `short_fields.rt` the table of the
 //! numbers below 1,000, whose `put` is inlined: a load of eight bytes and a store of four; a longer number is spelled by a
-//! function that is not.
+//! function that is not. `slot_lines.rt` spells the packets of many sources of a slot at once.
 #![tactic(auto)]
 
 mod buffer;
@@ -17,6 +17,7 @@ mod put;
 mod read;
 mod short_field;
 mod short_fields;
+mod slot_lines;
 mod write;
 
 pub use buffer::LineBuffer;

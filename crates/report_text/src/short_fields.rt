@@ -1,5 +1,5 @@
 //! The fields of small numbers, spelled once for all lines.
-ghost use Rattle.std.specs.Prelude.{◌≡◌, ◌+◌, ◌≤◌, [], ◌∷◌, ◌++◌, length, take};
+ghost use Rattle.std.specs.Prelude.{◌≡◌, ◌+◌, ◌<◌, ◌≤◌, [], ◌∷◌, ◌++◌, length, take};
 ghost use Rattle.report_text.specs.Lines.{number_fields};
 ghost use Rattle.report_text.specs.ShortFields.{AreShortFields};
 
@@ -36,10 +36,22 @@ impl ShortFields {
         ensures count { length buf.new ≡ length buf.old }
     {
         if number < u32::from(SMALL) {
-            let field = self.fields[number as usize];
-            return put_front(buf, at, &field.bytes, field.end as usize);
+            return self.put_small(buf, at, number);
         }
         put_long(buf, at, number)
+    }
+
+    /// Puts the field of a number below 1,000.
+    #[inline(always)]
+    pub(crate) fn put_small(&self, buf: &mut [u8], at: usize, number: u32) -> usize
+        requires small { number < 1000 }
+        requires room { at + 16 ≤ length buf.old }
+        ensures fits { result ≤ at + 11 }
+        ensures written { take result buf.new ≡ take at buf.old ++ number_fields (number ∷ []) }
+        ensures count { length buf.new ≡ length buf.old }
+    {
+        let field = self.fields[number as usize];
+        put_front(buf, at, &field.bytes, field.end as usize)
     }
 }
 

@@ -1,5 +1,5 @@
 -- What speaks against an item waiting as it is, and where nothing does.
-use Rattle.std.proofs.Common.{◌≡◌, ◌≤◌, ◌+◌, ℕ, zero, suc, List, [], ◌∷◌, get_or, length, take, drop, false, not, ◌&&◌, ◌||◌, ◌==◌, nat_lt, min, bit_or, All, refl, sym, ap, ◌∙◌, subst, arith, inl, inr}
+use Rattle.std.proofs.Common.{◌≡◌, ◌+◌, ℕ, List, get_or, length, take, drop, false, not, ◌&&◌, ◌||◌, ◌==◌, nat_lt, min, bit_or, All, sym, ap, ◌∙◌, subst, arith, inl, inr}
 use Rattle.std.proofs.Math.Seq.{take-add}
 use Rattle.std.proofs.lemmas.Nat.{le_or_l, le_or_r}
 use Rattle.std.proofs.lemmas.Bool.{cases_eq, and_left, and_right, le-ltb}
@@ -54,17 +54,6 @@ all_four P xs d four first second third fourth =
     subst (All P) (take_all 4 xs (omega (arith, four)))
     (All-more P xs 3 d (omega (arith, four)) (All-more P xs 2 d (omega (arith, four)) (All-more P xs 1 d (omega (arith, four)) (All-more P xs 0 d (omega (arith, four)) (All-nil P) first) second) third) fourth)
 
--- the front of a front
-pub take_in : {X : Type 0} (n m : ℕ) (xs : List X) → n ≤ m → take n (take m xs) ≡ take n xs
-take_in zero m xs within = refl
-take_in (suc n) zero xs within = absurd (omega (arith, within))
-take_in (suc n) (suc m) [] within = refl
-take_in (suc n) (suc m) (x ∷ xs) within = ap (λ (ys : List _). x ∷ ys) (take_in n m xs (omega (arith, within)))
-
 -- a fact of a front, and of what stands next
 pub front_on : {X : Type 0} (P : X → Type 0) (xs : List X) (at more : ℕ) → All P (take at xs) → All P (take more (drop at xs)) → All P (take (at + more) xs)
 front_on P xs at more front next = subst (All P) (sym (take-add at more xs)) (All-append P (take at xs) (take more (drop at xs)) front next)
-
--- what stands next, as a slice
-pub front_then : {X : Type 0} (P : X → Type 0) (xs : List X) (at more n : ℕ) → All P (take at xs) → All P (take more (take n (drop at xs))) → more ≤ n → All P (take (at + more) xs)
-front_then P xs at more n front next within = front_on P xs at more front (subst (All P) (take_in more n (drop at xs) within) next)

@@ -31,6 +31,7 @@ pub mod Ahead
 pub mod AheadWindow
 pub mod RestLemmas
 pub mod DoubtLemmas
+pub mod EntryLemmas
 pub mod BusyLemmas
 pub mod NodeCounts
 pub mod Crossing

@@ -32,7 +32,7 @@ use Rattle.slot_batches.proofs.TakeUpLemmas.{last_of_all}
 abbrev pub kept : Fill → List Item → Fill
 kept fill items = record fill { waiting = fill.waiting ++ items }
 
-keep_one : (taken : List Item) (fill : Fill) (item : Item) → HasTakenUp taken fill → MayBeTakenUp fill.endpoints fill.first_slot (taken ++ item ∷ []) → TakesNone fill.maps item
+pub keep_one : (taken : List Item) (fill : Fill) (item : Item) → HasTakenUp taken fill → MayBeTakenUp fill.endpoints fill.first_slot (taken ++ item ∷ []) → TakesNone fill.maps item
     → HasTakenUp (taken ++ item ∷ []) (kept fill (item ∷ []))
 keep_one taken fill item is may none =
     let bar : Bar = is_barred fill.maps.limits in

@@ -5,9 +5,10 @@ ghost use Rattle.slot_batches.specs.ArrayStands.{array_endpoints, array_size, ar
 ghost use Rattle.slot_batches.specs.Settled.{settled, slots_filled};
 ghost use Rattle.slot_batches.specs.Pieces.{Part, part_of, next_piece};
 
+use crate::entry_places::EntryPlaces;
 use crate::filling::Filling;
 use crate::marks::mark_entries;
-use crate::opening::{open_due, with_entry};
+use crate::opening::{open_due, with_near_entry};
 use crate::piece::Piece;
 use crate::resting::resting;
 use greedy_rules::{Batch, DemandList, Item, SlotTable};
@@ -22,6 +23,7 @@ use std::marker::Model;
 pub(crate) struct ArrayStage {
     filling: Filling,
     marks: Vec<u64>,
+    places: EntryPlaces,
     number: u32,
     unopened: usize,
     given: u32,
@@ -65,6 +67,7 @@ impl ArrayStage {
         Ok(ArrayStage {
             filling: Filling::open(alloc, endpoints, b)?,
             marks: vec![in alloc; 0; 512]?,
+            places: EntryPlaces::open(alloc)?,
             number: 0,
             unopened: 0,
             given: 0,
@@ -82,6 +85,7 @@ impl ArrayStage {
     {
         self.filling.begin(first_slot, batch.limits());
         mark_entries(&mut self.marks, batch);
+        self.places.note(batch);
         self.number = stage;
         self.unopened = batch.len();
         self.given = 0;
@@ -99,7 +103,8 @@ impl ArrayStage {
             ArrayStands batch.now (fed ++ item ∷ []) false given self.new }
     {
         open_due(&mut self.filling, &mut self.unopened, batch, item.last > 0);
-        self.filling.take_up(with_entry(item, batch, &self.marks));
+        let item = with_near_entry(item, batch, &self.marks, &self.places);
+        self.filling.take_up(item);
     }
 
     /// Feeds the next items of the list, one after the other.
@@ -115,10 +120,24 @@ impl ArrayStage {
         let mut from = 0;
         while from < items.len() {
             from += self.keep_resting(batch, &items[from..]);
-            if from < items.len() {
-                self.feed(batch, items[from]);
-                from += 1;
-            }
+            let few = (items.len() - from).min(4);
+            self.feed_few(batch, &items[from..from + few]);
+            from += few;
+        }
+    }
+
+    /// Feeds these items, one after the other.
+    fn feed_few(&mut self, batch: &Batch, items: &[Item])
+        requires may { (fed : List Item) × (given : ℕ) × ArrayStands batch.now fed false given self.old × MayBeFed batch.now.entries (array_endpoints self.old) (array_first self.old) (fed ++ items.now) }
+        requires needs { All (λ item. need_with (entry_of batch.now.entries item.flow) item.need < 2 ^ 32) items.now }
+        ensures work { IsSameArrayWork (array_endpoints self.old) (array_size self.old) (array_number self.old) (array_first self.old) self.new }
+        ensures stands { (fed : List Item) → (given : ℕ) →
+            ArrayStands batch.now fed false given self.old →
+            MayBeFed batch.now.entries (array_endpoints self.old) (array_first self.old) (fed ++ items.now) →
+            ArrayStands batch.now (fed ++ items.now) false given self.new }
+    {
+        for item in items {
+            self.feed(batch, *item);
         }
     }
 
@@ -133,7 +152,9 @@ impl ArrayStage {
             ArrayStands batch.now (fed ++ take result items.now) false given self.new }
     {
         let count = resting(&self.filling, &self.marks, self.unopened, batch, items);
-        self.filling.keep(&items[..count]);
+        if count > 0 {
+            self.filling.keep(&items[..count]);
+        }
         count
     }
 

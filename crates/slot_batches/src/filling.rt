@@ -76,6 +76,25 @@ impl Filling {
             MayBeTakenUp self.old.endpoints self.old.first_slot (taken ++ item ∷ []) →
             HasTakenUp (taken ++ item ∷ []) (fill_of self.new) }
     {
+        if self.must_wait(&item) {
+            self.waiting.push_reserved(item);
+            return;
+        }
+        self.serve(item);
+    }
+
+    /// As `take_up`. Most items take no slot: it stays out of their loop.
+    #[inline(never)]
+    fn serve(&mut self, item: Item)
+        requires room { FillingHasRoom self.old }
+        requires may { (taken : List Item) × HasTakenUp taken (fill_of self.old) × MayBeTakenUp self.old.endpoints self.old.first_slot (taken ++ item ∷ []) }
+        ensures room { FillingHasRoom self.new }
+        ensures same { IsSameBatch self.old.maps.limits self.old.endpoints self.old.b self.old.first_slot self.new }
+        ensures taken_up { (taken : List Item) →
+            HasTakenUp taken (fill_of self.old) →
+            MayBeTakenUp self.old.endpoints self.old.first_slot (taken ++ item ∷ []) →
+            HasTakenUp (taken ++ item ∷ []) (fill_of self.new) }
+    {
         let Flow { src, dst } = item.flow;
         let places = self.maps.take_lowest(src, dst, item.need);
         if places == 0 {

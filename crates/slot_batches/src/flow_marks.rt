@@ -3,7 +3,7 @@ ghost use Rattle.greedy_rules.specs.declared.flows.Flow.{Flow};
 ghost use Rattle.slot_batches.specs.Marks.{own_place, own_bit, has_own_bit, HaveOwnBits, has_mark};
 ghost use Rattle.slot_batches.specs.Woven.{OnlyOpen, places_from};
 
-use crate::marks::{has_bit, set_bit};
+use crate::marks::{clear_words, has_bit, set_bit};
 use greedy_rules::{Batch, Flow, Item};
 use no_memory::NoMemory;
 use std::alloc::Global;
@@ -64,7 +64,7 @@ fn mark_batch(words: &mut [u64], batch: &Batch)
 fn mark_all(words: &mut [u64], batches: &[Batch])
     ensures { All (λ batch. HaveOwnBits batch.entries words.new) batches.now }
 {
-    words.fill(0);
+    clear_words(words);
     for batch in batches {
         mark_batch(words, batch);
     }
@@ -114,11 +114,20 @@ impl FlowMarks {
     pub fn mark(&mut self, batches: &[Batch])
         ensures { (flow : Flow) → has_mark self.new flow ≡ false → OnlyOpen batches.now flow }
     {
+        let had = self.some;
         self.some = !batches.iter().all(|batch| batch.only_opens());
-        if !self.some {
-            return;
+        if self.some {
+            mark_all(&mut self.words, batches);
+        } else if had {
+            clear_words(&mut self.words);
         }
-        mark_all(&mut self.words, batches);
+    }
+
+    /// Whether the flow may have a mark: between 256 endpoints, whether it has one.
+    pub fn may_have(&self, flow: Flow) -> bool
+        ensures { result ≡ false → has_mark self.now flow ≡ false }
+    {
+        has_bit(&self.words, place(flow), bit(flow))
     }
 
     /// Whether no flow has a mark.

@@ -3,7 +3,8 @@
 //! `slot_batches` goes through a batch flow by flow where `greedy_rules` goes slot by slot. `filling.rt` lets one item after the
 //! other take its lowest free slots, and keeps the items that wait and those that were served; `turns.rt` does that for the items
 //! of any list, whatever its order; `opening.rt` applies the batch's entries and takes up the flows that open; `marks.rt` tells
-//! which flows may have an entry, so that no other is looked up, and `flow_marks.rt` the same of the batches of a window;
+//! which flows may have an entry, so that no other is looked up, `entry_places.rt` where it may stand, so that it is mostly found
+//! at once, and `flow_marks.rt` which flows may have an entry in one of the batches of a window;
 //! `resting.rt` finds how many items wait as they are, four at a time, and these are kept at once; `array_stage.rt` orders these
 //! steps, settles items and gives them piece by piece as soon as more than 64 wait; `stage.rt` is that with the loose nodes
 //! beside it, `chains.rt` writes items into nodes; `piece.rt` is a part of 64 items in nodes (`item_chain`). `served.rt` puts the
@@ -16,6 +17,7 @@
 
 mod array_stage;
 mod chains;
+mod entry_places;
 mod filling;
 mod flow_marks;
 mod laws;
@@ -36,7 +38,7 @@ pub use laws::{
     items_may_be_set_aside, lists_may_be_fed, served_fit_places, served_items_follow,
     settled_items_count_as_fed, small_batches,
 };
-pub use marks::mark_entries;
+pub use marks::{clear_words, mark_entries};
 pub use no_memory::NoMemory;
 pub use opening::with_entry;
 pub use piece::Piece;

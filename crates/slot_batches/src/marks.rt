@@ -1,4 +1,4 @@
-ghost use Rattle.std.specs.Prelude.{◌≡◌, ◌<◌, ◌==◌, ◌&&◌, ◌||◌, ℕ, length, true, false};
+ghost use Rattle.std.specs.Prelude.{◌≡◌, ◌<◌, ◌==◌, ◌&&◌, ◌||◌, ℕ, length, replicate, true, false};
 ghost use Rattle.greedy_rules.specs.declared.flows.Flow.{Flow};
 ghost use Rattle.slot_batches.specs.Marks.{source_place, destination_place, mark_bit, has_bit as has_bit_in, is_flow_marked as is_marked_in, AreMarked};
 
@@ -75,12 +75,24 @@ fn mark(words: &mut [u64], flow: Flow)
     set_bit(words, destination_at(flow), bit(flow));
 }
 
+/// Lets each word be 0, part by part: a short part is filled by the machine's wide stores.
+pub fn clear_words(words: &mut [u64])
+    ensures { words.new ≡ replicate (length words.old) 0 }
+{
+    let mut from = 0;
+    while from < words.len() {
+        let few = (words.len() - from).min(256);
+        words[from..from + few].fill(0);
+        from += few;
+    }
+}
+
 /// Marks the flows of the batch's entries, and perhaps others.
 pub fn mark_entries(words: &mut [u64], batch: &Batch)
     ensures marked { AreMarked batch.now.entries words.new }
     ensures count { length words.new ≡ length words.old }
 {
-    words.fill(0);
+    clear_words(words);
     for at in 0..batch.len() {
         mark(words, batch.entry(at).flow);
     }

@@ -7,6 +7,7 @@ ghost use Rattle.slot_batches.specs.Filled.{HasTakenUp, MayBeTakenUp};
 ghost use Rattle.slot_batches.specs.Parts.{fill_of, FillingHasRoom, IsSameBatch};
 ghost use Rattle.slot_batches.specs.ArrayStands.{HasBeenFed};
 
+use crate::entry_places::EntryPlaces;
 use crate::filling::Filling;
 use crate::marks::is_marked;
 use batch_lookup::BatchLookup;
@@ -21,7 +22,32 @@ pub fn with_entry(item: Item, batch: &Batch, marks: &[u64]) -> Item
     if !is_marked(marks, item.flow) {
         return item;
     }
-    match BatchLookup::find(batch, item.flow) {
+    with_its_entry(item, BatchLookup::find(batch, item.flow))
+}
+
+/// As `with_entry`, for a batch whose entries' places were noted.
+pub(crate) fn with_near_entry(
+    item: Item,
+    batch: &Batch,
+    marks: &[u64],
+    places: &EntryPlaces,
+) -> Item
+    requires marks { AreMarked batch.now.entries marks.now }
+    requires need { need_with (entry_of batch.now.entries item.flow) item.need < 2 ^ 32 }
+    ensures { result ≡ with_batch batch.now.entries item }
+{
+    if !is_marked(marks, item.flow) {
+        return item;
+    }
+    with_its_entry(item, places.find(batch, item.flow))
+}
+
+/// The item with this entry of its flow applied, if there is one.
+pub(crate) fn with_its_entry(item: Item, entry: Option<Entry>) -> Item
+    requires { need_with entry item.need < 2 ^ 32 }
+    ensures { result ≡ record item { need = need_with entry item.need } }
+{
+    match entry {
         Some(entry) => {
             let kept = if entry.clear { 0 } else { item.need };
             Item {

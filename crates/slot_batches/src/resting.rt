@@ -7,30 +7,8 @@ ghost use Rattle.slot_batches.specs.Parts.{IsWhole};
 ghost use Rattle.slot_batches.specs.Rests.{opens_before, ItemRests, TakesNone};
 
 use crate::filling::Filling;
-use crate::marks::{common_marks, is_marked};
+use crate::marks::common_marks;
 use greedy_rules::{Batch, Item};
-
-/// Whether flows may open before the item.
-fn opens_first(unopened: usize, item: &Item) -> bool
-    ensures { result ≡ opens_before unopened item.now }
-{
-    item.last > 0 && unopened > 0
-}
-
-/// Whether the item waits as it is: it takes no slot, has no entry, and no flow opens before it.
-fn rests(filling: &Filling, marks: &[u64], unopened: usize, item: &Item) -> bool
-    requires src { item.now.flow.src < filling.now.maps.endpoints }
-    requires dst { item.now.flow.dst < filling.now.maps.endpoints }
-    ensures { (entries : List Entry) → AreMarked entries marks.now → result ≡ true → ItemRests entries unopened filling.now.maps item.now }
-{
-    if is_marked(marks, item.flow) {
-        return false;
-    }
-    if opens_first(unopened, item) {
-        return false;
-    }
-    filling.must_wait(item)
-}
 
 /// How many slots the item takes at most: 0 only where it takes none.
 fn wanted(filling: &Filling, item: &Item) -> u64
@@ -107,40 +85,6 @@ fn resting_fours(filling: &Filling, marks: &[u64], unopened: usize, items: &[Ite
     at
 }
 
-/// How many items at the front wait as they are, going on one by one.
-fn resting_ones(filling: &Filling, marks: &[u64], unopened: usize, items: &[Item]) -> usize
-    requires { AreBelow filling.now.maps.endpoints items.now }
-    ensures within { result ≤ length items.now }
-    ensures rest { (entries : List Entry) → AreMarked entries marks.now → All (ItemRests entries unopened filling.now.maps) (take result items.now) }
-{
-    for (at, item) in items.iter().enumerate() {
-        if !rests(filling, marks, unopened, item) {
-            return at;
-        }
-    }
-    items.len()
-}
-
-/// How many items at the front wait as they are, going on by fours where it can.
-fn resting_front(filling: &Filling, marks: &[u64], unopened: usize, items: &[Item]) -> usize
-    requires whole { IsWhole filling.now marks.now }
-    requires below { AreBelow filling.now.maps.endpoints items.now }
-    ensures within { result ≤ length items.now }
-    ensures rest { (entries : List Entry) → AreMarked entries marks.now → All (ItemRests entries unopened filling.now.maps) (take result items.now) }
-{
-    let mut at = 0;
-    while at < items.len() {
-        at += resting_fours(filling, marks, unopened, &items[at..]);
-        let few = (items.len() - at).min(4);
-        let more = resting_ones(filling, marks, unopened, &items[at..at + few]);
-        at += more;
-        if more < few {
-            return at;
-        }
-    }
-    at
-}
-
 /// Whether every item waits as it is, whichever it be: no endpoint may send any more, and the batch has no entry.
 fn all_rest(filling: &Filling, unopened: usize, batch: &Batch) -> bool
     ensures { result ≡ true → (item : Item) → ItemRests batch.now.entries unopened filling.now.maps item }
@@ -164,5 +108,5 @@ pub(crate) fn resting(
     if all_rest(filling, unopened, batch) {
         return items.len();
     }
-    resting_front(filling, marks, unopened, items)
+    resting_fours(filling, marks, unopened, items)
 }

@@ -6,7 +6,9 @@ use Rattle.greedy_rules.specs.declared.flows.Flow.{Flow}
 use Rattle.greedy_rules.specs.SlotTable.{flows_from}
 use Rattle.greedy_rules.proofs.RowLemmas.{flows_from-append}
 use Rattle.report_text.specs.declared.line.Line.{Line}
-use Rattle.text_output.specs.Text.{line_text, text_of}
+use Rattle.edge_colouring.specs.Cores.{core_in}
+use Rattle.report_text.specs.SlotLines.{row_text}
+use Rattle.text_output.specs.Text.{line_text, text_of, slot_line}
 use Rattle.text_output.specs.Text.{flow_list}
 
 flows_from-one : (src : ℕ) (cell : Option ℕ) → flows_from src (cell ∷ []) ≡ flow_list src cell
@@ -43,3 +45,10 @@ row_whole line from row at d below =
     let rest : List Flow = flows_from (from + length (take (at + 1) row)) (drop (at + 1) row) in
     row_parts line from row (take (at + 1) row) (drop (at + 1) row) (sym (take-append-drop (at + 1) row))
     ∙ ap (λ (t : List ℕ). t ++ text_of (map line rest)) (row_more line from row at d below)
+
+-- the same as it is spelled at once
+pub packets_text : (number : ℕ) (cores : List (Option ℕ)) (from : ℕ) (row : List (Option ℕ)) → row_text number cores from row ≡ text_of (map (slot_line number (core_in cores)) (flows_from from row))
+packets_text number cores from [] = refl
+packets_text number cores from (None ∷ row) = packets_text number cores (from + 1) row
+packets_text number cores from (Some dst ∷ row) =
+    ap (λ (t : List ℕ). line_text (slot_line number (core_in cores) (record { src = from; dst = dst })) ++ t) (packets_text number cores (from + 1) row)

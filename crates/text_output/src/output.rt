@@ -1,6 +1,7 @@
-ghost use Rattle.std.specs.Prelude.{◌≡◌, [], OnOk, IfErr};
-ghost use Rattle.report_text.specs.Buffer.{HasRoom};
+ghost use Rattle.std.specs.Prelude.{◌≡◌, ◌≤◌, ◌+◌, [], length, OnOk, IfErr};
+ghost use Rattle.report_text.specs.Buffer.{HasRoom, HasRoomFor};
 ghost use Rattle.report_text.specs.Lines.{HasName};
+ghost use Rattle.report_text.specs.SlotLines.{row_text};
 ghost use Rattle.text_output.specs.Content.{sink_content};
 ghost use Rattle.text_output.specs.Output.{Passes, EndsText};
 ghost use Rattle.text_output.specs.Text.{line_text, entry_line};
@@ -101,6 +102,19 @@ impl<'a, K: Sink> Output<'a, K> {
         self.flush()
     }
 
+    /// Gives all to the sink where there may be no room for so many packets of slots more.
+    fn make_room_for(&mut self, packets: usize) -> Result<(), Stop>
+        requires { packets ≤ 1000 }
+        ensures passes { Passes self.old self.new [] result }
+        ensures room { OnOk result (HasRoomFor packets self.new.gathered) }
+        ensures err { IfErr result (λ stop. stop ≡ Write) }
+    {
+        if self.gathered.has_room_for(packets) {
+            return Ok(());
+        }
+        self.flush()
+    }
+
     /// Any line.
     pub fn put_line(&mut self, line: &Line) -> Result<(), Stop>
         requires { HasName line.now }
@@ -147,6 +161,24 @@ impl<'a, K: Sink> Output<'a, K> {
     {
         self.make_room()?;
         self.gathered.put_slot(number, src, dst, core);
+        Ok(())
+    }
+
+    /// The packets of the slot of this number that some sources send, the first of them `from`, each with the core at its place.
+    #[inline(always)]
+    pub(crate) fn put_packets(
+        &mut self,
+        number: &Numeral,
+        from: usize,
+        row: &[Option<u16>],
+        cores: &[Option<u16>],
+    ) -> Result<(), Stop>
+        requires sources { from + length row.now ≤ 1000 }
+        requires cores { from + length row.now ≤ length cores.now }
+        ensures { Passes self.old self.new (row_text number.now cores.now from row.now) result }
+    {
+        self.make_room_for(row.len())?;
+        self.gathered.put_packets(number, from, row, cores);
         Ok(())
     }
 

@@ -13,6 +13,9 @@ use report_text::Numeral;
 /// So many places of a row are passed over at once where none of them has a destination.
 const FEW: usize = 32;
 
+/// Sources below this have short numbers.
+const SHORT: usize = 1_000;
+
 /// The packet of a source in the slot of this number, if it sends one.
 fn put_source<K: Sink>(
     output: &mut Output<'_, K>,
@@ -47,7 +50,26 @@ fn has_sender(row: &[Option<u16>]) -> bool
     row.iter().fold(false, |sends, to| sends | to.is_some())
 }
 
-/// The packets of some sources, the first of them `from`.
+/// The packets of some sources, the first of them `from`, one by one.
+fn put_each<K: Sink>(
+    output: &mut Output<'_, K>,
+    number: &Numeral,
+    from: usize,
+    row: &[Option<u16>],
+    cores: &[Option<u16>],
+) -> Result<(), Stop>
+    requires { from + length row.now < 2 ^ 16 }
+    ensures { Passes output.old output.new
+        (text_of (map (slot_line number.now (core_in cores.now)) (flows_from from row.now))) result }
+{
+    for at in 0..row.len() {
+        put_source(output, number, (from + at) as u16, row[at], cores)?;
+    }
+    Ok(())
+}
+
+/// The packets of some sources, the first of them `from`: at once where their numbers are short and each has its place in the
+/// row of cores.
 fn put_few<K: Sink>(
     output: &mut Output<'_, K>,
     number: &Numeral,
@@ -62,10 +84,11 @@ fn put_few<K: Sink>(
     if !has_sender(row) {
         return Ok(());
     }
-    for at in 0..row.len() {
-        put_source(output, number, (from + at) as u16, row[at], cores)?;
+    let end = from + row.len();
+    if end <= SHORT && end <= cores.len() {
+        return output.put_packets(number, from, row, cores);
     }
-    Ok(())
+    put_each(output, number, from, row, cores)
 }
 
 /// The packets of a row, by source, in the slot of this number; each with its core, where there is a row of cores.

@@ -13,6 +13,7 @@ pub mod PickedLemmas
 pub mod Down
 pub mod CleanSlots
 pub mod WindowLemmas
+mod Filled
 pub mod NeedTable
 pub mod SlotLemmas
 pub mod Crossing

@@ -1,7 +1,7 @@
 -- A window of batches that are recorded next: they may be allocated, and what their slots and the list after them are.
 use Rattle.std.proofs.Common.{◌≡◌, ◌<◌, ◌≤◌, ◌+◌, ◌-◌, ◌*◌, ◌^◌, ℕ, List, [], ◌++◌, length, get_or, replicate, All, sym, ap, ◌∙◌, subst, arith, length-append}
 use Rattle.std.proofs.lemmas.Nat.{mul-le}
-use Rattle.std.proofs.lemmas.List.{append-nil, length-replicate, get_or-append_right, get_or_default}
+use Rattle.std.proofs.lemmas.List.{append-nil, get_or-append_right, get_or_default}
 use Rattle.greedy_rules.specs.declared.flows.Flow.{Flow}
 use Rattle.greedy_rules.specs.declared.flows.Item.{Item}
 use Rattle.greedy_rules.specs.Batches.{DemandBatch}
@@ -142,15 +142,14 @@ ring_size net most earlier half has = ap (λ (r : RingWork). r.b) has.ring
 pub ring_endpoints : (net : Network) (most : ℕ) (earlier : List DemandBatch) (half : Allocated) → HasAllocated net most earlier half → half.ring.endpoints ≡ endpoints_of net
 ring_endpoints net most earlier half has = ap (λ (r : RingWork). r.endpoints) has.ring
 
--- its ring may allocate them, into a table that was opened for their slots
-pub may_allocate : (net : Network) (earlier batches : List DemandBatch) (half : Allocated) (table : Slots) (size : ℕ) → HasAllocated net half.ring.batches earlier half → HalfIsReady net earlier batches half → length batches ≤ half.ring.batches
-    → first_slot half.b (half.batches + length batches) ≤ 2 ^ 32 → size ≡ half.b → table.endpoints ≡ half.ring.endpoints → table.slots ≡ replicate (length batches * size) [] → MayAllocate half.ring half.batches half.list batches table
-may_allocate net earlier batches half table size has is_ready count numbers same serves zeros =
-    let none : List Flow = [] in
+-- its ring may allocate them, into a table that has a place for each of their slots
+pub may_allocate : (net : Network) (earlier batches : List DemandBatch) (half : Allocated) (table : Slots) → HasAllocated net half.ring.batches earlier half → HalfIsReady net earlier batches half → length batches ≤ half.ring.batches
+    → first_slot half.b (half.batches + length batches) ≤ 2 ^ 32 → table.endpoints ≡ half.ring.endpoints → length table.slots ≡ length batches * half.b → MayAllocate half.ring half.batches half.list batches table
+may_allocate net earlier batches half table has is_ready count numbers serves places =
     let b : half.b ≡ half.ring.b = sym (ring_size net half.ring.batches earlier half has) in
     let endpoints : endpoints_of net ≡ half.ring.endpoints = sym (ring_endpoints net half.ring.batches earlier half has) in
     let ready_for : ℕ → ℕ → Type 0 = λ n m. MayBeApplied n m half.batches half.list.items batches in
-    let long : length table.slots ≡ length batches * half.ring.b = ap length zeros ∙ (length-replicate (length batches * size) none ∙ ap (λ (m : ℕ). length batches * m) (same ∙ b)) in
+    let long : length table.slots ≡ length batches * half.ring.b = places ∙ ap (λ (m : ℕ). length batches * m) b in
     record {
       count = count;
       may = subst (λ (n : ℕ). ready_for n half.ring.b) endpoints (subst (ready_for (endpoints_of net)) b is_ready.may);
@@ -169,16 +168,14 @@ parts_may_be net earlier batches half has is_ready =
     subst (λ (n : ℕ). AnyPartMayBeApplied n half.ring.b half.batches half.list.items batches) (sym (ring_endpoints net half.ring.batches earlier half has))
     (subst (λ (m : ℕ). AnyPartMayBeApplied (endpoints_of net) m half.batches half.list.items batches) (sym (ring_size net half.ring.batches earlier half has)) is_ready.parts)
 
--- the table of a window, by the numbers that the code has
-pub table_is : (earlier batches : List DemandBatch) (half : Allocated) (opened slots : List (List Flow)) (size : ℕ) → HasAllocated half.paths.net half.ring.batches earlier half → size ≡ half.b
-    → opened ≡ replicate (length batches * size) [] → slots ≡ schedule_from half.ring.b half.batches half.list.items batches ++ replicate (length opened - length batches * half.ring.b) []
-    → slots ≡ schedule_from half.b half.batches half.list.items batches
-table_is earlier batches half opened slots size has same zeros is =
+-- the table of a window, which has just its slots
+pub table_is : (earlier batches : List DemandBatch) (half : Allocated) (opened slots : List (List Flow)) → HasAllocated half.paths.net half.ring.batches earlier half → length opened ≡ length batches * half.b
+    → slots ≡ schedule_from half.ring.b half.batches half.list.items batches ++ replicate (length opened - length batches * half.ring.b) [] → slots ≡ schedule_from half.b half.batches half.list.items batches
+table_is earlier batches half opened slots has places is =
     let none : List Flow = [] in
     let n : ℕ = length batches in
     let b : ℕ = half.b in
     let ring : half.ring.b ≡ b = ring_size half.paths.net half.ring.batches earlier half has in
-    let places : length opened ≡ n * b = ap length zeros ∙ (length-replicate (n * size) none ∙ ap (λ (m : ℕ). n * m) same) in
     exact slots (schedule_from b half.batches half.list.items batches) (length opened) (n * b)
     (is ∙ ap (λ (m : ℕ). schedule_from m half.batches half.list.items batches ++ replicate (length opened - n * m) none) ring) places
 
@@ -200,12 +197,12 @@ pub record IsTold (batches : List DemandBatch) (half : Allocated) (slots : List 
   pub is : slots ≡ schedule_from half.b half.batches half.list.items batches
   pub fit : All (IsFit half.paths.net) slots
 
-pub told : (batches : List DemandBatch) (here now : Allocated) (opened slots : List (List Flow)) (size : ℕ) → EveryWindowIsReady → here ≡ now → HasNext batches now → size ≡ here.b → opened ≡ replicate (length batches * size) []
+pub told : (batches : List DemandBatch) (here now : Allocated) (opened slots : List (List Flow)) → EveryWindowIsReady → here ≡ now → HasNext batches now → length opened ≡ length batches * here.b
     → slots ≡ schedule_from here.ring.b here.batches here.list.items batches ++ replicate (length opened - length batches * here.ring.b) [] → IsTold batches here slots
-told batches here now opened slots size law same stands size_is zeros is =
+told batches here now opened slots law same stands places is =
     let (earlier, has, recorded) = subst (HasNext batches) (sym same) stands in
     let is_ready = law here.paths.net here.ring.batches earlier batches here has recorded in
-    let table = table_is earlier batches here opened slots size has size_is zeros is in
+    let table = table_is earlier batches here opened slots has places is in
     record { earlier = earlier; has = has; ready = is_ready; is = table; fit = subst (All (IsFit here.paths.net)) (sym table) is_ready.slots }
 
 -- what is known of it after

@@ -1,10 +1,10 @@
 -- A window's batches as they are given their slots and cores (this project's own profile).
-use Rattle.std.specs.Prelude.{◌≡◌, ◌≤◌, ◌+◌, ◌^◌, ◌++◌, List, length}
+use Rattle.std.specs.Prelude.{◌≡◌, ◌≤◌, ◌+◌, ◌*◌, ◌^◌, ◌++◌, List, length}
 use Rattle.greedy_rules.specs.Batches.{DemandBatch}
 use Rattle.greedy_rules.specs.Schedule.{first_slot, schedule_from}
 use Rattle.window_allocation.specs.Nets.{AreOfNet}
 use Rattle.window_allocation.specs.Standing.{Allocated, HasAllocated}
-use Rattle.window_allocation.specs.Windows.{WindowContent, IsWindowOf, jobs_for}
+use Rattle.window_allocation.specs.Windows.{WindowContent, HasTables, IsWindowOf, jobs_for}
 use Rattle.window_allocation.specs.Handed.{ComeOfRing}
 
 -- these batches are the next ones of some for which it stands
@@ -13,6 +13,10 @@ pub record MayGive (half : Allocated) (batches : List DemandBatch) : Type 0 wher
   pub count : length batches ≤ half.ring.batches
   pub few : half.ring.batches ≤ 16
   pub numbers : first_slot half.b (half.batches + length batches) ≤ 2 ^ 32
+
+-- a window is open for these batches: its tables are for just their slots
+abbrev pub IsOpenFor : Allocated → List DemandBatch → WindowContent → Type 0
+IsOpenFor half batches window = HasTables (length batches * half.b) half.ring.endpoints window
 
 -- the slots of a window with these batches come of the ring
 abbrev pub HandsOn : Allocated → List DemandBatch → Allocated → WindowContent → Type 0

@@ -25,6 +25,13 @@ pub record IsWindowOf (net : Network) (b : ℕ) (slots : List (List Flow)) (wind
   pub clean : AreClean net (cores_from (first_slot b window.span.first) window.cores) (first_slot b window.span.first) slots
   pub others : (at : ℕ) → at < length slots → NamesNoOther net.hosts (slot_in slots at) (core_of window.cores at)
 
+-- a window's tables are for just so many slots of so many endpoints
+pub record HasTables (count ends : ℕ) (window : WindowContent) : Type 0 where
+  pub slots : length window.slots.slots ≡ count
+  pub endpoints : window.slots.endpoints ≡ ends
+  pub core_slots : window.cores.slots ≡ count
+  pub core_endpoints : window.cores.endpoints ≡ ends
+
 -- the jobs of so many batches of b slots: each slot is one, and each path worker's end; none where there is no batch
 abbrev pub jobs_for : ℕ → ℕ → ℕ → ℕ
 jobs_for count b paths = if count == 0 then 0 else count * b + paths

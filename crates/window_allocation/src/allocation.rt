@@ -1,12 +1,9 @@
-ghost use Rattle.std.specs.Prelude.{◌≡◌, ◌<◌, ◌≤◌, ◌+◌, ◌*◌, ◌^◌, ℕ, List, [], ◌++◌, length, IfOk, OnOk};
+ghost use Rattle.std.specs.Prelude.{◌≡◌, ◌<◌, ◌≤◌, ◌*◌, ℕ, List, [], length, IfOk};
 ghost use Rattle.greedy_rules.specs.Batches.{DemandBatch};
-ghost use Rattle.greedy_rules.specs.Schedule.{first_slot, schedule_from};
 ghost use Rattle.clos_topology.specs.Network.{Network};
-ghost use Rattle.window_allocation.specs.Nets.{AreOfNet};
 ghost use Rattle.window_allocation.specs.Needs.{Needs};
 ghost use Rattle.window_allocation.specs.Standing.{HasAllocated};
-ghost use Rattle.window_allocation.specs.Windows.{IsWindowOf};
-ghost use Rattle.window_allocation.specs.Giving.{MayGive, HandsOn, HasGiven};
+ghost use Rattle.window_allocation.specs.Giving.{MayGive, IsOpenFor, HasGiven};
 
 use crate::laws::every_window_is_ready;
 use crate::needs::write_needs;
@@ -14,9 +11,9 @@ use crate::runs::WindowRing;
 use crate::window::{Span, Window};
 use clos_topology::Net;
 use fp_edge::Gate;
-use greedy_rules::{Batch, DemandList, SlotTable, recorded_batches_may_be_applied};
+use greedy_rules::{Batch, DemandList, recorded_batches_may_be_applied};
 use no_memory::NoMemory;
-use path_workers::{CoreTable, Paths};
+use path_workers::Paths;
 use std::alloc::Global;
 use std::marker::Model;
 use std::sync::Wait;
@@ -25,6 +22,7 @@ use std::thread::Threads;
 /// Gives the batches of a net their slots and cores, window after window.
 #[derive(Drop)]
 pub struct Allocation {
+    alloc: Global,
     b: u8,
     endpoints: u16,
     // How many batches are done.
@@ -70,6 +68,7 @@ impl Allocation {
         let endpoints = net.endpoints();
         let flows = endpoints as usize * endpoints as usize;
         Ok(Allocation {
+            alloc,
             b,
             endpoints,
             batches: 0,
@@ -87,66 +86,36 @@ impl Allocation {
         self.endpoints
     }
 
-    /// Gives the next batches their slots and cores. Where there are none, nothing is started, and the window has no slots. After
-    /// want of memory it is only to be dropped.
-    pub fn window<R: Threads + Wait + Sync, G: Gate + Sync>(
+    /// A window for the next batches, whose slots and cores `fill` gives. Giving them takes no memory but this.
+    pub fn open_window(&self, batches: &[Batch]) -> Result<Window, NoMemory>
+        requires { MayGive self.now batches.now }
+        ensures { IfOk result (IsOpenFor self.now batches.now) }
+    {
+        let slots = batches.len() as u16 * u16::from(self.b);
+        Window::open(self.alloc, slots, self.endpoints)
+    }
+
+    /// Gives the next batches their slots and cores, in a window that was opened for them. Where there are none, nothing is started,
+    /// and the window has no slots.
+    pub fn fill<R: Threads + Wait + Sync, G: Gate + Sync>(
         &mut self,
-        alloc: Global,
         rt: &R,
         gate: &G,
         batches: &[Batch],
-    ) -> Result<Window, NoMemory>
+        window: &mut Window,
+    )
         requires may { MayGive self.old batches.now }
-        ensures given { IfOk result (HasGiven self.old batches.now self.new) }
+        requires tables { IsOpenFor self.old batches.now window.old }
+        ensures { HasGiven self.old batches.now self.new window.new }
     {
+        window.span = Span {
+            first: self.batches,
+            count: batches.len() as u32,
+        };
         if batches.is_empty() {
-            return self.no_window(alloc);
+            return;
         }
-        self.window_of(alloc, rt, gate, batches)
-    }
-
-    /// A window of no batch.
-    fn no_window(&self, alloc: Global) -> Result<Window, NoMemory>
-        requires stands { (earlier : List DemandBatch) × HasAllocated self.now.paths.net self.now.ring.batches earlier self.now }
-        ensures span { IfOk result (λ window. window.span ≡ record { first = self.now.batches; count = 0 }) }
-        ensures window { IfOk result (IsWindowOf self.now.paths.net self.now.b []) }
-        ensures handed { IfOk result (HandsOn self.now [] self.now) }
-    {
-        Ok(Window {
-            span: Span {
-                first: self.batches,
-                count: 0,
-            },
-            slots: SlotTable::open(alloc, 0, self.endpoints)?,
-            cores: CoreTable::open(alloc, 0, self.endpoints)?,
-        })
-    }
-
-    /// As `window`, of at least one batch.
-    fn window_of<R: Threads + Wait + Sync, G: Gate + Sync>(
-        &mut self,
-        alloc: Global,
-        rt: &R,
-        gate: &G,
-        batches: &[Batch],
-    ) -> Result<Window, NoMemory>
-        requires stands { (earlier : List DemandBatch) × HasAllocated self.old.paths.net self.old.ring.batches earlier self.old × AreOfNet self.old.paths.net (earlier ++ batches.now) }
-        requires count { length batches.now ≤ self.old.ring.batches }
-        requires few { self.old.ring.batches ≤ 16 }
-        requires numbers { first_slot self.old.b (self.old.batches + length batches.now) ≤ 2 ^ 32 }
-        ensures stands { OnOk result ((earlier : List DemandBatch) → HasAllocated self.old.paths.net self.old.ring.batches earlier self.old →
-            AreOfNet self.old.paths.net (earlier ++ batches.now) → HasAllocated self.old.paths.net self.old.ring.batches (earlier ++ batches.now) self.new) }
-        ensures b { OnOk result (self.new.b ≡ self.old.b) }
-        ensures workers { OnOk result (self.new.ring.workers ≡ self.old.ring.workers) }
-        ensures paths { OnOk result (self.new.paths.paths ≡ self.old.paths.paths) }
-        ensures jobs { OnOk result (self.new.paths.jobs ≡ self.old.paths.jobs + length batches.now * self.old.b + self.old.paths.paths) }
-        ensures span { IfOk result (λ window. window.span ≡ record { first = self.old.batches; count = length batches.now }) }
-        ensures window { IfOk result (IsWindowOf self.old.paths.net self.old.b (schedule_from self.old.b self.old.batches self.old.list.items batches.now)) }
-        ensures handed { IfOk result (HandsOn self.old batches.now self.new) }
-    {
         every_window_is_ready();
-        let count = batches.len() as u16 * u16::from(self.b);
-        let mut slots = SlotTable::open(alloc, count, self.endpoints)?;
         self.ring.allocate(
             rt,
             gate,
@@ -154,16 +123,11 @@ impl Allocation {
             &mut self.idle,
             self.batches,
             batches,
-            &mut slots,
+            &mut window.slots,
         );
-        let mut cores = CoreTable::open(alloc, count, self.endpoints)?;
-        self.paths.colour_slots(rt, gate, &slots, &mut cores);
-        let span = Span {
-            first: self.batches,
-            count: batches.len() as u32,
-        };
-        self.batches += span.count;
-        Ok(Window { span, slots, cores })
+        self.paths
+            .colour_slots(rt, gate, &window.slots, &mut window.cores);
+        self.batches += window.span.count;
     }
 
     /// Writes the need that each flow has left into the table, by source and then destination.

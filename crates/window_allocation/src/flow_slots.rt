@@ -12,6 +12,7 @@ ghost use Rattle.window_allocation.specs.Reach.{IsEarliest, ShowSlots, IsFirstBa
 use crate::needs::place;
 use greedy_rules::{Flow, SlotTable};
 use no_memory::NoMemory;
+use slot_batches::clear_words;
 use std::alloc::Global;
 
 /// The first `count` slots of a window.
@@ -90,7 +91,7 @@ impl FlowSlots {
         ensures endpoints { self.new.endpoints ≡ self.old.endpoints }
         ensures slots { ShowSlots self.new.endpoints count out.now.slots self.new.words.items }
     {
-        self.words.fill(0);
+        clear_words(&mut self.words);
         for slot in 0..count {
             self.note_slot(out, slot);
         }

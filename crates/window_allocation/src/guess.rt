@@ -7,7 +7,7 @@ ghost use Rattle.slot_batches.specs.Marks.{has_mark as has_mark_in};
 ghost use Rattle.window_allocation.specs.Picked.{IsReached};
 
 use crate::end_words::EndWords;
-use crate::flow_slots::{first_slots, of_first_batch};
+use crate::flow_slots::first_slots;
 use crate::marked::has_mark;
 use crate::weave::first_served;
 use greedy_rules::{Batch, DemandList, Entry, Flow, Item};
@@ -88,23 +88,34 @@ fn lowest(slots: u64, need: u32) -> u64 {
     slots & !rest
 }
 
+/// Those of the slots that are named at neither end of the flow; mostly its source is named in all of them.
+fn free_of(words: &EndWords, flow: Flow, slots: u64) -> u64 {
+    if slots & !words.of_source(flow.src) == 0 {
+        return 0;
+    }
+    slots & !words.either(flow)
+}
+
+/// Those of the slots that are of the batch of the first one.
+fn of_its_batch(slots: u64, b: u16) -> u64 {
+    let size = u32::from(b.max(1));
+    let from = slots.trailing_zeros() / size * size;
+    slots & first_slots(b).wrapping_shl(from)
+}
+
 /// Takes of these slots those of the first batch that has one, as many as the flow needs. Most items take none: it stays out of
 /// their loop.
 #[inline(never)]
-fn take_some(words: &mut EndWords, flow: Flow, need: u32, free: u64, count: u16, b: u16)
-    requires { count * b ≤ 64 }
-{
-    words.add(flow, lowest(of_first_batch(free, count, b), need));
+fn take_some(words: &mut EndWords, flow: Flow, need: u32, free: u64, b: u16) {
+    words.add(flow, lowest(of_its_batch(free, b), need));
 }
 
 /// Takes of these slots for the flow, and answers whether it took one.
-fn take(words: &mut EndWords, flow: Flow, need: u32, free: u64, count: u16, b: u16) -> bool
-    requires { count * b ≤ 64 }
-{
+fn take(words: &mut EndWords, flow: Flow, need: u32, free: u64, b: u16) -> bool {
     if free == 0 || need == 0 {
         return false;
     }
-    take_some(words, flow, need, free, count, b);
+    take_some(words, flow, need, free, b);
     true
 }
 
@@ -119,7 +130,7 @@ fn need_with(need: u32, entry: Option<Entry>) -> u32 {
     }
 }
 
-/// Takes slots for a flow that has entries in these batches, as the bits say: its need changes from batch to batch.
+/// Takes of these slots for a flow that has entries in the batches, as the bits say: its need changes from batch to batch.
 #[inline(never)]
 fn take_changed(
     words: &mut EndWords,
@@ -127,25 +138,25 @@ fn take_changed(
     flow: Flow,
     need: u32,
     batches: &[Batch],
-    count: u16,
     b: u16,
-)
-    requires { count * b ≤ 64 }
-{
+    slots: u64,
+) {
+    let free = free_of(words, flow, slots);
+    if free == 0 {
+        return;
+    }
     let mut need = need;
     let mut entries = entries;
-    let mut from: u16 = 0;
+    let mut here = first_slots(b);
     for batch in batches {
         if entries & 1 == 1 {
             need = need_with(need, batch.find(flow));
         }
         entries >>= 1;
-        let end = from.wrapping_add(b);
-        let free = first_slots(end) & !first_slots(from) & !words.either(flow);
-        if take(words, flow, need, free, count, b) {
+        if take(words, flow, need, free & here, b) {
             return;
         }
-        from = end;
+        here = here.wrapping_shl(u32::from(b));
     }
 }
 
@@ -155,11 +166,9 @@ fn take_opened(
     entries: &EntryBits,
     batch: &Batch,
     batches: &[Batch],
-    count: u16,
     b: u16,
-)
-    requires { count * b ≤ 64 }
-{
+    slots: u64,
+) {
     for at in 0..batch.len() {
         let entry = batch.entry(at);
         if entry.opens {
@@ -169,8 +178,8 @@ fn take_opened(
                 entry.flow,
                 0,
                 batches,
-                count,
                 b,
+                slots,
             );
         }
     }
@@ -178,11 +187,15 @@ fn take_opened(
 
 /// Takes slots for the flows that the batches open.
 #[inline(never)]
-fn take_all_opened(words: &mut EndWords, entries: &EntryBits, batches: &[Batch], count: u16, b: u16)
-    requires { count * b ≤ 64 }
-{
+fn take_all_opened(
+    words: &mut EndWords,
+    entries: &EntryBits,
+    batches: &[Batch],
+    b: u16,
+    slots: u64,
+) {
     for batch in batches {
-        take_opened(words, entries, batch, batches, count, b);
+        take_opened(words, entries, batch, batches, b, slots);
     }
 }
 
@@ -192,13 +205,11 @@ fn take_opened_if(
     words: &mut EndWords,
     entries: &EntryBits,
     batches: &[Batch],
-    count: u16,
     b: u16,
-)
-    requires { count * b ≤ 64 }
-{
+    slots: u64,
+) {
     if here {
-        take_all_opened(words, entries, batches, count, b);
+        take_all_opened(words, entries, batches, b, slots);
     }
 }
 
@@ -209,20 +220,18 @@ fn reaches(
     item: &Item,
     marks: &FlowMarks,
     batches: &[Batch],
-    count: u16,
     b: u16,
     slots: u64,
 ) -> bool
-    requires { count * b ≤ 64 }
     ensures { result ≡ false → has_mark_in marks.now item.now.flow ≡ false }
 {
     if has_mark(marks, item.flow) {
         let of_item = entries.of(item.flow);
-        take_changed(words, of_item, item.flow, item.need, batches, count, b);
+        take_changed(words, of_item, item.flow, item.need, batches, b, slots);
         return true;
     }
-    let free = slots & !words.either(item.flow);
-    take(words, item.flow, item.need, free, count, b)
+    let free = free_of(words, item.flow, slots);
+    take(words, item.flow, item.need, free, b)
 }
 
 /// Appends the item and its place, unless there are `most` by then.
@@ -301,13 +310,12 @@ pub(crate) fn pick_reached(
     words.clear();
     found.clear();
     places.clear();
-    let count = batches.len() as u16;
-    let slots = first_slots(count * b);
+    let slots = first_slots(batches.len() as u16 * b);
     let served = first_served(list);
     entries.note(batches);
     for at in 0..list.len() {
-        take_opened_if(at == served, words, entries, batches, count, b);
-        let reached = reaches(words, entries, &list[at], marks, batches, count, b, slots);
+        take_opened_if(at == served, words, entries, batches, b, slots);
+        let reached = reaches(words, entries, &list[at], marks, batches, b, slots);
         if !choose(reached, list[at], at, most, found, places) {
             entries.forget(batches);
             return false;

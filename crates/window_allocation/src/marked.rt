@@ -9,16 +9,7 @@ use slot_batches::FlowMarks;
 pub(crate) fn has_mark(marks: &FlowMarks, flow: Flow) -> bool
     ensures { result ≡ false → has_mark_in marks.now flow ≡ false }
 {
-    if marks.is_empty() {
-        return false;
-    }
-    let item = Item {
-        flow,
-        need: 0,
-        last: 0,
-    };
-    let mut places = [0; 1];
-    marks.note_busy(&[item], &mut places) > 0
+    marks.may_have(flow)
 }
 
 /// Whether one of the items may have an entry in the window. There is no early end, so many items are looked at at once.

@@ -105,6 +105,22 @@ fn first_looked_at(items: &[Item], idle: usize, marks: &FlowMarks) -> usize
     if marks.is_empty() { idle } else { 0 }
 }
 
+/// Whether a list of so many items has more than twice as many as a batch has places for sources.
+fn is_long(len: usize, endpoints: u16, b: u8) -> bool {
+    len / 2 > endpoints as usize * b as usize
+}
+
+/// How many items are picked at most of a list of so many: half of them, but an eighth where a guess may pick still fewer.
+fn most_picked(len: usize, endpoints: u16, b: u8) -> usize
+    ensures { result ≤ len }
+{
+    if is_long(len, endpoints, b) {
+        len / 8
+    } else {
+        len / 2
+    }
+}
+
 /// Picks the items that are not set aside, in their order, and their places, where they are no more than `most`. Those before
 /// the first one that is looked at are set aside.
 fn pick_items(
@@ -137,7 +153,7 @@ fn pick_items(
 }
 
 /// Whether a guess of what the batches can choose is made: their slots fit a word, no rack has more hosts than cores, and the list
-/// is not short, and has twice as many items as a batch has places for sources, or more.
+/// is not short, but long.
 fn pays(list: &[Item], batches: &[Batch], b: u8, endpoints: u16) -> bool
     requires some { 0 < length batches.now }
     requires count { length batches.now ≤ 16 }
@@ -147,7 +163,7 @@ fn pays(list: &[Item], batches: &[Batch], b: u8, endpoints: u16) -> bool
     if batches.len() * b as usize > 64 || limits.hosts > limits.cores {
         return false;
     }
-    !stays_short(list, batches) && list.len() / 2 > endpoints as usize * b as usize
+    !stays_short(list, batches) && is_long(list.len(), endpoints, b)
 }
 
 /// The items of a window's list that need a slot or may have an entry in its batches, and the memory in which they and the
@@ -192,9 +208,10 @@ impl Picked {
         })
     }
 
-    /// Picks the items of the list that need a slot or may have an entry in one of the batches, unless they are more than an
-    /// eighth of it; where they were, some windows pass before that is looked at again. So many items at the front need nothing.
-    pub(crate) fn pick(&mut self, list: &[Item], idle: usize, batches: &[Batch]) -> bool
+    /// Picks the items of the list that need a slot or may have an entry in one of the batches, unless they are more than half of
+    /// it, or than an eighth of a long one; where they were, some windows pass before that is looked at again. So many items at the
+    /// front need nothing.
+    pub(crate) fn pick(&mut self, list: &[Item], idle: usize, batches: &[Batch], b: u8) -> bool
         requires idle { HasIdleFront idle list.now }
         requires room { length list.now ≤ length self.old.items.items + self.old.items.spare }
         requires places_room { length list.now ≤ vec_capacity self.old.places }
@@ -216,7 +233,7 @@ impl Picked {
             list,
             first,
             &self.marks,
-            list.len() / 8,
+            most_picked(list.len(), self.slots.endpoints(), b),
             &mut self.items,
             &mut self.places,
         );

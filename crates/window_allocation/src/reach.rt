@@ -62,11 +62,14 @@ fn note_opened_if(
     }
 }
 
-/// Whether the item needs nothing, or its ends are named in each of these slots.
+/// Whether the item needs nothing, or its ends are named in each of these slots; mostly its source is.
 fn is_out(words: &EndWords, item: &Item, all: u64) -> bool
     ensures { result ≡ true → (count : ℕ) → ((at : ℕ) → at < count → has_slot all at ≡ true) → IsNamed words.now count item.now }
 {
     if item.need == 0 {
+        return true;
+    }
+    if words.of_source(item.flow.src) == all {
         return true;
     }
     words.either(item.flow) == all

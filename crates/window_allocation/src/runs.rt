@@ -139,7 +139,7 @@ impl Runs {
         }
         every_batch_leaves_a_list();
         flows_fit_pairs();
-        if !picked.pick(list.items(), *idle, batches) {
+        if !picked.pick(list.items(), *idle, batches, self.b) {
             *idle = 0;
             self.allocate_unpicked(rt, gate, picked, list, first_batch, batches, out);
             return;

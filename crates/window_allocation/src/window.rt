@@ -1,7 +1,10 @@
-ghost use Rattle.std.specs.Prelude.{◌≡◌};
+ghost use Rattle.std.specs.Prelude.{◌≡◌, IfOk};
+ghost use Rattle.window_allocation.specs.Windows.{HasTables};
 
 use greedy_rules::SlotTable;
+use no_memory::NoMemory;
 use path_workers::CoreTable;
+use std::alloc::Global;
 use std::marker::Model;
 
 /// So many batches from this one on, or rounds.
@@ -28,6 +31,17 @@ impl Model for Window {
 }
 
 impl Window {
+    /// A window of no batch, with tables for so many slots of so many endpoints.
+    pub(crate) fn open(alloc: Global, slots: u16, endpoints: u16) -> Result<Window, NoMemory>
+        ensures { IfOk result (HasTables slots endpoints) }
+    {
+        Ok(Window {
+            span: Span { first: 0, count: 0 },
+            slots: SlotTable::open(alloc, slots, endpoints)?,
+            cores: CoreTable::open(alloc, slots, endpoints)?,
+        })
+    }
+
     /// Which batches these are.
     pub fn span(&self) -> Span
         ensures { result ≡ self.now.span }

@@ -117,7 +117,8 @@ impl Plan {
         let first = self.collection.rounds();
         let count = u32::from(self.g).min(self.rounds - first);
         let batches = self.collection.window(self.alloc, trace, count)?;
-        let window = self.allocation.window(self.alloc, rt, gate, &batches)?;
+        let mut window = self.allocation.open_window(&batches)?;
+        self.allocation.fill(rt, gate, &batches, &mut window);
         self.end();
         Ok(Step {
             collected: Span { first, count },

@@ -6,7 +6,7 @@ ghost use Rattle.clos_topology.specs.NetSlots.{SlotCores, AreSlotCores};
 ghost use Rattle.window_allocation.specs.Needs.{Needs};
 ghost use Rattle.window_allocation.specs.Standing.{HasAllocated};
 ghost use Rattle.window_allocation.specs.Windows.{IsWindowOf, jobs_for};
-ghost use Rattle.window_allocation.specs.Giving.{MayGive, HandsOn, HasGiven};
+ghost use Rattle.window_allocation.specs.Giving.{MayGive, IsOpenFor, HandsOn, HasGiven};
 ghost use Rattle.trace_text.specs.Trace.{TraceContent};
 ghost use Rattle.trace_text.specs.Valid.{IsTrace};
 ghost use Rattle.trace_run.specs.Shown.{IsShown};
@@ -155,22 +155,25 @@ impl Replay {
         let lanes = &mut self.lanes;
         let allocation = &mut self.allocation;
         let batches = batches_of(&self.last);
+        let mut opened = allocation.open_window(batches)?;
+        let window = &mut opened;
         if !have_many(batches) {
-            let window = allocation.window(alloc, rt, gate, batches)?;
-            return Ok((lanes.collect(rt, alloc, trace)?, window));
+            allocation.fill(rt, gate, batches, window);
+            return Ok((lanes.collect(rt, alloc, trace)?, opened));
         }
-        let (window, played) = join_mut(
+        let ((), played) = join_mut(
             rt,
-            &mut || -> Result<Window, NoMemory>
-                requires { MayGive allocation.now batches.now }
-                ensures { IfOk result (HasGiven allocation.entry.now batches.entry.now allocation.exit.now) }
-            { allocation.window(alloc, rt, gate, batches) },
+            &mut || -> ()
+                requires may { MayGive allocation.now batches.now }
+                requires tables { IsOpenFor allocation.now batches.now window.now }
+                ensures { HasGiven allocation.entry.now batches.entry.now allocation.exit.now window.exit.now }
+            { allocation.fill(rt, gate, batches, window) },
             &mut || -> Result<Played, NoMemory>
                 requires { MayPlayBeside trace.now lanes.now }
                 ensures { IfOk result (HasPlayedBeside trace.entry.now lanes.entry.now lanes.exit.now) }
             { lanes.collect(rt, alloc, trace) },
         );
-        Ok((played?, window?))
+        Ok((played?, opened))
     }
 
     /// Plays the next window of `g` rounds, or of those that are left, and gives the batches of the window before their slots and

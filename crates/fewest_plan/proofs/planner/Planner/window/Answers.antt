@@ -81,8 +81,8 @@ returns-clause-stands g c =
       serves = c.in_ok-serve_all.ensures.same_endpoints ∙ c.requires.stands.serves;
       slots = c.in_ok-serve_all.ensures.same_b ∙ c.requires.stands.slots;
       left = c.in_ok-serve_all.ensures.list ∙ (it.left ∙ ap (λ (n : ℕ). rest_by remaining b (take n (plan_batches c.args.trace.now))) rounds);
-      net = c.colour_slots.ensures.same.net ∙ c.requires.stands.net;
-      colours = c.colour_slots.ensures.same.slots ∙ c.requires.stands.colours;
+      net = c.colour_slots.ensures.work.same.net ∙ c.requires.stands.net;
+      colours = c.colour_slots.ensures.work.same.slots ∙ c.requires.stands.colours;
     }
 
 pub returns-clause-planned : goal.returns-clause-planned
@@ -103,12 +103,12 @@ returns-clause-planned g c =
       batches = c.in_ok-batches.ensures.batches ∙ ap (λ (n : ℕ). take n (drop k (plan_batches trace))) count_is;
       slots = slots;
       endpoints = c.in_ok-serve_all.ensures.endpoints ∙ (c.in_ok-slots.ensures.endpoints ∙ c.endpoints.ensures.number);
-      core_slots = c.colour_slots.ensures.out_slots ∙ (c.in_ok-cores.ensures.slots ∙ (ap (λ (n : ℕ). c.min-count.result * n) c.from-2.ensures ∙ ap (λ (n : ℕ). n * b) count_is));
-      core_endpoints = c.colour_slots.ensures.out_endpoints ∙ (c.in_ok-cores.ensures.endpoints ∙ c.endpoints-2.ensures.number);
+      core_slots = c.colour_slots.ensures.out.slots ∙ (c.in_ok-cores.ensures.slots ∙ (ap (λ (n : ℕ). c.min-count.result * n) c.from-2.ensures ∙ ap (λ (n : ℕ). n * b) count_is));
+      core_endpoints = c.colour_slots.ensures.out.endpoints ∙ (c.in_ok-cores.ensures.endpoints ∙ c.endpoints-2.ensures.number);
       clean = λ at below.
           let place : at ≡ first_slot b k + at - first = omega (arith, base) in
           subst (λ (n : ℕ). IsClean trace.net.hosts trace.net.cores (slot_in (window_slots_by remaining b (plan_batches trace) k (min c.args.self.now.g (trace.rounds - k))) at) (core_of c.colour_slots.new.out n)) place
           (subst (λ (xs : List (List Flow)). IsClean trace.net.hosts trace.net.cores (slot_in xs at) (core_of c.colour_slots.new.out at)) slots
           (subst (λ (net : Network). IsClean net.hosts net.cores (slot_in c.serve_all.new.slots.slots at) (core_of c.colour_slots.new.out at)) c.requires.stands.net
-          (c.colour_slots.ensures.clean at (omega (arith, ap length slots, below)))));
+          (c.colour_slots.ensures.coloured.clean at (omega (arith, ap length slots, below)))));
     }

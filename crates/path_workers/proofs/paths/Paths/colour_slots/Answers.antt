@@ -8,10 +8,10 @@ use Rattle.clos_topology.specs.Network.{Network, endpoints_of}
 use Rattle.path_workers.specs.declared.jobs.Job.{Job}
 use Rattle.path_workers.specs.declared.jobs.Hand.{Hand}
 use Rattle.path_workers.specs.declared.painter.Painter.{Painter}
-use Rattle.path_workers.specs.Jobs.{slot_jobs, end_jobs}
-use Rattle.path_workers.specs.PathWork.{PathWork, times_taken}
+use Rattle.path_workers.specs.Jobs.{slot_jobs, end_jobs, jobs_put, taken_slots}
+use Rattle.path_workers.specs.PathWork.{PathWork, times_taken, AreTakenOnce}
 use Rattle.path_workers.specs.CoreTable.{core_of}
-use Rattle.path_workers.specs.Coloured.{HasItsCores}
+use Rattle.path_workers.specs.Coloured.{HasItsCores, NamesBelow}
 use Rattle.path_workers.specs.Painters.{numbers_of, MayAllPaint, HasPainted, MayPaint, has_row}
 use Rattle.path_workers.proofs.CrewLemmas.{colourable, crew_ready, all_may}
 use Rattle.path_workers.proofs.PlayLemmas.{at_rest_again, taken_once, jobs_counted}
@@ -95,23 +95,21 @@ coloured g c at below =
     subst (All (λ (p : Painter). p.net ≡ net)) (sym shown) (λ k d under. (painted_then g c k d under).sized.same_net ∙ ap (λ (w : PathWork). w.net) c.self.view_is) in
     c.gather.ensures.coloured net slots may nets (sym c.slots.ensures.count) at (omega (arith, below, c.slots.ensures.count))
 
-pub returns-clause-clean : goal.returns-clause-clean
-returns-clause-clean g c = λ at below. (coloured g c at below).clean
-
-pub returns-clause-others : goal.returns-clause-others
-returns-clause-others g c = λ at below. (coloured g c at below).others
-
-pub returns-clause-below : goal.returns-clause-below
-returns-clause-below g c at below =
+pub returns-clause-coloured : goal.returns-clause-coloured
+returns-clause-coloured g c =
     let net : Network = c.args.self.now.net in
+    let named : (at : ℕ) → at < length c.args.slots.now.slots → NamesBelow net.cores (core_of c.gather.new.out at) = λ at below.
     let has = coloured g c at below in
-    named_below net.hosts net.cores (slot_in c.args.slots.now.slots at) (core_of c.gather.new.out at) has.clean has.others
+    named_below net.hosts net.cores (slot_in c.args.slots.now.slots at) (core_of c.gather.new.out at) has.clean has.others in
+    record {
+      clean = λ at below. (coloured g c at below).clean;
+      others = λ at below. (coloured g c at below).others;
+      below = named;
+      past = λ at above. c.gather.ensures.past at (omega (arith, above, c.slots.ensures.count));
+    }
 
-pub returns-clause-past : goal.returns-clause-past
-returns-clause-past g c at above = c.gather.ensures.past at (omega (arith, above, c.slots.ensures.count))
-
-pub returns-clause-jobs : goal.returns-clause-jobs
-returns-clause-jobs g c =
+jobs : (g : Over) (c : After-gather g) → jobs_put c.join.new.pass ≡ c.args.self.now.jobs + length c.args.slots.now.slots + c.args.self.now.paths
+jobs g c =
     let again = at_rest_again (view c.take_over-pass.new.pass) (view c.play-painters.result.1) (view c.join.new.pass) c.take_over-pass.ensures.left c.join.ensures.both c.play-painters.ensures.rest in
     omega (
       arith,
@@ -123,8 +121,8 @@ returns-clause-jobs g c =
       c.len-workers.ensures,
     )
 
-pub returns-clause-taken : goal.returns-clause-taken
-returns-clause-taken g c slot =
+taken : (g : Over) (c : After-gather g) → AreTakenOnce (length c.args.slots.now.slots) c.args.self.now.taken (taken_slots c.join.new.pass)
+taken g c slot =
     let again = at_rest_again (view c.take_over-pass.new.pass) (view c.play-painters.result.1) (view c.join.new.pass) c.take_over-pass.ensures.left c.join.ensures.both c.play-painters.ensures.rest in
     let count : ℕ = length c.args.slots.now.slots in
     let before : Hand = view c.self.inside.pass in
@@ -133,8 +131,8 @@ returns-clause-taken g c slot =
     taken_once slot count c.len-workers.result before (view c.join.new.pass) c.self.invariant.rest again.0 put
     ∙ ap (λ (w : PathWork). times_taken slot w.taken + cond (nat_lt slot count) 1 0) c.self.view_is
 
-pub returns-clause-same : goal.returns-clause-same
-returns-clause-same g c =
+pub returns-clause-work : goal.returns-clause-work
+returns-clause-work g c =
     let painters = c.self.inside.painters in
     let shown : c.deref_mut.result.now ≡ painters.items = c.deref_mut.ensures.value in
     let new : List Painter = c.forget.new.painters in
@@ -142,9 +140,13 @@ returns-clause-same g c =
     let len : vec_len c.replace-painters.result ≡ vec_len painters = ap (λ (v : Vec _ _). vec_len v) c.replace-painters.ensures.value in
     let items : c.replace-painters.result.items ≡ new = ap (λ (v : Vec _ _). v.items) c.replace-painters.ensures.value ∙ with_items_is painters new count in
     record {
-      net = ap (λ (w : PathWork). w.net) c.self.view_is;
-      slots = ap (λ (w : PathWork). w.slots) c.self.view_is;
-      paths = omega (arith, c.play-painters.ensures.len, len, ap (λ (w : PathWork). w.paths) c.self.view_is);
-      numbers = c.play-painters.ensures.numbers
-          ∙ (ap numbers_of items ∙ (c.forget.ensures.numbers ∙ (ap numbers_of shown ∙ ap (λ (w : PathWork). w.numbers) c.self.view_is)));
+      jobs = jobs g c;
+      taken = taken g c;
+      same = record {
+        net = ap (λ (w : PathWork). w.net) c.self.view_is;
+        slots = ap (λ (w : PathWork). w.slots) c.self.view_is;
+        paths = omega (arith, c.play-painters.ensures.len, len, ap (λ (w : PathWork). w.paths) c.self.view_is);
+        numbers = c.play-painters.ensures.numbers
+            ∙ (ap numbers_of items ∙ (c.forget.ensures.numbers ∙ (ap numbers_of shown ∙ ap (λ (w : PathWork). w.numbers) c.self.view_is)));
+      };
     }

@@ -24,7 +24,7 @@ take_up-requires-clause-may c =
     subst (λ (s : ArrayState). MayBeFed batch.entries (array_endpoints s) (array_first s) (fed ++ item ∷ [])) (sym c.self.view_is) c.requires.may.3 in (
       taken_up batch.entries fed (was_served item),
       opens.taken_up fed so_far,
-      may_feed batch fed item c.with_entry.result old c.self.inside.unopened new.endpoints new.first_slot so_far may c.with_entry.ensures opens.same.same_endpoints opens.same.same_first,
+      may_feed batch fed item c.with_near_entry-item.result old c.self.inside.unopened new.endpoints new.first_slot so_far may c.with_near_entry-item.ensures opens.same.same_endpoints opens.same.same_first,
     )
 
 pub returns-clause-stands : goal.returns-clause-stands
@@ -41,10 +41,10 @@ returns-clause-stands c = λ fed given stands may_now.
     let may : MayBeFed batch.entries old.endpoints old.first_slot (fed ++ item ∷ []) =
     subst (λ (s : ArrayState). MayBeFed batch.entries (array_endpoints s) (array_first s) (fed ++ item ∷ [])) (sym view_is) may_now in
     stands_for_more batch fed given item c.args.self.now _ stands
-    (fed_one_more batch fed item c.with_entry.result old new c.self.inside.unopened c.open_due.new.unopened so_far may c.with_entry.ensures
+    (fed_one_more batch fed item c.with_near_entry-item.result old new c.self.inside.unopened c.open_due.new.unopened so_far may c.with_near_entry-item.ensures
     (takes.same.same_endpoints ∙ opens.same.same_endpoints) (takes.same.same_first ∙ opens.same.same_first) (takes.same.same_limits ∙ opens.same.same_limits)
     (takes.taken_up (taken_up batch.entries fed (was_served item)) (opens.taken_up fed so_far)
-    (may_feed batch fed item c.with_entry.result old c.self.inside.unopened mid.endpoints mid.first_slot so_far may c.with_entry.ensures opens.same.same_endpoints opens.same.same_first))
+    (may_feed batch fed item c.with_near_entry-item.result old c.self.inside.unopened mid.endpoints mid.first_slot so_far may c.with_near_entry-item.ensures opens.same.same_endpoints opens.same.same_first))
     opens.unopened)
     (takes.same.same_first ∙ (opens.same.same_first ∙ ap array_first view_is)) (takes.same.same_b ∙ (opens.same.same_b ∙ ap array_size view_is))
     (ap (λ (s : ArrayState). s.marks) view_is) (ap (λ (s : ArrayState). s.given) view_is) (ap (λ (s : ArrayState). s.ends) view_is)

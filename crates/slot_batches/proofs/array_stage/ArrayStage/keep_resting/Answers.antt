@@ -43,8 +43,8 @@ keep-requires-clause-none c =
     All-weaker (ItemRests batch.entries inside.unopened inside.filling.maps) (TakesNone inside.filling.maps) (λ item rests. rests.takes_none) (take c.resting-count.result c.args.items.now)
     (c.resting-count.ensures.rest marked)
 
-pub returns-clause-stands : goal.returns-clause-stands
-returns-clause-stands c = λ fed given stands may_now.
+pub returns-then-count-gt0-clause-stands : goal.returns-then-count-gt0-clause-stands
+returns-then-count-gt0-clause-stands c = λ fed given stands may_now.
     let batch = c.args.batch.now in
     let run = take c.resting-count.result c.args.items.now in
     let inside = c.self.inside in

@@ -2,19 +2,19 @@ use contract.Lifetimes
 use mathlib.Core.List.{[]}
 use mir.Syntax.{named}
 use Rattle.window_allocation.specs.contracts.allocation.Allocation as Allocation
+use Rattle.window_allocation.specs.contracts.window.Window as Window
 use Rattle.greedy_rules.specs.contracts.batches.Batch as Batch
 use Rattle.greedy_rules.proofs.Crossing.{batch_sync}
 use denote.Param.Send.{IsSend, IsSync, sendable, param_send, given_sync, mut_send, shr_slice_send}
 use Rattle.std.proofs.Crossing.{crosses}
-use Rattle.std.proofs.Crossing as heap
-use Rattle.window_allocation.proofs.Crossing.{allocation_send}
+use Rattle.window_allocation.proofs.Crossing.{allocation_send, window_send}
 use Rattle.window_engine.proofs.replay.Replay.play_beside.Lts as lts
 use Rattle.window_engine.proofs.replay.Replay.play_beside.Given as given
 use Rattle.window_engine.specs.contracts.replay.Replay.play_beside as this
 use Rattle.window_engine.proofs.replay.Replay.play_beside.Goals as goal
 
 half_send : (g : given.Over) → IsSync (this.R-row g.row.R g.row.G) → IsSync (this.G-row g.row.R g.row.G) → (κs : contract.Lifetimes.Lfts 17)
-    → IsSend (lts.arg-9-1 g.row.R g.row.G g.R.laws g.G.laws g.R.Threads-dict g.R.Wait-dict g.G.Gate-dict κs)
+    → IsSend (lts.arg-10-1 g.row.R g.row.G g.R.laws g.G.laws g.R.Threads-dict g.R.Wait-dict g.G.Gate-dict κs)
 half_send g r q κs =
     let r0 : IsSync g.row.R = given_sync 0 g.row.R r in
     let q0 : IsSync g.row.G = given_sync 1 g.row.G q in
@@ -24,13 +24,13 @@ half_send g r q κs =
         (
           (mut_send (named 0) [] Allocation.the_row allocation_send).owned x.0 vss.0,
           (
-            search (sendable, crosses, heap.sync.shared) depth 60 fits 20000,
+            (tt, r0.shared _ _ _ _),
             (
-              (tt, r0.shared _ _ _ _),
+              (tt, q0.shared _ _ _ _),
               (
-                (tt, q0.shared _ _ _ _),
+                (shr_slice_send (named 0) _ Batch.the_row batch_sync).owned _ vs,
                 (
-                  (shr_slice_send (named 0) _ Batch.the_row batch_sync).owned _ vs,
+                  (mut_send (named 0) [] Window.the_row window_send).owned x.4 vss.1.1.1.1.0,
                   tt,
                 ),
               ),
@@ -41,5 +41,5 @@ half_send g r q κs =
       leaving = λ k. search (sendable, crosses) depth 100 fits 20000;
     }
 
-pub join_mut-window-requires-send-F : goal.join_mut-window-requires-send-F
-join_mut-window-requires-send-F g c κs within = param_send 1 (lts.arg-9-1 g.row.R g.row.G g.R.laws g.G.laws g.R.Threads-dict g.R.Wait-dict g.G.Gate-dict κs) (half_send g c.type_bounds.sync-R c.type_bounds.sync-G κs)
+pub join_mut-played-requires-send-F : goal.join_mut-played-requires-send-F
+join_mut-played-requires-send-F g c κs within = param_send 1 (lts.arg-10-1 g.row.R g.row.G g.R.laws g.G.laws g.R.Threads-dict g.R.Wait-dict g.G.Gate-dict κs) (half_send g c.type_bounds.sync-R c.type_bounds.sync-G κs)

@@ -3,7 +3,7 @@ use Rattle.greedy_rules.specs.SlotTable.{flows_from}
 use Rattle.edge_colouring.specs.Cores.{core_in}
 use Rattle.text_output.specs.Text.{text_of, slot_line}
 use Rattle.text_output.specs.Output.{Passed}
-use Rattle.text_output.proofs.slots.put_few.Given as goal
+use Rattle.text_output.proofs.slots.put_each.Given as goal
 
 abbrev pub invariant-loop-at : goal.invariant-loop-at
 invariant-loop-at g l =

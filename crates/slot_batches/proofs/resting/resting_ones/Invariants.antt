@@ -1,8 +1,0 @@
-use Rattle.std.proofs.Common.{List, All, take}
-use Rattle.greedy_rules.specs.declared.flows.Entry.{Entry}
-use Rattle.slot_batches.specs.Marks.{AreMarked}
-use Rattle.slot_batches.specs.Rests.{ItemRests}
-use Rattle.slot_batches.proofs.resting.resting_ones.Given as goal
-
-abbrev pub invariant-loop-at : goal.invariant-loop-at
-invariant-loop-at l = (entries : List Entry) → AreMarked entries l.marks → All (ItemRests entries l.unopened l.filling.maps) (take l.at l.items)
