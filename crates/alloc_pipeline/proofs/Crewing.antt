@@ -30,7 +30,7 @@ use Rattle.alloc_pipeline.specs.Rules.{into_of}
 use Rattle.alloc_pipeline.specs.Players.{ends_of}
 use Rattle.alloc_pipeline.specs.Rings.{AllLinked, AllGoOn, AllEnded, last_list}
 use Rattle.alloc_pipeline.specs.Joined.{AllInPlace, AllRaised, crew_of, turned, stream_at, edge_at}
-use Rattle.alloc_pipeline.specs.Starts.{SameMoved, AreSame, MayTakeUp, AllMayTakeUp, AllResting, MayStart, AreStarted, MayPlayOut, played_window}
+use Rattle.alloc_pipeline.specs.Starts.{SameMoved, AreSame, MayTakeUp, AllMayTakeUp, AllResting, MayBeStarted, AreStarted, MayPlayOut, played_window}
 use Rattle.alloc_pipeline.proofs.Drained.{places_then}
 use Rattle.alloc_pipeline.proofs.Finished.{on_count}
 use Rattle.alloc_pipeline.specs.Crews.{moved_of, HoldNone, CrewIsReady, CrewMayPlay, AllPlayedOut, HavePlayedOut, IsSameCrew}
@@ -68,8 +68,8 @@ module _ (crew : Crew) (first : ℕ) (batches : List DemandBatch) (list : List I
     first_batch = first;
     stages = length batches;
     edges = replicate crew.count (record { pieces = []; taken = 0; sent = 0; room = 0 });
-    crew = crew.workers.items;
-    spare = length crew.spare;
+    crew = crew.resting.workers.items;
+    spare = length crew.resting.spare;
   }
 
   starts : Starts core first batches list
@@ -93,7 +93,7 @@ module _ (crew : Crew) (first : ℕ) (batches : List DemandBatch) (list : List I
 
   -- the nodes of the list and of what opens are those of the list that the window leaves, and there are so many
   pub nodes_are : EveryBatchKeepsItsFlows → FlowsFitPairs
-      → (crew_openings batches crew.workers.items + length list ≡ length (last_list w)) × (length (last_list w) ≤ pairs_of crew.endpoints)
+      → (crew_openings batches crew.resting.workers.items + length list ≡ length (last_list w)) × (length (last_list w) ≤ pairs_of crew.endpoints)
   nodes_are keeps pairs = nodes_found core first batches list starts keeps pairs may.fits
 
   pub left_is : last_list w ≡ rest_from crew.b first list batches
@@ -102,7 +102,7 @@ module _ (crew : Crew) (first : ℕ) (batches : List DemandBatch) (list : List I
   pub few_nodes : pairs_of crew.endpoints ≤ 65536
   few_nodes = few_pairs crew.endpoints ready.sizes.few_endpoints
 
-  pub may_start : EveryBatchKeepsItsFlows → FlowsFitPairs → MayStart crew.queues.items w batches crew.workers.items crew.passes.items (length crew.spare)
+  pub may_start : EveryBatchKeepsItsFlows → FlowsFitPairs → MayBeStarted crew.queues.items w batches crew.resting.workers.items crew.resting.passes.items (length crew.resting.spare)
   may_start keeps pairs = record {
     batches_are = refl;
     queue_count = ready.queue_count;
@@ -112,7 +112,7 @@ module _ (crew : Crew) (first : ℕ) (batches : List DemandBatch) (list : List I
     count_crew = ready.worker_count;
     count = ready.pass_count;
     resting = ready.resting;
-    ready = take_up_each w 0 crew.workers.items (λ n v is.
+    ready = take_up_each w 0 crew.resting.workers.items (λ n v is.
         let it = ready.workers n v is in
         let begins = may_begin core first batches list starts n v is in
         subst (λ (m : ℕ). MayTakeUp w m v) (let q : n ≡ 0 + n = omega arith in q)
@@ -221,9 +221,9 @@ module _ (w : EdgeWindow) (batches : List DemandBatch) (xs vs : List WorkerState
 module _ {Q A : Type 0} where
   -- as the code names them
   pub start_there : (queues qs : List (Slotted (Option Parcel) (Doing Parcel View) Q A)) (w v : EdgeWindow) (batches : List DemandBatch) (crew : List WorkerState) (passes : List (Pass Parcel View)) (spare : ℕ) → qs ≡ queues → v ≡ w
-      → MayStart queues w batches crew passes spare → MayStart qs v batches crew passes spare
+      → MayBeStarted queues w batches crew passes spare → MayBeStarted qs v batches crew passes spare
   start_there queues qs w v batches crew passes spare qs_are v_is may =
-      subst (λ (xs : List (Slotted (Option Parcel) (Doing Parcel View) Q A)). MayStart xs v batches crew passes spare) (sym qs_are) (subst (λ (u : EdgeWindow). MayStart queues u batches crew passes spare) (sym v_is) may)
+      subst (λ (xs : List (Slotted (Option Parcel) (Doing Parcel View) Q A)). MayBeStarted xs v batches crew passes spare) (sym qs_are) (subst (λ (u : EdgeWindow). MayBeStarted queues u batches crew passes spare) (sym v_is) may)
 
   pub started_here : (queues qs : List (Slotted (Option Parcel) (Doing Parcel View) Q A)) (w v : EdgeWindow) (batches : List DemandBatch) (crew : List WorkerState) (passes : List (Pass Parcel View)) (old new : ℕ) (players : List Player) → qs ≡ queues → v ≡ w
       → AreStarted qs v batches crew passes old new players → AreStarted queues w batches crew passes old new players
@@ -274,7 +274,7 @@ out_there qs w v batches players last room spare is may = subst (λ (u : EdgeWin
 
 -- a crew that has played a window out
 pub have_played : (old new : Crew) (first : ℕ) (batches : List DemandBatch) (list : List Item) (workers : List WorkerState) → CrewIsReady old → CrewIsReady new → IsSameCrew old new
-    → AllPlayedOut (window_of list batches first old.b old.count) new.workers.items → workers ≡ new.workers.items
+    → AllPlayedOut (window_of list batches first old.b old.count) new.resting.workers.items → workers ≡ new.resting.workers.items
     → HavePlayedOut new.endpoints new.batches new.b (length batches) (window_of list batches first old.b old.count) workers
 have_played old new first batches list workers was is same played workers_are = record {
   some = was.sizes.some_workers.0;

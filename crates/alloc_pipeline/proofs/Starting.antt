@@ -21,7 +21,7 @@ use Rattle.alloc_pipeline.specs.Rules.{giving, taking, into_of}
 use Rattle.alloc_pipeline.specs.Players.{ends_of}
 use Rattle.alloc_pipeline.specs.Rings.{IsOn, IsLinked, AllLinked}
 use Rattle.alloc_pipeline.specs.Joined.{edge_at, givings, turned, crew_of, IsInPlace, AllInPlace}
-use Rattle.alloc_pipeline.specs.Starts.{SameMoved, AreSame, MayTakeUp, AllMayTakeUp, IsResting, AllResting, TakesFirst, MayLink, AreLinked, MayStart, AreStarted}
+use Rattle.alloc_pipeline.specs.Starts.{SameMoved, AreSame, MayTakeUp, AllMayTakeUp, IsResting, AllResting, TakesFirst, MayLink, AreLinked, MayBeStarted, AreStarted}
 use Rattle.alloc_pipeline.proofs.Rejoining.{givings_last, crew_last}
 use Rattle.alloc_pipeline.proofs.Collected.{turned_last}
 
@@ -183,7 +183,7 @@ module _ {Q A : Type 0} (queues : List (Slotted (Option Parcel) (Doing Parcel Vi
 
   -- what the last worker leaves to the others
   pub start_less : (all ws : List WorkerState) (v : WorkerState) (p : Pass Parcel View) (ps : List (Pass Parcel View)) (old given : ℕ) (first : Pass Parcel View) → all ≡ ws ++ v ∷ []
-      → MayStart queues w batches all (p ∷ ps) old → given + length w.list ≡ old → TakesFirst queues w 0 first
+      → MayBeStarted queues w batches all (p ∷ ps) old → given + length w.list ≡ old → TakesFirst queues w 0 first
       → MayLink queues w batches ws ps given first × MayTakeUp w (length ws) v × (length ws + 1 ≡ w.workers) × (crew_openings batches ws + own_openings (length v.stages) batches v.workers v.number ≡ crew_openings batches all)
   start_less all ws v p ps old given first all_is may left takes =
       let crew = take_up_last w 0 ws v (subst (AllMayTakeUp w 0) all_is may.ready) in
@@ -255,7 +255,7 @@ module _ {Q A : Type 0} (queues : List (Slotted (Option Parcel) (Doing Parcel Vi
 
   -- and so has the last one, whose pass gives into the first edge, which has the window's list
   pub start_one : (all ws : List WorkerState) (v u : WorkerState) (p giver : Pass Parcel View) (ps : List (Pass Parcel View)) (old given mid new number sent : ℕ) (players out : List Player) (first last : Pass Parcel View) (r : Slotted (Option Parcel) (Doing Parcel View) Q A)
-      → all ≡ ws ++ v ∷ [] → out ≡ players ++ record { number = number; worker = u; taking = last; giving = giver; ended = false } ∷ [] → MayStart queues w batches all (p ∷ ps) old → given + length w.list ≡ old → TakesFirst queues w 0 first → AreLinked queues w batches ws ps given mid players last
+      → all ≡ ws ++ v ∷ [] → out ≡ players ++ record { number = number; worker = u; taking = last; giving = giver; ended = false } ∷ [] → MayBeStarted queues w batches all (p ∷ ps) old → given + length w.list ≡ old → TakesFirst queues w 0 first → AreLinked queues w batches ws ps given mid players last
       → number + 1 ≡ w.workers → r ≡ get_or queues 0 r → IsPassOf r giver → view giver ≡ giving (edge_at w 0) sent (view p).moved → sent ≡ piece_count w.list
       → IsSameWorker v u → ((window : Window) → IsWorkerWindow v w.first_batch batches window → sent ≡ (first_ends window v.number).sent → Plays batches (first_ends window v.number) u)
       → new + own_openings (length v.stages) batches v.workers v.number ≡ mid → AreStarted queues w batches all (p ∷ ps) old new out

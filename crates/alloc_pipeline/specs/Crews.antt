@@ -32,18 +32,18 @@ pub record CrewIsReady (crew : Crew) : Type 0 where
   -- each edge has a queue with room, and a whole pass
   pub queue_count : length crew.queues.items ≡ crew.count
   pub rooms : All (λ queue. ruled_capacity queue ≡ 2040) crew.queues.items
-  pub pass_count : length crew.passes.items ≡ crew.count
-  pub resting : AllResting crew.queues.items 0 crew.passes.items
+  pub pass_count : length crew.resting.passes.items ≡ crew.count
+  pub resting : AllResting crew.queues.items 0 crew.resting.passes.items
   -- and each number a worker, without a node
-  pub worker_count : length crew.workers.items ≡ crew.count
-  pub workers : AreCrewed crew.count crew.endpoints crew.batches crew.b crew.workers.items
-  pub none_held : HoldNone crew.workers.items
+  pub worker_count : length crew.resting.workers.items ≡ crew.count
+  pub workers : AreCrewed crew.count crew.endpoints crew.batches crew.b crew.resting.workers.items
+  pub none_held : HoldNone crew.resting.workers.items
   -- all nodes are spare
-  pub nodes : length crew.spare ≡ pairs_of crew.endpoints
+  pub nodes : length crew.resting.spare ≡ pairs_of crew.endpoints
   -- and there is room for what a window needs
   pub none_play : crew.players.items ≡ []
-  pub room_passes : crew.count ≤ vec_capacity crew.passes
-  pub room_workers : crew.count ≤ vec_capacity crew.workers
+  pub room_passes : crew.count ≤ vec_capacity crew.resting.passes
+  pub room_workers : crew.count ≤ vec_capacity crew.resting.workers
   pub room_players : crew.count ≤ vec_capacity crew.players
   pub room_window : crew.batches ≤ vec_capacity crew.window
 

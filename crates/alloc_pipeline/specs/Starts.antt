@@ -98,7 +98,7 @@ module _ {Q A : Type 0} where
     pub takes : TakesFirst queues w (length crew) last
 
   -- a ring may begin the window: it has a queue, a pass and a worker of each number, and nodes for the list and for what opens
-  pub record MayStart (queues : List (Slotted (Option Parcel) (Doing Parcel View) Q A)) (w : EdgeWindow) (batches : List DemandBatch) (crew : List WorkerState) (passes : List (Pass Parcel View)) (spare : ℕ) : Type 0 where
+  pub record MayBeStarted (queues : List (Slotted (Option Parcel) (Doing Parcel View) Q A)) (w : EdgeWindow) (batches : List DemandBatch) (crew : List WorkerState) (passes : List (Pass Parcel View)) (spare : ℕ) : Type 0 where
     pub batches_are : w.batches ≡ batches
     pub queue_count : length queues ≡ w.workers
     pub some_workers : 0 < w.workers

@@ -9,6 +9,7 @@ ghost use Rattle.alloc_pipeline.specs.Crews.{CrewIsReady, CrewMayPlay, AllPlayed
 use crate::edge;
 use crate::player::Player;
 use crate::rejoin::play_window;
+use crate::resting::Resting;
 use crate::rule::{EdgePass, EdgeQueue};
 use crate::start::{Opening, start};
 use fp_edge::Gate;
@@ -49,14 +50,11 @@ pub(crate) struct Crew {
     pub(crate) b: u8,
     // Edge k is the one into worker k.
     pub(crate) queues: Vec<EdgeQueue>,
-    pub(crate) passes: Vec<EdgePass>,
-    pub(crate) workers: Vec<Worker>,
+    pub(crate) resting: Resting,
     // Where a window runs, each worker is here with its passes.
     pub(crate) players: Vec<Player>,
     // The batches of the last window, for contracts alone.
     pub(crate) window: Vec<Snapshot<Batch>>,
-    // Nodes that no piece and no worker has.
-    pub(crate) spare: Chain<Item>,
 }
 
 impl Crew {
@@ -73,7 +71,7 @@ impl Crew {
         ensures endpoints { IfOk result (λ crew. crew.endpoints ≡ endpoints) }
         ensures batches { IfOk result (λ crew. crew.batches ≡ batches) }
         ensures b { IfOk result (λ crew. crew.b ≡ b) }
-        ensures moved { IfOk result (λ crew. moved_of crew.passes.items ≡ replicate workers 0) }
+        ensures moved { IfOk result (λ crew. moved_of crew.resting.passes.items ≡ replicate workers 0) }
     {
         let count = workers as usize;
         let pairs = endpoints as usize * (endpoints as usize).saturating_sub(1);
@@ -88,13 +86,16 @@ impl Crew {
             batches,
             b,
             queues,
-            passes,
-            workers: crew,
+            resting: Resting {
+                workers: crew,
+                passes,
+                spare,
+            },
             players: Vec::with_capacity(alloc, count)?,
             window: Vec::with_capacity(alloc, batches as usize)?,
-            spare,
         })
     }
+
     /// Plays a window: its list goes through the edges in pieces, worker after worker, and what its batches leave comes back.
     pub(crate) fn play<R: Threads + Wait + Sync, G: Gate + Sync>(
         &mut self,
@@ -111,8 +112,8 @@ impl Crew {
         ensures same { IsSameCrew self.old self.new }
         ensures list { list.new.items ≡ rest_from self.old.b first_batch list.old.items batches.now }
         ensures spare { length list.new.items + list.new.spare ≡ length list.old.items + list.old.spare }
-        ensures moved { moved_of self.new.passes.items ≡ moved_by (window_of list.old.items batches.now first_batch self.old.b self.old.count) 0 (moved_of self.old.passes.items) }
-        ensures played { AllPlayedOut (window_of list.old.items batches.now first_batch self.old.b self.old.count) self.new.workers.items }
+        ensures moved { moved_of self.new.resting.passes.items ≡ moved_by (window_of list.old.items batches.now first_batch self.old.b self.old.count) 0 (moved_of self.old.resting.passes.items) }
+        ensures played { AllPlayedOut (window_of list.old.items batches.now first_batch self.old.b self.old.count) self.new.resting.workers.items }
     {
         every_batch_leaves_a_list();
         flows_fit_pairs();
@@ -131,9 +132,7 @@ impl Crew {
             &self.queues,
             &opening,
             batches,
-            &mut self.workers,
-            &mut self.passes,
-            &mut self.spare,
+            &mut self.resting,
             &mut self.players,
         );
         list.clear();
@@ -144,12 +143,9 @@ impl Crew {
             &self.queues,
             batches,
             threads,
-            batches.len() % self.count as usize,
             players,
             list,
-            &mut self.spare,
-            &mut self.workers,
-            &mut self.passes,
+            &mut self.resting,
         );
     }
 }

@@ -7,8 +7,8 @@
 //! `crossbeam_queue`: `rule.rt` has its rule and the nine kinds of step, `parcel.rt` what lies in it, `edge.rt` each step as a
 //! call. `link.rt` is what a worker sees of its two edges; `player.rt` lets it take turns until its stages have ended; `play.rt`
 //! starts the threads, plays the other workers and those whose threads were refused on the caller's, and waits for all; `start.rt`
-//! and `ends.rt` bring a window's list in and out, `rejoin.rt` joins the passes of each edge again, `crew.rt` keeps all of it
-//! from window to window. `proofs/Crossing.antt`: a ring may go to a thread.
+//! and `ends.rt` bring a window's list in and out, `rejoin.rt` joins the passes of each edge again, `resting.rt` is what a window
+//! takes and gives back, `crew.rt` keeps all of it from window to window. `proofs/Crossing.antt`: a ring may go to a thread.
 #![tactic(auto)]
 
 mod crew;
@@ -19,6 +19,7 @@ mod parcel;
 mod play;
 mod player;
 mod rejoin;
+mod resting;
 mod ring;
 mod rule;
 mod start;

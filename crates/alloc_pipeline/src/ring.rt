@@ -25,7 +25,7 @@ impl Model for Ring {
 
     ghost Value = { RingWork };
 
-    ghost view = { λ r. record { workers = r.crew.count; endpoints = r.crew.endpoints; batches = r.crew.batches; b = r.crew.b; moved = moved_of r.crew.passes.items; spare = length r.crew.spare } };
+    ghost view = { λ r. record { workers = r.crew.count; endpoints = r.crew.endpoints; batches = r.crew.batches; b = r.crew.b; moved = moved_of r.crew.resting.passes.items; spare = length r.crew.resting.spare } };
 
     ghost invariant = { λ r. CrewIsReady r.crew };
 }
@@ -65,6 +65,6 @@ impl Ring {
     {
         every_batch_leaves_a_list();
         self.crew.play(rt, gate, list, first_batch, batches);
-        copy_slots(&self.crew.workers, self.crew.b, batches.len(), out);
+        copy_slots(&self.crew.resting.workers, self.crew.b, batches.len(), out);
     }
 }

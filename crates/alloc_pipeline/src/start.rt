@@ -4,16 +4,16 @@ ghost use Rattle.crossbeam_queue.specs.Passes.{view, IsPassOf, ruled_capacity};
 ghost use Rattle.alloc_pipeline.specs.declared.parcel.Kind.TheVariants.{Whole};
 ghost use Rattle.alloc_pipeline.specs.Rules.{giving, taking};
 ghost use Rattle.alloc_pipeline.specs.Joined.{edge_at};
-ghost use Rattle.alloc_pipeline.specs.Starts.{named, MayLink, AreLinked, MayStart, AreStarted};
+ghost use Rattle.alloc_pipeline.specs.Starts.{named, MayLink, AreLinked, MayBeStarted, AreStarted};
 
 use crate::edge;
 use crate::ends::give_list;
 use crate::parcel::Mark;
 use crate::player::Player;
+use crate::resting::Resting;
 use crate::rule::{EdgePass, EdgeQueue};
-use greedy_rules::{Batch, DemandList, Item};
-use item_chain::Chain;
-use ring_core::{Worker, count_pieces};
+use greedy_rules::{Batch, DemandList};
+use ring_core::count_pieces;
 use std::alloc::Global;
 use std::snapshot::Snapshot;
 use std::sync::Wait;
@@ -65,32 +65,28 @@ fn link_first<R: Wait>(
     queues: &[EdgeQueue],
     window: &Opening,
     batches: &[Batch],
-    crew: &mut Vec<Worker>,
-    passes: &mut Vec<EdgePass>,
-    spare: &mut Chain<Item>,
+    resting: &mut Resting,
     first: EdgePass,
     players: &mut Vec<Player>,
 ) -> EdgePass
-    requires may { MayLink queues.now (named window.now) batches.now crew.old.items passes.old.items (length spare.old) first }
+    requires may { MayLink queues.now (named window.now) batches.now resting.old.workers.items resting.old.passes.items (length resting.old.spare) first }
     requires none { players.old.items ≡ [] }
-    requires room { vec_len crew.old ≤ vec_capacity players.old }
-    ensures linked { AreLinked queues.now (named window.now) batches.now crew.old.items passes.old.items (length spare.old) (length spare.new) players.new.items result }
-    ensures crew { (crew.new.items ≡ []) × (vec_capacity crew.new ≡ vec_capacity crew.old) }
-    ensures passes { (passes.new.items ≡ []) × (vec_capacity passes.new ≡ vec_capacity passes.old) }
+    requires room { vec_len resting.old.workers ≤ vec_capacity players.old }
+    ensures linked { AreLinked queues.now (named window.now) batches.now resting.old.workers.items resting.old.passes.items (length resting.old.spare) (length resting.new.spare) players.new.items result }
+    ensures crew { (resting.new.workers.items ≡ []) × (vec_capacity resting.new.workers ≡ vec_capacity resting.old.workers) }
+    ensures passes { (resting.new.passes.items ≡ []) × (vec_capacity resting.new.passes ≡ vec_capacity resting.old.passes) }
     ensures players { vec_capacity players.new ≡ vec_capacity players.old }
 {
-    let Some(mut worker) = crew.pop() else {
+    let Some(mut worker) = resting.workers.pop() else {
         return first;
     };
-    let Some(mut giving) = passes.pop() else {
+    let Some(mut giving) = resting.passes.pop() else {
         unreachable!()
     };
-    let number = crew.len();
+    let number = resting.workers.len();
     let next = window.begin(rt, &queues[number + 1], &mut giving, number as u16 + 1);
-    let taking = link_first(
-        rt, queues, window, batches, crew, passes, spare, first, players,
-    );
-    worker.begin(window.first_batch, batches, 0, spare);
+    let taking = link_first(rt, queues, window, batches, resting, first, players);
+    worker.begin(window.first_batch, batches, 0, &mut resting.spare);
     players.push_reserved(Player {
         number: number as u16,
         worker,
@@ -108,30 +104,33 @@ pub(crate) fn start<R: Wait>(
     queues: &[EdgeQueue],
     window: &Opening,
     batches: &[Batch],
-    crew: &mut Vec<Worker>,
-    passes: &mut Vec<EdgePass>,
-    spare: &mut Chain<Item>,
+    resting: &mut Resting,
     players: &mut Vec<Player>,
 )
-    requires may { MayStart queues.now (named window.now) batches.now crew.old.items passes.old.items (length spare.old) }
+    requires may { MayBeStarted queues.now (named window.now) batches.now resting.old.workers.items resting.old.passes.items (length resting.old.spare) }
     requires none { players.old.items ≡ [] }
-    requires room { vec_len crew.old ≤ vec_capacity players.old }
-    ensures started { AreStarted queues.now (named window.now) batches.now crew.old.items passes.old.items (length spare.old) (length spare.new) players.new.items }
-    ensures crew { (crew.new.items ≡ []) × (vec_capacity crew.new ≡ vec_capacity crew.old) }
-    ensures passes { (passes.new.items ≡ []) × (vec_capacity passes.new ≡ vec_capacity passes.old) }
+    requires room { vec_len resting.old.workers ≤ vec_capacity players.old }
+    ensures started { AreStarted queues.now (named window.now) batches.now resting.old.workers.items resting.old.passes.items (length resting.old.spare) (length resting.new.spare) players.new.items }
+    ensures crew { (resting.new.workers.items ≡ []) × (vec_capacity resting.new.workers ≡ vec_capacity resting.old.workers) }
+    ensures passes { (resting.new.passes.items ≡ []) × (vec_capacity resting.new.passes ≡ vec_capacity resting.old.passes) }
     ensures players { vec_capacity players.new ≡ vec_capacity players.old }
 {
-    let mut giving = passes.remove(0);
+    let mut giving = resting.passes.remove(0);
     let first = window.begin(rt, &queues[0], &mut giving, 0);
-    give_list(rt, alloc, &queues[0], &mut giving, window.list, spare);
-    let Some(mut worker) = crew.pop() else {
+    give_list(
+        rt,
+        alloc,
+        &queues[0],
+        &mut giving,
+        window.list,
+        &mut resting.spare,
+    );
+    let Some(mut worker) = resting.workers.pop() else {
         unreachable!()
     };
-    let taking = link_first(
-        rt, queues, window, batches, crew, passes, spare, first, players,
-    );
+    let taking = link_first(rt, queues, window, batches, resting, first, players);
     let pieces = count_pieces(window.list.items());
-    worker.begin(window.first_batch, batches, pieces, spare);
+    worker.begin(window.first_batch, batches, pieces, &mut resting.spare);
     players.push_reserved(Player {
         number: window.workers - 1,
         worker,

@@ -41,11 +41,14 @@ pub(crate) fn fill_events(
     requires sorted { IsNonDecreasingBy (λ one. one.source) named.now }
     ensures { OnOk result (events.new ≡ events_for trace.now round endpoint) }
 {
-    let (boots, version, next) = trace.boots_near(round, endpoint, near.boots);
-    events.boots = boots;
-    events.version = version.unwrap_or(1);
-    near.boots = next;
-    (events.down, events.up, near.fates) = trace.fates_near(round, endpoint, near.fates);
+    let boots = trace.boots_near(round, endpoint, near.boots);
+    events.boots = boots.count;
+    events.version = boots.version.unwrap_or(1);
+    near.boots = boots.next;
+    let fates = trace.fates_near(round, endpoint, near.fates);
+    events.down = fates.down;
+    events.up = fates.up;
+    near.fates = fates.next;
     near.asks = fill_asks(&mut events.asks, trace, round, endpoint, near.asks)?;
     let (own, next) = naming(named, endpoint, near.raw);
     near.raw = next;

@@ -1,5 +1,6 @@
 pub mod Names
 pub mod Lines
+pub mod WrittenAlike
 pub mod SlotLines
 pub mod Laws
 pub mod Fields

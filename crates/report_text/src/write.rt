@@ -1,5 +1,6 @@
 ghost use Rattle.std.specs.Prelude.{◌≡◌, ◌+◌, ◌*◌, ◌^◌, ◌<◌, ◌≤◌, [], ◌∷◌, ◌++◌, length, take, drop};
 ghost use Rattle.report_text.specs.Lines.{line_bytes, number_fields, fields, HasName};
+ghost use Rattle.report_text.specs.WrittenAlike.{IsPlanLine, IsCount, IsMade, IsTakeoverLine};
 
 use crate::Line;
 use crate::names::{answer_name, event_name};
@@ -88,6 +89,46 @@ fn put_line(line: &Line, buf: &mut [u8; 192]) -> usize
     ensures rest { drop result buf.new ≡ drop result buf.old }
 {
     match *line {
+        Line::Batch { .. } | Line::Flow { .. } => put_plan_line(line, buf),
+        Line::Slot {
+            slot,
+            src,
+            dst,
+            core,
+        } => put_slot(buf, slot, src, dst, core),
+        Line::Sent { slot, src, dst } => put_all(buf, b"sent", &[slot, src.into(), dst.into()]),
+        Line::Refused { round, number } => {
+            put_named(buf, b"refused", &[round], answer_name(number))
+        }
+        Line::Count { .. } => put_count(line, buf),
+        Line::End { rounds } => put_all(buf, b"end", &[rounds]),
+        Line::Made { .. } => put_made(line, buf),
+        Line::Answer {
+            endpoint,
+            place,
+            number,
+        } => put_named(
+            buf,
+            b"answer",
+            &[endpoint.into(), place],
+            answer_name(number),
+        ),
+        Line::Granted { .. }
+        | Line::Published { .. }
+        | Line::Declined { .. }
+        | Line::Total { .. } => put_takeover_line(line, buf),
+    }
+}
+
+/// Spells what a batch records of a flow, or what became of its demand in a plan.
+fn put_plan_line(line: &Line, buf: &mut [u8; 192]) -> usize
+    requires { IsPlanLine line.now }
+    ensures end { result ≡ length (line_bytes line.now) }
+    ensures fits { result < 192 }
+    ensures written { take result buf.new ≡ line_bytes line.now }
+    ensures rest { drop result buf.new ≡ drop result buf.old }
+{
+    match *line {
         Line::Batch {
             batch,
             src,
@@ -99,16 +140,6 @@ fn put_line(line: &Line, buf: &mut [u8; 192]) -> usize
             b"batch",
             &[batch, src.into(), dst.into(), clear.into(), add],
         ),
-        Line::Slot {
-            slot,
-            src,
-            dst,
-            core,
-        } => put_slot(buf, slot, src, dst, core),
-        Line::Sent { slot, src, dst } => put_all(buf, b"sent", &[slot, src.into(), dst.into()]),
-        Line::Refused { round, number } => {
-            put_named(buf, b"refused", &[round], answer_name(number))
-        }
         Line::Flow {
             src,
             dst,
@@ -120,57 +151,83 @@ fn put_line(line: &Line, buf: &mut [u8; 192]) -> usize
             b"flow",
             &[src.into(), dst.into(), demanded, allocated, pending],
         ),
-        Line::Count {
-            src,
-            dst,
-            demanded,
-            acknowledged,
-            flight,
-            pending,
-            lost,
-            sent,
-            missed,
-        } => put_all(
-            buf,
-            b"count",
-            &[
-                src.into(),
-                dst.into(),
-                demanded,
-                acknowledged,
-                flight,
-                pending,
-                lost,
-                sent,
-                missed,
-            ],
-        ),
-        Line::End { rounds } => put_all(buf, b"end", &[rounds]),
-        Line::Made {
-            number,
-            flows,
-            demanded,
-            acknowledged,
-            flight,
-            pending,
-            lost,
-            sent,
-            missed,
-        } => {
-            let at = put_all(buf, b"made", &[number, flows]);
-            let sums = [demanded, acknowledged, flight, pending, lost, sent, missed];
-            put_sums(buf, at, &sums)
-        }
-        Line::Answer {
-            endpoint,
-            place,
-            number,
-        } => put_named(
-            buf,
-            b"answer",
-            &[endpoint.into(), place],
-            answer_name(number),
-        ),
+        _ => unreachable!(),
+    }
+}
+
+/// Spells what became of a flow's demand in a replay.
+fn put_count(line: &Line, buf: &mut [u8; 192]) -> usize
+    requires { IsCount line.now }
+    ensures end { result ≡ length (line_bytes line.now) }
+    ensures fits { result < 192 }
+    ensures written { take result buf.new ≡ line_bytes line.now }
+    ensures rest { drop result buf.new ≡ drop result buf.old }
+{
+    let Line::Count {
+        src,
+        dst,
+        demanded,
+        acknowledged,
+        flight,
+        pending,
+        lost,
+        sent,
+        missed,
+    } = *line
+    else {
+        unreachable!()
+    };
+    let values = [
+        src.into(),
+        dst.into(),
+        demanded,
+        acknowledged,
+        flight,
+        pending,
+        lost,
+        sent,
+        missed,
+    ];
+    put_all(buf, b"count", &values)
+}
+
+/// Spells what became of all demand in a replay of a made trace.
+fn put_made(line: &Line, buf: &mut [u8; 192]) -> usize
+    requires { IsMade line.now }
+    ensures end { result ≡ length (line_bytes line.now) }
+    ensures fits { result < 192 }
+    ensures written { take result buf.new ≡ line_bytes line.now }
+    ensures rest { drop result buf.new ≡ drop result buf.old }
+{
+    let Line::Made {
+        number,
+        flows,
+        demanded,
+        acknowledged,
+        flight,
+        pending,
+        lost,
+        sent,
+        missed,
+    } = *line
+    else {
+        unreachable!()
+    };
+    let at = put_all(buf, b"made", &[number, flows]);
+    let sums = [demanded, acknowledged, flight, pending, lost, sent, missed];
+    put_sums(buf, at, &sums)
+}
+
+/// Spells a line that only a takeover writes.
+fn put_takeover_line(line: &Line, buf: &mut [u8; 192]) -> usize
+    requires kind { IsTakeoverLine line.now }
+    requires named { HasName line.now }
+    ensures end { result ≡ length (line_bytes line.now) }
+    ensures fits { result < 192 }
+    ensures written { take result buf.new ≡ line_bytes line.now }
+    ensures rest { drop result buf.new ≡ drop result buf.old }
+{
+    match *line {
         Line::Granted {
             message,
             node,
@@ -185,6 +242,7 @@ fn put_line(line: &Line, buf: &mut [u8; 192]) -> usize
             asked,
             sent,
         } => put_all(buf, b"total", &[src.into(), dst.into(), asked, sent]),
+        _ => unreachable!(),
     }
 }
 

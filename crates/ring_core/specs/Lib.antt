@@ -1,4 +1,5 @@
 pub mod Windows
+pub mod Played
 pub mod States
 pub mod Streams
 pub mod Examples

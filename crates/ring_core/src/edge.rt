@@ -108,15 +108,20 @@ impl Edge {
     }
 }
 
-/// The two ends of a worker over the edges of a ring.
-#[derive(Drop)]
-pub(crate) struct ListLink<'a> {
-    // The list and the batches name the window.
+/// The window that a ring plays, as its list and its batches name it.
+#[derive(Clone, Copy)]
+pub(crate) struct PlayedWindow<'a> {
     pub(crate) list: &'a Snapshot<DemandList>,
     pub(crate) batches: &'a [Batch],
     pub(crate) first_batch: u32,
     pub(crate) b: u8,
     pub(crate) workers: u16,
+}
+
+/// The two ends of a worker over the edges of a ring.
+#[derive(Drop)]
+pub(crate) struct ListLink<'a> {
+    pub(crate) window: PlayedWindow<'a>,
     pub(crate) edges: &'a mut [Edge],
     pub(crate) before: usize,
     pub(crate) after: usize,
@@ -125,13 +130,13 @@ pub(crate) struct ListLink<'a> {
 impl<'a> Link for ListLink<'a> {
     ghost use Rattle.std.specs.Prelude.{◌≡◌, ◌<◌, length, refl};
     ghost use Rattle.ring_core.specs.Edges.{AllHold, StreamsAreShort, OthersStay, IsFoundEmpty, IsFoundFull, ends_between};
-    ghost use Rattle.ring_core.specs.Windows.{window_of};
+    ghost use Rattle.ring_core.specs.Played.{window_named};
 
-    ghost ends = { λ l. ends_between (window_of l.list.now.value.items l.batches.now l.first_batch l.b l.workers) l.edges.now l.before l.after };
+    ghost ends = { λ l. ends_between (window_named l.window) l.edges.now l.before l.after };
 
-    ghost ready = { λ l. (l.before < length l.edges.now) × (l.after < length l.edges.now) × StreamsAreShort (window_of l.list.now.value.items l.batches.now l.first_batch l.b l.workers) × AllHold (window_of l.list.now.value.items l.batches.now l.first_batch l.b l.workers) l.edges.now };
+    ghost ready = { λ l. (l.before < length l.edges.now) × (l.after < length l.edges.now) × StreamsAreShort (window_named l.window) × AllHold (window_named l.window) l.edges.now };
 
-    ghost stays = { λ l m. (m.edges.ghost_name ≡ l.edges.ghost_name) × (m.list.now ≡ l.list.now) × (m.batches.now ≡ l.batches.now) × (m.first_batch ≡ l.first_batch) × (m.b ≡ l.b) × (m.workers ≡ l.workers) × (m.before ≡ l.before) × (m.after ≡ l.after) × OthersStay l.before l.after l.edges.now m.edges.now };
+    ghost stays = { λ l m. (m.edges.ghost_name ≡ l.edges.ghost_name) × (window_named m.window ≡ window_named l.window) × (m.before ≡ l.before) × (m.after ≡ l.after) × OthersStay l.before l.after l.edges.now m.edges.now };
 
     ghost found_empty = { λ l at. IsFoundEmpty l.edges.now l.before at };
 
@@ -147,5 +152,5 @@ impl<'a> Link for ListLink<'a> {
         self.edges[after].give(piece)
     }
 
-    ghost stays_same = { λ link. (refl, refl, refl, refl, refl, refl, refl, refl, record { count = refl; taken = λ number other. refl; sent = λ number other. refl; rooms = λ number. refl }) };
+    ghost stays_same = { λ link. (refl, refl, refl, refl, record { count = refl; taken = λ number other. refl; sent = λ number other. refl; rooms = λ number. refl }) };
 }

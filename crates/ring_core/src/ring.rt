@@ -6,6 +6,7 @@ ghost use Rattle.slot_batches.specs.NextList.{IsListBefore};
 ghost use Rattle.slot_batches.specs.Pieces.{part_of, piece_count, piece_at, pieces};
 ghost use Rattle.ring_core.specs.States.{EdgeState, WorkerState};
 ghost use Rattle.ring_core.specs.Windows.{Window, window_of, turns_of, worker_after};
+ghost use Rattle.ring_core.specs.Played.{window_named};
 ghost use Rattle.ring_core.specs.Workers.{Plays, IsWorker, MayBegin, HasBegunWith, IsSameWorker};
 ghost use Rattle.ring_core.specs.declared.turn.Turn.TheVariants.{Moved};
 ghost use Rattle.ring_core.specs.Streams.{items_of};
@@ -15,7 +16,7 @@ ghost use Rattle.ring_core.specs.Wholes.{room_for, StandsBefore};
 ghost use Rattle.ring_core.specs.Openings.{crew_openings};
 ghost use Rattle.ring_core.specs.Cores.{IsAtRest, MayStart, IsRing, IsSameRing, IsFinished, IsGoing, HoldsTheLastList, HasJustBegun, HasRoomForTwo, AreCrewed, IsPlaying, AnswersIn, CanMove, OthersWait, window_in};
 
-use crate::edge::{Edge, ListLink};
+use crate::edge::{Edge, ListLink, PlayedWindow};
 use crate::turn::Turn;
 use crate::whole::Whole;
 use crate::worker::{Worker, count_pieces};
@@ -170,13 +171,16 @@ impl RingCore {
         let after = self.worker_after(worker) as usize;
         self.whole
             .send(self.alloc, self.workers, &mut self.edges, &mut self.spare);
+        let window = PlayedWindow {
+            list: &self.list,
+            batches,
+            first_batch: self.first_batch,
+            b: self.b,
+            workers: self.workers,
+        };
         turn_at(
             &mut self.crew[before],
-            &self.list,
-            self.first_batch,
-            self.b,
-            self.workers,
-            batches,
+            window,
             &mut self.edges,
             before,
             after,
@@ -410,35 +414,27 @@ fn begin_crew(
 /// A turn of a worker of the ring, over the edges before and after it: a piece that is refused stays with the worker.
 fn turn_at(
     worker: &mut Worker,
-    list: &Snapshot<DemandList>,
-    first_batch: u32,
-    b: u8,
-    workers: u16,
-    batches: &[Batch],
+    window: PlayedWindow,
     edges: &mut [Edge],
     before: usize,
     after: usize,
 ) -> Turn
     requires before { before < length edges.old }
     requires after { after < length edges.old }
-    requires short { StreamsAreShort (window_of list.now.value.items batches.now first_batch b workers) }
-    requires holds { AllHold (window_of list.now.value.items batches.now first_batch b workers) edges.old }
-    requires plays { Plays batches.now (ends_between (window_of list.now.value.items batches.now first_batch b workers) edges.old before after) worker.old }
-    ensures holds { AllHold (window_of list.now.value.items batches.now first_batch b workers) edges.new }
-    ensures plays { Plays batches.now (ends_between (window_of list.now.value.items batches.now first_batch b workers) edges.new before after) worker.new }
-    ensures answer { TurnAnswers batches.now worker.old (ends_between (window_of list.now.value.items batches.now first_batch b workers) edges.old before after) (ends_between (window_of list.now.value.items batches.now first_batch b workers) edges.new before after) (IsFoundEmpty edges.new before) (IsFoundFull edges.new after) result }
+    requires short { StreamsAreShort (window_named window) }
+    requires holds { AllHold (window_named window) edges.old }
+    requires plays { Plays window.batches.now (ends_between (window_named window) edges.old before after) worker.old }
+    ensures holds { AllHold (window_named window.entry) edges.new }
+    ensures plays { Plays window.entry.batches.now (ends_between (window_named window.entry) edges.new before after) worker.new }
+    ensures answer { TurnAnswers window.entry.batches.now worker.old (ends_between (window_named window.entry) edges.old before after) (ends_between (window_named window.entry) edges.new before after) (IsFoundEmpty edges.new before) (IsFoundFull edges.new after) result }
     ensures others { OthersStay before after edges.old edges.new }
     ensures worker { IsSameWorker worker.old worker.new }
 {
     let mut link = ListLink {
-        list,
-        batches,
-        first_batch,
-        b,
-        workers,
+        window,
         edges,
         before,
         after,
     };
-    worker.turn(batches, &mut link)
+    worker.turn(window.batches, &mut link)
 }

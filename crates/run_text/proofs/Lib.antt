@@ -1,4 +1,3 @@
-pub mod OutputLemmas
 pub mod NumberedTexts
 pub mod BatchTexts
 pub mod CoreLemmas

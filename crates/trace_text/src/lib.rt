@@ -45,4 +45,4 @@ pub use make::make_trace;
 pub use order::{Ranked, between_near};
 pub use read::read_trace;
 pub use records::without_mark;
-pub use trace::Trace;
+pub use trace::{RoundBoots, RoundFates, Trace};

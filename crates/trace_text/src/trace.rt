@@ -31,6 +31,28 @@ const BOOT_RANKS: u64 = 256;
 
 const RAW_RANKS: u64 = 1;
 
+/// What befalls the packets of an endpoint in a round.
+#[derive(Clone, Copy, Debug, PartialEq, Eq)]
+pub struct RoundFates {
+    /// Of the one that goes down to the endpoint; None where no row names it.
+    pub down: Option<Fate>,
+    /// Of the one that goes up from it.
+    pub up: Option<Fate>,
+    /// The place after them, among all fates of the trace.
+    pub next: usize,
+}
+
+/// How an endpoint boots in a round.
+#[derive(Clone, Copy, Debug, PartialEq, Eq)]
+pub struct RoundBoots {
+    /// How often.
+    pub count: u32,
+    /// The version of the last of these boots, if there is one.
+    pub version: Option<u8>,
+    /// The place after them, among all boots of the trace.
+    pub next: usize,
+}
+
 /// A trace without faulty row.
 #[derive(Drop)]
 pub struct Trace {
@@ -238,24 +260,25 @@ impl Trace {
     /// What befalls the packet that goes down to the endpoint in the round and the one that goes up from it, and the place after them. This
     /// place among all fates of the trace is tried first.
     #[inline]
-    pub fn fates_near(
-        &self,
-        round: u32,
-        endpoint: u16,
-        near: usize,
-    ) -> (Option<Fate>, Option<Fate>, usize)
+    pub fn fates_near(&self, round: u32, endpoint: u16, near: usize) -> RoundFates
         requires round { round < self.now.rounds }
         requires endpoint { endpoint < endpoints_of self.now.net }
-        ensures down { result.0 ≡ fate_at self.now round endpoint false }
-        ensures up { result.1 ≡ fate_at self.now round endpoint true }
+        ensures down { result.down ≡ fate_at self.now round endpoint false }
+        ensures up { result.up ≡ fate_at self.now round endpoint true }
     {
         let low = fate_rank(round, endpoint, false);
         if is_gap(&self.fates, low, low + 2, near) {
-            return (None, None, near);
+            return RoundFates {
+                down: None,
+                up: None,
+                next: near,
+            };
         }
-        let down = self.fate(round, endpoint, false);
-        let up = self.fate(round, endpoint, true);
-        (down, up, start_near(&self.fates, low + 2, near))
+        RoundFates {
+            down: self.fate(round, endpoint, false),
+            up: self.fate(round, endpoint, true),
+            next: start_near(&self.fates, low + 2, near),
+        }
     }
 
     /// How often the endpoint boots in the round.
@@ -282,19 +305,25 @@ impl Trace {
     /// How often the endpoint boots in the round, the version of the last of these boots, and the place after them. This place among all
     /// boots of the trace is tried first.
     #[inline]
-    pub fn boots_near(&self, round: u32, endpoint: u16, near: usize) -> (u32, Option<u8>, usize)
+    pub fn boots_near(&self, round: u32, endpoint: u16, near: usize) -> RoundBoots
         requires round { round < self.now.rounds }
         requires endpoint { endpoint < endpoints_of self.now.net }
-        ensures count { result.0 ≡ length (boots_at self.now round endpoint) }
-        ensures version { result.1 ≡ last_one (boots_at self.now round endpoint) }
+        ensures count { result.count ≡ length (boots_at self.now round endpoint) }
+        ensures version { result.version ≡ last_one (boots_at self.now round endpoint) }
     {
         let rank = boot_rank(round, endpoint);
         if is_gap(&self.boots, rank, rank + 1, near) {
-            return (0, None, near);
+            return RoundBoots {
+                count: 0,
+                version: None,
+                next: near,
+            };
         }
-        let boots = self.boots(round, endpoint);
-        let version = self.boot_version(round, endpoint);
-        (boots, version, start_near(&self.boots, rank + 1, near))
+        RoundBoots {
+            count: self.boots(round, endpoint),
+            version: self.boot_version(round, endpoint),
+            next: start_near(&self.boots, rank + 1, near),
+        }
     }
 
     fn boots_of(&self, round: u32, endpoint: u16) -> &[Boot]

@@ -33,7 +33,7 @@ take_list-requires-clause-room g c =
 pub take_list-requires-clause-fits : goal.take_list-requires-clause-fits
 take_list-requires-clause-fits g c =
     let h = at_last c.args.queues.now (played_window c.args.players.now.items) c.requires.may.all.queue_count c.args.players.now.items c.requires.may.all.places c.requires.may.linked c.requires.may.ended c.requires.may.all.some_workers c.requires.may.all.player_count c.args.last c.requires.may.all.last_is c.index_mut.result.now c.index_mut.ensures.value in
-    subst (λ (v : EdgeWindow). length c.args.spare.now + length (last_list v) < 2 ^ 64) (sym h.0.taking_in) c.requires.may.all.counts
+    subst (λ (v : EdgeWindow). length c.args.resting.now.spare + length (last_list v) < 2 ^ 64) (sym h.0.taking_in) c.requires.may.all.counts
 
 pub join_all-requires-clause-even : goal.join_all-requires-clause-even
 join_all-requires-clause-even g c =
@@ -50,7 +50,7 @@ returns-clause-list g c =
 pub returns-clause-nodes : goal.returns-clause-nodes
 returns-clause-nodes g c =
     let h = at_last c.args.queues.now (played_window c.args.players.now.items) c.requires.may.all.queue_count c.args.players.now.items c.requires.may.all.places c.requires.may.linked c.requires.may.ended c.requires.may.all.some_workers c.requires.may.all.player_count c.args.last c.requires.may.all.last_is c.index_mut.result.now c.index_mut.ensures.value in
-    c.take_list.ensures.nodes ∙ ap (λ (v : EdgeWindow). length c.args.spare.now + length (last_list v)) h.0.taking_in
+    c.take_list.ensures.nodes ∙ ap (λ (v : EdgeWindow). length c.args.resting.now.spare + length (last_list v)) h.0.taking_in
 
 pub returns-clause-crew : goal.returns-clause-crew
 returns-clause-crew g c = same_crew c.args.players.now.items c.pop.new.self.items c.in-Some.player c.args.last c.index_mut.result.now _ _ _ c.index_mut.ensures.value refl c.in-Some.ensures.items c.join_all.ensures.crew c.push_reserved.ensures.items

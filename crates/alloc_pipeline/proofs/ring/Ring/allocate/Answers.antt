@@ -34,8 +34,8 @@ returns g c =
     let list : List Item = c.args.list.now.items in
     let none : List Flow = [] in
     let window : Window = window_of list batches first old.b old.count in
-    let was : RingWork = record { workers = old.count; endpoints = old.endpoints; batches = old.batches; b = old.b; moved = moved_of old.passes.items; spare = length old.spare } in
-    let is : RingWork = record { workers = new.count; endpoints = new.endpoints; batches = new.batches; b = new.b; moved = moved_of new.passes.items; spare = length new.spare } in
+    let was : RingWork = record { workers = old.count; endpoints = old.endpoints; batches = old.batches; b = old.b; moved = moved_of old.resting.passes.items; spare = length old.resting.spare } in
+    let is : RingWork = record { workers = new.count; endpoints = new.endpoints; batches = new.batches; b = new.b; moved = moved_of new.resting.passes.items; spare = length new.resting.spare } in
     let may : MayAllocate was first c.args.list.now batches c.args.out.now = subst (λ (r : RingWork). MayAllocate r first c.args.list.now batches c.args.out.now) (sym c.self.view_is) c.requires.may in
     let played = have_played old new first batches list c.deref.result.now c.self.invariant c.play.ensures.ready c.play.ensures.same c.play.ensures.played c.deref.ensures.value in
     let same = c.play.ensures.same in

@@ -1,1 +1,0 @@
--- What a step of output leaves, put another way.
