@@ -405,6 +405,10 @@ spelled-as f (Some packet) = refl
 pub bytes-made : (f : DownPacket → Down) (o : Option DownPacket) (down : Down) → option_map f o ≡ Some down → option_map (λ packet. down_bytes (f packet)) o ≡ Some (down_bytes down)
 bytes-made f o down is = spelled-as f o ∙ ap (option_map down_bytes) is
 
+pub none-made : (f : DownPacket → Down) (o : Option DownPacket) → option_map f o ≡ None → o ≡ None
+none-made f None is = refl
+none-made f (Some packet) is = absurd (cc)
+
 -- and what is true of it is true of that packet
 pub true-of : (P : Down → Type 0) (f : DownPacket → Down) (o : Option DownPacket) (down : Down) → option_map f o ≡ Some down → P down → IfSome o (λ packet. P (f packet))
 true-of P f None down is holds = tt

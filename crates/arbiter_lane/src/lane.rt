@@ -8,7 +8,7 @@ ghost use Rattle.flow_ledger.specs.FlowCount.{pending};
 ghost use Rattle.fcp_framing.specs.declared.packet.Demand.{Demand as DemandItem};
 ghost use Rattle.fcp_framing.specs.declared.packet.Told.{Told as ToldSlot};
 ghost use Rattle.ack_window.specs.declared.send_window.Unresolved.{Unresolved as UnresolvedNumber};
-ghost use Rattle.fcp_framing.specs.Spelling.{down_bytes, IsMask, SpellsDown};
+ghost use Rattle.fcp_framing.specs.Spelling.{down_bytes, FitsDown, IsMask, SpellsDown};
 ghost use Rattle.fcp_framing.specs.Fields.{up_of};
 ghost use Rattle.fcp_framing.specs.Versions.{IsVersion, mask_bits};
 ghost use Rattle.ack_window.specs.Arrivals.{receive_verdict, is_fresh};
@@ -64,8 +64,7 @@ pub struct Lane {
     round: u32,
     is_made: bool,
     is_reset: bool,
-    /// The packet that was made last, and the one that arrived last.
-    down: Down,
+    /// The packet that arrived last.
     up: Up,
 }
 
@@ -145,7 +144,6 @@ impl Lane {
             round: 0,
             is_made: false,
             is_reset: false,
-            down: Down::default(),
             up: Up::default(),
         })
     }
@@ -174,21 +172,35 @@ impl Lane {
             LaneStandsFor self.old history allocations →
             LaneStandsFor self.new (MakesDown round told.now.items ∷ history) allocations }
     {
+        let mut down = Down::default();
+        if self.fill_down(round, told, &mut down) {
+            return Some(encode_alloc(&down, buf));
+        }
+        None
+    }
+
+    /// Fills in the allocation of this round, whose bytes [`make_down`](Lane::make_down) makes, and answers whether there is one. It
+    /// stands for that call.
+    pub fn fill_down(&mut self, round: u32, told: &ArrayVec<Told, 64>, down: &mut Down) -> bool
+        requires { MayMakeDown self.old round told.now.items }
+        ensures none { result ≡ false ↔ (self.old.epoch ≡ 0) }
+        ensures packet { (history : LaneHistory) (allocations : List Allocation) →
+            LaneStandsFor self.old history allocations →
+            option_map (framed_down self.old.endpoint) (packet_down self.old.g history round told.now.items) ≡ (if result then Some down.new else None) }
+        ensures spelled { result ≡ true → SpellsDown self.old.endpoints self.old.b (down_bytes down.new) down.new }
+        ensures frame { self.new ≡ record self.old { sent = self.new.sent; lines = self.new.lines; is_made = true } }
+        ensures stands { (history : LaneHistory) (allocations : List Allocation) →
+            LaneStandsFor self.old history allocations →
+            LaneStandsFor self.new (MakesDown round told.now.items ∷ history) allocations }
+    {
         lanes_count_slots();
         let told = self.slots_told(round, told);
-        put_header(
-            &mut self.down,
-            self.version,
-            self.endpoint,
-            self.epoch,
-            &self.arrived,
-        );
+        put_header(down, self.version, self.endpoint, self.epoch, &self.arrived);
         self.is_made = true;
         if self.epoch == 0 {
-            return None;
+            return false;
         }
         let batch = round.saturating_sub(2 * u32::from(self.g));
-        let down = &mut self.down;
         tell(
             &mut self.sent,
             &mut self.lines,
@@ -197,7 +209,8 @@ impl Lane {
             told,
             down,
         );
-        Some(encode_alloc(&self.down, buf))
+        numbers_fit(down);
+        true
     }
 
     /// Takes what arrives in this round. After `OldSeq` and `Repeat` the acknowledgement was read; any other refusal leaves
@@ -394,6 +407,16 @@ fn put_header(down: &mut Down, version: u8, endpoint: u16, epoch: u32, arrived: 
     down.epoch = epoch;
     down.high = high;
     down.mask = mask;
+}
+
+/// The numbers of an allocation have 32 bits.
+fn numbers_fit(down: &Down)
+    ensures { FitsDown down.now }
+{
+    let _epoch = down.epoch;
+    let _seq = down.seq;
+    let _high = down.high;
+    let _batch = down.batch;
 }
 
 /// Takes a request of the connection: reads its acknowledgement, and where its number is fresh raises the demands that it names.

@@ -6,7 +6,7 @@ ghost use Rattle.ack_window.specs.Versions.{reorder_of, span_of};
 ghost use Rattle.ack_window.specs.Windows.{HasDone, MaySend};
 ghost use Rattle.fcp_framing.specs.declared.packet.Told.{Told as ToldSlot};
 ghost use Rattle.fcp_framing.specs.Fields.{down_of};
-ghost use Rattle.fcp_framing.specs.Spelling.{up_bytes, SpellsUp};
+ghost use Rattle.fcp_framing.specs.Spelling.{up_bytes, IsAllocation, SpellsUp};
 ghost use Rattle.fcp_framing.specs.Versions.{IsVersion};
 ghost use Rattle.endpoint_history.specs.Packets.{down_packet, framed_up, slots_to};
 ghost use Rattle.endpoint_history.specs.Agent.{AgentHistory, Boots, Asks, TakesDown, MakesUp, SendsDue, takes, packet_up, missed};
@@ -14,7 +14,7 @@ ghost use Rattle.endpoint_history.specs.Sending.{Slot, sends, sent_in, sent_of};
 ghost use Rattle.endpoint_agent.specs.Carrying.{greatest_shown};
 ghost use Rattle.endpoint_agent.specs.Lines.{slots_sent, with_missed, with_sent, unconfirmed_in, slots_from_first, left_in};
 ghost use Rattle.endpoint_agent.specs.declared.lines.FlowLine.{FlowLine as FlowLineItem};
-ghost use Rattle.endpoint_agent.specs.Refusals.{refusal_of, IsOwn};
+ghost use Rattle.endpoint_agent.specs.Refusals.{refusal_of, refusal_of_packet, IsOwn};
 ghost use Rattle.endpoint_agent.specs.Standing.{AgentStandsFor};
 ghost use Rattle.endpoint_agent.specs.State.{line_at, batch_place, UnconfirmedAreMarked};
 ghost use Rattle.endpoint_agent.specs.Timely.{MayTake};
@@ -58,8 +58,7 @@ pub struct Agent {
     waiting: [Waiting; 3],
     round: u32,
     is_made: bool,
-    /// The packet that arrived last, and what its acknowledgement decides.
-    down: Down,
+    /// What the acknowledgement of the packet that arrived last decides.
     acks: ArrayVec<Decided<()>, 129>,
 }
 
@@ -141,7 +140,6 @@ impl Agent {
             waiting: open_places(),
             round: 0,
             is_made: false,
-            down: Down::default(),
             acks: ArrayVec::new(),
         })
     }
@@ -223,20 +221,49 @@ impl Agent {
             AgentStandsFor self.old calls →
             AgentStandsFor self.new (TakesDown round (down_packet (down_of bytes.now)) ∷ calls) }
     {
-        if let Err(refusal) = decode_down(bytes, self.endpoints, self.b, &mut self.down) {
+        let mut down = Down::default();
+        if let Err(refusal) = decode_down(bytes, self.endpoints, self.b, &mut down) {
             return Err(DownRefused::Frame(refusal));
         }
-        if self.down.dst != self.me {
+        if down.dst != self.me {
             return Err(DownRefused::NotMine);
         }
-        if self.down.epoch != self.epoch {
+        self.take_allocation(round, &down)
+    }
+
+    /// Takes an allocation for this endpoint that arrives in this round, as [`take_down`](Agent::take_down) takes the bytes that spell it.
+    pub fn take_allocation(&mut self, round: u32, down: &Down) -> Result<(), DownRefused>
+        requires round { round ≡ self.old.round }
+        requires rounds { round < 100000 }
+        requires rules { IsAllocation self.old.endpoints self.old.b down.now }
+        requires own { down.now.dst ≡ self.old.me }
+        requires may_take { (calls : AgentHistory) × AgentStandsFor self.old calls
+            × (takes calls (down_packet down.now) ≡ true → MayTake self.old.g calls round (down_packet down.now)) }
+        ensures answer { (calls : AgentHistory) →
+            AgentStandsFor self.old calls →
+            result_err result ≡ refusal_of_packet self.old.me calls down.now }
+        ensures unchanged { IfSome (result_err result) (λ refusal.
+            refusal ≢ DownRefused.OldSeq → refusal ≢ DownRefused.Repeat → self.new ≡ self.old) }
+        ensures kept { IfSome (result_err result) (λ refusal. self.new ≡ record self.old { sent = self.new.sent; acknowledged = self.new.acknowledged }) }
+        ensures frame { self.new ≡ record self.old {
+          arrived = self.new.arrived;
+          sent = self.new.sent;
+          has_begun = self.new.has_begun;
+          acknowledged = self.new.acknowledged;
+          lines = self.new.lines;
+          waiting = self.new.waiting;
+        } }
+        ensures stands { (calls : AgentHistory) →
+            AgentStandsFor self.old calls →
+            AgentStandsFor self.new (TakesDown round (down_packet down.now) ∷ calls) }
+    {
+        if down.epoch != self.epoch {
             return Err(DownRefused::OtherEpoch);
         }
-        if self.down.version != self.version {
+        if down.version != self.version {
             return Err(DownRefused::OtherVersion);
         }
         agents_count_slots();
-        let down = &self.down;
         self.acknowledged = read_ack(down, &mut self.sent, &mut self.acks, self.acknowledged);
         match self.arrived.take(down.seq) {
             Taken::Fresh => {

@@ -1,9 +1,11 @@
 -- What the parts of a round make of each end and of each direction. From this project's own profile.
-use Rattle.std.specs.Prelude.{◌≡◌, ◌≢◌, ℕ, ◌+◌, ◌*◌, ◌<◌, ◌≤◌, true, List, [], ◌∷◌, take, Option, None, Some, option_map, option_to_list}
+use Rattle.std.specs.Prelude.{◌≡◌, ◌≢◌, ℕ, ◌+◌, ◌*◌, ◌<◌, ◌≤◌, Bool, true, false, List, [], ◌∷◌, take, Option, None, Some, option_map, option_to_list}
 use Rattle.loss_world.specs.declared.fate.Fate.{Fate}
 use Rattle.loss_world.specs.Arrivals.{Departure}
 use Rattle.loss_world.specs.InTransit.{Held, with_packet}
+use Rattle.fcp_framing.specs.declared.packet.Down.{Down}
 use Rattle.fcp_framing.specs.Fields.{up_of, down_of}
+use Rattle.fcp_framing.specs.Spelling.{down_bytes}
 use Rattle.endpoint_history.specs.Packets.{DownPacket, UpPacket, up_packet, down_packet, slots_to}
 use Rattle.endpoint_history.specs.Agent.{AgentHistory, TakesDown, takes, missed}
 use Rattle.endpoint_history.specs.Sending.{due}
@@ -57,3 +59,8 @@ handed spell round fate packet = option_to_list (option_map (λ p. record { roun
 abbrev pub with_at_hand : ℕ → Option ℕ → List ℕ → Held → Held
 with_at_hand round None made world = world
 with_at_hand round (Some length) made world = with_packet round (take length made) world
+
+-- the same, of a packet that is not spelled
+abbrev pub with_packet_at_hand : ℕ → Bool → Down → Held → Held
+with_packet_at_hand round false packet world = world
+with_packet_at_hand round true packet world = with_packet round (down_bytes packet) world

@@ -5,6 +5,7 @@ ghost use Rattle.flow_ledger.specs.FlowCount.{pending};
 ghost use Rattle.loss_world.specs.Arrivals.{Departure};
 ghost use Rattle.loss_world.specs.History.{WorldCall, Departs, asked_of, WorldStandsFor};
 ghost use Rattle.loss_world.specs.InTransit.{due_in};
+ghost use Rattle.fcp_framing.specs.Spelling.{down_bytes, SpellsDown};
 ghost use Rattle.fcp_framing.specs.Versions.{IsVersion};
 ghost use Rattle.endpoint_history.specs.Packets.{DownPacket, UpPacket};
 ghost use Rattle.endpoint_history.specs.Agent.{AgentHistory, Asks, Boots, MakesUp, packet_up, missed};
@@ -26,7 +27,7 @@ ghost use Rattle.lane_rounds.specs.Refused.{refused_by, refused_in, with_raw, wi
 ghost use Rattle.lane_rounds.specs.State.{MayAsk, with_each};
 ghost use Rattle.lane_rounds.specs.Standing.{RoundsStandFor, HasCarried, IsDownOf, IsUpOf, spell_down, spell_up, played_by};
 ghost use Rattle.lane_rounds.specs.Rounds.{MayPlayRound, HasRoundMore, GivesRound};
-ghost use Rattle.lane_rounds.specs.Parts.{IsSameAgent, IsReadDown, IsReadUp, Each, MayHear, hearing, reading, handed, with_at_hand};
+ghost use Rattle.lane_rounds.specs.Parts.{IsSameAgent, IsReadDown, IsReadUp, Each, MayHear, hearing, reading, handed, with_at_hand, with_packet_at_hand};
 
 use crate::NoMemory;
 use crate::events::{Events, RawPacket, RefusedList};
@@ -39,7 +40,7 @@ use endpoint_history::{
     allocations_are_in_order, counts_are_bounded, no_loss_or_boot_harms, packets_are_framed_alike,
     rounds_are_calls, rounds_are_read_in_order,
 };
-use fcp_framing::{Told, what_is_encoded_is_read_back};
+use fcp_framing::{Down, Told, what_is_encoded_is_read_back};
 use flow_ledger::FlowCount;
 use greedy_rules::Batch;
 use loss_world::{Fate, World, arrivals_are_given_in_order, packets_pass_at_once};
@@ -131,15 +132,17 @@ impl LaneRounds {
         let buf = &mut self.buf;
         boot_all(&mut self.agent, events.boots, events.version);
         ask_all(&mut self.agent, events.asks.as_slice());
+        let mut packet = Down::default();
         let down = post_down(
             &mut self.lane,
             &mut self.down,
             round,
             events.down,
             told,
+            &mut packet,
             buf,
         )?;
-        hear(&mut self.agent, &mut self.down, round, down, buf);
+        hear(&mut self.agent, &mut self.down, round, down, &packet, buf);
         let up = post_up(&mut self.agent, &mut self.up, round, events.up, buf)?;
         read(&mut self.lane, &mut self.up, round, up, buf);
         read_raw(&mut self.lane, round, events.raw.as_slice(), refused)?;
@@ -224,15 +227,17 @@ fn ask_all(agent: &mut Agent, asks: &[(u16, u32)])
     }
 }
 
-/// Makes the downward packet of the round, if there is one, and hands it over. Answers its length where it is at hand.
+/// Makes the downward packet of the round, if there is one, and hands it over. One that would arrive at once is at hand: it is not
+/// spelled. Answers whether there is such a one.
 fn post_down(
     lane: &mut Lane,
     world: &mut World,
     round: u32,
     fate: Option<Fate>,
     told: &ArrayVec<Told, 64>,
+    packet: &mut Down,
     buf: &mut [u8; 2048],
-) -> Result<Option<usize>, NoMemory>
+) -> Result<bool, NoMemory>
     requires { MayMakeDown lane.old round told.now.items }
     ensures frame { lane.new ≡ record lane.old { sent = lane.new.sent; lines = lane.new.lines; is_made = true } }
     ensures stands { OnOk result ((history : LaneHistory) (allocations : List Allocation) →
@@ -241,17 +246,51 @@ fn post_down(
     ensures spelled { (history : LaneHistory) (allocations : List Allocation) →
         lanes.LaneStandsFor lane.old history allocations →
         IfSome (packet_down lane.old.g history round told.now.items) (IsDownOf lane.old.endpoint lane.old.endpoints lane.old.b) }
-    ensures within { IfOk result (λ at_hand. IfSome at_hand (λ length. length ≤ 2048)) }
-    ensures alone { IfOk result (λ at_hand. IsSome at_hand → world.new.flights ≡ []) }
+    ensures rules { IfOk result (λ at_hand. at_hand ≡ true → SpellsDown lane.old.endpoints lane.old.b (down_bytes packet.new) packet.new) }
+    ensures alone { IfOk result (λ at_hand. at_hand ≡ true → world.new.flights ≡ []) }
     ensures carried { IfOk result (λ at_hand. (history : LaneHistory) (allocations : List Allocation) (departures : List Departure) →
         lanes.LaneStandsFor lane.old history allocations →
         HasCarried world.old round departures →
-        HasCarried (with_at_hand round at_hand buf.new world.new) round (departures ++ handed (spell_down lane.old.endpoint) round fate (packet_down lane.old.g history round told.now.items))) }
+        HasCarried (with_packet_at_hand round at_hand packet.new world.new) round (departures ++ handed (spell_down lane.old.endpoint) round fate (packet_down lane.old.g history round told.now.items))) }
+{
+    rounds_are_read_in_order();
+    packets_pass_at_once();
+    if world.passes_at_once(fate) {
+        return Ok(lane.fill_down(round, told, packet));
+    }
+    send_down(lane, world, round, fate, told, buf)?;
+    Ok(false)
+}
+
+/// Makes the bytes of the downward packet of the round, if there is one, and sends them.
+fn send_down(
+    lane: &mut Lane,
+    world: &mut World,
+    round: u32,
+    fate: Option<Fate>,
+    told: &ArrayVec<Told, 64>,
+    buf: &mut [u8; 2048],
+) -> Result<(), NoMemory>
+    requires { MayMakeDown lane.old round told.now.items }
+    ensures frame { lane.new ≡ record lane.old { sent = lane.new.sent; lines = lane.new.lines; is_made = true } }
+    ensures stands { (history : LaneHistory) (allocations : List Allocation) →
+        lanes.LaneStandsFor lane.old history allocations →
+        lanes.LaneStandsFor lane.new (MakesDown round told.now.items ∷ history) allocations }
+    ensures spelled { (history : LaneHistory) (allocations : List Allocation) →
+        lanes.LaneStandsFor lane.old history allocations →
+        IfSome (packet_down lane.old.g history round told.now.items) (IsDownOf lane.old.endpoint lane.old.endpoints lane.old.b) }
+    ensures carried { OnOk result ((history : LaneHistory) (allocations : List Allocation) (departures : List Departure) →
+        lanes.LaneStandsFor lane.old history allocations →
+        HasCarried world.old round departures →
+        HasCarried world.new round (departures ++ handed (spell_down lane.old.endpoint) round fate (packet_down lane.old.g history round told.now.items))) }
 {
     rounds_are_read_in_order();
     match lane.make_down(round, told, buf) {
-        Some(length) => hand_over(world, round, fate, buf, length),
-        None => Ok(None),
+        Some(length) => {
+            world.send(round, fate, &buf[..length])?;
+            Ok(())
+        }
+        None => Ok(()),
     }
 }
 
@@ -280,40 +319,40 @@ fn hand_over(
     Ok(None)
 }
 
-/// Takes what arrives at the agent in this round: what is at hand, which then is all, or else what the world has.
+/// Takes what arrives at the agent in this round: the packet, where it is at hand, which then is all, or else what the world has.
 fn hear(
     agent: &mut Agent,
     world: &mut World,
     round: u32,
-    at_hand: Option<usize>,
+    at_hand: bool,
+    packet: &Down,
     buf: &mut [u8; 2048],
 )
     requires round { round ≡ agent.old.round }
     requires rounds { round < 100000 }
-    requires within { IfSome at_hand (λ length. length ≤ 2048) }
-    requires alone { IsSome at_hand → world.old.flights ≡ [] }
+    requires rules { at_hand ≡ true → SpellsDown agent.old.endpoints agent.old.b (down_bytes packet.now) packet.now }
+    requires alone { at_hand ≡ true → world.old.flights ≡ [] }
     requires may_hear { (calls : AgentHistory) × (packets : List DownPacket) × agents.AgentStandsFor agent.old calls
-        × (due_in (with_at_hand round at_hand buf.old world.old).flights round ≡ map (spell_down agent.old.me) packets)
+        × (due_in (with_packet_at_hand round at_hand packet.now world.old).flights round ≡ map (spell_down agent.old.me) packets)
         × Each (IsReadDown agent.old.me agent.old.endpoints agent.old.b) packets
         × MayHear agent.old.g round calls packets }
     ensures same { IsSameAgent agent.old agent.new }
     ensures stands { (calls : AgentHistory) (packets : List DownPacket) →
         agents.AgentStandsFor agent.old calls →
-        due_in (with_at_hand round at_hand buf.old world.old).flights round ≡ map (spell_down agent.old.me) packets →
+        due_in (with_packet_at_hand round at_hand packet.now world.old).flights round ≡ map (spell_down agent.old.me) packets →
         Each (IsReadDown agent.old.me agent.old.endpoints agent.old.b) packets →
         agents.AgentStandsFor agent.new (hearing round packets calls) }
     ensures carried { (departures : List Departure) →
-        HasCarried (with_at_hand round at_hand buf.old world.old) round departures →
+        HasCarried (with_packet_at_hand round at_hand packet.now world.old) round departures →
         HasCarried world.new (round + 1) departures }
 {
     packets_pass_at_once();
-    match at_hand {
-        Some(length) => {
-            let bytes = &buf[..length];
-            let _ = agent.take_down(round, bytes);
-        }
-        None => hear_all(agent, world, round, buf),
+    what_is_encoded_is_read_back();
+    if at_hand {
+        let _ = agent.take_allocation(round, packet);
+        return;
     }
+    hear_all(agent, world, round, buf);
 }
 
 /// Takes what of the world's arrives at the agent in this round.

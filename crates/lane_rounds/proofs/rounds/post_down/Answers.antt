@@ -1,34 +1,34 @@
-use Rattle.std.proofs.Common.{Some, None, take}
-use Rattle.std.proofs.lemmas.Result.{IfOk-weaker}
+use Rattle.std.proofs.Common.{◌≤◌, ◌∷◌, List, Option, sym, subst, refl}
+use Rattle.std.specs.Bool.{IsTrue}
+use Rattle.loss_world.specs.declared.fate.Fate.{Fate}
+use Rattle.loss_world.specs.History.{WorldCall, Departs, asked_of, WorldStandsFor}
+use Rattle.loss_world.specs.InTransit.{with_packet}
+use Rattle.fcp_framing.specs.Spelling.{down_bytes}
 use Rattle.endpoint_history.specs.Lane.{packet_down}
 use Rattle.arbiter_lane.specs.State.{LaneState}
-use Rattle.lane_rounds.specs.Standing.{spell_down}
-use Rattle.lane_rounds.specs.Parts.{with_at_hand}
-use Rattle.lane_rounds.proofs.Posting.{made-spells, carried-none, carried-one}
+use Rattle.lane_rounds.proofs.Posting.{filled-spells, filled-carried}
 use Rattle.lane_rounds.proofs.rounds.post_down.Goals as goal
 
-pub returns-in-Some-clause-spelled : goal.returns-in-Some-clause-spelled
-returns-in-Some-clause-spelled c = λ history allocations stood.
+pub returns-then-passes_at_once-clause-spelled : goal.returns-then-passes_at_once-clause-spelled
+returns-then-passes_at_once-clause-spelled c = λ history allocations stood.
     let lane : LaneState = c.args.lane.now in
-    made-spells lane.endpoint lane.endpoints lane.b (packet_down lane.g history c.args.round c.args.told.now.items) (Some c.in-Some.length) c.make_down.new.buf
-    (c.in-Some.ensures.packet history allocations stood) (c.in-Some.ensures.spelled history allocations stood)
+    filled-spells lane.endpoint lane.endpoints lane.b (packet_down lane.g history c.args.round c.args.told.now.items) c.fill_down.result c.fill_down.new.down
+    (c.fill_down.ensures.packet history allocations stood) c.fill_down.ensures.spelled
 
-pub returns-in-None-clause-spelled : goal.returns-in-None-clause-spelled
-returns-in-None-clause-spelled c = λ history allocations stood.
-    let lane : LaneState = c.args.lane.now in
-    made-spells lane.endpoint lane.endpoints lane.b (packet_down lane.g history c.args.round c.args.told.now.items) None c.make_down.new.buf
-    (c.in-None.ensures.packet history allocations stood) (c.in-None.ensures.spelled history allocations stood)
+pub returns-then-passes_at_once-clause-alone : goal.returns-then-passes_at_once-clause-alone
+returns-then-passes_at_once-clause-alone c = λ at_hand.
+    let passes = c.passes_at_once.ensures.0 (subst IsTrue (sym c.if-passes_at_once.true) refl) in
+    passes.1
 
-pub returns-in-Some-clause-carried : goal.returns-in-Some-clause-carried
-returns-in-Some-clause-carried c =
+pub returns-then-passes_at_once-clause-carried : goal.returns-then-passes_at_once-clause-carried
+returns-then-passes_at_once-clause-carried c = λ history allocations departures stood it.
     let lane : LaneState = c.args.lane.now in
-    IfOk-weaker c.hand_over.result _ _
-    (λ at_hand hands history allocations departures stood it.
-    carried-one c.rounds_are_read_in_order.ensures.next (spell_down lane.endpoint) c.args.world.now (with_at_hand c.args.round at_hand c.make_down.new.buf c.hand_over.new.world) c.args.round c.args.fate (packet_down lane.g history c.args.round c.args.told.now.items) (take c.in-Some.length c.make_down.new.buf) departures
-    (c.in-Some.ensures.packet history allocations stood) hands it)
-    c.hand_over.ensures.stands
-
-pub returns-in-None-clause-carried : goal.returns-in-None-clause-carried
-returns-in-None-clause-carried c = λ history allocations departures stood it.
-    let lane : LaneState = c.args.lane.now in
-    carried-none (spell_down lane.endpoint) c.args.world.now c.args.round c.args.fate (packet_down lane.g history c.args.round c.args.told.now.items) departures (c.in-None.ensures.packet history allocations stood) it
+    let world = c.args.world.now in
+    let round = c.args.round in
+    let bytes = down_bytes c.fill_down.new.down in
+    let passes = c.passes_at_once.ensures.0 (subst IsTrue (sym c.if-passes_at_once.true) refl) in
+    let sends : (history : List WorldCall) → WorldStandsFor world history → asked_of history ≤ round → WorldStandsFor (with_packet round bytes world) (Departs (record { round = round; fate = c.args.fate; bytes = bytes }) ∷ history) = λ history stands order.
+    subst (λ (fate : Option Fate). WorldStandsFor (with_packet round bytes world) (Departs (record { round = round; fate = fate; bytes = bytes }) ∷ history)) (sym passes.0)
+    (c.packets_pass_at_once.ensures.sent world history round bytes stands order) in
+    filled-carried c.rounds_are_read_in_order.ensures.next lane.endpoint world round c.args.fate (packet_down lane.g history round c.args.told.now.items) c.fill_down.result c.fill_down.new.down departures
+    (c.fill_down.ensures.packet history allocations stood) sends it

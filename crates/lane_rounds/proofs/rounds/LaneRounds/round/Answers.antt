@@ -2,6 +2,8 @@ use Rattle.std.proofs.Common.{◌≡◌, ◌≤◌, ◌++◌, ℕ, true, List, �
 use Rattle.std.specs.List.{filter_map, range_with_len}
 use Rattle.loss_world.specs.Arrivals.{Departure}
 use Rattle.loss_world.specs.InTransit.{Held, due_in}
+use Rattle.fcp_framing.specs.declared.packet.Down.{Down}
+use Rattle.fcp_framing.specs.Spelling.{SpellsDown, down_bytes}
 use Rattle.endpoint_history.specs.Packets.{DownPacket, UpPacket}
 use Rattle.endpoint_history.specs.Agent.{AgentHistory, Boots, Asks, MakesUp, packet_up}
 use Rattle.endpoint_history.specs.Counts.{Allocation}
@@ -20,7 +22,7 @@ use Rattle.lane_rounds.specs.Refused.{with_raw, refused_in}
 use Rattle.lane_rounds.specs.Standing.{RoundsStandFor, HasCarried, IsUpOf, spell_down, spell_up, played_by}
 use Rattle.lane_rounds.specs.Rounds.{HasRoundMore, GivesRound}
 use Rattle.lane_rounds.specs.State.{RoundsState, with_each, MayAsk}
-use Rattle.lane_rounds.specs.Parts.{Each, IsReadDown, IsReadUp, hearing, reading, handed, with_at_hand}
+use Rattle.lane_rounds.specs.Parts.{Each, IsReadDown, IsReadUp, hearing, reading, handed, with_at_hand, with_packet_at_hand}
 use Rattle.lane_rounds.specs.contracts.rounds.LaneRounds.{the_view}
 use Rattle.lane_rounds.proofs.Coming.{Laws}
 use Rattle.lane_rounds.proofs.Playing.{heard_calls, read_calls}
@@ -58,7 +60,7 @@ ask_all-requires c =
 pub hear-requires-clause-may_hear : goal.hear-requires-clause-may_hear
 hear-requires-clause-may_hear c =
     let was : RoundsState = the_view c.self.inside in
-    let below : Held = with_at_hand c.args.round c.in_ok-down.down c.post_down.new.buf c.post_down.new.world in
+    let below : Held = with_packet_at_hand c.args.round c.in_ok-down.down c.post_down.new.packet c.post_down.new.world in
     let is = c.self.view_is in
     let e = was.lane.endpoint in
     let n = was.lane.endpoints in
@@ -88,12 +90,28 @@ hear-requires-clause-may_hear c =
     let down = went-down laws was number (round_in was events told) below has.rounds has.allocations len c.post_down.ensures.spelled c.in_ok-down.ensures.carried has.stands in
     may-hear-now laws heard_laws order was number events told asked below has.rounds has.allocations len has.stands down asks asked_sizes
 
+pub hear-requires-clause-rules : goal.hear-requires-clause-rules
+hear-requires-clause-rules c = λ at_hand.
+    let was : RoundsState = the_view c.self.inside in
+    let is = c.self.view_is in
+    let e = was.lane.endpoint in
+    let n = was.lane.endpoints in
+    let b = was.lane.b in
+    let g = was.lane.g in
+    let whole : c.self.inside.is_whole ≡ true = ap (λ (s : RoundsState). s.is_whole) is ∙ c.requires.may.whole in
+    let (one, has) = c.self.invariant whole in
+    let asked : AgentState = c.ask_all.new.agent in
+    let first : HasSizes was.agent e n b g = record { me = one.endpoint; endpoints = one.endpoints; b = one.b; g = one.g } in
+    let asked_sizes = sizes-after c.boot_all.new.agent asked e n b g c.ask_all.ensures.same (sizes-after was.agent c.boot_all.new.agent e n b g c.boot_all.ensures.same first) in
+    let packet : Down = c.post_down.new.packet in
+    to_sizes asked e n b g asked_sizes (λ x y z w. SpellsDown y z (down_bytes packet) packet) (c.in_ok-down.ensures.rules at_hand)
+
 -- ---- what the round leaves
 
 pub invariant_of-self-2 : goal.invariant_of-self-2
 invariant_of-self-2 c = λ done_whole.
     let was : RoundsState = the_view c.self.inside in
-    let below : Held = with_at_hand c.args.round c.in_ok-down.down c.post_down.new.buf c.post_down.new.world in
+    let below : Held = with_packet_at_hand c.args.round c.in_ok-down.down c.post_down.new.packet c.post_down.new.world in
     let above : Held = with_at_hand c.args.round c.in_ok-up.up c.post_up.new.buf c.post_up.new.world in
     let is = c.self.view_is in
     let e = was.lane.endpoint in
@@ -189,7 +207,7 @@ invariant_of-self-2 c = λ done_whole.
 pub returns-clause-played : goal.returns-clause-played
 returns-clause-played c =
     let was : RoundsState = the_view c.self.inside in
-    let below : Held = with_at_hand c.args.round c.in_ok-down.down c.post_down.new.buf c.post_down.new.world in
+    let below : Held = with_packet_at_hand c.args.round c.in_ok-down.down c.post_down.new.packet c.post_down.new.world in
     let above : Held = with_at_hand c.args.round c.in_ok-up.up c.post_up.new.buf c.post_up.new.world in
     let is = c.self.view_is in
     let e = was.lane.endpoint in
@@ -285,7 +303,7 @@ returns-clause-played c =
 pub returns-clause-gives : goal.returns-clause-gives
 returns-clause-gives c =
     let was : RoundsState = the_view c.self.inside in
-    let below : Held = with_at_hand c.args.round c.in_ok-down.down c.post_down.new.buf c.post_down.new.world in
+    let below : Held = with_packet_at_hand c.args.round c.in_ok-down.down c.post_down.new.packet c.post_down.new.world in
     let above : Held = with_at_hand c.args.round c.in_ok-up.up c.post_up.new.buf c.post_up.new.world in
     let is = c.self.view_is in
     let e = was.lane.endpoint in
