@@ -4,7 +4,7 @@ use Rattle.std.specs.Option.{IfSome}
 use Rattle.std.specs.List.{cons_option}
 use Rattle.std.proofs.lemmas.Bool.{cases_lt}
 use Rattle.std.proofs.lemmas.Option.{same_Some, none-some}
-use Rattle.std.proofs.lemmas.List.{take_all, drop_more, drop_all, append_assoc, append-nil, get_or-map, length-map}
+use Rattle.std.proofs.lemmas.List.{take_all, drop_more, drop_all, append_assoc, append-nil, get_or-map, length-map, map-append}
 use Rattle.std.proofs.lemmas.List.Elements.{All-head, All-tail}
 use Rattle.greedy_rules.specs.declared.flows.Flow.{Flow}
 use Rattle.greedy_rules.specs.SlotTable.{flows_from}
@@ -12,6 +12,7 @@ use Rattle.clos_topology.specs.declared.graph.Edge.{Edge}
 use Rattle.clos_topology.specs.Network.{Network, endpoints_of}
 use Rattle.clos_topology.specs.RackGraph.{rack_edges}
 use Rattle.greedy_rules.proofs.Facts.{sent}
+use Rattle.greedy_rules.proofs.RowLemmas.{flows_from-append}
 use Rattle.clos_topology.proofs.GraphLemmas.{InNet, rack_edges-append}
 
 -- the flows from a place on: what its source sends, and the flows of the places after it
@@ -134,3 +135,13 @@ sender_more hosts at source row edges is =
     ap (λ (fs : List Flow). (edges ++ rack_edges hosts fs) ++ rack_edges hosts rest) one
     ∙ (append_assoc edges (rack_edges hosts (flow ∷ [])) (rack_edges hosts rest)
     ∙ (ap (λ (es : List Edge). edges ++ es) (sym (rack_edges-append hosts (flow ∷ []) rest)) ∙ ap (λ (fs : List Flow). edges ++ rack_edges hosts fs) (sym (drop_more flows at nothing is.flows_below))))
+
+-- the sources of a row, and of what comes behind it
+pub sources_parts : (at : ℕ) (row few left : List (Option ℕ)) (before : List ℕ) → row ≡ few ++ left
+    → (before ++ map (λ (flow : Flow). flow.src) (flows_from at few)) ++ map (λ (flow : Flow). flow.src) (flows_from (at + length few) left) ≡ before ++ map (λ (flow : Flow). flow.src) (flows_from at row)
+sources_parts at row few left before is =
+    let source : Flow → ℕ = λ flow. flow.src in
+    let first : List Flow = flows_from at few in
+    let behind : List Flow = flows_from (at + length few) left in
+    append_assoc before (map source first) (map source behind)
+    ∙ ap (λ (xs : List ℕ). before ++ xs) (sym (map-append source first behind) ∙ ap (λ (fs : List Flow). map source fs) (sym (flows_from-append at few left) ∙ ap (flows_from at) (sym is)))

@@ -8,6 +8,7 @@ ghost use Rattle.clos_topology.specs.RackFactor.{IsRackFactor};
 ghost use Rattle.clos_topology.specs.RackGraph.{rack_edges, IsGraphOf};
 
 use crate::net::Net;
+use crate::senders::note_senders;
 use greedy_rules::SlotTable;
 use no_memory::NoMemory;
 use std::alloc::Global;
@@ -20,6 +21,9 @@ pub struct Edge {
     left: u16,
     right: u16,
 }
+
+/// A slot with so few edges is sparse.
+const FEW: usize = 16;
 
 /// What stands in a place that no edge has taken yet.
 const BLANK: Edge = Edge {
@@ -79,7 +83,8 @@ impl RackGraph {
         let sources = row.len().min(net.endpoints() as usize);
         let row = &row[..sources];
         let senders = &mut self.senders[..];
-        let sending = note_senders(row, senders);
+        // A slot mostly has about as many packets as the one before it.
+        let sending = note_senders(row, senders, self.count <= FEW);
         self.count = add_all(&mut self.places, net, row, &self.senders[..sending]);
     }
 
@@ -105,22 +110,6 @@ impl RackGraph {
         let edge = self.places[at];
         (edge.source, edge.left, edge.right)
     }
-}
-
-/// Writes the sources of a row that send, and answers how many these are. There is no branch on whether one sends, as that is
-/// hard to foresee.
-fn note_senders(row: &[Option<u16>], senders: &mut [u16]) -> usize
-    requires room { length row.now ≤ length senders.old }
-    requires few { length row.now < 2 ^ 16 }
-    ensures within { result ≤ length row.now }
-    ensures senders { take result senders.new ≡ map (λ flow. flow.src) (flows_from 0 row.now) }
-{
-    let mut count = 0;
-    for (source, destination) in row.iter().enumerate() {
-        senders[count] = source as u16;
-        count += usize::from(destination.is_some());
-    }
-    count
 }
 
 /// Writes the edges of what these sources of a row send, which are all that send, and answers how many there are.

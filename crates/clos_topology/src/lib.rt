@@ -8,8 +8,10 @@
 mod graph;
 mod laws;
 mod net;
+mod senders;
 
 pub use graph::RackGraph;
 pub use laws::small_networks;
 pub use net::{Net, NetRefused};
 pub use no_memory::NoMemory;
+pub use senders::has_sender;

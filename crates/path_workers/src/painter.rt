@@ -16,6 +16,9 @@ use greedy_rules::SlotTable;
 use no_memory::NoMemory;
 use std::alloc::Global;
 
+/// So few packets between racks are coloured sooner than two slots are compared.
+const FEW: usize = 16;
+
 /// What a path worker colours slots with, and the rows of cores that it has made.
 #[derive(Drop)]
 pub(crate) struct Painter {
@@ -97,12 +100,16 @@ impl Painter {
         self.last = slot;
     }
 
-    /// The row of the slot coloured last, where that one has the same packets.
+    /// The row of the slot coloured last, where that one has the same packets. It isn't looked at where few packets were coloured
+    /// last.
     fn last_row(&self, slots: &SlotTable, slot: u16) -> Option<u16>
         requires slot { slot < length slots.now.slots }
         requires may { MayPaint slots.now.slots self.now }
         ensures { IfSome result (HasRow self.now.net (vec_len self.now.places) slots.now.slots self.now slot) }
     {
+        if self.graph.len() <= FEW {
+            return None;
+        }
         if self.last >= slots.slots() {
             return None;
         }

@@ -1,12 +1,12 @@
 // The lines of a slot.
-ghost use Rattle.std.specs.Prelude.{◌≡◌, ◌<◌, ◌+◌, ◌^◌, ◌||◌, false, is_some, length, map};
-ghost use Rattle.std.specs.List.{fold};
+ghost use Rattle.std.specs.Prelude.{◌≡◌, ◌<◌, ◌+◌, ◌^◌, length, map};
 ghost use Rattle.greedy_rules.specs.SlotTable.{flows_from};
 ghost use Rattle.edge_colouring.specs.Cores.{core_in};
 ghost use Rattle.text_output.specs.Output.{Passes};
 ghost use Rattle.text_output.specs.Text.{text_of, slot_line, flow_list};
 
 use crate::output::{Output, Stop};
+use clos_topology::has_sender;
 use fp_edge::Sink;
 use report_text::Numeral;
 
@@ -41,13 +41,6 @@ fn core_at(cores: &[Option<u16>], src: u16) -> Option<u16>
         Some(core) => *core,
         None => None,
     }
-}
-
-/// Whether one of these sources sends. There is no early end, so many places are read at once.
-fn has_sender(row: &[Option<u16>]) -> bool
-    ensures { result ≡ fold (λ sends to. sends || is_some to) false row.now }
-{
-    row.iter().fold(false, |sends, to| sends | to.is_some())
 }
 
 /// The packets of some sources, the first of them `from`, one by one.

@@ -1,7 +1,7 @@
 -- Items of a list that are chosen one after another.
-use Rattle.std.proofs.Common.{◌≡◌, ◌≢◌, ◌<◌, ◌+◌, ℕ, List, [], ◌∷◌, ◌++◌, length, get_or, take, Bool, true, false, not, ◌||◌, cond, All, refl, sym, ap, ◌∙◌, subst, arith}
+use Rattle.std.proofs.Common.{◌≡◌, ◌≢◌, ◌<◌, ◌≤◌, ◌+◌, ℕ, zero, suc, List, [], ◌∷◌, ◌++◌, length, get_or, take, Bool, true, false, not, ◌||◌, cond, All, refl, sym, ap, ◌∙◌, subst, arith}
 use Rattle.std.proofs.lemmas.Bool.{cond_both, or_left, not-true}
-use Rattle.std.proofs.lemmas.List.{take_all, take_more, length-take, length-append}
+use Rattle.std.proofs.lemmas.List.{append-nil, take_all, take_more, length-take, length-append}
 use Rattle.std.proofs.lemmas.List.Elements.{All-nil, All-cons, All-head, All-tail, All-weaker}
 use Rattle.std.proofs.lemmas.List.Folds.{list_any_none}
 use Rattle.list_facts.proofs.Pairs.{AllPairs-head, AllPairs-tail}
@@ -84,6 +84,16 @@ one_chosen marks list at d choice found now places places_now inside are now_is 
           ∙ (ap (λ (n : ℕ). chosen_places 0 are.choices ++ cond choice (n ∷ []) []) (omega (arith, are.count)) ∙ sym (places_more 0 are.choices choice)));
       unmarked = subst (LeaveUnmarked marks (are.choices ++ choice ∷ [])) (sym front) (unmarked_more marks are.choices choice (take at list) item long unmarked are.unmarked);
     }
+
+-- so many items more, of which none is chosen
+pub passed_chosen : (marks : WindowMarks) (list : List Item) (at : ℕ) (d : Item) (n : ℕ) (found : List Item) (places : List ℕ) → at + n ≤ length list
+    → ((other : ℕ) → at ≤ other → other < at + n → has_mark marks (get_or list other d).flow ≡ false) → AreChosen marks list at found places → AreChosen marks list (at + n) found places
+passed_chosen marks list at d zero found places within none are = let same : at ≡ at + 0 = omega arith in subst (λ (k : ℕ). AreChosen marks list k found places) same are
+passed_chosen marks list at d (suc n) found places within none are =
+    let next : at + n + 1 ≡ at + suc n = omega arith in
+    let before = passed_chosen marks list at d n found places (omega (arith, within)) (λ other from below. none other from (omega (arith, below))) are in
+    subst (λ (k : ℕ). AreChosen marks list k found places) next
+    (one_chosen marks list (at + n) d false found found places places (omega (arith, within)) before (sym (append-nil found)) (sym (append-nil places)) (λ _. none (at + n) (omega arith) (omega arith)))
 
 -- ---- whoever is not chosen is set aside
 

@@ -4,18 +4,18 @@ use Rattle.std.proofs.lemmas.Bool.{cond-false, ne_eqb}
 use Rattle.std.proofs.lemmas.List.{append-nil, nil_from_length}
 use Rattle.greedy_rules.specs.Batches.{DemandBatch}
 use Rattle.window_allocation.specs.declared.window.Span.{Span}
-use Rattle.window_allocation.specs.Giving.{MayGive, IsOpenFor, HasGiven}
+use Rattle.window_allocation.specs.Giving.{MayGive, IsOpenForBatches, HasGiven}
 use Rattle.window_allocation.specs.Standing.{Allocated, HasAllocated}
 use Rattle.window_allocation.specs.Windows.{WindowContent, jobs_for}
 use Rattle.window_allocation.proofs.HandedLemmas.{come_of_none}
 use Rattle.window_allocation.proofs.WindowLemmas.{ring_endpoints}
 
 -- it is open where the half and the window are seen otherwise
-pub tables_here : (here now : Allocated) (batches : List DemandBatch) (inside window : WindowContent) → here ≡ now → inside ≡ window → IsOpenFor now batches window → IsOpenFor here batches inside
-tables_here here now batches inside window same seen is_open = subst (λ (half : Allocated). IsOpenFor half batches inside) (sym same) (subst (IsOpenFor now batches) (sym seen) is_open)
+pub tables_here : (here now : Allocated) (batches : List DemandBatch) (inside window : WindowContent) → here ≡ now → inside ≡ window → IsOpenForBatches now batches window → IsOpenForBatches here batches inside
+tables_here here now batches inside window same seen is_open = subst (λ (half : Allocated). IsOpenForBatches half batches inside) (sym same) (subst (IsOpenForBatches now batches) (sym seen) is_open)
 
 -- a window of no batch
-pub given_none : (half : Allocated) (batches : List DemandBatch) (window : WindowContent) → length batches ≡ 0 → MayGive half batches → IsOpenFor half batches window → window.span ≡ record { first = half.batches; count = length batches }
+pub given_none : (half : Allocated) (batches : List DemandBatch) (window : WindowContent) → length batches ≡ 0 → MayGive half batches → IsOpenForBatches half batches window → window.span ≡ record { first = half.batches; count = length batches }
     → HasGiven half batches half window
 given_none half batches window none may tables span =
     let (earlier, has, recorded) = may.stands in

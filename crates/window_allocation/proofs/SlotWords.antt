@@ -1,5 +1,5 @@
 -- Words of slots: of endpoints, and of flows.
-use Rattle.std.proofs.Common.{◌≡◌, ◌≢◌, ◌<◌, ◌≤◌, ◌+◌, ◌-◌, ◌*◌, ◌%◌, ◌^◌, ℕ, zero, suc, List, length, get_or, set, replicate, Bool, true, false, ◌&&◌, ◌||◌, ◌==◌, nat_lt, nat_eq, max, bit_and, bit_or, w64, Option, Some, None, refl, sym, ap, ◌∙◌, subst, arith, inl, inr, ◌⊎◌}
+use Rattle.std.proofs.Common.{◌≡◌, ◌≢◌, ◌<◌, ◌≤◌, ◌+◌, ◌*◌, ◌%◌, ◌^◌, ℕ, zero, suc, List, length, get_or, set, replicate, Bool, true, false, ◌&&◌, ◌||◌, ◌==◌, nat_lt, nat_eq, max, bit_and, bit_or, w64, Option, Some, None, refl, sym, ap, ◌∙◌, subst, arith, inl, inr, ◌⊎◌}
 use Rattle.std.specs.Int.{bit_at}
 use Rattle.std.specs.Option.{option_eq}
 use Rattle.std.proofs.lemmas.Bool.{cases_eq, cases_lt, cases_Bool, eq-eqb, ne_eqb, and_parts, and_left, and_right, or_cases, or_right, lt-ltb, le-ltb, ltb-true, both_ways}

@@ -15,8 +15,8 @@ pub record MayGive (half : Allocated) (batches : List DemandBatch) : Type 0 wher
   pub numbers : first_slot half.b (half.batches + length batches) ≤ 2 ^ 32
 
 -- a window is open for these batches: its tables are for just their slots
-abbrev pub IsOpenFor : Allocated → List DemandBatch → WindowContent → Type 0
-IsOpenFor half batches window = HasTables (length batches * half.b) half.ring.endpoints window
+abbrev pub IsOpenForBatches : Allocated → List DemandBatch → WindowContent → Type 0
+IsOpenForBatches half batches window = HasTables (length batches * half.b) half.ring.endpoints window
 
 -- the slots of a window with these batches come of the ring
 abbrev pub HandsOn : Allocated → List DemandBatch → Allocated → WindowContent → Type 0

@@ -16,7 +16,7 @@ staying (item ∷ list) [] = []
 staying (item ∷ list) (next ∷ rest) = if stays item next then next ∷ [] else []
 
 -- there is room for an item of each pair of endpoints, twice, and for the places of as many, and words for the flows between them
-pub record HasRoomFor (endpoints : ℕ) (picked : Picked) : Type 0 where
+pub record HasRoomForPairs (endpoints : ℕ) (picked : Picked) : Type 0 where
   pub items : endpoints * endpoints ≤ length picked.items.items + picked.items.spare
   pub places : endpoints * endpoints ≤ vec_capacity picked.places
   pub whole : endpoints * endpoints ≤ vec_capacity picked.whole

@@ -3,7 +3,7 @@ ghost use Rattle.greedy_rules.specs.Batches.{DemandBatch};
 ghost use Rattle.clos_topology.specs.Network.{Network};
 ghost use Rattle.window_allocation.specs.Needs.{Needs};
 ghost use Rattle.window_allocation.specs.Standing.{HasAllocated};
-ghost use Rattle.window_allocation.specs.Giving.{MayGive, IsOpenFor, HasGiven};
+ghost use Rattle.window_allocation.specs.Giving.{MayGive, IsOpenForBatches, HasGiven};
 
 use crate::laws::every_window_is_ready;
 use crate::needs::write_needs;
@@ -89,7 +89,7 @@ impl Allocation {
     /// A window for the next batches, whose slots and cores `fill` gives. Giving them takes no memory but this.
     pub fn open_window(&self, batches: &[Batch]) -> Result<Window, NoMemory>
         requires { MayGive self.now batches.now }
-        ensures { IfOk result (IsOpenFor self.now batches.now) }
+        ensures { IfOk result (IsOpenForBatches self.now batches.now) }
     {
         let slots = batches.len() as u16 * u16::from(self.b);
         Window::open(self.alloc, slots, self.endpoints)
@@ -105,7 +105,7 @@ impl Allocation {
         window: &mut Window,
     )
         requires may { MayGive self.old batches.now }
-        requires tables { IsOpenFor self.old batches.now window.old }
+        requires tables { IsOpenForBatches self.old batches.now window.old }
         ensures { HasGiven self.old batches.now self.new window.new }
     {
         window.span = Span {

@@ -115,6 +115,9 @@ pub(crate) fn of_first_batch(slots: u64, batches: u16, b: u16) -> u64
     requires { batches * b ≤ 64 }
     ensures { (at : ℕ) → has_slot result at ≡ true → (has_slot slots at ≡ true) × IsFirstBatch b slots at }
 {
+    if slots == 0 {
+        return 0;
+    }
     for batch in 0..batches {
         let here = slots & first_slots((batch + 1) * b);
         if here > 0 {

@@ -1,6 +1,6 @@
 //! A guess of the items of a window's list that its batches can choose. Nothing rests on it but speed: all items are picked that
 //! may have an entry in the window, and any of the others may be.
-ghost use Rattle.std.specs.Prelude.{◌≡◌, ◌<◌, ◌≤◌, ◌+◌, ◌*◌, ◌^◌, List, [], ◌∷◌, ◌++◌, length, true, false, if◌then◌else◌, vec_len, vec_capacity};
+ghost use Rattle.std.specs.Prelude.{◌≡◌, ◌<◌, ◌≤◌, ◌+◌, ◌*◌, ◌^◌, List, [], ◌∷◌, ◌++◌, length, take, true, false, if◌then◌else◌, vec_len, vec_capacity, All};
 ghost use Rattle.greedy_rules.specs.Demands.{HasEachFlowOnce};
 ghost use Rattle.slot_batches.specs.Feeding.{IsInOrder};
 ghost use Rattle.slot_batches.specs.Marks.{has_mark as has_mark_in};
@@ -9,6 +9,7 @@ ghost use Rattle.window_allocation.specs.Picked.{IsReached};
 use crate::end_words::EndWords;
 use crate::flow_slots::first_slots;
 use crate::marked::has_mark;
+use crate::reach::stop_from;
 use crate::weave::first_served;
 use greedy_rules::{Batch, DemandList, Entry, Flow, Item};
 use no_memory::NoMemory;
@@ -76,8 +77,18 @@ impl EntryBits {
     }
 }
 
-/// The lowest `need` of the slots.
+/// What a guess needs of memory: the slots that are taken so far, and the entries.
+#[derive(Drop)]
+pub(crate) struct Guess {
+    pub(crate) words: EndWords,
+    entries: EntryBits,
+}
+
+/// The lowest `need` of the slots; often there are no more.
 fn lowest(slots: u64, need: u32) -> u64 {
+    if slots.count_ones() <= need {
+        return slots;
+    }
     let mut rest = slots;
     for _ in 0..need {
         if rest == 0 {
@@ -88,9 +99,9 @@ fn lowest(slots: u64, need: u32) -> u64 {
     slots & !rest
 }
 
-/// Those of the slots that are named at neither end of the flow; mostly its source is named in all of them.
+/// Those of the slots that are named at neither end of the flow. The words name no others, and mostly its source's names them all.
 fn free_of(words: &EndWords, flow: Flow, slots: u64) -> u64 {
-    if slots & !words.of_source(flow.src) == 0 {
+    if words.of_source(flow.src) == slots {
         return 0;
     }
     slots & !words.either(flow)
@@ -199,39 +210,27 @@ fn take_all_opened(
     }
 }
 
-/// Takes slots for the flows that the batches open, where this is so.
-fn take_opened_if(
-    here: bool,
-    words: &mut EndWords,
-    entries: &EntryBits,
-    batches: &[Batch],
-    b: u16,
-    slots: u64,
-) {
-    if here {
-        take_all_opened(words, entries, batches, b, slots);
-    }
-}
-
-/// Takes slots for the item, and answers whether it takes one or may have an entry.
-fn reaches(
-    words: &mut EndWords,
-    entries: &EntryBits,
-    item: &Item,
-    marks: &FlowMarks,
-    batches: &[Batch],
-    b: u16,
-    slots: u64,
-) -> bool
+/// Whether the item may have an entry, or needs a slot and has one of these free at both ends.
+fn may_reach(words: &EndWords, marks: &FlowMarks, item: &Item, slots: u64) -> bool
     ensures { result ≡ false → has_mark_in marks.now item.now.flow ≡ false }
 {
-    if has_mark(marks, item.flow) {
-        let of_item = entries.of(item.flow);
-        take_changed(words, of_item, item.flow, item.need, batches, b, slots);
+    if free_of(words, item.flow, slots) > 0 && item.need > 0 {
         return true;
     }
-    let free = free_of(words, item.flow, slots);
-    take(words, item.flow, item.need, free, b)
+    has_mark(marks, item.flow)
+}
+
+/// How many items at the front the batches don't reach. Most items are passed here: the loop does nothing else.
+fn count_beyond(words: &EndWords, marks: &FlowMarks, items: &[Item], slots: u64) -> usize
+    ensures within { result ≤ length items.now }
+    ensures unmarked { All (λ item. has_mark_in marks.now item.flow ≡ false) (take result items.now) }
+{
+    for at in 0..items.len() {
+        if may_reach(words, marks, &items[at], slots) {
+            return at;
+        }
+    }
+    items.len()
 }
 
 /// Appends the item and its place, unless there are `most` by then.
@@ -284,43 +283,88 @@ fn choose(
     append(item, at, most, found, places)
 }
 
-/// Picks the items of the list that the batches may reach by the guess, and their places, where they are no more than `most`.
-#[inline(never)]
-pub(crate) fn pick_reached(
-    words: &mut EndWords,
-    entries: &mut EntryBits,
-    list: &[Item],
-    marks: &FlowMarks,
-    batches: &[Batch],
-    b: u16,
-    most: usize,
-    found: &mut DemandList,
-    places: &mut Vec<usize>,
-) -> bool
-    requires order { IsInOrder list.now }
-    requires once { HasEachFlowOnce list.now }
-    requires count { length batches.now ≤ 16 }
-    requires few { length batches.now * b ≤ 64 }
-    requires room { most ≤ length found.old.items + found.old.spare }
-    requires places_room { most ≤ vec_capacity places.old }
-    ensures reached { result ≡ true → IsReached marks.now list.now found.new.items places.new.items }
-    ensures room { length found.new.items + found.new.spare ≡ length found.old.items + found.old.spare }
-    ensures capacity { vec_capacity places.new ≡ vec_capacity places.old }
-{
-    words.clear();
-    found.clear();
-    places.clear();
-    let slots = first_slots(batches.len() as u16 * b);
-    let served = first_served(list);
-    entries.note(batches);
-    for at in 0..list.len() {
-        take_opened_if(at == served, words, entries, batches, b, slots);
-        let reached = reaches(words, entries, &list[at], marks, batches, b, slots);
-        if !choose(reached, list[at], at, most, found, places) {
-            entries.forget(batches);
-            return false;
+impl Guess {
+    /// For so many endpoints. No later call takes memory.
+    pub(crate) fn open(alloc: Global, endpoints: u16) -> Result<Guess, NoMemory> {
+        Ok(Guess {
+            words: EndWords::open(alloc, endpoints)?,
+            entries: EntryBits::open(alloc, endpoints)?,
+        })
+    }
+
+    /// Takes slots for the flows that the batches open, where this is so.
+    fn take_opened_if(&mut self, here: bool, batches: &[Batch], b: u16, slots: u64) {
+        if here {
+            take_all_opened(&mut self.words, &self.entries, batches, b, slots);
         }
     }
-    entries.forget(batches);
-    true
+
+    /// Takes slots for the item, and answers whether it takes one or may have an entry.
+    fn reaches(
+        &mut self,
+        item: &Item,
+        marks: &FlowMarks,
+        batches: &[Batch],
+        b: u16,
+        slots: u64,
+    ) -> bool
+        ensures { result ≡ false → has_mark_in marks.now item.now.flow ≡ false }
+    {
+        let words = &mut self.words;
+        if has_mark(marks, item.flow) {
+            let of_item = self.entries.of(item.flow);
+            take_changed(words, of_item, item.flow, item.need, batches, b, slots);
+            return true;
+        }
+        let free = free_of(words, item.flow, slots);
+        take(words, item.flow, item.need, free, b)
+    }
+
+    /// Picks the items of the list that the batches may reach by the guess, and their places, where they are no more than half of
+    /// it.
+    #[inline(never)]
+    pub(crate) fn pick(
+        &mut self,
+        list: &[Item],
+        marks: &FlowMarks,
+        batches: &[Batch],
+        b: u16,
+        found: &mut DemandList,
+        places: &mut Vec<usize>,
+    ) -> bool
+        requires order { IsInOrder list.now }
+        requires once { HasEachFlowOnce list.now }
+        requires count { length batches.now ≤ 16 }
+        requires few { length batches.now * b ≤ 64 }
+        requires room { length list.now ≤ length found.old.items + found.old.spare }
+        requires places_room { length list.now ≤ vec_capacity places.old }
+        ensures reached { result ≡ true → IsReached marks.now list.now found.new.items places.new.items }
+        ensures room { length found.new.items + found.new.spare ≡ length found.old.items + found.old.spare }
+        ensures capacity { vec_capacity places.new ≡ vec_capacity places.old }
+    {
+        self.words.clear();
+        found.clear();
+        places.clear();
+        let most = list.len() / 2;
+        let slots = first_slots(batches.len() as u16 * b);
+        let served = first_served(list);
+        self.entries.note(batches);
+        let mut at = 0;
+        while at < list.len() {
+            self.take_opened_if(at == served, batches, b, slots);
+            let stop = stop_from(at, served, list.len());
+            at += count_beyond(&self.words, marks, &list[at..stop], slots);
+            if at == stop {
+                continue;
+            }
+            let reached = self.reaches(&list[at], marks, batches, b, slots);
+            if !choose(reached, list[at], at, most, found, places) {
+                self.entries.forget(batches);
+                return false;
+            }
+            at += 1;
+        }
+        self.entries.forget(batches);
+        true
+    }
 }

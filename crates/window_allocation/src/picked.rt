@@ -7,13 +7,12 @@ ghost use Rattle.slot_batches.specs.Marks.{has_mark};
 ghost use Rattle.slot_batches.specs.Woven.{picked as picked_of, woven, OnlyOpen, places_from};
 ghost use Rattle.greedy_rules.specs.Demands.{HasEachFlowOnce};
 ghost use Rattle.window_allocation.specs.Idle.{HasIdleFront};
-ghost use Rattle.window_allocation.specs.Picked.{is_aside as is_aside_in, HasRoomFor, IsReached, StaysInFront};
+ghost use Rattle.window_allocation.specs.Picked.{is_aside as is_aside_in, HasRoomForPairs, IsReached, StaysInFront};
 ghost use Rattle.window_allocation.specs.Reach.{OpenNew, AreOut};
 
 use crate::batches::{needs_of, stays_short};
-use crate::end_words::EndWords;
 use crate::flow_slots::FlowSlots;
-use crate::guess::{EntryBits, pick_reached};
+use crate::guess::Guess;
 use crate::in_place::weave_in_place;
 use crate::marked::have_mark;
 use crate::reach::are_out;
@@ -181,8 +180,7 @@ pub(crate) struct Picked {
     // So many windows pass before it is tried again to pick few.
     pause: u8,
     // For the guess and the test of what a window's batches can choose.
-    words: EndWords,
-    entries: EntryBits,
+    guess: Guess,
     pub(crate) slots: FlowSlots,
     // So many windows pass before that is guessed again.
     wait: u8,
@@ -191,7 +189,7 @@ pub(crate) struct Picked {
 impl Picked {
     /// With room for an item of each pair of endpoints.
     pub(crate) fn open(alloc: Global, endpoints: u16) -> Result<Picked, NoMemory>
-        ensures { IfOk result (HasRoomFor endpoints) }
+        ensures { IfOk result (HasRoomForPairs endpoints) }
     {
         let pairs = endpoints as usize * endpoints as usize;
         Ok(Picked {
@@ -201,8 +199,7 @@ impl Picked {
             whole: Vec::with_capacity(alloc, pairs)?,
             list: Vec::with_capacity(alloc, pairs)?,
             pause: 0,
-            words: EndWords::open(alloc, endpoints)?,
-            entries: EntryBits::open(alloc, endpoints)?,
+            guess: Guess::open(alloc, endpoints)?,
             slots: FlowSlots::open(alloc, endpoints)?,
             wait: 0,
         })
@@ -268,14 +265,11 @@ impl Picked {
         if !pays(list, batches, b, self.slots.endpoints()) {
             return false;
         }
-        let reached = pick_reached(
-            &mut self.words,
-            &mut self.entries,
+        let reached = self.guess.pick(
             list,
             &self.marks,
             batches,
             u16::from(b),
-            list.len() / 2,
             &mut self.items,
             &mut self.places,
         );
@@ -306,7 +300,14 @@ impl Picked {
     {
         let b = u16::from(b);
         self.slots.note(out, batches.len() as u16 * b);
-        are_out(&mut self.words, &self.slots, list, &self.places, batches, b)
+        are_out(
+            &mut self.guess.words,
+            &self.slots,
+            list,
+            &self.places,
+            batches,
+            b,
+        )
     }
 
     /// How many items at the front of the list, all of them set aside, are at its front as well once it is put together again.

@@ -62,14 +62,14 @@ fn note_opened_if(
     }
 }
 
-/// Whether the item needs nothing, or its ends are named in each of these slots; mostly its source is.
+/// Whether the item needs nothing, or its ends are named in each of these slots; mostly its source is, which is looked at first.
 fn is_out(words: &EndWords, item: &Item, all: u64) -> bool
     ensures { result ≡ true → (count : ℕ) → ((at : ℕ) → at < count → has_slot all at ≡ true) → IsNamed words.now count item.now }
 {
-    if item.need == 0 {
+    if words.of_source(item.flow.src) == all {
         return true;
     }
-    if words.of_source(item.flow.src) == all {
+    if item.need == 0 {
         return true;
     }
     words.either(item.flow) == all
@@ -89,7 +89,7 @@ fn all_out(words: &EndWords, items: &[Item], count: u16, b: u16, all: u64) -> bo
 }
 
 /// Where a walk from this place on stops: at the first item that was served, or at the list's end.
-fn stop_from(at: usize, served: usize, len: usize) -> usize
+pub(crate) fn stop_from(at: usize, served: usize, len: usize) -> usize
     requires inside { at < len }
     requires served { served ≤ len }
     ensures behind { at < result }

@@ -3,7 +3,7 @@ ghost use Rattle.std.specs.Prelude.{◌≡◌, ◌<◌, ◌≤◌, ◌+◌, ◌-
 ghost use Rattle.greedy_rules.specs.Schedule.{schedule_from, rest_from};
 ghost use Rattle.alloc_pipeline.specs.Ring.{IsRingSize as MayBeOpened, IsSameRingWork, MayAllocate, moved_by, pairs_of};
 ghost use Rattle.window_allocation.specs.Idle.{HasIdleFront};
-ghost use Rattle.window_allocation.specs.Picked.{HasRoomFor, IsReached};
+ghost use Rattle.window_allocation.specs.Picked.{HasRoomForPairs, IsReached};
 ghost use Rattle.window_allocation.specs.Ready.{AnyPartMayBeApplied, MaySetAside};
 ghost use Rattle.ring_core.specs.Windows.{window_of};
 ghost use Rattle.window_allocation.specs.Handed.{ComeOfRing};
@@ -30,21 +30,20 @@ use std::thread::Threads;
 /// A ring that is handed what of a window's list may change, and of its batches those that may change it.
 #[derive(Drop)]
 pub(crate) struct WindowRing {
-    runs: Runs,
-    picked: Picked,
+    parts: Parts,
 }
 
 impl Model for WindowRing {
     ghost use Rattle.std.specs.Prelude.{◌≡◌, ◌<◌, ◌≤◌};
     ghost use Rattle.alloc_pipeline.specs.Ring.{RingWork};
-    ghost use Rattle.window_allocation.specs.Picked.{HasRoomFor};
+    ghost use Rattle.window_allocation.specs.Picked.{HasRoomForPairs};
     ghost use Rattle.window_allocation.specs.Runs.{HasRunTable};
 
     ghost Value = { RingWork };
 
-    ghost view = { λ r. r.runs.ring };
+    ghost view = { λ r. r.parts.runs.ring };
 
-    ghost invariant = { λ r. HasRunTable r.runs × HasRoomFor r.runs.ring.endpoints r.picked };
+    ghost invariant = { λ r. HasRunTable r.parts.runs × HasRoomForPairs r.parts.runs.ring.endpoints r.parts.picked };
 }
 
 impl WindowRing {
@@ -60,12 +59,14 @@ impl WindowRing {
         ensures { IfOk result (λ ring. ring ≡ record { workers = workers; endpoints = endpoints; batches = batches; b = b; moved = replicate workers 0; spare = pairs_of endpoints }) }
     {
         Ok(WindowRing {
-            runs: Runs {
-                b,
-                ring: Ring::open(alloc, workers, endpoints, batches, b)?,
-                slots: SlotTable::open(alloc, batches * u16::from(b), endpoints)?,
+            parts: Parts {
+                runs: Runs {
+                    b,
+                    ring: Ring::open(alloc, workers, endpoints, batches, b)?,
+                    slots: SlotTable::open(alloc, batches * u16::from(b), endpoints)?,
+                },
+                picked: Picked::open(alloc, endpoints)?,
             },
-            picked: Picked::open(alloc, endpoints)?,
         })
     }
 
@@ -87,16 +88,129 @@ impl WindowRing {
         ensures idle { HasIdleFront idle.new list.new.items }
         ensures handed { ComeOfRing self.old.b first_batch self.old.workers list.old.items batches.now (schedule_from self.old.b first_batch list.old.items batches.now) self.old.moved self.new.moved }
     {
-        self.runs.allocate_window(
-            rt,
-            gate,
-            &mut self.picked,
-            list,
-            idle,
-            first_batch,
-            batches,
-            out,
-        );
+        self.parts
+            .allocate_window(rt, gate, list, idle, first_batch, batches, out);
+    }
+}
+
+/// The ring with its runs, and what is picked of a window's list.
+#[derive(Drop)]
+struct Parts {
+    pub(crate) runs: Runs,
+    pub(crate) picked: Picked,
+}
+
+impl Parts {
+    /// The batches over what of the list may change, where that is little of it, and else over what of it they can choose, or over
+    /// the whole list.
+    fn allocate_window<R: Threads + Wait + Sync, G: Gate + Sync>(
+        &mut self,
+        rt: &R,
+        gate: &G,
+        list: &mut DemandList,
+        idle: &mut usize,
+        first_batch: u32,
+        batches: &[Batch],
+        out: &mut SlotTable,
+    )
+        requires table { HasRunTable self.old.runs }
+        requires memory { HasRoomForPairs self.old.runs.ring.endpoints self.old.picked }
+        requires idle { HasIdleFront idle.old list.old.items }
+        requires may { MayAllocate self.old.runs.ring first_batch list.old batches.now out.old }
+        requires parts { AnyPartMayBeApplied self.old.runs.ring.endpoints self.old.runs.ring.b first_batch list.old.items batches.now }
+        ensures table { HasRunTable self.new.runs }
+        ensures memory { HasRoomForPairs self.old.runs.ring.endpoints self.new.picked }
+        ensures allocates { GivesSlots self.old.runs.ring self.new.runs.ring first_batch list.old list.new batches.now out.old out.new }
+        ensures idle { HasIdleFront idle.new list.new.items }
+        ensures handed { ComeOfRing self.old.runs.ring.b first_batch self.old.runs.ring.workers list.old.items batches.now (schedule_from self.old.runs.ring.b first_batch list.old.items batches.now) self.old.runs.ring.moved self.new.runs.ring.moved }
+    {
+        if batches.is_empty() {
+            out.clear();
+            return;
+        }
+        every_batch_leaves_a_list();
+        flows_fit_pairs();
+        if !self.picked.pick(list.items(), *idle, batches, self.runs.b) {
+            *idle = 0;
+            self.allocate_unpicked(rt, gate, list, first_batch, batches, out);
+            return;
+        }
+        items_may_be_set_aside();
+        every_batch_balances();
+        self.runs.allocate_runs(rt, gate, &mut self.picked.items, first_batch, batches, out);
+        let front = self.picked.staying_front(list.items());
+        self.picked.weave_into(list);
+        *idle = front;
+    }
+
+    /// The batches over what of the list they can choose, where that is not much of it and a guess finds it, and else over the
+    /// whole list.
+    fn allocate_unpicked<R: Threads + Wait + Sync, G: Gate + Sync>(
+        &mut self,
+        rt: &R,
+        gate: &G,
+        list: &mut DemandList,
+        first_batch: u32,
+        batches: &[Batch],
+        out: &mut SlotTable,
+    )
+        requires table { HasRunTable self.old.runs }
+        requires memory { HasRoomForPairs self.old.runs.ring.endpoints self.old.picked }
+        requires may { MayAllocate self.old.runs.ring first_batch list.old batches.now out.old }
+        requires aside { MaySetAside self.old.runs.ring.endpoints self.old.runs.ring.b first_batch self.old.picked.marks list.old.items batches.now }
+        ensures table { HasRunTable self.new.runs }
+        ensures memory { HasRoomForPairs self.old.runs.ring.endpoints self.new.picked }
+        ensures allocates { GivesSlots self.old.runs.ring self.new.runs.ring first_batch list.old list.new batches.now out.old out.new }
+        ensures handed { ComeOfRing self.old.runs.ring.b first_batch self.old.runs.ring.workers list.old.items batches.now (schedule_from self.old.runs.ring.b first_batch list.old.items batches.now) self.old.runs.ring.moved self.new.runs.ring.moved }
+    {
+        every_batch_leaves_a_list();
+        flows_fit_pairs();
+        if self.picked.reach(list.items(), batches, self.runs.b) {
+            self.allocate_reached(rt, gate, list, first_batch, batches, out);
+            return;
+        }
+        self.runs
+            .allocate_runs(rt, gate, list, first_batch, batches, out);
+    }
+
+    /// The batches over the items that were picked by a guess; where the slots say that they could choose another, over the whole
+    /// list after all.
+    fn allocate_reached<R: Threads + Wait + Sync, G: Gate + Sync>(
+        &mut self,
+        rt: &R,
+        gate: &G,
+        list: &mut DemandList,
+        first_batch: u32,
+        batches: &[Batch],
+        out: &mut SlotTable,
+    )
+        requires table { HasRunTable self.old.runs }
+        requires memory { HasRoomForPairs self.old.runs.ring.endpoints self.old.picked }
+        requires few { length batches.now * self.old.runs.b ≤ 64 }
+        requires may { MayAllocate self.old.runs.ring first_batch list.old batches.now out.old }
+        requires aside { MaySetAside self.old.runs.ring.endpoints self.old.runs.ring.b first_batch self.old.picked.marks list.old.items batches.now }
+        requires reached { IsReached self.old.picked.marks list.old.items self.old.picked.items.items self.old.picked.places.items }
+        ensures table { HasRunTable self.new.runs }
+        ensures memory { HasRoomForPairs self.old.runs.ring.endpoints self.new.picked }
+        ensures allocates { GivesSlots self.old.runs.ring self.new.runs.ring first_batch list.old list.new batches.now out.old out.new }
+        ensures handed { ComeOfRing self.old.runs.ring.b first_batch self.old.runs.ring.workers list.old.items batches.now (schedule_from self.old.runs.ring.b first_batch list.old.items batches.now) self.old.runs.ring.moved self.new.runs.ring.moved }
+    {
+        every_batch_leaves_a_list();
+        flows_fit_pairs();
+        schedules_go_on();
+        every_batch_balances();
+        items_may_be_set_aside();
+        items_beyond_reach_may_be_set_aside();
+        self.runs.allocate_runs(rt, gate, &mut self.picked.items, first_batch, batches, out);
+        if self
+            .picked
+            .keeps_out(list.items(), batches, self.runs.b, out)
+        {
+            self.picked.weave_into(list);
+            return;
+        }
+        self.runs
+            .allocate_runs(rt, gate, list, first_batch, batches, out);
     }
 }
 
@@ -109,116 +223,6 @@ pub(crate) struct Runs {
 }
 
 impl Runs {
-    /// The batches over what of the list may change, where that is little of it, and else over what of it they can choose, or over
-    /// the whole list.
-    fn allocate_window<R: Threads + Wait + Sync, G: Gate + Sync>(
-        &mut self,
-        rt: &R,
-        gate: &G,
-        picked: &mut Picked,
-        list: &mut DemandList,
-        idle: &mut usize,
-        first_batch: u32,
-        batches: &[Batch],
-        out: &mut SlotTable,
-    )
-        requires table { HasRunTable self.old }
-        requires memory { HasRoomFor self.old.ring.endpoints picked.old }
-        requires idle { HasIdleFront idle.old list.old.items }
-        requires may { MayAllocate self.old.ring first_batch list.old batches.now out.old }
-        requires parts { AnyPartMayBeApplied self.old.ring.endpoints self.old.ring.b first_batch list.old.items batches.now }
-        ensures table { HasRunTable self.new }
-        ensures memory { HasRoomFor self.old.ring.endpoints picked.new }
-        ensures allocates { GivesSlots self.old.ring self.new.ring first_batch list.old list.new batches.now out.old out.new }
-        ensures idle { HasIdleFront idle.new list.new.items }
-        ensures handed { ComeOfRing self.old.ring.b first_batch self.old.ring.workers list.old.items batches.now (schedule_from self.old.ring.b first_batch list.old.items batches.now) self.old.ring.moved self.new.ring.moved }
-    {
-        if batches.is_empty() {
-            out.clear();
-            return;
-        }
-        every_batch_leaves_a_list();
-        flows_fit_pairs();
-        if !picked.pick(list.items(), *idle, batches, self.b) {
-            *idle = 0;
-            self.allocate_unpicked(rt, gate, picked, list, first_batch, batches, out);
-            return;
-        }
-        items_may_be_set_aside();
-        every_batch_balances();
-        self.allocate_runs(rt, gate, &mut picked.items, first_batch, batches, out);
-        let front = picked.staying_front(list.items());
-        picked.weave_into(list);
-        *idle = front;
-    }
-
-    /// The batches over what of the list they can choose, where that is not much of it and a guess finds it, and else over the
-    /// whole list.
-    fn allocate_unpicked<R: Threads + Wait + Sync, G: Gate + Sync>(
-        &mut self,
-        rt: &R,
-        gate: &G,
-        picked: &mut Picked,
-        list: &mut DemandList,
-        first_batch: u32,
-        batches: &[Batch],
-        out: &mut SlotTable,
-    )
-        requires table { HasRunTable self.old }
-        requires memory { HasRoomFor self.old.ring.endpoints picked.old }
-        requires may { MayAllocate self.old.ring first_batch list.old batches.now out.old }
-        requires aside { MaySetAside self.old.ring.endpoints self.old.ring.b first_batch picked.old.marks list.old.items batches.now }
-        ensures table { HasRunTable self.new }
-        ensures memory { HasRoomFor self.old.ring.endpoints picked.new }
-        ensures allocates { GivesSlots self.old.ring self.new.ring first_batch list.old list.new batches.now out.old out.new }
-        ensures handed { ComeOfRing self.old.ring.b first_batch self.old.ring.workers list.old.items batches.now (schedule_from self.old.ring.b first_batch list.old.items batches.now) self.old.ring.moved self.new.ring.moved }
-    {
-        every_batch_leaves_a_list();
-        flows_fit_pairs();
-        if picked.reach(list.items(), batches, self.b) {
-            self.allocate_reached(rt, gate, picked, list, first_batch, batches, out);
-            return;
-        }
-        self.allocate_runs(rt, gate, list, first_batch, batches, out);
-    }
-
-    /// The batches over the items that were picked by a guess; where the slots say that they could choose another, over the whole
-    /// list after all.
-    fn allocate_reached<R: Threads + Wait + Sync, G: Gate + Sync>(
-        &mut self,
-        rt: &R,
-        gate: &G,
-        picked: &mut Picked,
-        list: &mut DemandList,
-        first_batch: u32,
-        batches: &[Batch],
-        out: &mut SlotTable,
-    )
-        requires table { HasRunTable self.old }
-        requires memory { HasRoomFor self.old.ring.endpoints picked.old }
-        requires few { length batches.now * self.old.b ≤ 64 }
-        requires may { MayAllocate self.old.ring first_batch list.old batches.now out.old }
-        requires aside { MaySetAside self.old.ring.endpoints self.old.ring.b first_batch picked.old.marks list.old.items batches.now }
-        requires reached { IsReached picked.old.marks list.old.items picked.old.items.items picked.old.places.items }
-        ensures table { HasRunTable self.new }
-        ensures memory { HasRoomFor self.old.ring.endpoints picked.new }
-        ensures allocates { GivesSlots self.old.ring self.new.ring first_batch list.old list.new batches.now out.old out.new }
-        ensures handed { ComeOfRing self.old.ring.b first_batch self.old.ring.workers list.old.items batches.now (schedule_from self.old.ring.b first_batch list.old.items batches.now) self.old.ring.moved self.new.ring.moved }
-    {
-        every_batch_leaves_a_list();
-        flows_fit_pairs();
-        schedules_go_on();
-        every_batch_balances();
-        items_may_be_set_aside();
-        items_beyond_reach_may_be_set_aside();
-        self.allocate_runs(rt, gate, &mut picked.items, first_batch, batches, out);
-        if picked.keeps_out(list.items(), batches, self.b, out) {
-            picked.weave_into(list);
-            return;
-        }
-        self.allocate_runs(rt, gate, list, first_batch, batches, out);
-    }
-
     /// Gives the batches of a window their slots, run by run.
     fn allocate_runs<R: Threads + Wait + Sync, G: Gate + Sync>(
         &mut self,

@@ -6,7 +6,7 @@ ghost use Rattle.clos_topology.specs.NetSlots.{SlotCores, AreSlotCores};
 ghost use Rattle.window_allocation.specs.Needs.{Needs};
 ghost use Rattle.window_allocation.specs.Standing.{HasAllocated};
 ghost use Rattle.window_allocation.specs.Windows.{IsWindowOf, jobs_for};
-ghost use Rattle.window_allocation.specs.Giving.{MayGive, IsOpenFor, HandsOn, HasGiven};
+ghost use Rattle.window_allocation.specs.Giving.{MayGive, IsOpenForBatches, HandsOn, HasGiven};
 ghost use Rattle.trace_text.specs.Trace.{TraceContent};
 ghost use Rattle.trace_text.specs.Valid.{IsTrace};
 ghost use Rattle.trace_run.specs.Shown.{IsShown};
@@ -165,7 +165,7 @@ impl Replay {
             rt,
             &mut || -> ()
                 requires may { MayGive allocation.now batches.now }
-                requires tables { IsOpenFor allocation.now batches.now window.now }
+                requires tables { IsOpenForBatches allocation.now batches.now window.now }
                 ensures { HasGiven allocation.entry.now batches.entry.now allocation.exit.now window.exit.now }
             { allocation.fill(rt, gate, batches, window) },
             &mut || -> Result<Played, NoMemory>

@@ -1,12 +1,12 @@
 use Rattle.std.proofs.Common.{◌≡◌, ◌+◌, ◌++◌, ℕ, List, [], Option, length, map, refl, sym, ap, ◌∙◌, arith}
 use Rattle.std.specs.declared.slice.Chunks.{Chunks}
-use Rattle.std.proofs.lemmas.List.{append_assoc, append-nil, length-append}
+use Rattle.std.proofs.lemmas.List.{append_assoc, length-append}
 use Rattle.greedy_rules.specs.declared.flows.Flow.{Flow}
 use Rattle.greedy_rules.specs.SlotTable.{flows_from}
 use Rattle.edge_colouring.specs.Cores.{core_in}
 use Rattle.report_text.specs.declared.line.Line.{Line}
 use Rattle.text_output.specs.Text.{text_of, slot_line}
-use Rattle.text_output.proofs.OutputLemmas.{Passes-after, Passes-broken, Passes-nothing, Passes-same}
+use Rattle.text_output.proofs.OutputLemmas.{Passes-after, Passes-broken, Passes-nothing}
 use Rattle.text_output.proofs.RowTexts.{row_parts}
 use Rattle.text_output.proofs.slots.put_row.Goals as goal
 

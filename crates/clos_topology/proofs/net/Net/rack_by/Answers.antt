@@ -1,4 +1,4 @@
-use Rattle.std.proofs.Common.{◌≡◌, ◌*◌, ◌/◌, ℕ, ap, ◌∙◌, arith}
+use Rattle.std.proofs.Common.{◌*◌, ◌/◌, ℕ, ap, ◌∙◌, arith}
 use Rattle.clos_topology.proofs.FactorLemmas.{rack_by_factor}
 use Rattle.clos_topology.proofs.net.Net.rack_by.Goals as goal
 

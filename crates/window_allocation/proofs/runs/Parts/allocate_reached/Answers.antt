@@ -11,15 +11,15 @@ use Rattle.alloc_pipeline.proofs.RingLemmas.{left_before}
 use Rattle.window_allocation.proofs.RunLemmas.{few_items}
 use Rattle.window_allocation.proofs.HandedLemmas.{come_of_ring}
 use Rattle.window_allocation.proofs.ReachedLemmas.{may_run, tested_window, as_long, may_again, gives_again, come_after}
-use Rattle.window_allocation.proofs.runs.Runs.allocate_reached.Goals as goal
+use Rattle.window_allocation.proofs.runs.Parts.allocate_reached.Goals as goal
 
 pub allocate_runs-requires-clause-may : goal.allocate_runs-requires-clause-may
 allocate_runs-requires-clause-may g c κs within =
-    let ring = c.args.self.now.ring in
-    let found = c.args.picked.now.items.items in
+    let ring = c.args.self.now.runs.ring in
+    let found = c.args.self.now.picked.items.items in
     let batches = c.args.batches.now in
     let run =
-    may_run ring.endpoints ring.b c.args.first_batch c.args.picked.now.marks c.args.list.now.items found c.args.picked.now.places.items batches c.flows_fit_pairs.ensures c.every_batch_leaves_a_list.ensures.flows
+    may_run ring.endpoints ring.b c.args.first_batch c.args.self.now.picked.marks c.args.list.now.items found c.args.self.now.picked.places.items batches c.flows_fit_pairs.ensures c.every_batch_leaves_a_list.ensures.flows
     c.items_may_be_set_aside.ensures.listed c.requires.aside.some c.requires.may.may c.requires.may.before c.requires.aside.parts c.requires.aside.unmarked c.requires.reached in
     record {
       count = c.requires.may.count;
@@ -36,18 +36,18 @@ pub keeps_out-requires-clause-slots : goal.keeps_out-requires-clause-slots
 keeps_out-requires-clause-slots g c =
     let batches = c.args.batches.now in
     let first : ℕ = c.args.first_batch in
-    let b : ℕ = c.args.self.now.ring.b in
+    let b : ℕ = c.args.self.now.runs.ring.b in
     let done = c.allocate_runs.ensures.allocates in
     let long : length c.allocate_runs.new.out.slots ≡ length c.args.out.now.slots =
-    as_long b (length batches) (length c.args.out.now.slots) (schedule_from b first c.args.picked.now.items.items batches) c.allocate_runs.new.out.slots (c.schedules_go_on.ensures.count b first c.args.picked.now.items.items batches)
+    as_long b (length batches) (length c.args.out.now.slots) (schedule_from b first c.args.self.now.picked.items.items batches) c.allocate_runs.new.out.slots (c.schedules_go_on.ensures.count b first c.args.self.now.picked.items.items batches)
     c.requires.may.places done.slots in
     let same : c.allocate_runs.new.self.b ≡ b = c.allocate_runs.ensures.table.b ∙ done.same.b in
     omega (arith, long, c.requires.may.places, ap (λ (m : ℕ). length batches * m) same)
 
 pub weave_into-requires-clause-room : goal.weave_into-requires-clause-room
 weave_into-requires-clause-room g c =
-    let ring = c.args.self.now.ring in
-    let picked = c.args.picked.now in
+    let ring = c.args.self.now.runs.ring in
+    let picked = c.args.self.now.picked in
     let list = c.args.list.now.items in
     let batches = c.args.batches.now in
     let first : ℕ = c.args.first_batch in
@@ -71,8 +71,8 @@ weave_into-requires-clause-room g c =
 
 pub returns-then-keeps_out-clause-allocates : goal.returns-then-keeps_out-clause-allocates
 returns-then-keeps_out-clause-allocates g c =
-    let ring = c.args.self.now.ring in
-    let picked = c.args.picked.now in
+    let ring = c.args.self.now.runs.ring in
+    let picked = c.args.self.now.picked in
     let list = c.args.list.now.items in
     let batches = c.args.batches.now in
     let first : ℕ = c.args.first_batch in
@@ -100,8 +100,8 @@ returns-then-keeps_out-clause-allocates g c =
 
 pub returns-then-keeps_out-clause-handed : goal.returns-then-keeps_out-clause-handed
 returns-then-keeps_out-clause-handed g c =
-    let ring = c.args.self.now.ring in
-    let picked = c.args.picked.now in
+    let ring = c.args.self.now.runs.ring in
+    let picked = c.args.self.now.picked in
     let list = c.args.list.now.items in
     let batches = c.args.batches.now in
     let first : ℕ = c.args.first_batch in
@@ -121,29 +121,29 @@ pub allocate_runs-requires-2-clause-may : goal.allocate_runs-requires-2-clause-m
 allocate_runs-requires-2-clause-may g c κs within =
     let batches = c.args.batches.now in
     let first : ℕ = c.args.first_batch in
-    let b : ℕ = c.args.self.now.ring.b in
+    let b : ℕ = c.args.self.now.runs.ring.b in
     let done = c.allocate_runs.ensures.allocates in
     let long : length c.allocate_runs.new.out.slots ≡ length c.args.out.now.slots =
-    as_long b (length batches) (length c.args.out.now.slots) (schedule_from b first c.args.picked.now.items.items batches) c.allocate_runs.new.out.slots (c.schedules_go_on.ensures.count b first c.args.picked.now.items.items batches)
+    as_long b (length batches) (length c.args.out.now.slots) (schedule_from b first c.args.self.now.picked.items.items batches) c.allocate_runs.new.out.slots (c.schedules_go_on.ensures.count b first c.args.self.now.picked.items.items batches)
     c.requires.may.places done.slots in
-    may_again c.args.self.now.ring c.allocate_runs.new.self.ring first c.args.list.now batches c.args.out.now c.allocate_runs.new.out done.same done.endpoints long c.requires.may
+    may_again c.args.self.now.runs.ring c.allocate_runs.new.self.ring first c.args.list.now batches c.args.out.now c.allocate_runs.new.out done.same done.endpoints long c.requires.may
 
 pub returns-clause-allocates : goal.returns-clause-allocates
 returns-clause-allocates g c =
     let batches = c.args.batches.now in
     let first : ℕ = c.args.first_batch in
-    let b : ℕ = c.args.self.now.ring.b in
+    let b : ℕ = c.args.self.now.runs.ring.b in
     let done = c.allocate_runs.ensures.allocates in
     let long : length c.allocate_runs.new.out.slots ≡ length c.args.out.now.slots =
-    as_long b (length batches) (length c.args.out.now.slots) (schedule_from b first c.args.picked.now.items.items batches) c.allocate_runs.new.out.slots (c.schedules_go_on.ensures.count b first c.args.picked.now.items.items batches)
+    as_long b (length batches) (length c.args.out.now.slots) (schedule_from b first c.args.self.now.picked.items.items batches) c.allocate_runs.new.out.slots (c.schedules_go_on.ensures.count b first c.args.self.now.picked.items.items batches)
     c.requires.may.places done.slots in
-    gives_again c.args.self.now.ring c.allocate_runs.new.self.ring c.allocate_runs-2.new.self.ring first c.args.list.now c.allocate_runs-2.new.list batches c.args.out.now c.allocate_runs.new.out c.allocate_runs-2.new.out done.same
+    gives_again c.args.self.now.runs.ring c.allocate_runs.new.self.ring c.allocate_runs-2.new.self.ring first c.args.list.now c.allocate_runs-2.new.list batches c.args.out.now c.allocate_runs.new.out c.allocate_runs-2.new.out done.same
     done.endpoints long c.allocate_runs-2.ensures.allocates
 
 pub returns-clause-handed : goal.returns-clause-handed
 returns-clause-handed g c =
-    let ring = c.args.self.now.ring in
+    let ring = c.args.self.now.runs.ring in
     let done = c.allocate_runs.ensures.allocates in
     let reached = c.requires.reached in
-    come_after ring.b c.args.first_batch ring.workers c.allocate_runs.new.self.ring.b c.allocate_runs.new.self.ring.workers reached.aside c.args.list.now.items c.args.picked.now.items.items c.args.batches.now ring.moved
+    come_after ring.b c.args.first_batch ring.workers c.allocate_runs.new.self.ring.b c.allocate_runs.new.self.ring.workers reached.aside c.args.list.now.items c.args.self.now.picked.items.items c.args.batches.now ring.moved
     c.allocate_runs.new.self.ring.moved c.allocate_runs-2.new.self.ring.moved done.same.b done.same.workers c.allocate_runs.ensures.played reached.are c.allocate_runs-2.ensures.played

@@ -12,11 +12,11 @@ use Rattle.window_allocation.proofs.RunLemmas.{few_items}
 use Rattle.window_allocation.proofs.PickedLemmas.{few_found, picked_window}
 use Rattle.window_allocation.proofs.IdleFronts.{idle_front}
 use Rattle.window_allocation.proofs.HandedLemmas.{none_played, all_played, come_of_ring, come_of_all}
-use Rattle.window_allocation.proofs.runs.Runs.allocate_window.Goals as goal
+use Rattle.window_allocation.proofs.runs.Parts.allocate_window.Goals as goal
 
 pub pick-requires : goal.pick-requires
 pick-requires g c =
-    let ring = c.args.self.now.ring in
+    let ring = c.args.self.now.runs.ring in
     let few = few_found ring.endpoints ring.b c.flows_fit_pairs.ensures c.every_batch_leaves_a_list.ensures.flows c.args.first_batch c.args.list.now.items c.args.batches.now (omega (arith, eqb-false _ _ (sym c.is_empty.ensures ∙ c.if-is_empty.false))) c.requires.may.may in
     record {
       idle = subst (HasIdleFront c.args.idle.now) (sym c.items.ensures) c.requires.idle;
@@ -26,7 +26,7 @@ pick-requires g c =
 
 pub allocate_runs-requires-clause-may : goal.allocate_runs-requires-clause-may
 allocate_runs-requires-clause-may g c κs within =
-    let ring = c.args.self.now.ring in
+    let ring = c.args.self.now.runs.ring in
     let marks = c.pick.new.self.marks in
     let list = c.args.list.now.items in
     let found = c.pick.new.self.items.items in
@@ -47,7 +47,7 @@ allocate_runs-requires-clause-may g c κs within =
 
 pub weave_into-requires : goal.weave_into-requires
 weave_into-requires g c =
-    let ring = c.args.self.now.ring in
+    let ring = c.args.self.now.runs.ring in
     let marks = c.pick.new.self.marks in
     let list = c.args.list.now.items in
     let found = c.pick.new.self.items.items in
@@ -69,7 +69,7 @@ weave_into-requires g c =
 
 pub returns-clause-allocates : goal.returns-clause-allocates
 returns-clause-allocates g c =
-    let ring = c.args.self.now.ring in
+    let ring = c.args.self.now.runs.ring in
     let marks = c.pick.new.self.marks in
     let list = c.args.list.now.items in
     let found = c.pick.new.self.items.items in
@@ -102,7 +102,7 @@ returns-clause-idle g c =
 
 pub returns-clause-handed : goal.returns-clause-handed
 returns-clause-handed g c =
-    let ring = c.args.self.now.ring in
+    let ring = c.args.self.now.runs.ring in
     let marks = c.pick.new.self.marks in
     let list = c.args.list.now.items in
     let found = c.pick.new.self.items.items in
@@ -116,7 +116,7 @@ returns-clause-handed g c =
 
 pub returns-then-is_empty-clause-handed : goal.returns-then-is_empty-clause-handed
 returns-then-is_empty-clause-handed g c =
-    let ring = c.args.self.now.ring in
+    let ring = c.args.self.now.runs.ring in
     come_of_all ring.b c.args.first_batch ring.workers c.args.list.now.items c.args.batches.now ring.moved ring.moved
     (all_played ring.b c.args.first_batch ring.workers c.args.list.now.items c.args.batches.now 0 ring.moved ring.moved (omega (arith, eqb-true _ _ (sym c.is_empty.ensures ∙ c.if-is_empty.true)))
     (none_played ring.b c.args.first_batch ring.workers c.args.list.now.items c.args.batches.now ring.moved))
