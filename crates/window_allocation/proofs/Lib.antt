@@ -1,6 +1,5 @@
 pub mod Weaving
 pub mod Places
-pub mod IdleFronts
 pub mod SlotWords
 pub mod ReachLemmas
 pub mod Choice
@@ -10,6 +9,10 @@ pub mod RunLemmas
 pub mod HandedLemmas
 pub mod PartLemmas
 pub mod PickedLemmas
+pub mod ListLemmas
+pub mod LogLemmas
+pub mod LogWeaving
+pub mod LogParts
 pub mod Down
 pub mod CleanSlots
 pub mod WindowLemmas

@@ -6,6 +6,7 @@ use Rattle.std.proofs.lemmas.Option.{get_or_from_slice_get}
 use Rattle.std.proofs.lemmas.Nat.{same_from_place, mul-add-lt}
 use Rattle.std.proofs.lemmas.List.{get_or-set_same, get_or-set_other, length-set, length-replicate, get_or-replicate, take_more, get_or-take, length-take}
 use Rattle.std.proofs.lemmas.List.Folds.{find-append}
+use Rattle.list_facts.proofs.Options.{option_or-none}
 use Rattle.greedy_rules.specs.declared.flows.Flow.{Flow}
 use Rattle.greedy_rules.specs.declared.flows.Item.{Item}
 use Rattle.greedy_rules.specs.Flows.{same_flow}
@@ -13,10 +14,6 @@ use Rattle.greedy_rules.specs.Demands.{HasEachFlowOnce, item_of, need_in}
 use Rattle.greedy_rules.proofs.CellLemmas.{differs}
 use Rattle.greedy_rules.specs.Cells.{flow_of}
 use Rattle.window_allocation.specs.Needs.{Needs, place_of}
-
-or_none : (item : Option Item) → option_or item None ≡ item
-or_none None = refl
-or_none (Some item) = refl
 
 -- no item of another flow is the flow's
 item_of-other : (items : List Item) (flow : Flow) → All (λ i. i.flow ≢ flow) items → item_of items flow ≡ None
@@ -74,7 +71,7 @@ needs_more endpoints items at item table below is once within needs =
                 let apart : item.flow ≢ flow = λ e. other (ap (λ (f : Flow). place_of endpoints f.src f.dst) (sym e)) in
                 let none : item_of (item ∷ []) flow ≡ None = cond-false (same_flow item.flow flow) (Some item) None (differs item.flow flow apart) in
                 let found : item_of (take (at + 1) items) flow ≡ item_of (take at items) flow =
-                item_of-more items at item flow below is ∙ (ap (λ (o : Option Item). option_or (item_of (take at items) flow) o) none ∙ or_none (item_of (take at items) flow)) in
+                item_of-more items at item flow below is ∙ (ap (λ (o : Option Item). option_or (item_of (take at items) flow) o) none ∙ option_or-none (item_of (take at items) flow)) in
                 get_or-set_other table p q item.need 0 other ∙ (needs.at src dst s d ∙ sym (ap need_in found))
           ];
     }

@@ -3,24 +3,11 @@ use Rattle.std.proofs.Common.{◌≡◌, ◌<◌, ◌≤◌, ◌+◌, ◌-◌, �
 use Rattle.std.specs.List.Sorted.{IsNonDecreasingBy, IsPartitionPoint}
 use Rattle.std.proofs.lemmas.Bool.{cond-true, cond-false, cases_Bool, ltb-true, ltb-false}
 use Rattle.std.proofs.lemmas.List.Elements.{All-nil, All-cons, All-head, All-tail}
-use Rattle.std.proofs.lemmas.List.{append_assoc, length-append, take-append-drop, take_at, drop_at, drop_more, take_rest, length-take-le, length-drop, get_or-drop, drop-drop, get_or_append_left, get_or-append_right}
-use Rattle.list_facts.proofs.Lists.{empty_of}
+use Rattle.std.proofs.lemmas.List.{append_assoc, length-append, take-append-drop, take_at, drop_at, drop_more, take_rest, length-take-le, length-drop, get_or-drop, drop-drop, get_or_append_left, get_or-append_right, nil_from_length}
 use Rattle.greedy_rules.specs.declared.flows.Item.{Item}
 use Rattle.slot_batches.specs.Woven.{picked, stays, weave, never_served, once_served, woven, places_from}
 use Rattle.window_allocation.specs.Picked.{staying}
 use Rattle.window_allocation.proofs.Weaving.{run_aside, followed}
-
--- there are as many places as items picked
-pub as_many : (aside : Item → Bool) (place : ℕ) (items : List Item) → length (picked aside items) ≡ length (places_from aside place items)
-as_many aside place [] = refl
-as_many aside place (item ∷ items) = elim (cases_Bool (aside item)) [
-  | inl is ↦
-      ap length (cond-false (not (aside item)) (item ∷ picked aside items) (picked aside items) (ap not is))
-      ∙ (as_many aside (place + 1) items ∙ sym (ap length (cond-true (aside item) (places_from aside (place + 1) items) (place ∷ places_from aside (place + 1) items) is)))
-  | inr not_it ↦
-      ap length (cond-true (not (aside item)) (item ∷ picked aside items) (picked aside items) (ap not not_it))
-      ∙ (ap suc (as_many aside (place + 1) items) ∙ sym (ap length (cond-false (aside item) (places_from aside (place + 1) items) (place ∷ places_from aside (place + 1) items) not_it)))
-]
 
 -- the places of two lists, one behind the other
 pub places_append : (aside : Item → Bool) (place : ℕ) (xs ys : List Item) → places_from aside place (xs ++ ys) ≡ places_from aside place xs ++ places_from aside (place + length xs) ys
@@ -151,23 +138,6 @@ picked_at aside list d k (item ∷ items) are =
           ∙ (ap (λ (xs : List Item). item ∷ xs) more ∙ sym (cond-true (not (aside item)) (item ∷ picked aside items) (picked aside items) (ap not not_it))))
     ]
 
--- places counted from a later one
-pub places_on : (aside : Item → Bool) (from k : ℕ) (items : List Item) → map (λ (place : ℕ). from + place) (places_from aside k items) ≡ places_from aside (from + k) items
-places_on aside from k [] = refl
-places_on aside from k (item ∷ items) =
-    let later : ℕ → ℕ = λ place. from + place in
-    let on : ℕ = k + 1 in
-    let next : ℕ = from + k + 1 in
-    let more : map later (places_from aside on items) ≡ places_from aside next items = places_on aside from on items ∙ ap (λ (n : ℕ). places_from aside n items) (omega arith) in
-    elim (cases_Bool (aside item)) [
-      | inl is ↦
-          ap (map later) (cond-true (aside item) (places_from aside on items) (k ∷ places_from aside on items) is)
-          ∙ (more ∙ sym (cond-true (aside item) (places_from aside next items) ((from + k) ∷ places_from aside next items) is))
-      | inr not_it ↦
-          ap (map later) (cond-false (aside item) (places_from aside on items) (k ∷ places_from aside on items) not_it)
-          ∙ (ap (λ (ps : List ℕ). (from + k) ∷ ps) more ∙ sym (cond-false (aside item) (places_from aside next items) ((from + k) ∷ places_from aside next items) not_it))
-    ]
-
 -- they rise
 rise_cons : (from : ℕ) (ps : List ℕ) → IsNonDecreasingBy (λ place. place) ps → ((i d : ℕ) → i < length ps → from ≤ get_or ps i d) → IsNonDecreasingBy (λ place. place) (from ∷ ps)
 rise_cons from ps up above zero zero d le inside = omega arith
@@ -293,7 +263,7 @@ next_step aside first from i places list rest inside more left =
 pub last_step : (aside : Item → Bool) (first from i : ℕ) (places : List ℕ) (list rest : List Item) → length places ≤ i → drop i places ≡ places_from aside (first + from) (drop from list)
     → weave aside (drop from list) rest ≡ drop from list ++ rest
 last_step aside first from i places list rest ended left =
-    let none : drop i places ≡ [] = empty_of (drop i places) (omega (arith, ended, length-drop i places)) in
+    let none : drop i places ≡ [] = nil_from_length (drop i places) (omega (arith, ended, length-drop i places)) in
     followed aside (drop from list) rest (none_next aside (first + from) (drop from list) (sym none ∙ left))
 
 -- the places of both parts of a list, as the code cuts them

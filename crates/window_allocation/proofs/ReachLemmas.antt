@@ -17,6 +17,7 @@ use Rattle.greedy_rules.specs.Batches.{DemandBatch}
 use Rattle.greedy_rules.specs.Demands.{is_listed}
 use Rattle.greedy_rules.specs.Schedule.{slot_in}
 use Rattle.greedy_rules.proofs.Facts.{same_flow-true, same_flow-refl}
+use Rattle.greedy_rules.proofs.TableLemmas.{next_row}
 use Rattle.slot_batches.specs.Feeding.{was_served}
 use Rattle.slot_batches.specs.Woven.{once_served, places_from}
 use Rattle.slot_batches.specs.Beyond.{is_in, seen_with, goes_ahead, HaveRivals, AreBarredInSlots}
@@ -261,13 +262,10 @@ same_batch : (j k b at : ℕ) → j * b ≤ at → at < j * b + b → k * b ≤ 
 same_batch j k b at j_from j_before k_from k_before = elim (cases_order j k) [
   | inl same ↦ same
   | inr other ↦ elim other [
-    | inl less ↦ absurd (omega (arith, next_end j b, mul-le (j + 1) b k b (omega arith) (omega arith)))
-    | inr more ↦ absurd (omega (arith, next_end k b, mul-le (k + 1) b j b (omega arith) (omega arith)))
+    | inl less ↦ absurd (omega (arith, next_row j b, mul-le (j + 1) b k b (omega arith) (omega arith)))
+    | inr more ↦ absurd (omega (arith, next_row k b, mul-le (k + 1) b j b (omega arith) (omega arith)))
   ]
 ]
-  where
-    next_end : (batch b : ℕ) → (batch + 1) * b ≡ batch * b + b
-    next_end batch b = grind arith
 
 -- in none of the slots at the front
 not_in : (slots : List (List Flow)) (flow : Flow) (n : ℕ) → ((at : ℕ) → at < n → has_flow (slot_in slots at) flow ≡ false) → is_in (take n slots) flow ≡ false
@@ -311,7 +309,7 @@ module _ (b count : ℕ) (all : List (List Flow)) (whole : List Item) (aside : I
       → AreBarredInSlots aside whole b (take (j * b) all) (drop (j * b) all) batches
   barred_from j [] fits long out = tt
   barred_from j (batch ∷ batches) fits long out =
-      let on : (j + 1) * b ≡ j * b + b = next_end j b in
+      let on : (j + 1) * b ≡ j * b + b = next_row j b in
       let here : j * b + b ≤ count = omega (arith, on, mul-le (j + 1) b (j + length (batch ∷ batches)) b (omega arith) (omega arith)) in
       let number : j + 1 + length batches ≡ j + length (batch ∷ batches) = omega arith in
       let earlier : take ((j + 1) * b) all ≡ take (j * b) all ++ take b (drop (j * b) all) = ap (λ (n : ℕ). take n all) on ∙ take_on (j * b) b all in
@@ -321,6 +319,3 @@ module _ (b count : ℕ) (all : List (List Flow)) (whole : List Item) (aside : I
         subst (λ (xs : List (List Flow)). AreBarredInSlots aside whole b xs (drop b (drop (j * b) all)) batches) earlier
             (subst (λ (xs : List (List Flow)). AreBarredInSlots aside whole b (take ((j + 1) * b) all) xs batches) later rest),
       )
-    where
-      next_end : (batch b : ℕ) → (batch + 1) * b ≡ batch * b + b
-      next_end batch b = grind arith

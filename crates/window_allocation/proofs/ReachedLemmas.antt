@@ -13,6 +13,7 @@ use Rattle.greedy_rules.specs.Fronts.{EveryBatchHasItsSlots}
 use Rattle.greedy_rules.specs.Recorded.{MayBeApplied}
 use Rattle.greedy_rules.specs.Room.{FlowsFitPairs}
 use Rattle.greedy_rules.specs.Limits.{is_barred}
+use Rattle.greedy_rules.proofs.TableLemmas.{next_row}
 use Rattle.slot_batches.specs.Marks.{WindowMarks, has_mark}
 use Rattle.slot_batches.specs.Woven.{picked, places_from, OnlyOpen, HaveNoEntry, ListedFlowsAreOpen}
 use Rattle.slot_batches.specs.Beyond.{HaveRivals, AreBarredInSlots, ItemsBarredInSlotsMayBeSetAside}
@@ -58,7 +59,7 @@ barred_in_front : (aside : Item → Bool) (list : List Item) (b : ℕ) (earlier 
     → AreBarredInSlots aside list b earlier slots batches
 barred_in_front aside list b earlier slots more [] fits barred = tt
 barred_in_front aside list b earlier slots more (batch ∷ batches) fits barred =
-    let count : length (batch ∷ batches) * b ≡ length batches * b + b = (let one : length (batch ∷ batches) ≡ length batches + 1 = omega arith in ap (λ (n : ℕ). n * b) one ∙ next_end (length batches) b) in
+    let count : length (batch ∷ batches) * b ≡ length batches * b + b = (let one : length (batch ∷ batches) ≡ length batches + 1 = omega arith in ap (λ (n : ℕ). n * b) one ∙ next_row (length batches) b) in
     let inside : b ≤ length slots = omega (arith, count, fits) in
     let front : take b (slots ++ more) ≡ take b slots = take-append-le b slots more inside in
     let back : drop b (slots ++ more) ≡ drop b slots ++ more = drop-append-le b slots more inside in (
@@ -67,9 +68,6 @@ barred_in_front aside list b earlier slots more (batch ∷ batches) fits barred 
           (subst (λ (xs : List (List Flow)). AreBarredInSlots aside list b (earlier ++ xs) (drop b slots ++ more) batches) front
           (subst (λ (xs : List (List Flow)). AreBarredInSlots aside list b (earlier ++ take b (slots ++ more)) xs batches) back barred.1)),
     )
-  where
-    next_end : (n b : ℕ) → (n + 1) * b ≡ n * b + b
-    next_end n b = grind arith
 
 -- where the test answers yes
 pub reached_window : (endpoints b first : ℕ) (marks : WindowMarks) (list found : List Item) (places : List ℕ) (batches : List DemandBatch) (slots more : List (List Flow)) → FlowsFitPairs → EveryBatchKeepsItsFlows

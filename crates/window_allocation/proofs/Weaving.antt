@@ -7,19 +7,14 @@ use Rattle.std.proofs.lemmas.List.Elements.{All-head, All-tail, All-filter}
 use Rattle.std.proofs.lemmas.List.{append-nil, append_assoc}
 use Rattle.greedy_rules.specs.declared.flows.Item.{Item}
 use Rattle.slot_batches.specs.Feeding.{IsInOrder, was_served}
-use Rattle.slot_batches.specs.Woven.{picked, stays, weave, never_served, once_served, woven}
+use Rattle.slot_batches.specs.Woven.{picked, weave, never_served, once_served, woven}
+use Rattle.slot_batches.proofs.WeaveLemmas.{is_set_aside}
 
--- an item that is set aside comes next
-pub next_aside : (aside : Item → Bool) (item : Item) (list rest : List Item) → aside item ≡ true → weave aside (item ∷ list) rest ≡ item ∷ weave aside list rest
-next_aside aside item list [] is = cond-true (aside item) (item ∷ weave aside list []) (weave aside list []) is
-next_aside aside item list (next ∷ rest) is =
-    cond-true (aside item) (item ∷ weave aside list (next ∷ rest)) (cond (stays item next) (next ∷ weave aside list rest) (weave aside list (next ∷ rest))) is
-
--- so do all of a run
+-- all of a run that is set aside come next
 pub run_aside : (aside : Item → Bool) (few list rest : List Item) → All (λ item. aside item ≡ true) few → weave aside (few ++ list) rest ≡ few ++ weave aside list rest
 run_aside aside [] list rest all = refl
 run_aside aside (item ∷ few) list rest all =
-    next_aside aside item (few ++ list) rest (All-head (λ x. aside x ≡ true) item few all)
+    is_set_aside aside item (few ++ list) rest (All-head (λ x. aside x ≡ true) item few all)
     ∙ ap (λ (xs : List Item). item ∷ xs) (run_aside aside few list rest (All-tail (λ x. aside x ≡ true) item few all))
 
 -- the items that were served begin where the others end

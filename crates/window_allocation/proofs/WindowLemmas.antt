@@ -2,6 +2,7 @@
 use Rattle.std.proofs.Common.{◌≡◌, ◌<◌, ◌≤◌, ◌+◌, ◌-◌, ◌*◌, ◌^◌, ℕ, List, [], ◌++◌, length, get_or, replicate, All, sym, ap, ◌∙◌, subst, arith, length-append}
 use Rattle.std.proofs.lemmas.Nat.{mul-le}
 use Rattle.std.proofs.lemmas.List.{append-nil, get_or-append_right, get_or_default}
+use Rattle.list_facts.proofs.Numbers.{fewer_pairs}
 use Rattle.greedy_rules.specs.declared.flows.Flow.{Flow}
 use Rattle.greedy_rules.specs.declared.flows.Item.{Item}
 use Rattle.greedy_rules.specs.Batches.{DemandBatch}
@@ -33,9 +34,6 @@ fits endpoints batches list fit left =
       fit endpoints [] list (λ i j d lt below. absurd (omega arith)) (λ k d below. absurd (omega arith)) left.once (subst (AreBelow endpoints) (sym (append-nil list)) left.below)
           (subst HaveTwoEnds (sym (append-nil list)) left.apart),
     )
-
-fewer_pairs : (endpoints : ℕ) → pairs_of endpoints ≤ endpoints * endpoints
-fewer_pairs endpoints = mul-le endpoints (endpoints - 1) endpoints endpoints (omega arith) (omega arith)
 
 fit_slot : (net : Network) (b : ℕ) (earlier batches : List DemandBatch) (window : List (List Flow)) → AreOfNet net (earlier ++ batches) → EveryRecordedSlot → EveryBatchHasItsSlots
     → schedule b (earlier ++ batches) ≡ schedule b earlier ++ window → All (IsFit net) window

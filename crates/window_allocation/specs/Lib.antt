@@ -7,6 +7,8 @@ pub mod Ready
 pub mod Handed
 pub mod Giving
 pub mod Idle
+pub mod Logged
+pub mod WindowLists
 pub mod Picked
 pub mod Runs
 pub mod Reach

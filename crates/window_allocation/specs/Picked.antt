@@ -1,13 +1,9 @@
--- What of a window's demand list is set aside, and the memory for the rest (this project's own profile).
-use Rattle.std.specs.Prelude.{◌≡◌, ◌≤◌, ℕ, ◌+◌, ◌*◌, List, [], ◌∷◌, length, take, Bool, true, false, All, ◌==◌, ◌&&◌, not, if◌then◌else◌, vec_capacity}
+-- What of a window's demand list its batches run over, and the memory for it (this project's own profile).
+use Rattle.std.specs.Prelude.{◌≡◌, ◌≤◌, ℕ, ◌+◌, ◌*◌, List, [], ◌∷◌, length, Bool, true, false, All, if◌then◌else◌, vec_capacity}
 use Rattle.greedy_rules.specs.declared.flows.Item.{Item}
 use Rattle.slot_batches.specs.Marks.{WindowMarks, has_mark}
 use Rattle.slot_batches.specs.Woven.{picked, stays, places_from}
 use Rattle.window_allocation.specs.declared.picked.Picked.{Picked}
-
--- an item is set aside that needs no slot and whose flow has no mark
-abbrev pub is_aside : WindowMarks → Item → Bool
-is_aside marks item = (item.need == 0) && not (has_mark marks item.flow)
 
 -- the first item of the list as it stands in the rest, if it stays as the next one there
 abbrev pub staying : List Item → List Item → List Item
@@ -28,9 +24,3 @@ pub record IsReached (marks : WindowMarks) (list found : List Item) (places : Li
   pub at : places ≡ places_from aside 0 list
   pub are : found ≡ picked aside list
   pub unmarked : All (λ item. aside item ≡ true → has_mark marks item.flow ≡ false) list
-
--- so many items at the front of the list are set aside, and at the front of what is woven from it as well
-pub record StaysInFront (aside : Item → Bool) (count : ℕ) (list whole : List Item) : Type 0 where
-  pub within : (count ≤ length list) × (count ≤ length whole)
-  pub all : All (λ item. aside item ≡ true) (take count list)
-  pub stays : take count whole ≡ take count list

@@ -9,9 +9,10 @@ use crate::laws::every_window_is_ready;
 use crate::needs::write_needs;
 use crate::runs::WindowRing;
 use crate::window::{Span, Window};
+use crate::window_list::WindowList;
 use clos_topology::Net;
 use fp_edge::Gate;
-use greedy_rules::{Batch, DemandList, recorded_batches_may_be_applied};
+use greedy_rules::{Batch, recorded_batches_may_be_applied};
 use no_memory::NoMemory;
 use path_workers::Paths;
 use std::alloc::Global;
@@ -27,9 +28,7 @@ pub struct Allocation {
     endpoints: u16,
     // How many batches are done.
     batches: u32,
-    list: DemandList,
-    // So many items at its front need no slot.
-    idle: usize,
+    list: WindowList,
     ring: WindowRing,
     paths: Paths,
 }
@@ -37,13 +36,13 @@ pub struct Allocation {
 impl Model for Allocation {
     ghost use Rattle.std.specs.Prelude.{◌≡◌};
     ghost use Rattle.window_allocation.specs.Standing.{Allocated};
-    ghost use Rattle.window_allocation.specs.Idle.{HasIdleFront};
+    ghost use Rattle.window_allocation.specs.WindowLists.{demands_of, IsWindowList};
 
     ghost Value = { Allocated };
 
-    ghost view = { λ a. record { b = a.b; batches = a.batches; list = a.list; ring = a.ring; paths = a.paths } };
+    ghost view = { λ a. record { b = a.b; batches = a.batches; list = demands_of a.list; ring = a.ring; paths = a.paths } };
 
-    ghost invariant = { λ a. (a.ring.endpoints ≡ a.endpoints) × HasIdleFront a.idle a.list.items };
+    ghost invariant = { λ a. (a.ring.endpoints ≡ a.endpoints) × IsWindowList a.endpoints a.list };
 }
 
 impl Allocation {
@@ -66,14 +65,12 @@ impl Allocation {
         ensures paths { IfOk result (λ half. half.paths.paths ≡ paths) }
     {
         let endpoints = net.endpoints();
-        let flows = endpoints as usize * endpoints as usize;
         Ok(Allocation {
             alloc,
             b,
             endpoints,
             batches: 0,
-            list: DemandList::open(alloc, flows)?,
-            idle: 0,
+            list: WindowList::open(alloc, endpoints)?,
             ring: WindowRing::open(alloc, workers, endpoints, u16::from(g), b)?,
             paths: Paths::open(alloc, net, paths, u16::from(g) * u16::from(b))?,
         })
@@ -120,7 +117,6 @@ impl Allocation {
             rt,
             gate,
             &mut self.list,
-            &mut self.idle,
             self.batches,
             batches,
             &mut window.slots,
@@ -131,12 +127,14 @@ impl Allocation {
     }
 
     /// Writes the need that each flow has left into the table, by source and then destination.
-    pub fn write_needs(&self, table: &mut [u32])
-        requires stands { (net : Network) × (most : ℕ) × (batches : List DemandBatch) × HasAllocated net most batches self.now }
-        requires long { length table.old ≡ self.now.ring.endpoints * self.now.ring.endpoints }
-        ensures { Needs self.now.ring.endpoints self.now.list.items table.new }
+    pub fn write_needs(&mut self, table: &mut [u32])
+        requires stands { (net : Network) × (most : ℕ) × (batches : List DemandBatch) × HasAllocated net most batches self.old }
+        requires long { length table.old ≡ self.old.ring.endpoints * self.old.ring.endpoints }
+        ensures needs { Needs self.new.ring.endpoints self.new.list.items table.new }
+        ensures same { self.new ≡ self.old }
     {
         recorded_batches_may_be_applied();
-        write_needs(&self.list, self.endpoints, table);
+        self.list.leave();
+        write_needs(&self.list.list, self.endpoints, table);
     }
 }

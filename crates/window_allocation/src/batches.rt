@@ -9,7 +9,7 @@ use greedy_rules::{Batch, Item};
 const SHORT: usize = 192;
 
 /// The bits of all that the items need: none only where no item needs a slot.
-pub(crate) fn needs_of(items: &[Item]) -> u32
+fn needs_of(items: &[Item]) -> u32
     ensures { result ≡ 0 → All (λ item. item.need ≡ 0) items.now }
 {
     let mut needs = 0;

@@ -6,9 +6,9 @@
 //! says what it stands for, the batches that it has done, wherever they come from, and `specs/Giving.antt` what a window asks and
 //! gives (`window.rt`). `specs/Handed.antt` says what the ring was handed of it. `runs.rt` hands the ring what may change:
 //! `batches.rt` counts the batches that change nothing, which are passed over, and those of a run, which are played together.
-//! `picked.rt` finds the items that need a slot or may have an entry in the window (`marked.rt`), and notes their places; where
-//! these are little of the list the batches run over them alone. So many items at the list's front are known to need nothing from
-//! the window before (`specs/Idle.antt`, `proofs/IdleFronts.antt`), and are looked at only where an entry may be one of theirs.
+//! `window_list.rt` keeps the demand that is left: in a list, or, while windows pick little of it, in logs, of which a window costs
+//! what it picks (`item_log.rt`, `demand_log.rt`, `specs/Logged.antt`, `specs/WindowLists.antt`). Picked are the items that need a
+//! slot or have an entry in the window; the batches run over them alone, and what they leave of them takes their places.
 //! Else `guess.rt` guesses which items the batches can choose, these run over those, and `reach.rt` tests by the slots that came
 //! out that none of the others would be chosen: `end_words.rt` has the slots of each endpoint as words, `flow_slots.rt` those of
 //! each flow (`proofs/ReachLemmas.antt`, `proofs/Choice.antt`, `proofs/PartLemmas.antt`); where one would, they run over the whole
@@ -20,10 +20,12 @@
 
 mod allocation;
 mod batches;
+mod demand_log;
 mod end_words;
 mod flow_slots;
 mod guess;
 mod in_place;
+mod item_log;
 mod laws;
 mod marked;
 mod needs;
@@ -33,6 +35,7 @@ mod runs;
 mod table;
 mod weave;
 mod window;
+mod window_list;
 
 pub use allocation::Allocation;
 pub use laws::every_record_has_cores;

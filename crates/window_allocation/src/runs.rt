@@ -2,16 +2,17 @@
 ghost use Rattle.std.specs.Prelude.{◌≡◌, ◌<◌, ◌≤◌, ◌+◌, ◌-◌, ◌*◌, [], ◌++◌, length, take, drop, replicate, IfOk};
 ghost use Rattle.greedy_rules.specs.Schedule.{schedule_from, rest_from};
 ghost use Rattle.alloc_pipeline.specs.Ring.{IsRingSize as MayBeOpened, IsSameRingWork, MayAllocate, moved_by, pairs_of};
-ghost use Rattle.window_allocation.specs.Idle.{HasIdleFront};
 ghost use Rattle.window_allocation.specs.Picked.{HasRoomForPairs, IsReached};
 ghost use Rattle.window_allocation.specs.Ready.{AnyPartMayBeApplied, MaySetAside};
 ghost use Rattle.ring_core.specs.Windows.{window_of};
 ghost use Rattle.window_allocation.specs.Handed.{ComeOfRing};
 ghost use Rattle.window_allocation.specs.Runs.{HasRunTable, GivesSlots, IsPlayed, ArePlayed};
+ghost use Rattle.window_allocation.specs.WindowLists.{demands_of, IsWindowList};
 
 use crate::batches::{count_idle, count_run};
 use crate::picked::Picked;
 use crate::table::put_slots;
+use crate::window_list::{WindowList, most_picked};
 use alloc_pipeline::Ring;
 use fp_edge::Gate;
 use greedy_rules::{
@@ -70,26 +71,25 @@ impl WindowRing {
         })
     }
 
-    /// Gives the batches their slots, as the ring does. So many items at the front of the list are known to need none.
+    /// Gives the batches their slots, as the ring does.
     pub(crate) fn allocate<R: Threads + Wait + Sync, G: Gate + Sync>(
         &mut self,
         rt: &R,
         gate: &G,
-        list: &mut DemandList,
-        idle: &mut usize,
+        list: &mut WindowList,
         first_batch: u32,
         batches: &[Batch],
         out: &mut SlotTable,
     )
-        requires may { MayAllocate self.old first_batch list.old batches.now out.old }
-        requires idle { HasIdleFront idle.old list.old.items }
-        requires parts { AnyPartMayBeApplied self.old.endpoints self.old.b first_batch list.old.items batches.now }
-        ensures allocates { GivesSlots self.old self.new first_batch list.old list.new batches.now out.old out.new }
-        ensures idle { HasIdleFront idle.new list.new.items }
-        ensures handed { ComeOfRing self.old.b first_batch self.old.workers list.old.items batches.now (schedule_from self.old.b first_batch list.old.items batches.now) self.old.moved self.new.moved }
+        requires is { IsWindowList self.old.endpoints list.old }
+        requires may { MayAllocate self.old first_batch (demands_of list.old) batches.now out.old }
+        requires parts { AnyPartMayBeApplied self.old.endpoints self.old.b first_batch (demands_of list.old).items batches.now }
+        ensures is { IsWindowList self.old.endpoints list.new }
+        ensures allocates { GivesSlots self.old self.new first_batch (demands_of list.old) (demands_of list.new) batches.now out.old out.new }
+        ensures handed { ComeOfRing self.old.b first_batch self.old.workers (demands_of list.old).items batches.now (schedule_from self.old.b first_batch (demands_of list.old).items batches.now) self.old.moved self.new.moved }
     {
         self.parts
-            .allocate_window(rt, gate, list, idle, first_batch, batches, out);
+            .allocate_window(rt, gate, list, first_batch, batches, out);
     }
 }
 
@@ -107,22 +107,21 @@ impl Parts {
         &mut self,
         rt: &R,
         gate: &G,
-        list: &mut DemandList,
-        idle: &mut usize,
+        list: &mut WindowList,
         first_batch: u32,
         batches: &[Batch],
         out: &mut SlotTable,
     )
         requires table { HasRunTable self.old.runs }
         requires memory { HasRoomForPairs self.old.runs.ring.endpoints self.old.picked }
-        requires idle { HasIdleFront idle.old list.old.items }
-        requires may { MayAllocate self.old.runs.ring first_batch list.old batches.now out.old }
-        requires parts { AnyPartMayBeApplied self.old.runs.ring.endpoints self.old.runs.ring.b first_batch list.old.items batches.now }
+        requires is { IsWindowList self.old.runs.ring.endpoints list.old }
+        requires may { MayAllocate self.old.runs.ring first_batch (demands_of list.old) batches.now out.old }
+        requires parts { AnyPartMayBeApplied self.old.runs.ring.endpoints self.old.runs.ring.b first_batch (demands_of list.old).items batches.now }
         ensures table { HasRunTable self.new.runs }
         ensures memory { HasRoomForPairs self.old.runs.ring.endpoints self.new.picked }
-        ensures allocates { GivesSlots self.old.runs.ring self.new.runs.ring first_batch list.old list.new batches.now out.old out.new }
-        ensures idle { HasIdleFront idle.new list.new.items }
-        ensures handed { ComeOfRing self.old.runs.ring.b first_batch self.old.runs.ring.workers list.old.items batches.now (schedule_from self.old.runs.ring.b first_batch list.old.items batches.now) self.old.runs.ring.moved self.new.runs.ring.moved }
+        ensures is { IsWindowList self.old.runs.ring.endpoints list.new }
+        ensures allocates { GivesSlots self.old.runs.ring self.new.runs.ring first_batch (demands_of list.old) (demands_of list.new) batches.now out.old out.new }
+        ensures handed { ComeOfRing self.old.runs.ring.b first_batch self.old.runs.ring.workers (demands_of list.old).items batches.now (schedule_from self.old.runs.ring.b first_batch (demands_of list.old).items batches.now) self.old.runs.ring.moved self.new.runs.ring.moved }
     {
         if batches.is_empty() {
             out.clear();
@@ -130,17 +129,15 @@ impl Parts {
         }
         every_batch_leaves_a_list();
         flows_fit_pairs();
-        if !self.picked.pick(list.items(), *idle, batches, self.runs.b) {
-            *idle = 0;
-            self.allocate_unpicked(rt, gate, list, first_batch, batches, out);
+        let most = most_picked(list.len(), self.picked.slots.endpoints(), self.runs.b);
+        if !list.pick(batches, most, &mut self.picked.items) {
+            self.allocate_unpicked(rt, gate, &mut list.list, first_batch, batches, out);
             return;
         }
         items_may_be_set_aside();
         every_batch_balances();
         self.runs.allocate_runs(rt, gate, &mut self.picked.items, first_batch, batches, out);
-        let front = self.picked.staying_front(list.items());
-        self.picked.weave_into(list);
-        *idle = front;
+        list.weave(self.picked.items.items());
     }
 
     /// The batches over what of the list they can choose, where that is not much of it and a guess finds it, and else over the
@@ -157,7 +154,8 @@ impl Parts {
         requires table { HasRunTable self.old.runs }
         requires memory { HasRoomForPairs self.old.runs.ring.endpoints self.old.picked }
         requires may { MayAllocate self.old.runs.ring first_batch list.old batches.now out.old }
-        requires aside { MaySetAside self.old.runs.ring.endpoints self.old.runs.ring.b first_batch self.old.picked.marks list.old.items batches.now }
+        requires some { 0 < length batches.now }
+        requires parts { AnyPartMayBeApplied self.old.runs.ring.endpoints self.old.runs.ring.b first_batch list.old.items batches.now }
         ensures table { HasRunTable self.new.runs }
         ensures memory { HasRoomForPairs self.old.runs.ring.endpoints self.new.picked }
         ensures allocates { GivesSlots self.old.runs.ring self.new.runs.ring first_batch list.old list.new batches.now out.old out.new }

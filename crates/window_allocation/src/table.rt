@@ -1,10 +1,9 @@
 //! The slots of a run of batches come behind those of the batches before it.
-ghost use Rattle.std.specs.Prelude.{◌≡◌, ◌<◌, ◌≤◌, ◌+◌, ◌-◌, [], ◌∷◌, ◌++◌, ◌||◌, length, take, drop, replicate, false, is_some, All, IfSome, slice_set};
-ghost use Rattle.std.specs.List.{fold};
+ghost use Rattle.std.specs.Prelude.{◌≡◌, ◌<◌, ◌≤◌, ◌+◌, ◌-◌, [], ◌∷◌, ◌++◌, length, take, drop, replicate, All, IfSome, slice_set};
 ghost use Rattle.greedy_rules.specs.Schedule.{slot_in};
 ghost use Rattle.greedy_rules.specs.SlotTable.{flows_from, AreCells};
 
-use greedy_rules::SlotTable;
+use greedy_rules::{SlotTable, has_sender};
 
 /// So many places of a row are passed over at once where none of them has a destination.
 const FEW: usize = 32;
@@ -56,13 +55,6 @@ fn put_row(out: &mut SlotTable, slot: u16, row: &[Option<u16>])
         put_few(out, slot, src, few);
         src += few.len();
     }
-}
-
-/// Whether one of these sources sends. There is no early end, so many places are read at once.
-fn has_sender(few: &[Option<u16>]) -> bool
-    ensures { result ≡ fold (λ sends to. sends || is_some to) false few.now }
-{
-    few.iter().fold(false, |sends, to| sends | to.is_some())
 }
 
 /// Lets some sources, the first of them above all that send in the slot, send where these places say.

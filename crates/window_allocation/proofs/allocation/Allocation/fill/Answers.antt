@@ -7,6 +7,7 @@ use Rattle.slot_batches.specs.NextList.{IsListBefore}
 use Rattle.window_allocation.specs.Giving.{MayGive, HasGiven}
 use Rattle.window_allocation.specs.Handed.{ComeOfRing}
 use Rattle.window_allocation.specs.Standing.{Allocated}
+use Rattle.window_allocation.specs.WindowLists.{demands_of}
 use Rattle.window_allocation.proofs.Filled.{tables_here, given_none, jobs_of_some}
 use Rattle.window_allocation.proofs.WindowLemmas.{ring_size, ring_endpoints, may_allocate, parts_may_be, told, few_slots, has_allocated_more, window_of}
 use Rattle.window_allocation.proofs.allocation.Allocation.fill.Goals as goal
@@ -71,20 +72,20 @@ returns g c =
     let it = told batches _ _ c.window.inside.slots.slots c.allocate.new.out.slots c.every_window_is_ready.ensures c.self.view_is c.requires.may.stands tables.slots c.allocate.ensures.allocates.slots in
     let b : ℕ = c.self.inside.b in
     let k : ℕ = c.self.inside.batches in
-    let list : List Item = c.self.inside.list.items in
+    let list : List Item = (demands_of c.self.inside.list).items in
     let workers : ℕ = c.self.inside.ring.workers in
     let old : List ℕ = c.self.inside.ring.moved in
     let now : List ℕ = c.allocate.new.self.moved in
     let size = ring_size _ _ it.earlier _ it.has in
     let ends = ring_endpoints _ _ it.earlier _ it.has in
     subst (λ (half : Allocated).
-    HasGiven half batches (record { b = b; batches = k + length batches; list = c.allocate.new.list; ring = c.allocate.new.self; paths = c.colour_slots.new.self })
+    HasGiven half batches (record { b = b; batches = k + length batches; list = demands_of c.allocate.new.list; ring = c.allocate.new.self; paths = c.colour_slots.new.self })
     (record { span = record { first = k; count = length batches }; slots = c.allocate.new.out; cores = c.colour_slots.new.out })) c.self.view_is
     (record {
       stands = λ earlier has recorded.
           has_allocated_more _ _ earlier batches _ _ has recorded (c.every_window_is_ready.ensures _ _ earlier batches _ has recorded) refl refl
           (c.allocate.ensures.allocates.list ∙ ap (λ (m : ℕ). rest_from m k list batches) size)
-          (subst (λ (m : ℕ). IsListBefore (first_slot m (k + length batches)) c.allocate.new.list.items) size c.allocate.ensures.allocates.next) c.allocate.ensures.allocates.spare c.allocate.ensures.allocates.same c.colour_slots.ensures.work.same.net c.colour_slots.ensures.work.same.slots;
+          (subst (λ (m : ℕ). IsListBefore (first_slot m (k + length batches)) (demands_of c.allocate.new.list).items) size c.allocate.ensures.allocates.next) c.allocate.ensures.allocates.spare c.allocate.ensures.allocates.same c.colour_slots.ensures.work.same.net c.colour_slots.ensures.work.same.slots;
       b = refl;
       workers = c.allocate.ensures.allocates.same.workers;
       paths = c.colour_slots.ensures.work.same.paths;
