@@ -1,5 +1,5 @@
 -- What a replay ensures, as an engine that has it ensures it.
-use Rattle.std.proofs.Common.{◌≡◌, ◌-◌, min, refl, sym, ap, ◌∙◌, subst}
+use Rattle.std.proofs.Common.{◌≡◌, ◌+◌, ◌-◌, min, refl, sym, ap, ◌∙◌, subst}
 use Rattle.std.specs.Prelude.{⊤, Result, Ok, Err, IfOk, OnOk}
 use Rattle.clos_topology.specs.NetSlots.{SlotCores}
 use Rattle.trace_text.specs.Trace.{TraceContent}
@@ -9,10 +9,10 @@ use Rattle.replay_rounds.specs.Standing.{slots_between}
 use Rattle.window_allocation.specs.Windows.{IsWindowOf}
 use Rattle.window_engine.specs.declared.engine.EngineRun.{EngineRun}
 use Rattle.window_engine.specs.declared.engine.EngineRun.TheVariants.{Plan, Replay}
-use Rattle.window_engine.specs.Plan.{PlanState}
+use Rattle.window_engine.specs.Plan.{PlanState, PlanStands, plan_window}
 use Rattle.window_engine.specs.Replay.{ReplayState, ReplayStands, replay_run}
-use Rattle.window_engine.specs.Standing.{EngineState, of_plan, of_replay, StandsForReplay, HasReplayedWindow}
-use Rattle.window_engine.specs.Step.{StepContent, HasCoresOf}
+use Rattle.window_engine.specs.Standing.{EngineState, of_plan, of_replay, StandsForPlan, StandsForReplay, HasPlannedWindow, HasReplayedWindow}
+use Rattle.window_engine.specs.Step.{StepContent, StepIsPlanned, HasCoresOf}
 
 -- ---- an engine has a plan or a replay
 
@@ -30,6 +30,9 @@ never_both plan replay same = absurd (subst (λ (e : EngineState). HasAPlan e.ru
 pub no_replay : {A : Type 0} (trace : TraceContent) (cores : SlotCores) (engine : EngineState) (plan : PlanState) → of_plan plan ≡ engine → StandsForReplay trace cores engine → A
 no_replay trace cores engine plan seen stands = never_both plan stands.replay (seen ∙ stands.is)
 
+pub no_plan : {A : Type 0} (trace : TraceContent) (engine : EngineState) (replay : ReplayState) → of_replay replay ≡ engine → StandsForPlan trace engine → A
+no_plan trace engine replay seen stands = never_both stands.plan replay (sym (seen ∙ stands.is))
+
 pub replay_stands : (trace : TraceContent) (cores : SlotCores) (engine : EngineState) (replay : ReplayState) → of_replay replay ≡ engine → StandsForReplay trace cores engine → ReplayStands trace cores replay
 replay_stands trace cores engine replay seen stands =
     let same : replay ≡ stands.replay = ap (λ (e : EngineState). replay_in replay e.run) (seen ∙ stands.is) in
@@ -39,6 +42,11 @@ pub replay_engine : (trace : TraceContent) (cores : SlotCores) (replay : ReplayS
 replay_engine trace cores replay stands = record { replay = replay; is = refl; stands = stands }
 
 -- ---- a step
+
+pub plan_planned : {E : Type 0} (trace : TraceContent) (old new : PlanState) (result : Result StepContent E) → OnOk result (PlanStands trace new) → OnOk result (new.collection.rounds ≡ old.collection.rounds + plan_window old)
+    → IfOk result (StepIsPlanned trace old.allocation.b old.collection.rounds (plan_window old)) → IfOk result (HasPlannedWindow trace (of_plan old) (of_plan new))
+plan_planned trace old new (Ok step) stands rounds planned = record { stands = record { plan = new; is = refl; stands = stands }; allocated = rounds; planned = planned }
+plan_planned trace old new (Err e) stands rounds planned = tt
 
 pub replay_replayed : {E : Type 0} (trace : TraceContent) (cores : SlotCores) (old new : ReplayState) (result : Result StepContent E) → ReplayStands trace cores old
     → IfOk result (λ step. (named : SlotCores) → ReplayStands trace named old → HasCoresOf old.lanes.b step named → ReplayStands trace named new) → OnOk result (new.lanes.published ≡ old.lanes.collected)

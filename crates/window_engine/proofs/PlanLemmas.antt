@@ -4,7 +4,7 @@ use Rattle.std.proofs.lemmas.Bool.{cond-true, cond-false, eq-eqb, ne_eqb}
 use Rattle.std.proofs.lemmas.Nat.{mul-add-lt, mul-le}
 use Rattle.std.proofs.lemmas.List.{get_or_default, length-take, length-drop, take_at, drop_at, take-append-drop}
 use Rattle.std.proofs.SliceLists.{take_long}
-use Rattle.list_facts.proofs.Lists.{joined}
+use Rattle.list_facts.proofs.Lists.{take_on}
 use Rattle.greedy_rules.specs.declared.flows.Flow.{Flow}
 use Rattle.greedy_rules.specs.declared.flows.Item.{Item}
 use Rattle.greedy_rules.specs.Batches.{DemandBatch}
@@ -45,7 +45,7 @@ pub window_recorded : (trace : TraceContent) (k n : ℕ) → IsTrace trace → E
 window_recorded trace k n sound recorded front =
     let plan : List DemandBatch = plan_batches trace in
     let whole : plan ≡ take (k + n) plan ++ drop (k + n) plan = sym (take-append-drop (k + n) plan) in
-    subst (AreOfNet trace.net) (sym (joined k n plan))
+    subst (AreOfNet trace.net) (take_on k n plan)
     (front (endpoints_of trace.net) (limits_of trace.net) (take (k + n) plan) (drop (k + n) plan) (subst (AreOfNet trace.net) whole (recorded trace sound).0))
 
 pub window_count : (trace : TraceContent) (k n : ℕ) (batches : List DemandBatch) → IsTrace trace → EveryPlanIsRecorded → k + n ≤ trace.rounds → batches ≡ take n (drop k (plan_batches trace)) → length batches ≡ n
@@ -79,7 +79,7 @@ pub stands_next : (trace : TraceContent) (old new : PlanState) (batches : List D
 stands_next trace old new batches stands g endpoints rounds are collected on allocated ended pending =
     let k : ℕ = old.collection.rounds in
     let plan : List DemandBatch = plan_batches trace in
-    let so_far : take k plan ++ batches ≡ take new.collection.rounds plan = ap (λ (bs : List DemandBatch). take k plan ++ bs) are ∙ (joined k (plan_window old) plan ∙ ap (λ (m : ℕ). take m plan) (sym on)) in
+    let so_far : take k plan ++ batches ≡ take new.collection.rounds plan = ap (λ (bs : List DemandBatch). take k plan ++ bs) are ∙ (sym (take_on k (plan_window old) plan) ∙ ap (λ (m : ℕ). take m plan) (sym on)) in
     let serves : new.allocation.ring.endpoints ≡ endpoints_of trace.net = ring_endpoints _ _ _ _ allocated in
     record {
       window = (omega (arith, stands.window.0), omega (arith, stands.window.1));

@@ -19,24 +19,24 @@ use Rattle.window_engine.proofs.ReplayTables.{core_below}
 
 -- ---- cores that are below 64
 
-pub few : Option ℕ → Option ℕ
-few None = None
-few (Some core) = cond (nat_lt core 64) (Some core) None
+pub below_64 : Option ℕ → Option ℕ
+below_64 None = None
+below_64 (Some core) = cond (nat_lt core 64) (Some core) None
 
-pub few-below : (core : Option ℕ) → IfSome (few core) (λ c. c < 64)
-unfolding few
-few-below None = tt
-few-below (Some core) =
+pub below_64-below : (core : Option ℕ) → IfSome (below_64 core) (λ c. c < 64)
+unfolding below_64
+below_64-below None = tt
+below_64-below (Some core) =
     let Below : Option ℕ → Type 0 = λ named. IfSome named (λ c. c < 64) in
     elim (cases_Bool (nat_lt core 64)) [
       | inl is ↦ subst Below (sym (cond-true (nat_lt core 64) (Some core) None is)) (ltb-true core 64 is)
       | inr not ↦ subst Below (sym (cond-false (nat_lt core 64) (Some core) None not)) tt
     ]
 
-few-same : (core : Option ℕ) (cores : ℕ) → cores ≤ 64 → IfSome core (λ c. c < cores) → few core ≡ core
-unfolding few
-few-same None cores most below = refl
-few-same (Some core) cores most below = cond-true (nat_lt core 64) (Some core) None (lt-ltb core 64 (omega (arith, below)))
+pub below_64-same : (core : Option ℕ) (cores : ℕ) → cores ≤ 64 → IfSome core (λ c. c < cores) → below_64 core ≡ core
+unfolding below_64
+below_64-same None cores most below = refl
+below_64-same (Some core) cores most below = cond-true (nat_lt core 64) (Some core) None (lt-ltb core 64 (omega (arith, below)))
 
 -- a slot is as clean with cores that are the same for its sources
 pub clean-same : (hosts cores : ℕ) (slot : List Flow) (one other : CoreOf) → All (λ (flow : Flow). one flow.src ≡ other flow.src) slot → IsClean hosts cores slot one → IsClean hosts cores slot other
@@ -52,33 +52,33 @@ clean-same hosts cores slot one other same clean = record {
       subst (λ (a : Option ℕ). Apart a (other g.src)) (same i d (omega (arith, lt, below))) (subst (Apart (one f.src)) (same j d below) (clean.apart i j d lt below));
 }
 
-clean-few : (net : Network) (slot : List Flow) (named : CoreOf) → IsNetwork net → IsClean net.hosts net.cores slot named → IsClean net.hosts net.cores slot (λ source. few (named source))
-clean-few net slot named sizes clean =
-    clean-same net.hosts net.cores slot named (λ source. few (named source))
-    (λ k d below. sym (few-same (named (get_or slot k d).src) net.cores sizes.most_cores (core_below net.hosts net.cores named (get_or slot k d) (clean.named k d below)))) clean
+pub clean_limited : (hosts cores : ℕ) (slot : List Flow) (named : CoreOf) → cores ≤ 64 → IsClean hosts cores slot named → IsClean hosts cores slot (λ source. below_64 (named source))
+clean_limited hosts cores slot named most clean =
+    clean-same hosts cores slot named (λ source. below_64 (named source))
+    (λ k d below. sym (below_64-same (named (get_or slot k d).src) cores most (core_below hosts cores named (get_or slot k d) (clean.named k d below)))) clean
 
 -- ---- the first ones are kept
 
 abbrev kept : SlotCores → ℕ → SlotCores → SlotCores
-kept cores reached others number = cond (nat_le number reached) (cores number) (λ source. few (others number source))
+kept cores reached others number = cond (nat_le number reached) (cores number) (λ source. below_64 (others number source))
 
 kept-first : (cores : SlotCores) (reached : ℕ) (others : SlotCores) (number : ℕ) → number ≤ reached → kept cores reached others number ≡ cores number
-kept-first cores reached others number within = cond-true (nat_le number reached) (cores number) (λ source. few (others number source)) (le-leb number reached within)
+kept-first cores reached others number within = cond-true (nat_le number reached) (cores number) (λ source. below_64 (others number source)) (le-leb number reached within)
 
 kept-named : (cores : SlotCores) (reached : ℕ) (others : SlotCores) → AreSlotCores cores → AreSlotCores (kept cores reached others)
 kept-named cores reached others named number source =
     let Named : CoreOf → Type 0 = λ of. IfSome (of source) (λ core. core < 64) in
-    let later : CoreOf = λ s. few (others number s) in
+    let later : CoreOf = λ s. below_64 (others number s) in
     elim (cases_Bool (nat_le number reached)) [
       | inl first ↦ subst Named (sym (cond-true (nat_le number reached) (cores number) later first)) (named number source)
-      | inr after ↦ subst Named (sym (cond-false (nat_le number reached) (cores number) later after)) (few-below (others number source))
+      | inr after ↦ subst Named (sym (cond-false (nat_le number reached) (cores number) later after)) (below_64-below (others number source))
     ]
 
 kept-scheduled : (b : ℕ) (net : Network) (batches : List DemandBatch) (cores : SlotCores) (reached : ℕ) (others : SlotCores) → IsNetwork net → AreCleanUpTo net (schedule b batches) reached cores
     → EverySlotIsScheduled b net batches others → EverySlotIsScheduled b net batches (kept cores reached others)
 kept-scheduled b net batches cores reached others sizes first all number positive within =
     let slot : List Flow = slot_at (schedule b batches) number in
-    let later : CoreOf = λ source. few (others number source) in
+    let later : CoreOf = λ source. below_64 (others number source) in
     let this = all number positive within in
     let Clean : CoreOf → Type 0 = IsClean net.hosts net.cores slot in
     record {
@@ -87,7 +87,7 @@ kept-scheduled b net batches cores reached others sizes first all number positiv
       within_cores = this.within_cores;
       clean = elim (cases_Bool (nat_le number reached)) [
         | inl early ↦ subst Clean (sym (cond-true (nat_le number reached) (cores number) later early)) (first number positive (leb-true number reached early) within)
-        | inr late ↦ subst Clean (sym (cond-false (nat_le number reached) (cores number) later late)) (clean-few net slot (others number) sizes this.clean)
+        | inr late ↦ subst Clean (sym (cond-false (nat_le number reached) (cores number) later late)) (clean_limited net.hosts net.cores slot (others number) sizes.most_cores this.clean)
       ];
     }
 

@@ -83,9 +83,32 @@ impl Engine {
         ensures planned { StandsForPlan trace.now self.old → IfOk result (HasPlannedWindow trace.now self.old self.new) }
         ensures replayed { (cores : SlotCores) → StandsForReplay trace.now cores self.old → IfOk result (HasReplayedWindow trace.now cores self.old self.new) }
     {
+        self.step_beside(rt, gate, trace, &mut || {})
+    }
+
+    /// What `step` does, and beside it calls `meanwhile`, once, whatever comes of the step. A replay calls it while a thread of its own
+    /// gives slots and cores.
+    pub fn step_beside<R: Threads + Wait + Sync, G: Gate + Sync, F: FnMut()>(
+        &mut self,
+        rt: &R,
+        gate: &G,
+        trace: &Trace,
+        meanwhile: &mut F,
+    ) -> Result<Step, NoMemory>
+        requires stands { StandsForTrace trace.now self.old }
+        requires more { self.old.allocated ≢ self.old.rounds }
+        requires may_call { F.pre meanwhile.old }
+        ensures called { F.step meanwhile.old tt meanwhile.new }
+        ensures stepped { IfOk result (HasStepped self.old self.new) }
+        ensures planned { StandsForPlan trace.now self.old → IfOk result (HasPlannedWindow trace.now self.old self.new) }
+        ensures replayed { (cores : SlotCores) → StandsForReplay trace.now cores self.old → IfOk result (HasReplayedWindow trace.now cores self.old self.new) }
+    {
         match &mut self.run {
-            EngineRun::Plan(plan) => plan.step(rt, gate, trace),
-            EngineRun::Replay(replay) => replay.step(rt, gate, trace),
+            EngineRun::Plan(plan) => {
+                meanwhile();
+                plan.step(rt, gate, trace)
+            }
+            EngineRun::Replay(replay) => replay.step_beside(rt, gate, trace, meanwhile),
         }
     }
 

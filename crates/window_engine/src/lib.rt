@@ -4,8 +4,9 @@
 //! step gives: two ranges of rounds, what the rounds of the one give, and the tables of the other. `plan.rt` is the engine's plan, by
 //! two halves that share nothing: `plan_rounds` makes the batch of each round, with the limits of the trace's net, and tallies what was
 //! asked for; `window_allocation` gives batches their slots and cores. `replay.rt` is its replay: in each step `window_allocation`
-//! gives the batches of the window before their slots in a thread of its own, beside it `replay_rounds` plays a window, and then the
-//! slots are published. What was played is shared by the step that gives it and by the replay, whose next step allocates its batches.
+//! gives the batches of the window before their slots in a thread of its own, beside it the caller's own work is done and
+//! `replay_rounds` plays a window, and then the slots are published. What was played is shared by the step that gives it and by the
+//! replay, whose next step allocates its batches.
 //! What an engine stands for are `StandsForPlan` and `StandsForReplay` (`specs/Standing.antt`), over what its plan (`PlanStands`) or its
 //! replay (`ReplayStands`) stands for: one record a half. `laws.rt` and `replay_laws.rt` have the laws that the program cites: how
 //! many steps there are, that a plan's demand is allocated or pending, and that cores can be found for slots that were not reached.

@@ -137,16 +137,19 @@ impl Replay {
         }
     }
 
-    /// Gives the batches that wait their slots and cores in a thread of their own, and beside it plays the next window of rounds. Where
-    /// these batches have few entries no thread is started.
-    fn play_beside<R: Threads + Wait + Sync, G: Gate + Sync>(
+    /// Gives the batches that wait their slots and cores in a thread of their own, and beside it calls `meanwhile` and plays the next
+    /// window of rounds. Where these batches have few entries no thread is started.
+    fn play_beside<R: Threads + Wait + Sync, G: Gate + Sync, F: FnMut()>(
         &mut self,
         rt: &R,
         gate: &G,
         trace: &Trace,
+        meanwhile: &mut F,
     ) -> Result<(Played, Window), NoMemory>
         requires may_play { MayPlayBeside trace.now self.old.lanes }
         requires may_allocate { MayGive self.old.allocation self.old.waiting }
+        requires may_call { F.pre meanwhile.old }
+        ensures called { F.step meanwhile.old tt meanwhile.new }
         ensures others { self.new ≡ record self.old { lanes = self.new.lanes; allocation = self.new.allocation } }
         ensures rounds { IfOk result (λ both. HasPlayedBeside trace.now self.old.lanes self.new.lanes both.0) }
         ensures given { IfOk result (λ both. HasGiven self.old.allocation self.old.waiting self.new.allocation both.1) }
@@ -155,9 +158,16 @@ impl Replay {
         let lanes = &mut self.lanes;
         let allocation = &mut self.allocation;
         let batches = batches_of(&self.last);
-        let mut opened = allocation.open_window(batches)?;
+        let mut opened = match allocation.open_window(batches) {
+            Ok(opened) => opened,
+            Err(none) => {
+                meanwhile();
+                return Err(none);
+            }
+        };
         let window = &mut opened;
         if !have_many(batches) {
+            meanwhile();
             allocation.fill(rt, gate, batches, window);
             return Ok((lanes.collect(rt, alloc, trace)?, opened));
         }
@@ -169,23 +179,31 @@ impl Replay {
                 ensures { HasGiven allocation.entry.now batches.entry.now allocation.exit.now window.exit.now }
             { allocation.fill(rt, gate, batches, window) },
             &mut || -> Result<Played, NoMemory>
-                requires { MayPlayBeside trace.now lanes.now }
-                ensures { IfOk result (HasPlayedBeside trace.entry.now lanes.entry.now lanes.exit.now) }
-            { lanes.collect(rt, alloc, trace) },
+                requires may_call { F.pre meanwhile.now }
+                requires may_play { MayPlayBeside trace.now lanes.now }
+                ensures called { F.step meanwhile.entry.now tt meanwhile.exit.now }
+                ensures played { IfOk result (HasPlayedBeside trace.entry.now lanes.entry.now lanes.exit.now) }
+            {
+                meanwhile();
+                lanes.collect(rt, alloc, trace)
+            },
         );
         Ok((played?, opened))
     }
 
     /// Plays the next window of `g` rounds, or of those that are left, and gives the batches of the window before their slots and
-    /// cores, which are then published. The trace is the one given to `open`.
-    pub(crate) fn step<R: Threads + Wait + Sync, G: Gate + Sync>(
+    /// cores, which are then published. `meanwhile` is called once, while a thread gives these. The trace is the one given to `open`.
+    pub(crate) fn step_beside<R: Threads + Wait + Sync, G: Gate + Sync, F: FnMut()>(
         &mut self,
         rt: &R,
         gate: &G,
         trace: &Trace,
+        meanwhile: &mut F,
     ) -> Result<Step, NoMemory>
         requires stands { (cores : SlotCores) × ReplayStands trace.now cores self.old }
         requires more { self.old.lanes.published ≢ self.old.rounds }
+        requires may_call { F.pre meanwhile.old }
+        ensures called { F.step meanwhile.old tt meanwhile.new }
         ensures rounds { OnOk result (self.new.rounds ≡ self.old.rounds) }
         ensures b { OnOk result (self.new.lanes.b ≡ self.old.lanes.b) }
         ensures g { OnOk result (self.new.lanes.g ≡ self.old.lanes.g) }
@@ -213,7 +231,7 @@ impl Replay {
         every_replay_shows();
         let _rounds = trace.rounds();
         let first = self.lanes.collected();
-        let (played, window) = self.play_beside(rt, gate, trace)?;
+        let (played, window) = self.play_beside(rt, gate, trace, meanwhile)?;
         let count = self.lanes.collected() - first;
         let published = window.span().count as u16;
         self.lanes

@@ -11,7 +11,7 @@ use Rattle.window_allocation.proofs.WindowLemmas.{ring_endpoints}
 use Rattle.window_engine.proofs.ReplaySteps.{are_next, replay_allocated}
 use Rattle.window_engine.proofs.ReplayPublish.{MayPublish, seen_as, publishes_with, publish_next, publish_fits, lanes_after, stands_next}
 use Rattle.window_engine.proofs.ReplayBeside.{may_allocate, collects_beside, next_beside}
-use Rattle.window_engine.proofs.replay.Replay.step.Goals as goal
+use Rattle.window_engine.proofs.replay.Replay.step_beside.Goals as goal
 
 pub play_beside-requires-clause-may_allocate : goal.play_beside-requires-clause-may_allocate
 play_beside-requires-clause-may_allocate g c κs within =
