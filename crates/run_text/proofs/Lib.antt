@@ -5,6 +5,7 @@ pub mod PlanLemmas
 pub mod StepLemmas
 pub mod ReplayCores
 pub mod ReplaySteps
+pub mod HeldSteps
 pub mod ReplayLoop
 pub mod PlayLemmas
 pub mod SumLemmas

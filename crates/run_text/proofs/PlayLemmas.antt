@@ -5,8 +5,7 @@ use Rattle.clos_topology.specs.NetSlots.{SlotCores, AreSlotCores}
 use Rattle.trace_text.specs.Trace.{TraceContent}
 use Rattle.trace_text.specs.Valid.{IsTrace}
 use Rattle.replay_rounds.specs.Standing.{slots_between}
-use Rattle.window_engine.specs.Step.{Span, StepContent, HasCoresOf}
-use Rattle.window_engine.specs.Windows.{IsWindowOf}
+use Rattle.window_engine.specs.Step.{Span, StepContent}
 use Rattle.run_text.specs.ReplayScheduled.{AgreeAbove}
 use Rattle.run_text.proofs.CoreLemmas.{spliced}
 use Rattle.run_text.proofs.ReplayCores.{limited, limited-named, places, spliced_named}

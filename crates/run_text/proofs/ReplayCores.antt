@@ -1,7 +1,7 @@
 -- Cores for the slots of a replay: none is 64 or more, and those of one window can be put in place of others.
-use Rattle.std.proofs.Common.{◌≡◌, ◌≢◌, ◌<◌, ◌≤◌, ◌+◌, ◌-◌, ◌*◌, ℕ, List, [], ◌∷◌, length, get_or, take, drop, Option, Some, None, IfSome, ◌&&◌, ◌==◌, nat_lt, nat_le, cond, All, refl, sym, ap, ◌∙◌, subst, arith, inl, inr}
+use Rattle.std.proofs.Common.{◌≡◌, ◌≢◌, ◌<◌, ◌≤◌, ◌+◌, ◌-◌, ◌*◌, ℕ, List, [], ◌∷◌, length, get_or, take, drop, Option, Some, None, IfSome, ◌&&◌, ◌==◌, nat_lt, nat_le, All, refl, sym, ap, ◌∙◌, subst, arith, inl, inr}
 use Rattle.std.specs.Option.{MatchOption}
-use Rattle.std.proofs.lemmas.Bool.{cond-true, cond-false, cases_Bool, ltb-true, ltb-false, lt-ltb}
+use Rattle.std.proofs.lemmas.Bool.{cond-true, cond-false, cases_Bool, ltb-true, ltb-false}
 use Rattle.std.proofs.lemmas.Nat.{mul-le}
 use Rattle.std.proofs.lemmas.List.{get_or-take, get_or-drop, length-drop, length-take, take-append-drop}
 use Rattle.std.proofs.lemmas.List.Elements.{All-nil, All-cons, All-head, All-tail}
@@ -25,35 +25,16 @@ use Rattle.window_engine.specs.Scheduled.{EverySlotIsScheduled, AreClean, HasCor
 use Rattle.trace_run.specs.Cores.{CoresDecideNothing}
 use Rattle.window_engine.specs.Replay.{EveryReplayHasCores}
 use Rattle.replay_rounds.proofs.ReplayCores.{between-length}
-use Rattle.window_engine.proofs.ReplayScheduled.{clean-same}
+use Rattle.window_engine.proofs.ReplayScheduled.{below_64, below_64-below, clean_limited}
 use Rattle.run_text.specs.ReplayScheduled.{replay_batches, AreReplayCores, WithReplayCores}
 use Rattle.run_text.proofs.CoreLemmas.{spliced, scheduled_between}
-
--- ---- cores below 64
-
-abbrev below_64 : Option ℕ → Option ℕ
-below_64 None = None
-below_64 (Some core) = cond (nat_lt core 64) (Some core) None
 
 -- the same cores, but for those that are 64 or more
 abbrev pub limited : SlotCores → SlotCores
 limited cores number source = below_64 (cores number source)
 
-below_64-below : (o : Option ℕ) → IfSome (below_64 o) (λ core. core < 64)
-below_64-below None = tt
-below_64-below (Some core) =
-    let P : Option ℕ → Type 0 = λ o. IfSome o (λ c. c < 64) in
-    elim (cases_Bool (nat_lt core 64)) [
-      | inl small ↦ subst P (sym (cond-true (nat_lt core 64) (Some core) None small)) (ltb-true core 64 small)
-      | inr large ↦ subst P (sym (cond-false (nat_lt core 64) (Some core) None large)) tt
-    ]
-
 pub limited-named : (cores : SlotCores) → AreSlotCores (limited cores)
 limited-named cores number source = below_64-below (cores number source)
-
-pub below_64-same : (o : Option ℕ) → IfSome o (λ core. core < 64) → below_64 o ≡ o
-below_64-same None small = refl
-below_64-same (Some core) small = cond-true (nat_lt core 64) (Some core) None (lt-ltb core 64 small)
 
 -- ---- clean slots
 
@@ -65,10 +46,6 @@ clean_small : (hosts cores : ℕ) (slot : List Flow) (core_of : CoreOf) → core
 clean_small hosts cores slot core_of few clean i d below =
     let flow : Flow = get_or slot i d in
     core_small hosts cores flow.src flow.dst (core_of flow.src) few (clean.named i d below)
-
-pub clean_limited : (hosts cores : ℕ) (slot : List Flow) (core_of : CoreOf) → cores ≤ 64 → IsClean hosts cores slot core_of → IsClean hosts cores slot (λ source. below_64 (core_of source))
-clean_limited hosts cores slot core_of few clean =
-    clean-same hosts cores slot core_of (λ source. below_64 (core_of source)) (λ i d below. sym (below_64-same (core_of (get_or slot i d).src) (clean_small hosts cores slot core_of few clean i d below))) clean
 
 -- the sources of a slot's edges are those of its flows
 edges_of : (hosts source : ℕ) (slot : List Flow) → All (λ flow. flow.src ≢ source) slot → All (λ edge. edge.source ≢ source) (rack_edges hosts slot)

@@ -35,9 +35,10 @@ use Rattle.run_text.specs.ReplayProgress.{played_lines, HasSlots, step_text_line
 use Rattle.run_text.specs.ReplayScheduled.{AgreeAbove}
 use Rattle.run_text.proofs.CoreLemmas.{slots_lines-same}
 use Rattle.run_text.proofs.NumberedTexts.{numbers-same}
-use Rattle.run_text.proofs.ReplayCores.{limited, below_64-same, cores_small, clean_limited}
+use Rattle.run_text.proofs.ReplayCores.{limited, cores_small}
 use Rattle.window_engine.specs.Standing.{EngineState, StandsForReplay, run_of, engine_window}
 use Rattle.window_engine.proofs.EngineFacts.{replay_within}
+use Rattle.window_engine.proofs.ReplayScheduled.{below_64-same, clean_limited}
 
 -- ---- how many steps there are
 
@@ -143,7 +144,7 @@ window_cores net b first slots window few start is at source below =
     let here : n + at - n ≡ at = omega arith in
     let clean : IsClean net.hosts net.cores (slot_in slots at) (core_of window.cores at) = subst (λ (m : ℕ). IsClean net.hosts net.cores (slot_in slots at) (core_of window.cores m)) here (is.clean at below) in
     ap (λ (m : ℕ). limited (λ number. core_of window.cores number) m source) back
-    ∙ below_64-same (core_of window.cores at source) (cores_small net.hosts net.cores source (slot_in slots at) (core_of window.cores at) few clean (is.others at below))
+    ∙ below_64-same (core_of window.cores at source) 64 (omega arith) (cores_small net.hosts net.cores source (slot_in slots at) (core_of window.cores at) few clean (is.others at below))
 
 -- they are clean
 pub window_clean : (net : Network) (b first : ℕ) (slots : List (List Flow)) (window : WindowContent) → net.cores ≤ 64 → window.span.first ≡ first → IsWindowOf net b slots window

@@ -1,11 +1,13 @@
 -- The `sent` lines of a replay's text are what its rounds send.
-use Rattle.std.proofs.Common.{◌≡◌, ◌≢◌, ◌<◌, ◌≤◌, ◌+◌, ◌-◌, ℕ, zero, suc, Bool, true, false, cond, ◌&&◌, ◌==◌, nat_lt, List, [], ◌∷◌, ◌++◌, map, count_by, Option, Some, None, All, refl, sym, ap, ◌∙◌, subst, arith, inl, inr}
+use Rattle.std.proofs.Common.{◌≡◌, ◌≢◌, ◌<◌, ◌≤◌, ◌+◌, ◌-◌, ℕ, zero, suc, Bool, false, ◌&&◌, ◌==◌, nat_lt, List, [], ◌∷◌, ◌++◌, map, count_by, Option, Some, None, All, refl, sym, ap, ◌∙◌, subst, arith, inl, inr}
 use Rattle.std.specs.List.{flat_map, range_with_len}
 use Rattle.std.proofs.lemmas.Bool.{cond-true, cond-false, cases_Bool, and_left, and_right, eqb-true, eqb-false, ne_eqb}
-use Rattle.std.proofs.lemmas.List.Elements.{All-nil, All-cons, All-head, All-tail, All-append, All-map}
+use Rattle.std.proofs.lemmas.List.Elements.{All-nil, All-cons, All-append, All-map}
 use Rattle.list_facts.specs.Order.{insert_by, sort_by}
 use Rattle.list_facts.proofs.Lists.{flat-last, All-flat}
 use Rattle.list_facts.proofs.Counting.{count-append, one_of, count-cons, count-none, count-map}
+use Rattle.list_facts.proofs.Bools.{at_most_one}
+use Rattle.list_facts.proofs.StableSort.{All-sort_by}
 use Rattle.greedy_rules.specs.declared.flows.Flow.{Flow}
 use Rattle.endpoint_history.specs.Rounds.{sent_by}
 use Rattle.endpoint_history.specs.Sending.{Slot}
@@ -47,20 +49,6 @@ count-insert p number x (y ∷ ys) =
 count-sort : {X : Type 0} (p : X → Bool) (number : X → ℕ) (xs : List X) → count_by p (sort_by number xs) ≡ count_by p xs
 count-sort p number [] = refl
 count-sort p number (x ∷ xs) = omega (arith, count-insert p number x (sort_by number xs), count-sort p number xs, count-cons p x xs)
-
-All-insert : {X : Type 0} (P : X → Type 0) (number : X → ℕ) (x : X) (ys : List X) → P x → All P ys → All P (insert_by number x ys)
-All-insert P number x [] here later = All-cons P x [] here later
-All-insert P number x (y ∷ ys) here later =
-    let test : Bool = nat_lt (number y) (number x) in
-    elim (cases_Bool test) [
-      | inl is ↦
-          subst (All P) (sym (cond-true test (y ∷ insert_by number x ys) (x ∷ (y ∷ ys)) is)) (All-cons P y (insert_by number x ys) (All-head P y ys later) (All-insert P number x ys here (All-tail P y ys later)))
-      | inr other ↦ subst (All P) (sym (cond-false test (y ∷ insert_by number x ys) (x ∷ (y ∷ ys)) other)) (All-cons P x (y ∷ ys) here later)
-    ]
-
-All-sort : {X : Type 0} (P : X → Type 0) (number : X → ℕ) (xs : List X) → All P xs → All P (sort_by number xs)
-All-sort P number [] all = All-nil P
-All-sort P number (x ∷ xs) all = All-insert P number x (sort_by number xs) (All-head P x xs all) (All-sort P number xs (All-tail P x xs all))
 
 All-among : {X : Type 0} (P : X → Type 0) (xs : List X) → ((x : X) → Among x xs → P x) → All P xs
 All-among P [] each = All-nil P
@@ -120,10 +108,6 @@ own_source slot src (s ∷ ss) =
           let none : one_of (is_departure slot src) (departure src s) ≡ 0 = cond-false (is_departure slot src (departure src s)) 1 0 (and_left (s.slot == slot) (src == src) other) in
           omega (arith, first, second, later, none)
     ]
-  where
-    at_most_one : (test : Bool) → cond {A = ℕ} test 1 0 ≤ 1
-    at_most_one true = omega arith
-    at_most_one false = omega arith
 
 other_source : (slot src e : ℕ) (ss : List Slot) → e ≢ src → count_by (is_departure slot src) (map (departure e) ss) ≡ 0
 other_source slot src e ss other =
@@ -197,7 +181,7 @@ round_scheduled setting trace round rounds scheduled some below =
     subst (λ (n : ℕ). Among s (sent_by setting.endpoints setting.b setting.g ((replayed setting n).rounds src))) one among in
     scheduled setting some (suc round) rounds src (omega (arith, below)) s (Among-later s (sent_up_to setting round src) _ now))) in
     All-append P (before_sends setting trace round) (map sent_line (departures_in setting round)) (none_unscheduled setting rounds (before_sends setting trace round) (without_sends setting trace round))
-    (All-map P sent_line (departures_in setting round) (All-sort (λ d. P (sent_line d)) (λ d. d.slot) all (All-flat (λ d. P (sent_line d)) (departures_from setting round) (range_with_len 0 setting.endpoints) own)))
+    (All-map P sent_line (departures_in setting round) (All-sort_by (λ d. P (sent_line d)) (λ d. d.slot) all (All-flat (λ d. P (sent_line d)) (departures_from setting round) (range_with_len 0 setting.endpoints) own)))
 
 rounds_scheduled : (setting : Setting) (trace : TraceContent) (first count rounds : ℕ) → EverySendIsScheduled → 0 < setting.g → first + count ≤ rounds → All (IsScheduledSend setting rounds) (replay_rounds_lines setting trace first count)
 rounds_scheduled setting trace first zero rounds scheduled some within = All-nil (IsScheduledSend setting rounds)

@@ -1,5 +1,5 @@
 -- What is given out for the steps of a replay.
-use Rattle.std.specs.Prelude.{◌≡◌, ◌<◌, ◌≤◌, ℕ, ◌+◌, ◌-◌, ◌*◌, ◌^◌, List, ◌++◌, length, min, Result, OnOk}
+use Rattle.std.specs.Prelude.{◌≡◌, ◌<◌, ◌≤◌, ℕ, ◌+◌, ◌-◌, ◌*◌, ◌^◌, List, [], ◌++◌, length, Option, Some, None, IfSome, Result, OnOk}
 use Rattle.std.specs.List.{flat_map, range_with_len}
 use Rattle.greedy_rules.specs.Schedule.{first_slot}
 use Rattle.clos_topology.specs.NetSlots.{SlotCores}
@@ -7,10 +7,9 @@ use Rattle.report_text.specs.declared.line.Line.{Line}
 use Rattle.trace_text.specs.Trace.{TraceContent}
 use Rattle.replay_rounds.specs.Setting.{setting_of}
 use Rattle.replay_rounds.specs.Played.{Played}
-use Rattle.window_engine.specs.Scheduled.{cores_from}
 use Rattle.run_lines.specs.Content.{OutputContent}
-use Rattle.run_lines.specs.Output.{Passes}
-use Rattle.run_lines.specs.Steps.{played_round, cores_of_step}
+use Rattle.run_lines.specs.Output.{Passes, Passed}
+use Rattle.run_lines.specs.Steps.{played_round, StepIsPlayed, cores_of_step}
 use Rattle.run_lines.specs.Text.{slots_lines, text_of}
 use Rattle.text_output.specs.declared.output.Stop.{Stop}
 use Rattle.run_text.specs.ReplayScheduled.{AreReplayCores, WithCoresBetween, AgreeAbove}
@@ -40,14 +39,27 @@ next_replay_lines cores trace engine =
     replay_rounds_lines (run_of trace cores engine) trace engine.collected (engine_window engine)
     ++ replay_window_lines cores (run_of trace cores engine) engine.allocated engine.collected
 
--- what a step of a replay gives, whatever clean cores it stands for: its own slots have clean cores, and with all cores that name
--- those the replay stands on, and the text of the step was passed on
-abbrev pub GivesStep : ℕ → TraceContent → EngineState → EngineState → OutputContent → OutputContent → Result (Unit {0}) Stop → Type 0
-GivesStep b trace old new before after result =
+-- the lines of the step that is held, if one is
+abbrev pub held_lines : ℕ → Option StepContent → List Line
+held_lines b None = []
+held_lines b (Some step) = step_text_lines b step
+
+-- they may be given out
+abbrev pub MayGiveHeld : ℕ → Option StepContent → Type 0
+MayGiveHeld b held = IfSome held (λ step. StepIsPlayed step × HasSlots b step)
+
+-- what a step of a replay is, whatever clean cores it stands for: its own slots have clean cores, and with all cores that name
+-- those the replay stands on, and the lines of the step are the run's next ones
+abbrev pub HoldsStep : ℕ → TraceContent → EngineState → EngineState → StepContent → Type 0
+HoldsStep b trace old new step =
     (there : SlotCores) → AreReplayCores b old.g trace there → StandsForReplay trace there old
     → WithCoresBetween b old.g trace there old.allocated old.collected (λ here. (cores : SlotCores)
     → StandsForReplay trace cores old → AgreeAbove (old.allocated * b) ((old.collected - old.allocated) * b) cores here
-    → OnOk result (StandsForReplay trace cores new) × Passes before after (text_of (next_replay_lines cores trace old)) result)
+    → StandsForReplay trace cores new × (step_text_lines b step ≡ next_replay_lines cores trace old))
+
+-- of this text all but what is held was passed on
+abbrev pub PassedUpTo : OutputContent → OutputContent → List ℕ → List ℕ → Type 0
+PassedUpTo before after held text = (sent : List ℕ) × Passed before after sent × (text ≡ sent ++ held)
 
 -- what all steps give, with these cores
 abbrev pub GivesSteps : ℕ → ℕ → TraceContent → EngineState → OutputContent → OutputContent → Result (Unit {0}) Stop → SlotCores → Type 0

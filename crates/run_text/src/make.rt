@@ -97,8 +97,9 @@ fn replay_sums<R: Threads + Wait + Sync, G: Gate + Sync>(
     cores_decide_nothing();
     cores_are_only_told();
     let mut replay = open_replay(alloc, trace, sizes)?;
-    play(rt, gate, trace, &mut replay)?;
-    Ok(sum_counts(trace, &replay))
+    let engine = &mut *replay;
+    play(rt, gate, trace, engine)?;
+    Ok(sum_counts(trace, engine))
 }
 
 /// Replays the trace that a number makes, and writes the line of its sums.

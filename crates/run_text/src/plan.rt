@@ -28,15 +28,16 @@ use window_engine::{
     every_record_has_cores,
 };
 
-/// The engine of a plan, before its first round.
-fn open_engine(alloc: Global, trace: &Trace, sizes: Sizes) -> Result<Engine, NoMemory>
+/// The engine of a plan, before its first round. It has many parts, which are dropped in one place where it stands in a box.
+fn open_engine(alloc: Global, trace: &Trace, sizes: Sizes) -> Result<Box<Engine>, NoMemory>
     requires { AreSizes sizes }
-    ensures stands { IfOk result (StandsForPlan trace.now) }
-    ensures start { IfOk result (λ engine. engine.collected ≡ 0) }
-    ensures b { IfOk result (λ engine. engine.b ≡ sizes.b) }
-    ensures paths { IfOk result (λ engine. engine.allocation.paths.paths ≡ sizes.paths) }
+    ensures stands { IfOk result (λ engine. StandsForPlan trace.now engine.value) }
+    ensures start { IfOk result (λ engine. engine.value.collected ≡ 0) }
+    ensures b { IfOk result (λ engine. engine.value.b ≡ sizes.b) }
+    ensures paths { IfOk result (λ engine. engine.value.allocation.paths.paths ≡ sizes.paths) }
 {
-    Engine::open(alloc, trace, sizes.setting(false))
+    let engine = Engine::open(alloc, trace, sizes.setting(false))?;
+    Ok(Box::new(alloc, engine)?)
 }
 
 /// The batches of a step, each with its slots.
@@ -124,9 +125,10 @@ fn put_lines<R: Threads + Wait + Sync, G: Gate + Sync, K: Sink>(
 {
     texts_follow();
     every_plan_has_its_slots();
-    let mut engine = open_engine(alloc, trace, sizes)?;
-    put_rounds(rt, gate, trace, &mut engine, sizes.b, output)?;
-    put_flows(output, trace, &engine)?;
+    let mut plan = open_engine(alloc, trace, sizes)?;
+    let engine = &mut *plan;
+    put_rounds(rt, gate, trace, engine, sizes.b, output)?;
+    put_flows(output, trace, engine)?;
     output.put_last_line(&Line::End {
         rounds: trace.rounds(),
     })

@@ -1,14 +1,14 @@
-ghost use Rattle.std.specs.Prelude.{◌≡◌, ◌≢◌, ◌<◌, ◌≤◌, ◌+◌, IfOk, OnOk, ⊤, length};
+ghost use Rattle.std.specs.Prelude.{◌≡◌, ◌≢◌, ◌<◌, ◌≤◌, ◌+◌, Some, Err, IfOk, IfErr, OnOk, ⊤, length};
 ghost use Rattle.clos_topology.specs.NetSlots.{SlotCores, AreSlotCores};
 ghost use Rattle.trace_text.specs.Valid.{IsTrace};
 ghost use Rattle.trace_run.specs.Shown.{IsShown};
 ghost use Rattle.replay_rounds.specs.Setting.{setting_of};
 ghost use Rattle.window_engine.specs.Standing.{StandsForReplay, engine_window};
 ghost use Rattle.run_lines.specs.Content.{sink_content};
-ghost use Rattle.run_lines.specs.Output.{Passes, EndsText, Writes};
+ghost use Rattle.run_lines.specs.Output.{Passes, Passed, EndsText, Writes};
 ghost use Rattle.run_lines.specs.Steps.{StepIsPlayed};
 ghost use Rattle.run_lines.specs.Text.{text_of};
-ghost use Rattle.run_text.specs.ReplayProgress.{HasSlots, played_lines, step_text_lines, GivesStep, GivesSteps};
+ghost use Rattle.run_text.specs.ReplayProgress.{HasSlots, played_lines, step_text_lines, held_lines, MayGiveHeld, HoldsStep, GivesSteps};
 ghost use Rattle.run_text.specs.ReplayScheduled.{WithReplayCores};
 ghost use Rattle.run_text.specs.ReplayText.{replay_lines, replay_text};
 ghost use Rattle.run_text.specs.Ledger.{LedgerIsKept};
@@ -31,17 +31,22 @@ use trace_run::{
 use trace_text::Trace;
 use window_engine::{Engine, NoMemory, Step, every_replay_has_cores, every_replay_takes_its_steps};
 
-/// The replay of a trace, before its first round.
-pub(crate) fn open_replay(alloc: Global, trace: &Trace, sizes: Sizes) -> Result<Engine, NoMemory>
+/// The replay of a trace, before its first round. An engine has many parts, which are dropped in one place where it stands in a box.
+pub(crate) fn open_replay(
+    alloc: Global,
+    trace: &Trace,
+    sizes: Sizes,
+) -> Result<Box<Engine>, NoMemory>
     requires { AreSizes sizes }
-    ensures stands { IfOk result (λ replay. (cores : SlotCores) → AreSlotCores cores → StandsForReplay trace.now cores replay) }
-    ensures b { IfOk result (λ replay. replay.b ≡ sizes.b) }
-    ensures g { IfOk result (λ replay. replay.g ≡ sizes.g) }
-    ensures collected { IfOk result (λ replay. replay.collected ≡ 0) }
-    ensures allocated { IfOk result (λ replay. replay.allocated ≡ 0) }
-    ensures paths { IfOk result (λ replay. replay.allocation.paths.paths ≡ sizes.paths) }
+    ensures stands { IfOk result (λ replay. (cores : SlotCores) → AreSlotCores cores → StandsForReplay trace.now cores replay.value) }
+    ensures b { IfOk result (λ replay. replay.value.b ≡ sizes.b) }
+    ensures g { IfOk result (λ replay. replay.value.g ≡ sizes.g) }
+    ensures collected { IfOk result (λ replay. replay.value.collected ≡ 0) }
+    ensures allocated { IfOk result (λ replay. replay.value.allocated ≡ 0) }
+    ensures paths { IfOk result (λ replay. replay.value.allocation.paths.paths ≡ sizes.paths) }
 {
-    Engine::open(alloc, trace, sizes.setting(true))
+    let engine = Engine::open(alloc, trace, sizes.setting(true))?;
+    Ok(Box::new(alloc, engine)?)
 }
 
 /// The rounds that a step played.
@@ -72,32 +77,57 @@ fn put_lines_of_step<K: Sink>(output: &mut Output<'_, K>, step: &Step, b: u8) ->
     put_slots(output, step.slots(), step.cores(), 0, count, base)
 }
 
-/// Plays the next window of rounds and allocates the one before, and gives both out.
-fn put_step<R: Threads + Wait + Sync, G: Gate + Sync, K: Sink>(
+/// The lines of the step that is held, if one is.
+fn put_held<K: Sink>(output: &mut Output<'_, K>, held: &Option<Step>, b: u8) -> Result<(), Stop>
+    requires b { (0 < b) × (b ≤ 64) }
+    requires held { MayGiveHeld b held.now }
+    ensures { Passes output.old output.new (text_of (held_lines b held.now)) result }
+{
+    texts_follow();
+    match held {
+        Some(step) => put_lines_of_step(output, step, b),
+        None => Ok(()),
+    }
+}
+
+/// Plays the next window of rounds and allocates the one before, and beside that gives out the step that is held.
+fn play_step<R: Threads + Wait + Sync, G: Gate + Sync, K: Sink>(
     rt: &R,
     gate: &G,
     trace: &Trace,
     replay: &mut Engine,
     b: u8,
+    held: &Option<Step>,
     output: &mut Output<'_, K>,
-) -> Result<(), Stop>
+) -> Result<Step, Stop>
     requires accepted { IsTrace trace.now }
     requires stands { (cores : SlotCores) × StandsForReplay trace.now cores replay.old }
     requires more { replay.old.allocated ≢ replay.old.rounds }
     requires b { replay.old.b ≡ b }
+    requires held { MayGiveHeld b held.now }
     ensures rounds { OnOk result (replay.new.rounds ≡ replay.old.rounds) }
     ensures b { OnOk result (replay.new.b ≡ b) }
     ensures g { OnOk result (replay.new.g ≡ replay.old.g) }
     ensures collected { OnOk result (replay.new.collected ≡ replay.old.collected + engine_window replay.old) }
     ensures allocated { OnOk result (replay.new.allocated ≡ replay.old.collected) }
-    ensures passes { GivesStep b trace.now replay.old replay.new output.old output.new result }
+    ensures held { IfOk result (λ step. MayGiveHeld b (Some step)) }
+    ensures step { IfOk result (HoldsStep b trace.now replay.old replay.new) }
+    ensures passed { OnOk result (Passed output.old output.new (text_of (held_lines b held.now))) }
+    ensures stopped { IfErr result (λ stop. Passes output.old output.new (text_of (held_lines b held.now)) (Err stop)) }
 {
     texts_follow();
     every_refusal_has_a_number();
-    runs_go_on();
-    schedules_go_on();
-    let step = replay.step(rt, gate, trace)?;
-    put_lines_of_step(output, &step, b)
+    let mut written = Ok(());
+    let mut writes = || -> ()
+        requires b { (0 < b) × (b ≤ 64) }
+        requires held { MayGiveHeld b held.now }
+        ensures { Passes output.entry.now output.exit.now (text_of (held_lines b held.entry.now)) written.exit }
+    {
+        written = put_held(output, held, b);
+    };
+    let played = replay.step_beside(rt, gate, trace, &mut writes);
+    written?;
+    Ok(played?)
 }
 
 /// Replays all rounds.
@@ -127,10 +157,12 @@ fn put_steps<R: Threads + Wait + Sync, G: Gate + Sync, K: Sink>(
     runs_go_on();
     schedules_go_on();
     every_replay_takes_its_steps();
+    let mut held = None;
     while !replay.done() {
-        put_step(rt, gate, trace, replay, b, output)?;
+        let step = play_step(rt, gate, trace, replay, b, &held, output)?;
+        held = Some(step);
     }
-    Ok(())
+    put_held(output, &held, b)
 }
 
 /// The text of a replay: its steps, what became of each flow's demand, and the end.
@@ -150,8 +182,9 @@ fn put_lines<R: Threads + Wait + Sync, G: Gate + Sync, K: Sink>(
 {
     texts_follow();
     let mut replay = open_replay(alloc, trace, sizes)?;
-    put_steps(rt, gate, trace, &mut replay, sizes.b, output)?;
-    put_counts(output, trace, &replay)?;
+    let engine = &mut *replay;
+    put_steps(rt, gate, trace, engine, sizes.b, output)?;
+    put_counts(output, trace, engine)?;
     output.put_last_line(&Line::End {
         rounds: trace.rounds(),
     })

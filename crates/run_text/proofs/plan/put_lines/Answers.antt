@@ -6,8 +6,8 @@ use Rattle.run_text.specs.PlanText.{plan_text}
 use Rattle.run_text.proofs.PlanLemmas.{end_text, plan_parts}
 use Rattle.run_text.proofs.plan.put_lines.Goals as goal
 
-pub returns-in_err-engine : goal.returns-in_err-engine
-returns-in_err-engine g c = (
+pub returns-in_err-plan : goal.returns-in_err-plan
+returns-in_err-plan g c = (
   c.requires.cores.0,
   c.requires.cores.1,
   Ends-stopped _ (c.texts_follow.ensures.no_memory c.from_residual.ensures.1) c.from_residual.ensures.1,

@@ -10,7 +10,7 @@ use Rattle.run_text.specs.ReplayScheduled.{AreReplayCores, WithReplayCores}
 use Rattle.run_text.specs.ReplayText.{all_steps_lines, replay_text}
 use Rattle.run_text.proofs.PlanLemmas.{end_text, parts_with_end}
 use Rattle.run_text.proofs.ReplayLoop.{same_run}
-use Rattle.window_engine.specs.Standing.{run_of}
+use Rattle.window_engine.specs.Standing.{EngineState, run_of}
 use Rattle.run_text.proofs.replay.put_lines.Goals as goal
 
 -- the counts and the end
@@ -33,18 +33,19 @@ returns-in_err-replay g c = (
 pub put_steps-requires-clause-cores : goal.put_steps-requires-clause-cores
 put_steps-requires-clause-cores g c κs within =
     let trace = c.args.trace.now in
-    subst (λ (n : ℕ). WithReplayCores c.args.sizes.b n trace (λ cores. Unit {0})) (sym c.in_ok-replay.ensures.g) c.requires.cores
+    let window = ap (λ (e : EngineState). e.g) c.deref_mut-engine.ensures.value ∙ c.in_ok-replay.ensures.g in
+    subst (λ (n : ℕ). WithReplayCores c.args.sizes.b n trace (λ cores. Unit {0})) (sym window) c.requires.cores
 
 pub returns-in_err-put_steps : goal.returns-in_err-put_steps
 returns-in_err-put_steps g c =
     let trace = c.args.trace.now in
     let b : ℕ = c.args.sizes.b in
     let w : ℕ = c.args.sizes.g in
-    let window = c.in_ok-replay.ensures.g in
+    let window = ap (λ (e : EngineState). e.g) c.deref_mut-engine.ensures.value ∙ c.in_ok-replay.ensures.g in
     let (cores, makes, got) = c.in_err-put_steps.ensures.passes in (
       cores,
       subst (λ (n : ℕ). AreReplayCores b n trace cores) window makes,
-      Ends-stopped _ (c.texts_follow.ensures.stopped (rest_of trace (setting_of trace b w cores)) got.1 c.from_residual-in_err-put_steps.ensures.1 (parts trace cores b c.in_ok-replay.replay.g w window))
+      Ends-stopped _ (c.texts_follow.ensures.stopped (rest_of trace (setting_of trace b w cores)) got.1 c.from_residual-in_err-put_steps.ensures.1 (parts trace cores b c.deref_mut-engine.result.now.g w window))
           c.from_residual-in_err-put_steps.ensures.1,
     )
 
@@ -57,7 +58,7 @@ returns-in_err-put_counts g c =
     let trace = c.args.trace.now in
     let b : ℕ = c.args.sizes.b in
     let w : ℕ = c.args.sizes.g in
-    let window = c.in_ok-replay.ensures.g in
+    let window = ap (λ (e : EngineState). e.g) c.deref_mut-engine.ensures.value ∙ c.in_ok-replay.ensures.g in
     let (cores, makes, got) = c.in_ok-put_steps.ensures.passes in
     let own : Setting = run_of trace cores c.put_steps.new.replay in
     let setting : Setting = setting_of trace b w cores in
@@ -67,7 +68,7 @@ returns-in_err-put_counts g c =
       Ends-stopped _ (c.texts_follow.ensures.after {z = replay_text cores b w trace} got.1
           (c.texts_follow.ensures.stopped {z = rest_of trace setting} (end_text trace) (c.in_err-put_counts.ensures cores got.0) c.from_residual-in_err-put_counts.ensures.1
           (sym (ap (λ (s : Setting). text_of (counts_lines s trace) ++ end_text trace) same)))
-          (parts trace cores b c.in_ok-replay.replay.g w window))
+          (parts trace cores b c.deref_mut-engine.result.now.g w window))
           c.from_residual-in_err-put_counts.ensures.1,
     )
 
@@ -76,7 +77,7 @@ returns g c =
     let trace = c.args.trace.now in
     let b : ℕ = c.args.sizes.b in
     let w : ℕ = c.args.sizes.g in
-    let window = c.in_ok-replay.ensures.g in
+    let window = ap (λ (e : EngineState). e.g) c.deref_mut-engine.ensures.value ∙ c.in_ok-replay.ensures.g in
     let (cores, makes, got) = c.in_ok-put_steps.ensures.passes in
     let own : Setting = run_of trace cores c.put_steps.new.replay in
     let setting : Setting = setting_of trace b w cores in
@@ -89,7 +90,7 @@ returns g c =
         passes = c.texts_follow.ensures.after got.1
             (c.texts_follow.ensures.after {z = rest_of trace setting} (c.in_ok-put_counts.ensures cores got.0) c.put_last_line.ensures.passes
             (sym (ap (λ (s : Setting). text_of (counts_lines s trace) ++ ended) same ∙ ap (λ (t : List ℕ). text_of (counts_lines setting trace) ++ t) last)))
-            (parts trace cores b c.in_ok-replay.replay.g w window);
+            (parts trace cores b c.deref_mut-engine.result.now.g w window);
         empty = c.put_last_line.ensures.empty;
       },
     )
