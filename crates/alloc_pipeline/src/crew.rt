@@ -27,10 +27,10 @@ use std::thread::Threads;
 // Room in each edge for twice the pieces of the longest list.
 const ROOM: usize = 2040;
 
-// The least list, in pieces, for which a thread is started: below it the caller plays all workers.
+// From so many pieces on a ring of two workers starts a thread, which takes half of the work.
 const THREADS_FROM: u32 = 3;
 
-// So many pieces more pay for another thread.
+// In a larger ring a thread takes less: so many pieces pay for each.
 const PIECES_A_THREAD: u32 = 64;
 
 // What the nodes hold at first.
@@ -118,7 +118,7 @@ impl Crew {
         every_batch_leaves_a_list();
         flows_fit_pairs();
         name_batches(&mut self.window, batches);
-        let threads = count_threads(count_pieces(list.items()));
+        let threads = count_threads(self.count, count_pieces(list.items()), batches.len());
         let opening = Opening {
             list,
             batches: &self.window,
@@ -168,12 +168,14 @@ fn open_edges(alloc: Global, workers: u16) -> Result<(Vec<EdgeQueue>, Vec<EdgePa
     Ok((queues, passes))
 }
 
-/// How many workers get threads of their own where the list has so many pieces, if there are so many workers beside the caller's.
-fn count_threads(pieces: u32) -> u32 {
-    if pieces < THREADS_FROM {
+/// How many of these workers get threads of their own where a list of so many pieces goes through so many batches, if there are so
+/// many beside the caller's. One batch is the work of one worker.
+fn count_threads(workers: u16, pieces: u32, batches: usize) -> u32 {
+    if pieces < THREADS_FROM || batches < 2 {
         return 0;
     }
-    1 + pieces / PIECES_A_THREAD
+    let paying = pieces / PIECES_A_THREAD;
+    if workers == 2 { paying.max(1) } else { paying }
 }
 
 /// Names the batches of a window.

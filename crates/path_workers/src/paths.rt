@@ -25,7 +25,7 @@ use std::mem;
 use std::sync::Wait;
 use std::thread::Threads;
 
-/// From so many packets on, where there is more than one rack, workers get threads of their own.
+/// From so many slots and so many packets on, where there is more than one rack, workers get threads of their own.
 const MANY: u32 = 16;
 
 /// Path workers, which give the packets of many slots of one network their cores.
@@ -123,8 +123,11 @@ impl Paths {
     }
 }
 
-/// Whether there are so many packets that threads are started for them.
+/// Whether there are so many slots and packets that threads are started for them.
 fn has_many(slots: &SlotTable) -> bool {
+    if u32::from(slots.slots()) < MANY {
+        return false;
+    }
     let mut packets = 0u32;
     for slot in 0..slots.slots() {
         packets = packets.saturating_add(count_packets(slots, slot));

@@ -28,7 +28,7 @@ use trace_text::Trace;
 /// The rounds of every endpoint of a trace. What clauses say of them holds for all cores for which they stand.
 #[derive(Drop)]
 pub struct ReplayRounds {
-    // In at most so many threads a window is played: half of the workers, since the others allocate beside.
+    // In at most so many threads a window is played: each worker but the one that allocates beside.
     threads: u16,
     endpoints: u16,
     b: u8,
@@ -61,8 +61,8 @@ impl Model for ReplayRounds {
 }
 
 impl ReplayRounds {
-    /// Before the first round of the trace, with batches of `b` slots (1 to 64) and windows of `g` rounds (1 to 16); half of
-    /// the workers (1 to 16) play a window's rounds side by side.
+    /// Before the first round of the trace, with batches of `b` slots (1 to 64) and windows of `g` rounds (1 to 16). Of the workers
+    /// (1 to 16) all but one play a window's rounds side by side.
     pub fn open(
         alloc: Global,
         trace: &Trace,
@@ -86,7 +86,7 @@ impl ReplayRounds {
             lanes.push(LaneRounds::open(alloc, endpoint, endpoints, b, g)?)?;
         }
         Ok(ReplayRounds {
-            threads: workers.div_ceil(2),
+            threads: workers.saturating_sub(1).max(1),
             endpoints,
             b,
             g,
