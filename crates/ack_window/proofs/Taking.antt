@@ -4,6 +4,7 @@ use Rattle.std.specs.Int.{bit_at, IsBitSet}
 use Rattle.std.proofs.lemmas.Bool.{cases_lt, cases_eq, cases_order, cases_Bool, cond-true, cond-false, lt-ltb, le-ltb, eq-eqb, ne_eqb, false_from_ne_true, or_left, or_right}
 use Rattle.std.proofs.lemmas.Nat.Bits.{bit_at_above, bit_at-zero}
 use Rattle.list_facts.proofs.Numbers.{bit_at-set}
+use Rattle.list_facts.proofs.Bools.{never_or}
 use Rattle.ack_window.specs.declared.take_window.Taken.TheVariants.{Fresh, Repeat, Old}
 use Rattle.ack_window.specs.declared.acknowledgement.Acknowledgement.{Acknowledgement}
 use Rattle.ack_window.specs.Arrivals.{highest, has_come, receive_verdict, is_fresh, is_number_taken, mask_of, StandsForArrivals}
@@ -55,11 +56,7 @@ is_taken-other reorder latest earlier number other =
 pub is_taken-stale : (reorder : ℕ) (latest : ℕ) (earlier : List ℕ) (number : ℕ) → is_fresh (receive_verdict reorder earlier latest) ≡ false → is_number_taken reorder (latest ∷ earlier) number ≡ is_number_taken reorder earlier number
 is_taken-stale reorder latest earlier number stale =
     ap (λ b. ((latest == number) && b) || is_number_taken reorder earlier number) stale
-    ∙ none (latest == number) (is_number_taken reorder earlier number)
-  where
-    none : (b taken : Bool) → ((b && false) || taken) ≡ taken
-    none true taken = refl
-    none false taken = refl
+    ∙ never_or (latest == number) (is_number_taken reorder earlier number)
 
 pub is_taken-fresh : (reorder : ℕ) (earlier : List ℕ) (number : ℕ) → receive_verdict reorder earlier number ≡ Fresh → is_number_taken reorder (number ∷ earlier) number ≡ true
 is_taken-fresh reorder earlier number fresh =

@@ -1,5 +1,7 @@
 -- Each step of an edge keeps its rule.
 use Rattle.std.proofs.Common.{◌≡◌, ℕ, zero, suc, ◌+◌, Bool, true, false, List, [], ◌∷◌, ◌++◌, map, length, set, Some, sym, refl, ap, ◌∙◌, subst, ◌⊎◌, inl, inr, ⊎_elim, arith, add-one}
+use Rattle.std.proofs.lemmas.Option.{slice_get_within}
+use Rattle.std.proofs.lemmas.List.{map-append}
 use mathlib.Core.Option.{some, some-ne-none, some-injective}
 use lib.ListN.{get_elem?}
 use Rattle.crossbeam_queue.specs.Fifo.{Pushes, Pops, Forks, Merges, Learns}
@@ -8,7 +10,7 @@ use Rattle.slot_batches.specs.declared.piece.Piece.{Piece}
 use Rattle.slot_batches.specs.Pieces.{Part, part_of}
 use Rattle.ring_core.specs.Streams.{IsPieceAt, edge_stream}
 use Rattle.ring_core.specs.Edges.{between}
-use Rattle.ring_core.proofs.EdgeLemmas.{between_more, between_first, get_inside}
+use Rattle.ring_core.proofs.EdgeLemmas.{between_more, between_first}
 use Rattle.alloc_pipeline.specs.declared.parcel.Kind.TheVariants.{Whole, Giving, Taking, Spent}
 use Rattle.alloc_pipeline.specs.declared.parcel.Mark.{Mark}
 use Rattle.alloc_pipeline.specs.declared.parcel.Parcel.{Parcel}
@@ -17,7 +19,7 @@ use Rattle.alloc_pipeline.specs.declared.parcel.View.{View}
 use Rattle.alloc_pipeline.specs.declared.parcel.EdgeWindow.{EdgeWindow}
 use Rattle.alloc_pipeline.specs.Rules.{no_window, named_by, into_of, whole, giving, taking, spent, part_in, EdgeIsAtRest, ViewsRest, ViewsRun, Kept}
 use Rattle.alloc_pipeline.specs.Steps.{Marked, Unmarked, Given, Taken, HeldThen, LeftThen}
-use Rattle.alloc_pipeline.proofs.Parcels.{between_none, map-snoc, map_none, map_first, piece_in}
+use Rattle.alloc_pipeline.proofs.Parcels.{between_none, map_none, map_first, piece_in}
 
 kind_of : {v w : View} → v ≡ w → v.kind ≡ w.kind
 kind_of e = ap (λ (y : View). y.kind) e
@@ -150,7 +152,7 @@ gives n port v x p is wraps next items views room h at =
     let w : View = giving r.window (suc r.sent) r.moved in
     let here : IsPieceAt (into_of r.window) r.sent p = subst (λ (y : View). IsPieceAt (into_of y.window) y.position p) f.2 next in
     let more : between r.taken (suc r.sent) s ≡ between r.taken r.sent s ++ part_of p ∷ [] = between_more r.taken r.sent s (part_of p) r.order here in
-    let short = get_inside s r.sent (part_of p) here in (
+    let short = slice_get_within s r.sent (part_of p) here in (
       w,
       inr (record {
         giver = port;
@@ -161,9 +163,9 @@ gives n port v x p is wraps next items views room h at =
         moved = r.moved;
         order = omega (arith, r.order);
         within = omega (arith, short);
-        holds = map-snoc part_in items x
+        holds = map-append part_in items (x ∷ [])
             ∙ ((λ i. r.holds i ++ ap part_in wraps i ∷ [])
-            ∙ (sym (map-snoc Some (between r.taken r.sent s) (part_of p)) ∙ ap (map Some) (sym more)));
+            ∙ (sym (map-append Some (between r.taken r.sent s) (part_of p ∷ [])) ∙ ap (map Some) (sym more)));
         others = λ j u e. ⊎_elim (λ a. inr (inl (a.0, sym a.1)))
             (λ b. ⊎_elim (λ gone. inl gone) (λ o. ⊎_elim (λ g. absurd (b.0 (g.0 ∙ sym f.1))) (λ t. inr (inr t)) o) (r.others j u b.1)) (at_set views port j w u e);
       }),

@@ -1,9 +1,9 @@
 -- The lists at the two ends of a window, piece by piece.
 use Rattle.std.proofs.Common.{◌≡◌, ◌<◌, ◌≤◌, ◌+◌, ◌*◌, ℕ, zero, suc, nat_le, true, false, List, [], ◌∷◌, ◌++◌, length, take, drop, Some, slice_get, sym, ap, ◌∙◌, subst, arith, length-append, append_assoc}
-use Rattle.std.proofs.lemmas.Bool.Decides.{nat_tests}
 use Rattle.std.proofs.lemmas.Option.{same_Some}
 use Rattle.std.proofs.lemmas.List.{take_all}
-use Rattle.list_facts.proofs.Lists.{joined}
+use Rattle.std.proofs.lemmas.Bool.{leb-true, leb-false}
+use Rattle.list_facts.proofs.Lists.{take_on}
 use Rattle.greedy_rules.specs.declared.flows.Item.{Item}
 use Rattle.slot_batches.specs.declared.piece.Piece.{Piece}
 use Rattle.slot_batches.specs.Pieces.{Part, part_of, piece_at, piece_count, pieces}
@@ -68,7 +68,7 @@ module _ (w : EdgeWindow) (start : ℕ) (stands : StandsBeforeLast w start) (old
       let items_here : piece.items ≡ take 64 (drop (64 * was.place) list) = ap (λ (p : Part). p.items) part_here in
       (λ i. was.items_are i ++ items_here i)
       ∙ (append_assoc old (take (64 * was.place) list) (take 64 (drop (64 * was.place) list))
-      ∙ ap (λ (l : List Item). old ++ l) (joined (64 * was.place) 64 list ∙ ap (λ (n : ℕ). take n list) on))
+      ∙ ap (λ (l : List Item). old ++ l) (sym (take_on (64 * was.place) 64 list) ∙ ap (λ (n : ℕ). take n list) on))
 
   end_here : piece.end ≡ nat_le (length list) (64 * (was.place + 1))
   end_here = ap (λ (p : Part). p.end) part_here
@@ -79,16 +79,10 @@ module _ (w : EdgeWindow) (start : ℕ) (stands : StandsBeforeLast w start) (old
 
   pub goes_on : piece.end ≡ false → HasTakenOf w start old (taken + 1) (items ++ piece.items)
   goes_on more =
-      let beyond : 64 * (was.place + 1) < length list = gt (length list) (64 * (was.place + 1)) (sym end_here ∙ more) in
+      let beyond : 64 * (was.place + 1) < length list = leb-false (length list) (64 * (was.place + 1)) (sym end_here ∙ more) in
       record { place = was.place + 1; going = omega (arith, beyond, was.going); at = omega (arith, was.at); items_are = grown }
-    where
-      gt : (a b : ℕ) → nat_le a b ≡ false → b < a
-      gt a b is = grind (arith, nat_tests)
 
   pub ends : piece.end ≡ true → (items ++ piece.items ≡ old ++ list) × (taken + 1 ≡ length (edge_stream (into_of w)))
   ends last =
-      let all : length list ≤ 64 * (was.place + 1) = le (length list) (64 * (was.place + 1)) (sym end_here ∙ last) in
+      let all : length list ≤ 64 * (was.place + 1) = leb-true (length list) (64 * (was.place + 1)) (sym end_here ∙ last) in
       (grown ∙ ap (λ (l : List Item). old ++ l) (take_all (64 * (was.place + 1)) list all), omega (arith, all, was.going, was.at, all_taken_then w start stands))
-    where
-      le : (a b : ℕ) → nat_le a b ≡ true → a ≤ b
-      le a b is = grind (arith, nat_tests)

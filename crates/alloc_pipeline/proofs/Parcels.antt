@@ -1,5 +1,5 @@
 -- Parcels and the pieces that they are.
-use Rattle.std.proofs.Common.{◌≡◌, ℕ, zero, suc, List, [], ◌∷◌, ◌++◌, map, length, Some, refl, ap}
+use Rattle.std.proofs.Common.{◌≡◌, ℕ, zero, suc, List, [], ◌∷◌, map, Some, refl}
 use Rattle.slot_batches.specs.declared.piece.Piece.{Piece}
 use Rattle.slot_batches.specs.Pieces.{Part, part_of}
 use Rattle.ring_core.specs.Edges.{between}
@@ -12,17 +12,9 @@ between_none zero xs = refl
 between_none (suc at) [] = refl
 between_none (suc at) (x ∷ xs) = between_none at xs
 
-pub map-snoc : {A B : Type 0} (f : A → B) (xs : List A) (x : A) → map f (xs ++ x ∷ []) ≡ map f xs ++ f x ∷ []
-map-snoc f [] x = refl
-map-snoc f (y ∷ ys) x = ap (λ (l : List _). f y ∷ l) (map-snoc f ys x)
-
 pub map_none : {A B : Type 0} (f : A → B) (xs : List A) → map f xs ≡ [] → xs ≡ []
 map_none f [] is = refl
 map_none f (x ∷ xs) is = absurd (cc)
-
-pub map_length : {A B : Type 0} (f : A → B) (xs : List A) → length (map f xs) ≡ length xs
-map_length f [] = refl
-map_length f (x ∷ xs) = ap suc (map_length f xs)
 
 -- what is first among the mapped
 pub map_first : {A B : Type 0} (f : A → B) (xs : List A) (y : B) (ys : List B) → y ∷ ys ≡ map f xs → (x : A) × (rest : List A) × (xs ≡ x ∷ rest) × (y ≡ f x) × (ys ≡ map f rest)

@@ -1,6 +1,6 @@
 -- The workers of a ring as a window begins, the last of them and the others.
-use Rattle.std.proofs.Common.{◌≡◌, ℕ, ◌+◌, ◌<◌, ◌≤◌, Bool, true, false, cond, nat_le, List, [], ◌∷◌, ◌++◌, length, drop, Option, get_or, sym, ap, ◌∙◌, subst, refl, arith, length-append}
-use Rattle.std.proofs.lemmas.Bool.Decides.{nat_tests}
+use Rattle.std.proofs.Common.{◌≡◌, ℕ, ◌+◌, ◌<◌, Bool, false, cond, List, [], ◌∷◌, ◌++◌, length, drop, Option, get_or, sym, ap, ◌∙◌, subst, refl, arith, length-append}
+use Rattle.std.proofs.lemmas.Bool.{lt-leb, le-leb}
 use Rattle.crossbeam_queue.specs.Passes.{Pass, view, IsPassOf}
 use Rattle.crossbeam_queue.specs.declared.array_queue.Doing.{Doing}
 use Rattle.crossbeam_queue.specs.declared.array_queue.Slotted.{Slotted}
@@ -63,17 +63,11 @@ places_last w k (s ∷ ss) p h i = (h.0, places_last w (k + 1) ss p h.1 (subst (
 
 -- how many pieces a worker finds sent: none, but the last one those of the window's list
 pub none_sent : (window : Window) (k : ℕ) → k + 1 < window.workers → 0 ≡ (first_ends window k).sent
-none_sent window k small = ap (λ (b : Bool). cond b (pieces_before window 0) 0) (sym (gt window.workers (k + 1) small)) ∙ (found_sent window k (omega (arith, small)) (omega (arith, small))).0
-  where
-    gt : (a b : ℕ) → b < a → nat_le a b ≡ false
-    gt a b less = grind (arith, nat_tests)
+none_sent window k small = ap (λ (b : Bool). cond b (pieces_before window 0) 0) (sym (lt-leb window.workers (k + 1) small)) ∙ (found_sent window k (omega (arith, small)) (omega (arith, small))).0
 
 pub list_sent : (window : Window) (k : ℕ) → k + 1 ≡ window.workers → piece_count window.list ≡ (first_ends window k).sent
 list_sent window k last =
-    first_count window ∙ (ap (λ (b : Bool). cond b (pieces_before window 0) 0) (sym (le window.workers (k + 1) (omega (arith, last)))) ∙ (found_sent window k (omega (arith, last)) (omega (arith, last))).0)
-  where
-    le : (a b : ℕ) → a ≤ b → nat_le a b ≡ true
-    le a b less = grind (arith, nat_tests)
+    first_count window ∙ (ap (λ (b : Bool). cond b (pieces_before window 0) 0) (sym (le-leb window.workers (k + 1) (omega (arith, last)))) ∙ (found_sent window k (omega (arith, last)) (omega (arith, last))).0)
 
 -- a worker that has taken up the window, with its two passes
 pub record HasTakenUp (w : EdgeWindow) (batches : List DemandBatch) (k sent moved : ℕ) (x : WorkerState) (y : Player) : Type 0 where

@@ -2,7 +2,7 @@
 use Rattle.std.proofs.Common.{◌≡◌, ◌≢◌, ℕ, zero, suc, ◌+◌, ◌<◌, ◌≤◌, Bool, true, false, cond, List, [], ◌∷◌, ◌++◌, length, map, get_or, All, Option, Some, None, is_none, sym, ◌∙◌, ap, subst, refl, arith}
 use Rattle.std.specs.List.{cons_option}
 use Rattle.std.specs.Option.{option_map}
-use Rattle.std.proofs.lemmas.List.{get_or-set_same, get_or-set_other}
+use Rattle.std.proofs.lemmas.List.{get_or-set_same, get_or-set_other, map-append}
 use Rattle.std.proofs.lemmas.List.Elements.{All-head, All-tail}
 use Rattle.ack_window.specs.declared.acknowledgement.Acknowledgement.{Acknowledgement}
 use Rattle.ack_window.specs.declared.acknowledgement.Decision.{Decision}
@@ -72,13 +72,9 @@ kept-with places number new (s ∷ xs) near =
 pushed-with : (places : TellingPlaces) (number : ℕ) (new : Telling) (xs : List (Unresolved (Unit {0}))) → length places.tellings ≡ 129 → All (λ s. (s.number < number) × (number ≤ s.number + 128)) xs →
     map (unresolved_with (with_telling places number new)) (xs ++ record { number = number; content = tt } ∷ []) ≡ map (unresolved_with places) xs ++ record { number = number; content = new } ∷ []
 pushed-with places number new xs long near =
-    map-push (unresolved_with (with_telling places number new)) xs _
+    map-append (unresolved_with (with_telling places number new)) xs (_ ∷ [])
     ∙ (ap (λ ys. ys ++ unresolved_with (with_telling places number new) (record { number = number; content = tt }) ∷ []) (kept-with places number new xs near)
     ∙ ap (λ (t : Telling). map (unresolved_with places) xs ++ record { number = number; content = t } ∷ []) (telling-written places number new long))
-  where
-    map-push : {X Y : Type 0} (f : X → Y) (xs : List X) (x : X) → map f (xs ++ x ∷ []) ≡ map f xs ++ f x ∷ []
-    map-push f [] x = refl
-    map-push f (y ∷ xs) x = ap (λ ys. f y ∷ ys) (map-push f xs x)
 
 pub sending-with : (places : TellingPlaces) (sent : Sender (Unit {0})) (new : Telling) → length places.tellings ≡ 129 →
     All (λ s. (s.number < sent.outstanding.newest + 1) × (sent.outstanding.newest + 1 ≤ s.number + 128)) sent.outstanding.unresolved →

@@ -2,12 +2,13 @@
 use Rattle.std.proofs.Common.{◌≡◌, ◌≤◌, ◌+◌, ◌-◌, ℕ, true, List, [], ◌∷◌, ◌++◌, IsTrue, Some, slice_get, get_or, set, sym, ap, subst, refl, arith, inl, inr, ◌∙◌}
 use Rattle.std.proofs.lemmas.Bool.{cases_eq}
 use Rattle.std.proofs.lemmas.List.{get_or-set_same, get_or-set_other, length-set, append_assoc}
-use Rattle.std.proofs.Math.Numerals.{add-one}
 use Rattle.std.proofs.lemmas.Option.{slice_get_within, get_or_from_slice_get}
 use Rattle.std.proofs.lemmas.Bool.Decides.{nat_tests}
 use Rattle.std.proofs.Common.{Bool, Option, None, option_to_list, zero, suc}
 use Rattle.std.specs.List.{filter_map, range_with_len, cons_option}
 use Rattle.std.specs.Option.{option_and_then}
+use Rattle.std.proofs.lemmas.List.Elements.{filter_map-append}
+use Rattle.list_facts.proofs.Lists.{next_number}
 use Rattle.arbiter_lane.specs.Lines.{entry_on}
 use Rattle.arbiter_lane.specs.Parts.{entry_of_line}
 use Rattle.greedy_rules.specs.declared.flows.Flow.{Flow}
@@ -81,25 +82,14 @@ changed_next relation before lines at old new become here changed = record {
 -- ---- the entries
 
 -- one destination more
-cons_option-append : {X : Type 0} (o : Option X) (xs ys : List X) → cons_option o (xs ++ ys) ≡ cons_option o xs ++ ys
-cons_option-append None xs ys = refl
-cons_option-append (Some x) xs ys = refl
-
 cons_option-none : {X : Type 0} (o : Option X) → cons_option o [] ≡ option_to_list o
 cons_option-none None = refl
 cons_option-none (Some x) = refl
 
-filter_map-append : {X : Type 0} (h : ℕ → Option X) (xs ys : List ℕ) → filter_map h (xs ++ ys) ≡ filter_map h xs ++ filter_map h ys
-filter_map-append h [] ys = refl
-filter_map-append h (x ∷ xs) ys = ap (λ l. cons_option (h x) l) (filter_map-append h xs ys) ∙ cons_option-append (h x) (filter_map h xs) (filter_map h ys)
-
-range-last : (first n last : ℕ) → first + n ≡ last → range_with_len first (suc n) ≡ range_with_len first n ++ last ∷ []
-range-last first zero last is = let same : first ≡ last = omega (arith, is) in ap (λ k. k ∷ []) same
-range-last first (suc n) last is = ap (λ l. first ∷ l) (range-last (first + 1) n last (omega (arith, is)))
-
 pub filter_map-more : {X : Type 0} (h : ℕ → Option X) (n : ℕ) → filter_map h (range_with_len 0 n) ++ option_to_list (h n) ≡ filter_map h (range_with_len 0 (n + 1))
 filter_map-more h n =
-    let more : range_with_len 0 (n + 1) ≡ range_with_len 0 n ++ n ∷ [] = ap (range_with_len 0) (add-one n) ∙ range-last 0 n n (omega arith) in
+    let more : range_with_len 0 (n + 1) ≡ range_with_len 0 n ++ n ∷ [] =
+    (let same : 0 + n ≡ n = omega arith in next_number 0 n ∙ ap (λ (k : ℕ). range_with_len 0 n ++ k ∷ []) same) in
     sym (ap (filter_map h) more ∙ (filter_map-append h (range_with_len 0 n) (n ∷ []) ∙ ap (λ l. filter_map h (range_with_len 0 n) ++ l) (cons_option-none (h n))))
 
 -- the entries up to a line, and that of the line

@@ -5,6 +5,7 @@ use Rattle.std.specs.Option.{option_map}
 use Rattle.std.proofs.lemmas.Bool.{cases_Bool, cases_lt, lt-ltb, le-ltb, leb-true, and_parts}
 use Rattle.std.proofs.lemmas.List.Elements.{All-nil, All-push}
 use Rattle.std.proofs.lemmas.List.Sums.{count_by-le-length}
+use Rattle.list_facts.proofs.Bools.{at_most_one}
 use Rattle.ack_window.specs.declared.acknowledgement.Acknowledgement.{Acknowledgement}
 use Rattle.ack_window.specs.declared.send_window.Unresolved.{Unresolved}
 use Rattle.ack_window.specs.Arrivals.{acknowledgement, highest, mask_of}
@@ -141,10 +142,6 @@ told-from was round slots batch now sent lines content is_batch is_now few done 
       newest = omega (arith, newest, one);
       change = subst (λ (xs : List Told). Become (λ dst. LosesSlots (lost_by was.sent xs dst)) was.lines lines) is_now change;
     }
-  where
-    at_most_one : (b : Bool) → cond {A = ℕ} b 1 0 ≤ 1
-    at_most_one true = omega arith
-    at_most_one false = omega arith
 
 -- ---- what it stands for
 

@@ -1,5 +1,5 @@
 -- What a lane stands for once its round is recorded, and the entries of the round.
-use Rattle.std.proofs.Common.{◌≡◌, ℕ, ◌+◌, ◌<◌, ◌≤◌, zero, suc, Bool, true, false, ◌&&◌, ◌||◌, cond, List, ◌∷◌, ◌++◌, ◌-◌, inl, inr, not, length, option_to_list, Option, Some, None, ap, ◌∙◌, sym, refl, arith}
+use Rattle.std.proofs.Common.{◌≡◌, ℕ, ◌+◌, ◌<◌, ◌≤◌, zero, suc, Bool, false, ◌&&◌, ◌||◌, cond, List, ◌∷◌, ◌++◌, ◌-◌, inl, inr, not, length, option_to_list, Option, Some, None, ap, ◌∙◌, sym, refl, arith}
 use Rattle.std.specs.Prelude.{nat_lt}
 use Rattle.std.specs.List.{filter_map, range_with_len, cons_option}
 use Rattle.std.specs.Option.{option_and_then}
@@ -7,6 +7,7 @@ use Rattle.std.proofs.lemmas.Bool.{le-ltb}
 use Rattle.std.proofs.lemmas.List.{append-nil}
 use Rattle.std.proofs.lemmas.Option.{slice_get_cases, slice_get_within}
 use Rattle.std.proofs.lemmas.List.Elements.{All-weaker}
+use Rattle.list_facts.proofs.Bools.{at_most_one}
 use Rattle.greedy_rules.specs.declared.flows.Entry.{Entry}
 use Rattle.greedy_rules.specs.declared.flows.Flow.{Flow}
 use Rattle.endpoint_history.specs.Lane.{LaneHistory, Records}
@@ -157,7 +158,7 @@ stands-recorded was round lines history allocations now stands become = record {
 
 sound-flow : (was : LaneState) (round : ℕ) (lines : List LaneLine) (dst : ℕ) (old new : LaneLine) → was.round ≡ round → IsEntered old new → IsFlow was dst old → IsFlow (recorded_lane was round lines) dst new
 sound-flow was round lines dst old new now entered flow =
-    let made : cond was.is_made 1 0 ≤ 1 = at_most was.is_made in
+    let made : cond was.is_made 1 0 ≤ 1 = at_most_one was.is_made in
     let demanded = entered.count.demanded in
     let allocated = entered.count.allocated in
     let acknowledged = entered.count.acknowledged in
@@ -172,10 +173,6 @@ sound-flow was round lines dst old new now entered flow =
           let add : add_on old ≡ 0 = omega (arith, none.0) in
           (omega (arith, demanded, lost, none.0), entered.opened ∙ (ap (λ a. nat_lt 0 a || old.opened) add ∙ none.1));
     }
-  where
-    at_most : (b : Bool) → cond {A = ℕ} b 1 0 ≤ 1
-    at_most true = omega arith
-    at_most false = omega arith
 
 pub sound-recorded : (was : LaneState) (round : ℕ) (lines : List LaneLine) → was.round ≡ round → IsSoundLane was → round < 100000 → Become (λ dst. IsEntered) was.lines lines → IsSoundLane (recorded_lane was round lines)
 sound-recorded was round lines now sound rounds become = record {
@@ -188,13 +185,9 @@ sound-recorded was round lines now sound rounds become = record {
   version = sound.version;
   heard_version = sound.heard_version;
   sent_version = sound.sent_version;
-  numbers = let made : cond was.is_made 1 0 ≤ 1 = at_most was.is_made in omega (arith, sound.numbers, made, now);
+  numbers = let made : cond was.is_made 1 0 ≤ 1 = at_most_one was.is_made in omega (arith, sound.numbers, made, now);
   flows = each_line (λ dst. IsEntered) (IsFlow was) (IsFlow (recorded_lane was round lines)) was.lines lines become sound.flows (λ dst old new. sound-flow was round lines dst old new now);
 }
-  where
-    at_most : (b : Bool) → cond {A = ℕ} b 1 0 ≤ 1
-    at_most true = omega arith
-    at_most false = omega arith
 
 -- the lines of a lane can rise
 pub can_rise : (lane : LaneState) → IsSoundLane lane → CanRise lane.lines

@@ -2,7 +2,7 @@
 //!
 //! `clos_topology` has the network's three numbers, the links of a packet, and the bipartite graph of a slot. `Net` is plain
 //! data; `RackGraph` is opened once and loaded slot after slot, where a packet's racks are found by a factor (`rack_factor`,
-//! `rack_by` of `net.rt`) and not by division.
+//! `rack_by` of `net.rt`) and not by division. `senders.rt` lists who sends in a slot, where few do by a look at 32 places at once.
 #![tactic(auto)]
 
 mod graph;
@@ -14,4 +14,3 @@ pub use graph::RackGraph;
 pub use laws::small_networks;
 pub use net::{Net, NetRefused};
 pub use no_memory::NoMemory;
-pub use senders::has_sender;

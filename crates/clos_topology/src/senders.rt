@@ -1,7 +1,8 @@
 //! The sources that send in a slot.
-ghost use Rattle.std.specs.Prelude.{◌≡◌, ◌+◌, ◌≤◌, ◌<◌, ◌^◌, ◌++◌, ◌||◌, false, is_some, length, map, take};
-ghost use Rattle.std.specs.List.{fold};
+ghost use Rattle.std.specs.Prelude.{◌≡◌, ◌+◌, ◌≤◌, ◌<◌, ◌^◌, ◌++◌, length, map, take};
 ghost use Rattle.greedy_rules.specs.SlotTable.{flows_from};
+
+use greedy_rules::has_sender;
 
 /// So many places of a sparse row are passed over at once where none of them has a destination.
 const FEW: usize = 32;
@@ -34,24 +35,6 @@ fn note_sparse(row: &[Option<u16>], senders: &mut [u16]) -> usize
         at += few.len();
     }
     count
-}
-
-/// Whether one of these sources sends. Of 32 sources, as callers mostly ask, this is told without a loop.
-pub fn has_sender(row: &[Option<u16>]) -> bool
-    ensures { result ≡ fold (λ sends to. sends || is_some to) false row.now }
-{
-    if row.len() == FEW {
-        return sends(&row[..FEW]);
-    }
-    sends(row)
-}
-
-/// Whether a place of the row has a destination. There is no early end, so many places are read at once.
-#[inline(always)]
-fn sends(row: &[Option<u16>]) -> bool
-    ensures { result ≡ fold (λ sends to. sends || is_some to) false row.now }
-{
-    row.iter().fold(false, |sends, to| sends | to.is_some())
 }
 
 /// Writes those of some sources, the first of them `from`, that send, behind so many others, and answers how many there are

@@ -4,7 +4,7 @@ use Rattle.std.specs.List.{range_with_len}
 use Rattle.std.proofs.lemmas.Bool.{cases_lt, cond-false, le-ltb, false≢true}
 use Rattle.std.proofs.lemmas.List.{map-append, get_or_past}
 use Rattle.std.proofs.lemmas.List.Elements.{filter-append}
-use Rattle.list_facts.proofs.Lists.{range-last}
+use Rattle.list_facts.proofs.Lists.{next_number}
 use Rattle.fcp_framing.specs.declared.packet.Demand.{Demand}
 use Rattle.endpoint_agent.specs.declared.lines.FlowLine.{FlowLine}
 use Rattle.endpoint_agent.specs.State.{line_at, UnconfirmedAreMarked}
@@ -23,8 +23,7 @@ unconfirmed_in-next acknowledged n lines =
     let test : ℕ → Bool = λ dst. ltb acknowledged (line_at lines dst).carried_from in
     let f : ℕ → Demand = demand_at lines in
     let so_far = range_with_len 0 n in
-    let next : n + 1 ≡ suc n = omega arith in
-    let whole : range_with_len 0 (n + 1) ≡ so_far ++ n ∷ [] = let same : 0 + n ≡ n = omega arith in ap (range_with_len 0) next ∙ range-last 0 n ∙ ap (λ (k : ℕ). so_far ++ k ∷ []) same in
+    let whole : range_with_len 0 (n + 1) ≡ so_far ++ n ∷ [] = let same : 0 + n ≡ n = omega arith in next_number 0 n ∙ ap (λ (k : ℕ). so_far ++ k ∷ []) same in
     ap (λ (xs : List ℕ). map f (filter test xs)) whole
     ∙ ap (map f) (filter-append test so_far (n ∷ []))
     ∙ map-append f (filter test so_far) (filter test (n ∷ []))

@@ -6,6 +6,7 @@ use Rattle.std.proofs.lemmas.Bool.{cases_Bool, cases_eq, cond-true, cond-false, 
 use Rattle.std.proofs.lemmas.Bool.Decides.{nat_tests}
 use Rattle.std.proofs.lemmas.List.Sums.{sum_by-cons, count_by-le-length}
 use Rattle.list_facts.specs.Order.{sort_by}
+use Rattle.list_facts.proofs.Bools.{cond-same}
 use Rattle.fcp_framing.specs.declared.packet.Told.{Told}
 use Rattle.endpoint_history.specs.Packets.{DownPacket, slots_to}
 use Rattle.endpoint_history.specs.Agent.{AgentHistory, TakenDown, taken, is_in_time}
@@ -79,11 +80,7 @@ module _ (g dst : ℕ) where
       by false most = omega (arith, most, few)
 
   none-of : (t : TakenDown) → t.packet.content.told ≡ [] → missed_of g dst t ≡ 0
-  none-of t none = ap (λ (told : List Told). cond (is_in_time g t) 0 (slots_to dst told)) none ∙ by (is_in_time g t)
-    where
-      by : (b : Bool) → cond {A = ℕ} b 0 0 ≡ 0
-      by true = refl
-      by false = refl
+  none-of t none = ap (λ (told : List Told). cond (is_in_time g t) 0 (slots_to dst told)) none ∙ cond-same (is_in_time g t) 0
 
   -- of a batch of which none tells slots none are missed, and of any other at most 64
   no-batch : (k : ℕ) (ts : List TakenDown) → ((u : TakenDown) → Among u ts → u.packet.content.told ≢ [] → u.packet.content.batch ≢ k) → sum_by (of_batch k) ts ≡ 0
@@ -91,14 +88,10 @@ module _ (g dst : ℕ) where
   no-batch k (t ∷ ts) others =
       let rest = no-batch k ts (λ u among. others u (inr among)) in
       let here : of_batch k t ≡ 0 = elim (nil_or t.packet.content.told) [
-        | inl none ↦ ap (λ (n : ℕ). cond (t.packet.content.batch == k) n 0) (none-of t none) ∙ by (t.packet.content.batch == k)
+        | inl none ↦ ap (λ (n : ℕ). cond (t.packet.content.batch == k) n 0) (none-of t none) ∙ cond-same (t.packet.content.batch == k) 0
         | inr some ↦ cond-false (t.packet.content.batch == k) (missed_of g dst t) 0 (ne_eqb t.packet.content.batch k (others t (inl refl) some))
       ] in
       omega (arith, sum_by-cons (of_batch k) t ts, rest, here)
-    where
-      by : (b : Bool) → cond {A = ℕ} b 0 0 ≡ 0
-      by true = refl
-      by false = refl
 
   one-batch : (k round : ℕ) (ts : List TakenDown) → BatchesAreApart ts → AreTold round ts → sum_by (of_batch k) ts ≤ 64
   one-batch k round [] apart told = omega arith

@@ -4,7 +4,7 @@ use Rattle.std.specs.Int.{trailing_zeros}
 use Rattle.std.proofs.lemmas.Bool.{cases_eq, and_right, and_parts, eq-eqb, ne_eqb, lt-ltb, le-ltb, both_ways, eqb-true}
 use Rattle.std.proofs.lemmas.List.{get_or-set_same, get_or-set_other, get_or_read, length-set, length-replicate, get_or-replicate}
 use Rattle.std.proofs.lemmas.Nat.Bits.{bit_at-pow_same, bit_at-pow_other}
-use Rattle.list_facts.proofs.Bools.{and_true, none_yet}
+use Rattle.std.proofs.Math.Bool.{and-true, and-not_self}
 use Rattle.endpoint_bitmaps.specs.Slots.{has_slot}
 use Rattle.endpoint_bitmaps.specs.Links.{taken_in, HasTakenLinks, ShowsLeft}
 use Rattle.endpoint_bitmaps.proofs.WordLemmas.{has_slot-without, has_slot-first, lowest_is, without_lowest}
@@ -54,7 +54,7 @@ shows_full cores rack slot count word counts words shows below within fits slot_
                       ∙ (ap (λ (n : ℕ). nat_lt n cores) (get_or-set_same counts place count 0 (omega (arith, shows.count, below, within)))
                       ∙ le-ltb count cores (omega (arith, full)))))
                   | inr other ↦
-                      word_now ∙ (ap (λ (b : Bool). has_slot word k && not b) (ne_eqb k slot other) ∙ (and_true (has_slot word k)
+                      word_now ∙ (ap (λ (b : Bool). has_slot word k && not b) (ne_eqb k slot other) ∙ (and-true (has_slot word k)
                       ∙ (ap (λ (n : ℕ). has_slot n k) (get_or_read words rack word below word_is 0)
                       ∙ (shows.each rack k below k_within
                       ∙ sym (ap (λ (n : ℕ). nat_lt n cores)
@@ -78,7 +78,7 @@ counted_no n here p off = ap (λ (m : ℕ). m) (omega arith) ∙ ap (λ (b : Boo
 
 pub taking_starts : (cores rack slots : ℕ) (counts words : List ℕ) → ShowsLeft cores counts words → IsTaking cores rack slots slots counts counts words
 taking_starts cores rack slots counts words shows = record {
-  taken = λ at k within. counted_no (taken_in counts at k) (at == rack) (has_slot slots k && not (has_slot slots k)) (none_yet (has_slot slots k));
+  taken = λ at k within. counted_no (taken_in counts at k) (at == rack) (has_slot slots k && not (has_slot slots k)) (and-not_self (has_slot slots k));
   shows = shows;
   part = λ k is. is;
 }

@@ -2,7 +2,7 @@
 use Rattle.std.proofs.Common.{◌≡◌, ◌<◌, ◌+◌, ◌-◌, cond, false, arith, ◌^◌, ℕ, List, length, get_or, set, Bool, not, ◌==◌, ◌&&◌, ◌||◌, bit_and, refl, sym, ap, ◌∙◌, inl, inr}
 use Rattle.std.proofs.lemmas.Bool.{cases_eq, and_left, eq-eqb, ne_eqb}
 use Rattle.std.proofs.lemmas.List.{get_or-set_same, get_or-set_other, get_or_read}
-use Rattle.list_facts.proofs.Bools.{and_true}
+use Rattle.std.proofs.Math.Bool.{and-true}
 use Rattle.endpoint_bitmaps.specs.Slots.{has_slot}
 use Rattle.endpoint_bitmaps.specs.FreeSlots.{FreeSlots, is_free_to_send, may_receive, leaving_in, entering_in, rack_in, is_between_racks, has_links, is_common, HasTaken}
 use Rattle.endpoint_bitmaps.proofs.WordLemmas.{has_slot-both, has_slot-without, has_slot-none}
@@ -27,7 +27,7 @@ without_taken words at word taken endpoint slot below fits taken_fits is = elim 
       ∙ ap (λ (b : Bool). has_slot (get_or words at 0) slot && not (b && has_slot taken slot)) (sym (eq-eqb at at refl)))))
   | inr other ↦
       ap (λ (n : ℕ). has_slot n slot) (get_or-set_other words at endpoint (bit_and word (2 ^ 64 - 1 - taken)) 0 other)
-      ∙ (sym (and_true (has_slot (get_or words endpoint 0) slot))
+      ∙ (sym (and-true (has_slot (get_or words endpoint 0) slot))
       ∙ ap (λ (b : Bool). has_slot (get_or words endpoint 0) slot && not b) (sym (and_left _ _ (ne_eqb endpoint at other))))
 ]
 

@@ -5,7 +5,7 @@ use Rattle.std.specs.Int.Count.{ones_step}
 use Rattle.std.proofs.lemmas.Bool.{cases_lt, cases_eq, and_left, and_right, lt-ltb, le-ltb, eq-eqb, ne_eqb, both_ways}
 use Rattle.std.proofs.lemmas.Nat.Bits.{bit_at-lt, bit_at_lowest, bit_at-suc, bit_at-zero, bit_at_and, bit_at_not, bit_at_above, bit_at_ones, bit_at_ones_above, bit_at-trailing_zeros}
 use Rattle.list_facts.proofs.Numbers.{both_bits}
-use Rattle.list_facts.proofs.Bools.{and_true}
+use Rattle.std.proofs.Math.Bool.{and-true}
 use Rattle.endpoint_bitmaps.specs.Slots.{has_slot, count_below}
 use Rattle.endpoint_bitmaps.proofs.CountLemmas.{count_below-same, count_below-more}
 
@@ -59,7 +59,7 @@ has_slot-without_lowest n t k is none =
     ap (λ (m : ℕ). m == 1) (bit_at_and n (n - 1) k)
     ∙ elim (cases_eq k t) [
       | inl here ↦ rw here (ap (λ (m : ℕ). m == 1) (lowest_gone n t is none) ∙ sym (and_right _ _ (ap not (eq-eqb t t refl))))
-      | inr there ↦ ap (λ (m : ℕ). m == 1) (others_stay n t k is none there) ∙ (sym (and_true (has_slot n k)) ∙ ap (λ (b : Bool). has_slot n k && not b) (sym (ne_eqb k t there)))
+      | inr there ↦ ap (λ (m : ℕ). m == 1) (others_stay n t k is none there) ∙ (sym (and-true (has_slot n k)) ∙ ap (λ (b : Bool). has_slot n k && not b) (sym (ne_eqb k t there)))
     ]
 
 pub has_slot-first : (n k : ℕ) → has_slot (2 ^ n - 1) k ≡ nat_lt k n
@@ -98,7 +98,7 @@ count_less p (suc n) t below passes =
     let less : count_below q (suc n) ≡ count_below q n + one (q n) = count_below-more q n in
     elim (cases_lt t n) [
       | inl before ↦
-          let same : q n ≡ p n = ap (λ (b : Bool). p n && not b) (ne_eqb n t (λ is. absurd (omega (arith, is, before)))) ∙ and_true (p n) in
+          let same : q n ≡ p n = ap (λ (b : Bool). p n && not b) (ne_eqb n t (λ is. absurd (omega (arith, is, before)))) ∙ and-true (p n) in
           let as_before : one (q n) ≡ one (p n) = ap one same in
           let so_far = count_less p n t before passes in
           omega (arith, more, less, so_far, as_before)
@@ -106,7 +106,7 @@ count_less p (suc n) t below passes =
           let is : n ≡ t = omega (arith, from, below) in
           let there : one (p n) ≡ 1 = ap (λ (k : ℕ). one (p k)) is ∙ ap one passes in
           let out : one (q n) ≡ 0 = ap one (and_right (p n) _ (ap not (eq-eqb n t is))) in
-          let before = count_below-same q p n (λ k under. ap (λ (b : Bool). p k && not b) (ne_eqb k t (λ same. absurd (omega (arith, same, is, under)))) ∙ and_true (p k)) in
+          let before = count_below-same q p n (λ k under. ap (λ (b : Bool). p k && not b) (ne_eqb k t (λ same. absurd (omega (arith, same, is, under)))) ∙ and-true (p k)) in
           omega (arith, more, less, before, there, out)
     ]
 

@@ -15,7 +15,7 @@ pub mod NeverSent
 pub mod NeverTaken
 pub mod Once
 pub mod OneContent
-mod OneRest
+pub mod OneRest
 pub mod Reading
 mod Requests
 pub mod Rounds

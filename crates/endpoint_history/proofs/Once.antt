@@ -12,7 +12,7 @@ use Rattle.endpoint_history.specs.Packets.{Telling, DownPacket}
 use Rattle.endpoint_history.specs.Agent as agent
 use Rattle.endpoint_history.specs.Agent.{AgentEvent, AgentHistory, Boots, Asks, TakesDown, MakesUp, SendsDue, TakenDown, is_in_time}
 use Rattle.endpoint_history.specs.Sending as sending
-use Rattle.endpoint_history.specs.Sending.{Slot, slots_of_telling, sent_of, due, ever_sent, rounds_sent, SendsRise}
+use Rattle.endpoint_history.specs.Sending.{Slot, slots_of_telling, due, ever_sent, rounds_sent, SendsRise}
 use Rattle.endpoint_history.specs.Lane.{LaneHistory, MakesDown, TakesUp, Records, epoch_of, last_reset, telling_in, may_send, numbers}
 use Rattle.endpoint_history.specs.Steps.{Step, OfAgent, OfLane, agent_of, lane_of, WasMadeDown, RoundsRise, ArrivesFromLane}
 use Rattle.endpoint_history.specs.Tellings.{Among, Issue, issued, SlotsAreWithin, ToldWithin, RisesFrom, ToldRises}
@@ -22,7 +22,7 @@ use Rattle.endpoint_history.proofs.AgentEnd.{takes-current}
 use Rattle.endpoint_history.proofs.Slots.{fresh_is, takes-fresh}
 use Rattle.endpoint_history.proofs.Issues.{packet-came, one_number_for_a_batch}
 use Rattle.endpoint_history.proofs.NeverSent.{InBatch, one_batch, issued-within}
-use Rattle.endpoint_history.proofs.Sending.{count_by-cons, count-sort_by, sent_now-is}
+use Rattle.endpoint_history.proofs.Sending.{count_by-cons, count-sort_by, sent_now-is, walk-count}
 use Rattle.endpoint_history.proofs.TakenOnce.{taken-once, with_number}
 
 -- the slot's number
@@ -240,29 +240,6 @@ count-flat test f p (t ∷ ts) =
             ],
           )
     ]
-
-walk-count : (test : Slot → Bool) (left : ℕ → ℕ) (slots : List Slot) → count_by test (sent_of left slots) ≤ count_by test slots
-walk-count test left [] = omega arith
-walk-count test left (s ∷ slots) =
-    let less = λ (d : ℕ). left d - cond (d == s.dst) 1 0 in
-    let whole = count_by-cons test s slots in
-    elim (nat_lt 0 (left s.dst)) as (λ c. count_by test (cond c (s ∷ sent_of less slots) (sent_of left slots)) ≤ count_by test (s ∷ slots)) [
-      | true ↦
-          let rest = walk-count test less slots in
-          let part = count_by-cons test s (sent_of less slots) in
-          bound (test s) (count_by test (sent_of less slots)) (count_by test slots) (count_by test (s ∷ sent_of less slots)) (count_by test (s ∷ slots)) rest part whole
-      | false ↦
-          let rest = walk-count test left slots in
-          skip (test s) (count_by test (sent_of left slots)) (count_by test slots) (count_by test (s ∷ slots)) rest whole
-    ]
-  where
-    bound : (c : Bool) (m n x y : ℕ) → m ≤ n → x ≡ cond c (1 + m) m → y ≡ cond c (1 + n) n → x ≤ y
-    bound true m n x y le p q = omega arith
-    bound false m n x y le p q = omega arith
-
-    skip : (c : Bool) (m n y : ℕ) → m ≤ n → y ≡ cond c (1 + n) n → m ≤ y
-    skip true m n y le q = omega arith
-    skip false m n y le q = omega arith
 
 -- at most once, and in the round of its batch
 record SentSoFar (b g slot : ℕ) (history : AgentHistory) : Type 0 where

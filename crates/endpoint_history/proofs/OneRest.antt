@@ -1,7 +1,7 @@
 -- The ledger and the demand list agree.
 use Rattle.std.proofs.Common.{◌≡◌, ℕ, zero, suc, ◌+◌, ◌-◌, ◌<◌, ◌≤◌, Bool, true, false, ◌&&◌, ◌||◌, not, cond, nat_lt, List, [], ◌∷◌, ◌++◌, length, Option, Some, None, sym, ◌∙◌, ap, subst, refl, inl, inr, arith}
 use Rattle.std.specs.Prelude.{◌⊎◌}
-use Rattle.std.proofs.lemmas.Bool.{cases_Bool, cases_lt, lt-ltb, le-ltb}
+use Rattle.std.proofs.lemmas.Bool.{cases_Bool, cases_lt, lt-ltb, le-ltb, true≢false}
 use Rattle.std.proofs.Common.{length-append}
 use Rattle.greedy_rules.specs.declared.flows.Entry.{Entry}
 use Rattle.greedy_rules.specs.Balance.{clears}
@@ -29,7 +29,7 @@ cleared : (entry : Option Entry) (need : ℕ) → clears entry ≡ true → need
 cleared None need h = absurd (cc)
 cleared (Some entry) need h = rw h (omega arith)
 
-none-allocated : (entries : List (Option Entry)) (need : ℕ) → need_left entries [] need ≡ need_through entries need
+pub none-allocated : (entries : List (Option Entry)) (need : ℕ) → need_left entries [] need ≡ need_through entries need
 none-allocated [] need = refl
 none-allocated (entry ∷ entries) need = refl
 
@@ -70,10 +70,7 @@ left-cleared (suc batch) (entry ∷ entries) (slots ∷ allocated) need at_it fi
 left-opened : (batch : ℕ) (entries : List (Option Entry)) (allocated : List ℕ) → EntryOpensFrom batch entries → FitNeeds entries allocated 0 →
     need_left entries allocated 0 + slots_from batch allocated ≡ adds_from batch entries
 left-opened batch [] allocated opens fits = absurd opens
-left-opened zero (entry ∷ entries) allocated opens fits = left-after (entry ∷ entries) allocated 0 opens fits ∙ nothing (adds_from zero (entry ∷ entries))
-  where
-    nothing : (n : ℕ) → 0 + n ≡ n
-    nothing n = omega arith
+left-opened zero (entry ∷ entries) allocated opens fits = left-after (entry ∷ entries) allocated 0 opens fits ∙ omega arith
 left-opened (suc batch) (entry ∷ entries) [] opens fits =
     let rest = left-opened batch entries [] opens.1 tt in
     let here : need_with entry 0 ≡ 0 = ap (λ e. need_with e 0) opens.0 in
@@ -260,11 +257,8 @@ standing endpoint g (TakesUp round (Resets epoch version) ∷ history) dst round
     let s = standing endpoint g history dst rounds.1 in
     elim (cases_Bool (restarts history epoch)) [
       | inr old ↦ record { long = s.long; none = s.none; reset = rw old s.reset; steady = rw old s.steady }
-      | inl new ↦ record { long = s.long; none = s.none; reset = λ h. rw new (rounds.0, refl); steady = λ h. absurd (clash (rw new at h)) }
+      | inl new ↦ record { long = s.long; none = s.none; reset = λ h. rw new (rounds.0, refl); steady = λ h. absurd (true≢false (rw new at h)) }
     ]
-  where
-    clash : true ≡ false → ⊥
-    clash h = cc
 standing endpoint g (Records round ∷ history) dst rounds = standing-records endpoint g round history dst (standing endpoint g history dst rounds)
 
 pub entries_sum_to_owed : (w : Windows) → EntriesSumToOwed

@@ -8,16 +8,12 @@ use Rattle.endpoint_history.specs.Sending.{rounds_sent, SendsRise}
 use Rattle.endpoint_history.specs.Lane.{LaneEvent, LaneHistory, MakesDown, TakesUp, Records, packet_down}
 use Rattle.endpoint_history.specs.Entries.{rounds_recorded}
 use Rattle.endpoint_history.specs.Steps.{Step, OfAgent, OfLane, agent_of, lane_of, WasMadeUp, WasMadeDown, ArrivesFromOther, rounds_begun, ups_made, RoundsRise, ArrivesFromLane, TakesInRound}
-use Rattle.endpoint_history.specs.Rounds.{Round, Posted, arriving, PlayedEnds, then_each, begun, posted_down, heard, posted_up, read, after_round, played, NamedByNoRaw}
+use Rattle.endpoint_history.specs.Rounds.{Round, Posted, EachPosted, arriving, PlayedEnds, then_each, begun, posted_down, heard, posted_up, read, after_round, played, NamedByNoRaw}
 use Rattle.endpoint_history.specs.RoundLaws.{RoundsArriveFromOther, RoundsAreInOrder, GoesOn, RoundsGoOn}
 
 -- ---- what arrives was posted
 
-abbrev EachPosted : {T : Type 0} → (T → Type 0) → List (Posted T) → Type 0
-EachPosted P [] = Unit {0}
-EachPosted P (p ∷ posted) = P p.packet × EachPosted P posted
-
-EachPosted-append : {T : Type 0} (P : T → Type 0) (one two : List (Posted T)) → EachPosted P one → EachPosted P two → EachPosted P (one ++ two)
+pub EachPosted-append : {T : Type 0} (P : T → Type 0) (one two : List (Posted T)) → EachPosted P one → EachPosted P two → EachPosted P (one ++ two)
 EachPosted-append P [] two a b = b
 EachPosted-append P (p ∷ one) two a b = (a.0, EachPosted-append P one two a.1 b)
 
@@ -40,21 +36,21 @@ arriving-posted {T} P (p ∷ posted) round a =
 
 -- ---- runs of like calls
 
+-- boots and asks: the lane stays
+pub lane-agent : {X : Type 0} (event : X → AgentEvent) (xs : List X) (steps : List Step) → lane_of (then_each (λ x. OfAgent (event x)) xs steps) ≡ lane_of steps
+lane-agent event [] steps = refl
+lane-agent event (x ∷ xs) steps = lane-agent event xs (OfAgent (event x) ∷ steps)
+
+pub agent-lane : {X : Type 0} (event : X → LaneEvent) (xs : List X) (steps : List Step) → agent_of (then_each (λ x. OfLane (event x)) xs steps) ≡ agent_of steps
+agent-lane event [] steps = refl
+agent-lane event (x ∷ xs) steps = agent-lane event xs (OfLane (event x) ∷ steps)
+
 module _ (endpoints g : ℕ) where
   abbrev MadeDown : List Step → DownPacket → Type 0
   MadeDown steps packet = WasMadeDown g (lane_of steps) packet
 
   abbrev MadeUp : List Step → UpPacket → Type 0
   MadeUp steps packet = WasMadeUp endpoints g (agent_of steps) packet
-
-  -- boots and asks: the lane stays
-  lane_of-agent : {X : Type 0} (event : X → AgentEvent) (xs : List X) (steps : List Step) → lane_of (then_each (λ x. OfAgent (event x)) xs steps) ≡ lane_of steps
-  lane_of-agent event [] steps = refl
-  lane_of-agent event (x ∷ xs) steps = lane_of-agent event xs (OfAgent (event x) ∷ steps)
-
-  agent_of-lane : {X : Type 0} (event : X → LaneEvent) (xs : List X) (steps : List Step) → agent_of (then_each (λ x. OfLane (event x)) xs steps) ≡ agent_of steps
-  agent_of-lane event [] steps = refl
-  agent_of-lane event (x ∷ xs) steps = agent_of-lane event xs (OfLane (event x) ∷ steps)
 
   booted : (versions : List ℕ) (steps : List Step) → ArrivesFromOther endpoints g steps → ArrivesFromOther endpoints g (then_each (λ version. OfAgent (Boots version)) versions steps)
   booted [] steps a = a
@@ -112,7 +108,7 @@ module _ (endpoints g : ℕ) where
       told_steps = OfLane (MakesDown number round.told) ∷ begun_steps
 
       lane_stays : lane_of begun_steps ≡ lane_of before.steps
-      lane_stays = lane_of-agent (λ a. Asks a.0 a.1) round.asks booted_steps ∙ lane_of-agent (λ version. Boots version) round.boots before.steps
+      lane_stays = lane-agent (λ a. Asks a.0 a.1) round.asks booted_steps ∙ lane-agent (λ version. Boots version) round.boots before.steps
 
       arrives_told : ArrivesFromOther endpoints g told_steps
       arrives_told = asked round.asks booted_steps (booted round.boots before.steps go.arrives)
@@ -131,7 +127,7 @@ module _ (endpoints g : ℕ) where
       arrives_heard = hears number (arriving (posted_down endpoints g number round before) number) told_steps (arriving-posted (MadeDown told_steps) (posted_down endpoints g number round before) number down_told) arrives_told
 
       lane_heard : lane_of heard_steps ≡ lane_of told_steps
-      lane_heard = lane_of-agent (λ packet. TakesDown number packet) (arriving (posted_down endpoints g number round before) number) told_steps
+      lane_heard = lane-agent (λ packet. TakesDown number packet) (arriving (posted_down endpoints g number round before) number) told_steps
 
       made_steps : List Step
       made_steps = OfAgent MakesUp ∷ heard_steps
@@ -162,7 +158,7 @@ module _ (endpoints g : ℕ) where
       arrives_read = subst (λ (s : List Step). ArrivesFromOther endpoints g (OfAgent (SendsDue number) ∷ OfLane (Records number) ∷ s)) (sym read_is) arrives_came
 
       agent_came : agent_of came_steps ≡ agent_of made_steps
-      agent_came = agent_of-lane (λ packet. TakesUp number packet) ups made_steps
+      agent_came = agent-lane (λ packet. TakesUp number packet) ups made_steps
 
       up_read : EachPosted (MadeUp (after_round endpoints g number round before).steps) (posted_up endpoints g number round before)
       up_read =
@@ -276,7 +272,7 @@ module _ (endpoints g : ℕ) where
       }
 
       lane_stays : lane_of begun_steps ≡ lane_of before.steps
-      lane_stays = lane_of-agent endpoints g (λ a. Asks a.0 a.1) round.asks booted_steps ∙ lane_of-agent endpoints g (λ version. Boots version) round.boots before.steps
+      lane_stays = lane-agent (λ a. Asks a.0 a.1) round.asks booted_steps ∙ lane-agent (λ version. Boots version) round.boots before.steps
 
       down_told : EachPosted (MadeDown endpoints g told_steps) (posted_down endpoints g number round before)
       down_told =
@@ -290,7 +286,7 @@ module _ (endpoints g : ℕ) where
           (arriving-posted (MadeDown endpoints g told_steps) (posted_down endpoints g number round before) number down_told) told_order
 
       lane_heard : lane_of (heard endpoints g number round before) ≡ lane_of told_steps
-      lane_heard = lane_of-agent endpoints g (λ packet. TakesDown number packet) (arriving (posted_down endpoints g number round before) number) told_steps
+      lane_heard = lane-agent (λ packet. TakesDown number packet) (arriving (posted_down endpoints g number round before) number) told_steps
 
       made_order : InOrder (number + 1) number (OfAgent MakesUp ∷ heard endpoints g number round before)
       made_order = record {
@@ -336,8 +332,8 @@ module _ (endpoints g : ℕ) where
       let started = begun endpoints g number round before in
       let told = heard endpoints g number round before in
       let came = then_each (λ packet. OfLane (TakesUp number packet)) (arriving (posted_up endpoints g number round before) number) (OfAgent MakesUp ∷ told) in
-      let raw_stays = agent_of-lane endpoints g (λ packet. TakesUp number packet) round.raw came in
-      let up_stays = agent_of-lane endpoints g (λ packet. TakesUp number packet) (arriving (posted_up endpoints g number round before) number) (OfAgent MakesUp ∷ told) in
+      let raw_stays = agent-lane (λ packet. TakesUp number packet) round.raw came in
+      let up_stays = agent-lane (λ packet. TakesUp number packet) (arriving (posted_up endpoints g number round before) number) (OfAgent MakesUp ∷ told) in
       let hears = ups-each (λ packet. TakesDown number packet) (arriving (posted_down endpoints g number round before) number) (OfLane (MakesDown number round.told) ∷ started) (λ x history. refl) in
       let asks = ups-each (λ (a : ℕ × ℕ). Asks a.0 a.1) round.asks booted (λ x history. refl) in
       let boots = ups-each (λ version. Boots version) round.boots before.steps (λ x history. refl) in
@@ -385,11 +381,3 @@ pub rounds_go_on : RoundsGoOn
 rounds_go_on endpoints g [] earlier = record { later = []; parts = refl }
 rounds_go_on endpoints g (round ∷ later) earlier =
     on-round endpoints g (length (later ++ earlier)) round (played endpoints g (later ++ earlier)) (played endpoints g earlier).steps (rounds_go_on endpoints g later earlier)
-
-pub agent-lane : {X : Type 0} (event : X → LaneEvent) (xs : List X) (steps : List Step) → agent_of (then_each (λ x. OfLane (event x)) xs steps) ≡ agent_of steps
-agent-lane event [] steps = refl
-agent-lane event (x ∷ xs) steps = agent-lane event xs (OfLane (event x) ∷ steps)
-
-pub lane-agent : {X : Type 0} (event : X → AgentEvent) (xs : List X) (steps : List Step) → lane_of (then_each (λ x. OfAgent (event x)) xs steps) ≡ lane_of steps
-lane-agent event [] steps = refl
-lane-agent event (x ∷ xs) steps = lane-agent event xs (OfAgent (event x) ∷ steps)

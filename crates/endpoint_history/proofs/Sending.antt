@@ -101,26 +101,26 @@ count-due b g round dst (t ∷ ts) =
 
 -- ---- the walk
 
-sent_of-within : (left : ℕ → ℕ) (slots : List Slot) (dst : ℕ) → count_by (to dst) (sent_of left slots) ≤ count_by (to dst) slots
-sent_of-within left [] dst = omega arith
-sent_of-within left (s ∷ slots) dst =
+pub walk-count : (test : Slot → Bool) (left : ℕ → ℕ) (slots : List Slot) → count_by test (sent_of left slots) ≤ count_by test slots
+walk-count test left [] = omega arith
+walk-count test left (s ∷ slots) =
     let less = λ (d : ℕ). left d - cond (d == s.dst) 1 0 in
-    let whole = count_by-cons (to dst) s slots in
-    elim (nat_lt 0 (left s.dst)) as (λ b. count_by (to dst) (cond b (s ∷ sent_of less slots) (sent_of left slots)) ≤ count_by (to dst) (s ∷ slots)) [
+    let whole = count_by-cons test s slots in
+    elim (nat_lt 0 (left s.dst)) as (λ c. count_by test (cond c (s ∷ sent_of less slots) (sent_of left slots)) ≤ count_by test (s ∷ slots)) [
       | true ↦
-          let rest = sent_of-within less slots dst in
-          let part = count_by-cons (to dst) s (sent_of less slots) in
-          bound (to dst s) (count_by (to dst) (sent_of less slots)) (count_by (to dst) slots) (count_by (to dst) (s ∷ sent_of less slots)) (count_by (to dst) (s ∷ slots)) rest part whole
+          let rest = walk-count test less slots in
+          let part = count_by-cons test s (sent_of less slots) in
+          bound (test s) (count_by test (sent_of less slots)) (count_by test slots) (count_by test (s ∷ sent_of less slots)) (count_by test (s ∷ slots)) rest part whole
       | false ↦
-          let rest = sent_of-within left slots dst in
-          skip (to dst s) (count_by (to dst) (sent_of left slots)) (count_by (to dst) slots) (count_by (to dst) (s ∷ slots)) rest whole
+          let rest = walk-count test left slots in
+          skip (test s) (count_by test (sent_of left slots)) (count_by test slots) (count_by test (s ∷ slots)) rest whole
     ]
   where
-    bound : (b : Bool) (m n x y : ℕ) → m ≤ n → x ≡ cond b (1 + m) m → y ≡ cond b (1 + n) n → x ≤ y
+    bound : (c : Bool) (m n x y : ℕ) → m ≤ n → x ≡ cond c (1 + m) m → y ≡ cond c (1 + n) n → x ≤ y
     bound true m n x y le p q = omega arith
     bound false m n x y le p q = omega arith
 
-    skip : (b : Bool) (m n y : ℕ) → m ≤ n → y ≡ cond b (1 + n) n → m ≤ y
+    skip : (c : Bool) (m n y : ℕ) → m ≤ n → y ≡ cond c (1 + n) n → m ≤ y
     skip true m n y le q = omega arith
     skip false m n y le q = omega arith
 
@@ -189,7 +189,7 @@ sends-within b g (SendsDue round ∷ history) rise dst =
     let due_now = counted-due b g history round dst in
     let so_far = λ (d : ℕ). sends b g history d in
     let part : count_by (to dst) (sent_now b g history so_far round) ≤ count_by (to dst) (due b g history round) =
-    rw (sent_now-is b g history so_far round) (sent_of-within (λ d. asked history d - so_far d) (due b g history round) dst) in
+    rw (sent_now-is b g history so_far round) (walk-count (to dst) (λ d. asked history d - so_far d) (due b g history round)) in
     omega arith
 
 -- in time is before a round or from it on

@@ -28,6 +28,11 @@ pub record Posted (T : Type 0) : Type 0 where
   pub fate : Option Fate
   pub packet : T
 
+-- a fact of each packet that was posted
+abbrev pub EachPosted : {T : Type 0} → (T → Type 0) → List (Posted T) → Type 0
+EachPosted P [] = Unit {0}
+EachPosted P (p ∷ posted) = P p.packet × EachPosted P posted
+
 -- those that arrive in a round, in the order of sending
 abbrev pub arriving : {T : Type 0} → List (Posted T) → ℕ → List T
 arriving posted round = map (λ p. p.packet) (filter (λ p. arrives_in p.fate p.round round) posted)

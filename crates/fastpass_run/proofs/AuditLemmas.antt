@@ -1,8 +1,8 @@
 -- What an audit tells by the way it ends.
 use Rattle.std.proofs.Common.{◌≡◌, ◌≤◌, ◌<◌, ℕ, List, [], ◌∷◌, length, Bool, true, false, Option, Some, None, Ok, Err, refl, sym, ap, ◌∙◌, subst, arith, inl, inr}
-use Rattle.std.specs.Option.{is_some}
 use Rattle.std.specs.Io.KnownBytes.{Appends, Consumes, IsAtEnd}
 use Rattle.std.proofs.lemmas.Bool.{false≢true}
+use Rattle.std.proofs.lemmas.Option.{none-some}
 use Rattle.clos_topology.specs.Network.{Network}
 use Rattle.report_text.specs.declared.line.Line.{Line}
 use Rattle.text_output.specs.Transfer.{AppendsFront}
@@ -104,11 +104,8 @@ verdict : EachTextHasOneReading → (net : Network) (b : ℕ) (bytes : List ℕ)
     → WasAudited net b bytes other → one ≡ other
 verdict once net b bytes lines one other are found was = sym found ∙ (ap (first_bad_line net b) (once bytes lines was.lines are was.read) ∙ was.found)
 
-none_or_some : (line : ℕ) → None ≡ Some line → ⊥
-none_or_some line same = false≢true (ap (λ (o : Option ℕ). is_some o) same)
-
 some_or_none : (line : ℕ) → Some line ≡ None → ⊥
-some_or_none line same = none_or_some line (sym same)
+some_or_none line same = none-some line (sym same)
 
 -- ---- which ends there may be
 
@@ -123,7 +120,7 @@ completes once words old new (Err failure.Write) ends net b bytes lines gives fe
 completes once words old new (Err failure.Memory) ends net b bytes lines gives few are good = inr (inr (inr (inl refl)))
 completes once words old new (Err failure.Big) ends net b bytes lines gives few are good = let many = too_many old new bytes gives.told ends.1 in absurd (omega (arith, many, few))
 completes once words old new (Err (failure.Bad line)) ends net b bytes lines gives few are good =
-    absurd (none_or_some line (verdict once net b bytes lines None (Some line) are good (bad_lines words old new line net b bytes ends.0 gives)))
+    absurd (none-some line (verdict once net b bytes lines None (Some line) are good (bad_lines words old new line net b bytes ends.0 gives)))
 
 tells_bad : EachTextHasOneReading → (words : List (List ℕ)) (old new : Outside) (ending : Ending) → EndsBy words old new ending
     → (net : Network) (b line : ℕ) (bytes : List ℕ) (lines : List (Option Line)) → GivesText words old net b bytes → length bytes ≤ input_limit → ReadsLines bytes lines → first_bad_line net b lines ≡ Some line

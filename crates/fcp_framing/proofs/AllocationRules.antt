@@ -3,11 +3,10 @@ use Rattle.std.proofs.Common.{◌≡◌, ℕ, zero, suc, ◌+◌, ◌*◌, ◌<�
 use Rattle.std.specs.Int.{w32}
 use Rattle.std.specs.List.{list_any, All, AllByRecursion}
 use Rattle.std.specs.Simd.{first_chunks}
-use Rattle.std.proofs.lemmas.Bool.{leb-false, lt-leb, le-leb, ltb-false, le-ltb, eqb-false, ne_eqb, cases_lt, or_parts, or_from}
+use Rattle.std.proofs.lemmas.Bool.{leb-false, lt-leb, le-leb, ltb-false, le-ltb, eqb-false, ne_eqb, cases_lt, or_parts, or_from, not-false}
 use Rattle.std.proofs.lemmas.List.{length-append}
 use Rattle.std.proofs.lemmas.List.Folds.{list_any_none}
 use Rattle.std.proofs.lemmas.List.Elements.{recursion_from_All, All-from_recursion}
-use Rattle.list_facts.proofs.Bools.{not_true}
 use Rattle.fcp_framing.specs.declared.packet.Told.{Told}
 use Rattle.fcp_framing.specs.declared.packet.Down.{Down}
 use Rattle.fcp_framing.specs.Versions.{IsVersion}
@@ -79,7 +78,7 @@ allocation_rules endpoints slots bytes network fits version none =
       width = width;
       count = omega (arith, length-told_slots_in bytes);
       destinations = λ k d within. leb-false _ _ (none_of_any (λ (told : Told). leb endpoints told.dst) slots_told endpoint.1 k d within);
-      rising = increasing_from_rising (map (λ (told : Told). told.offset) slots_told) (not_true _ none.order);
+      rising = increasing_from_rising (map (λ (told : Told). told.offset) slots_told) (not-false _ none.order);
       others = λ k d within. eqb-false _ _ (none_of_any (λ (told : Told). eqb told.dst (endpoint_in bytes)) slots_told none.own k d within);
       offsets = λ k d within. leb-false _ _ (or_parts _ _ (limits k d within)).0;
       cores = λ k d within. core_rule _ (told_slots_in-core bytes fits k d within) (or_parts _ _ (limits k d within)).1;

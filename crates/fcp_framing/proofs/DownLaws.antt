@@ -2,9 +2,8 @@
 use Rattle.std.proofs.Common.{◌≡◌, ℕ, ◌≤◌, cond, true, ltb, List, [], ◌++◌, length, Some, None, Result, Ok, Err, refl, sym, ap, subst, ◌∙◌, arith}
 use Rattle.std.specs.Prelude.{OnOk, IsOk}
 use Rattle.std.specs.Result.{result_err}
-use Rattle.std.proofs.lemmas.Bool.{eqb-true, le-ltb, ltb-false, or_parts}
+use Rattle.std.proofs.lemmas.Bool.{eqb-true, le-ltb, ltb-false, or_parts, not-false}
 use Rattle.std.proofs.lemmas.List.{append-nil}
-use Rattle.list_facts.proofs.Bools.{not_true}
 use Rattle.fcp_framing.specs.declared.packet.Down.{Down}
 use Rattle.fcp_framing.specs.declared.refusal.FrameRefused.{FrameRefused}
 use Rattle.fcp_framing.specs.declared.refusal.FrameRefused.TheVariants.{Short, Version, Kind, Trailing}
@@ -31,9 +30,9 @@ unfolding refuses_down
 down_spelled endpoints slots bytes network fits first =
     let none = holds_none (refuses_down endpoints slots bytes) first in
     let long : 2 ≤ length bytes = ltb-false _ _ (or_parts (ltb (length bytes) 2) _ none.short).0 in
-    let version : is_version (version_in bytes) ≡ true = not_true _ none.version in
+    let version : is_version (version_in bytes) ≡ true = not-false _ none.version in
     let rule = version_rule (version_in bytes) version in
-    let kind : kind_in bytes ≡ 3 = eqb-true _ _ (not_true _ none.kind) in
+    let kind : kind_in bytes ≡ 3 = eqb-true _ _ (not-false _ none.kind) in
     let same = first_same (refuses_down endpoints slots bytes) (refuses_allocation endpoints slots bytes) (as_allocation endpoints slots bytes long version kind) in
     allocation_spelled endpoints slots bytes network fits rule kind (holds_none (refuses_allocation endpoints slots bytes) (sym same ∙ first))
 

@@ -2,11 +2,10 @@
 use Rattle.std.proofs.Common.{◌≡◌, ℕ, ◌+◌, ◌*◌, ◌<◌, ◌≤◌, true, false, not, ◌||◌, ltb, leb, eqb, List, ◌++◌, length, map, refl, ap, ◌∙◌, arith}
 use Rattle.std.specs.Int.{w32}
 use Rattle.std.specs.List.{list_any}
-use Rattle.std.proofs.lemmas.Bool.{leb-false, lt-leb, ltb-false, le-ltb, eqb-false, ne_eqb, or_parts}
+use Rattle.std.proofs.lemmas.Bool.{leb-false, lt-leb, ltb-false, le-ltb, eqb-false, ne_eqb, or_parts, not-false}
 use Rattle.std.proofs.lemmas.List.{length-append}
 use Rattle.std.proofs.lemmas.List.Folds.{list_any_none}
 use Rattle.std.proofs.lemmas.List.Elements.{recursion_from_All}
-use Rattle.list_facts.proofs.Bools.{not_true}
 use Rattle.fcp_framing.specs.declared.packet.Demand.{Demand}
 use Rattle.fcp_framing.specs.declared.packet.Up.{Up}
 use Rattle.fcp_framing.specs.Versions.{IsVersion}
@@ -46,7 +45,7 @@ request_rules endpoints bytes network fits version none =
       width = width;
       count = omega (arith, length-demands_in bytes);
       destinations = λ k d within. leb-false _ _ (none_of_any (λ (demand : Demand). leb endpoints demand.dst) demands endpoint.1 k d within);
-      rising = increasing_from_rising (map (λ (demand : Demand). demand.dst) demands) (not_true _ none.order);
+      rising = increasing_from_rising (map (λ (demand : Demand). demand.dst) demands) (not-false _ none.order);
       others = λ k d within. eqb-false _ _ (none_of_any (λ (demand : Demand). eqb demand.dst (request_of bytes).src) demands none.own k d within);
       totals = λ k d within. ltb-false _ _ (none_of_any (λ (demand : Demand). ltb 200000000 demand.total) demands none.much k d within);
     }

@@ -1,18 +1,17 @@
 -- The test that numbers rise strictly, and the fact.
 use Rattle.std.proofs.Common.{◌≡◌, ℕ, zero, suc, ◌+◌, Bool, true, ltb, leb, ◌&&◌, List, [], ◌∷◌, refl, ap, arith}
 use Rattle.std.specs.List.Sorted.{IsStrictlyIncreasing}
-use Rattle.std.proofs.lemmas.Bool.{ltb-true, lt-ltb, le-leb}
-use Rattle.list_facts.proofs.Bools.{both_true}
+use Rattle.std.proofs.lemmas.Bool.{ltb-true, lt-ltb, le-leb, and_parts}
 use Rattle.fcp_framing.specs.Refusals.{is_rising}
 
 pub increasing_from_rising : (xs : List ℕ) → is_rising xs ≡ true → IsStrictlyIncreasing xs
 unfolding is_rising
 increasing_from_rising [] e k lt = absurd (omega arith)
 increasing_from_rising (x ∷ []) e k lt = absurd (omega arith)
-increasing_from_rising (x ∷ y ∷ xs) e zero lt = ltb-true x y (both_true (ltb x y) (is_rising (y ∷ xs)) e).0
+increasing_from_rising (x ∷ y ∷ xs) e zero lt = ltb-true x y (and_parts (ltb x y) (is_rising (y ∷ xs)) e).0
 increasing_from_rising (x ∷ y ∷ xs) e (suc k) lt =
     let next : suc k + 1 ≡ suc (k + 1) = omega arith in
-    rw next (increasing_from_rising (y ∷ xs) (both_true (ltb x y) (is_rising (y ∷ xs)) e).1 k (omega arith))
+    rw next (increasing_from_rising (y ∷ xs) (and_parts (ltb x y) (is_rising (y ∷ xs)) e).1 k (omega arith))
 
 pub rising_from_increasing : (xs : List ℕ) → IsStrictlyIncreasing xs → is_rising xs ≡ true
 unfolding is_rising

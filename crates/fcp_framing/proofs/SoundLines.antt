@@ -1,8 +1,7 @@
 -- One walk over the lines of an allocation, and the tests that it stands for.
 use Rattle.std.proofs.Common.{◌≡◌, ℕ, ◌+◌, ◌<◌, ◌≤◌, Bool, true, false, not, leb, eqb, ◌&&◌, ◌||◌, List, [], ◌∷◌, map, None, refl, ap, ◌∙◌}
 use Rattle.std.specs.List.{find, list_any}
-use Rattle.std.proofs.lemmas.Bool.{lt-leb, le-ltb, or_parts}
-use Rattle.list_facts.proofs.Bools.{both_true}
+use Rattle.std.proofs.lemmas.Bool.{lt-leb, le-ltb, or_parts, and_parts}
 use Rattle.fcp_framing.specs.declared.packet.Told.{Told}
 use Rattle.fcp_framing.specs.declared.refusal.FrameRefused.TheVariants.{Endpoint, Count, Order, SelfFlow, TooMuch}
 use Rattle.fcp_framing.specs.Fields.{endpoint_in, allocation_count, told_slots_in}
@@ -56,7 +55,7 @@ sound_lines_pass endpoints slots bytes here few sound =
     let lines = told_slots_in bytes in
     let endpoint = endpoint_in bytes in
     let fault = line_is_at_fault endpoints endpoint slots in
-    let parts = both_true (is_rising (map (λ (told : Told). told.offset) lines)) (not (list_any fault lines)) sound in
+    let parts = and_parts (is_rising (map (λ (told : Told). told.offset) lines)) (not (list_any fault lines)) sound in
     let none : list_any fault lines ≡ false = not_false (list_any fault lines) parts.1 in
     let there : list_any (λ (told : Told). leb endpoints told.dst) lines ≡ false =
     any_of_fewer (λ (told : Told). leb endpoints told.dst) fault (λ told fine. (or_parts _ _ fine).0) lines none in

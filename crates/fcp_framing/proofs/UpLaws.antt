@@ -2,10 +2,9 @@
 use Rattle.std.proofs.Common.{◌≡◌, ℕ, ◌≤◌, ◌<◌, true, cond, ltb, eqb, List, [], ◌++◌, length, Some, None, Result, Ok, Err, refl, sym, ap, subst, ◌∙◌, inl, inr, arith}
 use Rattle.std.specs.Prelude.{OnOk, IsOk}
 use Rattle.std.specs.Result.{result_err}
-use Rattle.std.proofs.lemmas.Bool.{eqb-true, le-ltb, ltb-false, or_parts}
+use Rattle.std.proofs.lemmas.Bool.{eqb-true, le-ltb, ltb-false, or_parts, not-false}
 use Rattle.std.proofs.Math.Bool.{or-false}
 use Rattle.std.proofs.lemmas.List.{append-nil}
-use Rattle.list_facts.proofs.Bools.{not_true}
 use Rattle.fcp_framing.specs.declared.packet.Up.{Up}
 use Rattle.fcp_framing.specs.declared.refusal.FrameRefused.{FrameRefused}
 use Rattle.fcp_framing.specs.declared.refusal.FrameRefused.TheVariants.{Short, Version, Kind, Trailing}
@@ -43,9 +42,9 @@ unfolding refuses_up up_of
 up_spelled endpoints bytes network fits first =
     let none = holds_none (refuses_up endpoints bytes) first in
     let long : 2 ≤ length bytes = ltb-false _ _ (or_parts (ltb (length bytes) 2) _ none.short).0 in
-    let version : is_version (version_in bytes) ≡ true = not_true _ none.version in
+    let version : is_version (version_in bytes) ≡ true = not-false _ none.version in
     let rule = version_rule (version_in bytes) version in
-    elim (either (eqb (kind_in bytes) 1) (eqb (kind_in bytes) 2) (not_true _ none.kind)) [
+    elim (either (eqb (kind_in bytes) 1) (eqb (kind_in bytes) 2) (not-false _ none.kind)) [
       | inl one ↦
           let kind : kind_in bytes ≡ 1 = eqb-true _ _ one in
           let same = first_same (refuses_up endpoints bytes) (refuses_request endpoints bytes) (as_request endpoints bytes long version kind) in

@@ -1,7 +1,7 @@
 -- A window of a plan by need: its batches may be served, its slots coloured, and what is planned then.
 use Rattle.std.proofs.Common.{◌≡◌, ◌<◌, ◌≤◌, ◌+◌, ◌*◌, ℕ, List, [], ◌∷◌, ◌++◌, length, take, drop, All, sym, ap, ◌∙◌, subst, arith}
 use Rattle.std.proofs.lemmas.List.{append-nil, get_or-take, get_or-drop, get_or_default, length-take, length-drop, take-append-drop, take-take, take_more, drop_at, drop-drop, take_at}
-use Rattle.list_facts.proofs.Lists.{joined}
+use Rattle.list_facts.proofs.Lists.{take_on}
 use Rattle.greedy_rules.specs.declared.flows.Flow.{Flow}
 use Rattle.greedy_rules.specs.declared.flows.Item.{Item}
 use Rattle.greedy_rules.specs.Batches.{DemandBatch}
@@ -101,7 +101,7 @@ rest_of_window : (b k n : ℕ) (plan : List DemandBatch) → k ≤ length plan �
 rest_of_window b k n plan within fronts =
     let front : List DemandBatch = take k plan in
     let so_many : length front ≡ k = omega (arith, length-take k plan) in
-    sym (ap (rest_by remaining b) (sym (joined k n plan))
+    sym (ap (rest_by remaining b) (take_on k n plan)
     ∙ ((fronts b front (take n (drop k plan))).1 ∙ ap (λ (m : ℕ). rest_from_by remaining b m (rest_by remaining b front) (take n (drop k plan))) so_many))
 
 -- a slot of recorded batches may be coloured

@@ -1,5 +1,5 @@
 -- What batches in order leave, batch after batch: the flows that are listed, and the need of each.
-use Rattle.std.proofs.Common.{◌≡◌, ◌≢◌, ◌+◌, ◌*◌, ℕ, List, [], ◌∷◌, ◌++◌, length, drop, Bool, true, false, not, ◌||◌, cond, Option, Some, None, All, refl, sym, ap, ◌∙◌, subst, arith}
+use Rattle.std.proofs.Common.{◌≡◌, ◌≢◌, ◌+◌, ◌*◌, ℕ, List, [], ◌∷◌, ◌++◌, length, drop, Bool, false, not, ◌||◌, cond, Option, Some, None, All, refl, sym, ap, ◌∙◌, subst, arith}
 use Rattle.std.specs.Option.{is_some}
 use Rattle.std.proofs.lemmas.Bool.{cond-false}
 use Rattle.std.proofs.lemmas.List.{append_assoc, append-nil, drop_at}
@@ -17,6 +17,7 @@ use Rattle.greedy_rules.specs.Allocation.{slots_of}
 use Rattle.greedy_rules.specs.Schedule.{first_slot, slots_then_by, list_then_by, schedule_by, schedule_from_by, rest_by, rest_from_by}
 use Rattle.greedy_rules.specs.Balance.{is_recorded, AreInOrder, EveryRestIsListedBy, added_by, added_of, clears, NoneClears, EveryScheduleBalancesBy, EveryRestIsListed, EveryScheduleBalances}
 use Rattle.list_facts.proofs.Pairs.{AllPairs-nil}
+use Rattle.std.proofs.Math.Bool.{or-false}
 use Rattle.greedy_rules.proofs.OnceLemmas.{once-after_batch_by}
 use Rattle.greedy_rules.proofs.NeedLemmas.{once-after_slots_by, listed-after_slots_by, listed-after_batch_by, balance_by}
 use Rattle.greedy_rules.proofs.FrontLemmas.{every_batch_has_its_slots_by, fronts_are_fronts_by}
@@ -33,12 +34,8 @@ opens_new before list entries leaves opens =
 recorded-more : (before : List DemandBatch) (batch : DemandBatch) (flow : Flow) → (is_recorded before flow || is_some (entry_of batch.entries flow)) ≡ is_recorded (before ++ batch ∷ []) flow
 recorded-more before batch flow =
     let here : Bool = is_some (entry_of batch.entries flow) in
-    ap (λ b. is_recorded before flow || b) (sym (or_false here))
+    ap (λ b. is_recorded before flow || b) (sym (or-false here))
     ∙ sym (list_any-append (λ (x : DemandBatch). is_some (entry_of x.entries flow)) before (batch ∷ []))
-  where
-    or_false : (b : Bool) → (b || false) ≡ b
-    or_false true = refl
-    or_false false = refl
 
 leaves_more_by : (key : Key) (b k : ℕ) (before : List DemandBatch) (batch : DemandBatch) (later : List DemandBatch) (list : List Item) → Leaves before list → AreInOrder before (batch ∷ later) → Leaves (before ++ batch ∷ []) (list_then_by key b k batch list)
 leaves_more_by key b k before batch later list leaves order =

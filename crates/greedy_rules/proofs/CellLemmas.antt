@@ -15,6 +15,7 @@ use Rattle.greedy_rules.specs.Cells.{Cells, flow_of, AreOfTheirCells, EveryTable
 use Rattle.greedy_rules.proofs.FlowOrder.{same_flow-true, same_flow-refl}
 use Rattle.greedy_rules.proofs.BatchLemmas.{Below}
 use Rattle.list_facts.proofs.Pairs.{AllPairs-nil, AllPairs-cons, AllPairs-append}
+use Rattle.list_facts.proofs.Options.{option_or-none}
 
 -- flows that are not equal are told apart, and equal ones not
 pub differs : (f g : Flow) → f ≢ g → same_flow f g ≡ false
@@ -110,10 +111,6 @@ module _ (cell : Cells) (of : AreOfTheirCells cell) where
       later (Some e) h other =
           cond-false (same_flow e.flow (flow_of s d)) (Some e) (entry_of (row s (a + 1) n) (flow_of s d))
           (differs e.flow (flow_of s d) (λ same. let dst = ap (λ (x : Flow). x.dst) (sym h ∙ same) in other dst))
-
-  option_or-none : (o : Option Entry) → option_or o None ≡ o
-  option_or-none None = refl
-  option_or-none (Some x) = refl
 
   pub rows_here : (a n width s d : ℕ) → a ≤ s → s < a + n → d < width → entry_of (rows a n width) (flow_of s d) ≡ cell s d
   rows_here a zero width s d low high within = absurd (omega arith)

@@ -15,7 +15,7 @@ mod BatchSlots
 pub mod NeedLemmas
 pub mod FrontLemmas
 pub mod BalanceLemmas
-mod RoomLemmas
+pub mod RoomLemmas
 mod RangeLemmas
 pub mod SlotSources
 pub mod RecordedLemmas

@@ -4,7 +4,7 @@ use Rattle.std.proofs.lemmas.Bool.{cond-true, cond-false, cases_Bool}
 use Rattle.std.proofs.lemmas.List.{append-nil, append_assoc, length-append, length-replicate}
 use Rattle.std.proofs.lemmas.List.Folds.{list_any-append}
 use Rattle.std.proofs.lemmas.List.Elements.{All-nil, All-cons, All-head, All-tail, All-append, All-map, All-filter, All-weaker, All-replicate}
-use Rattle.list_facts.proofs.Bools.{or-none}
+use Rattle.std.proofs.Math.Bool.{or-false}
 use Rattle.greedy_rules.specs.declared.flows.Flow.{Flow}
 use Rattle.greedy_rules.specs.declared.flows.Item.{Item}
 use Rattle.greedy_rules.specs.declared.flows.Entry.{Entry}
@@ -52,7 +52,7 @@ demand_more (x ∷ earlier) batch flow need = demand_more earlier batch flow (ne
 
 pub is_recorded-more : (earlier : List DemandBatch) (batch : DemandBatch) (flow : Flow) → is_recorded (earlier ++ batch ∷ []) flow ≡ (is_recorded earlier flow || is_some (entry_of batch.entries flow))
 is_recorded-more earlier batch flow =
-    list_any-append (λ (x : DemandBatch). is_some (entry_of x.entries flow)) earlier (batch ∷ []) ∙ ap (λ b. is_recorded earlier flow || b) (or-none (is_some (entry_of batch.entries flow)))
+    list_any-append (λ (x : DemandBatch). is_some (entry_of x.entries flow)) earlier (batch ∷ []) ∙ ap (λ b. is_recorded earlier flow || b) (or-false (is_some (entry_of batch.entries flow)))
 
 -- the next recorded batch may be applied to what the earlier ones left
 next_applies : (endpoints : ℕ) (limits : Limits) (earlier : List DemandBatch) (batch : DemandBatch) (list : List Item) → IsRecordedAfter endpoints limits earlier batch → IsLeftBy endpoints earlier list → Applies endpoints batch list

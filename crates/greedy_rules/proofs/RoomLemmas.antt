@@ -15,7 +15,7 @@ use Rattle.list_facts.proofs.StableSort.{length-sort_by}
 use Rattle.greedy_rules.proofs.OnceLemmas.{once-after_batch, flows-after_batch}
 use Rattle.greedy_rules.proofs.RangeLemmas.{IsBetween}
 
-same_ends : (f g : Flow) → f.src ≡ g.src → f.dst ≡ g.dst → f ≡ g
+pub same_ends : (f g : Flow) → f.src ≡ g.src → f.dst ≡ g.dst → f ≡ g
 same_ends f g from to = ap (λ (n : ℕ). record { src = n; dst = f.dst }) from ∙ ap (λ (n : ℕ). record { src = g.src; dst = n }) to
 
 -- where flows of a kind have numbers below some number, no two of them one, a list of them in which each stands once is no longer

@@ -9,7 +9,7 @@ use Rattle.greedy_rules.specs.SlotTable.{destination_of}
 use Rattle.list_facts.proofs.Pairs.{AllPairs-head, AllPairs-tail}
 use Rattle.std.proofs.Common.{Bool, ◌&&◌, ◌||◌, nat_eq}
 use Rattle.greedy_rules.specs.Slot.{has_flow}
-use Rattle.list_facts.proofs.Bools.{or-none}
+use Rattle.std.proofs.Math.Bool.{or-false}
 use Rattle.std.specs.Option.{option_eq}
 
 -- the flows of a slot whose sources are below this one
@@ -111,7 +111,7 @@ flow_goes (f ∷ slot) flow rises =
           let none : has_flow slot flow ≡ false = none_above slot flow (subst (λ (n : ℕ). All (λ g. n < g.src) slot) here later) in
           ap (λ (c : Bool). (c && (f.dst == flow.dst)) || has_flow slot flow) same
           ∙ (ap (λ (c : Bool). (f.dst == flow.dst) || c) none
-          ∙ (or-none (f.dst == flow.dst)
+          ∙ (or-false (f.dst == flow.dst)
           ∙ sym (ap (λ (o : Option ℕ). option_eq nat_eq o (Some flow.dst)) (this_source flow.src f slot same))))
       | inr there ↦
           let other : (f.src == flow.src) ≡ false = ne_eqb f.src flow.src there in

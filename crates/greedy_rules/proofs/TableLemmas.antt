@@ -1,10 +1,10 @@
 -- The rows of a slot table, and the slots that contracts see.
-use Rattle.std.proofs.Common.{◌≡◌, ◌≢◌, ◌<◌, ◌≤◌, ◌+◌, ◌-◌, ◌*◌, ℕ, zero, suc, List, [], ◌∷◌, ◌++◌, length, get_or, set, replicate, Option, Some, None, IfSome, take, drop, All, refl, sym, ap, ◌∙◌, subst, arith, inl, inr, length-set}
+use Rattle.std.proofs.Common.{◌≡◌, ◌≢◌, ◌<◌, ◌≤◌, ◌+◌, ◌-◌, ◌*◌, ◌==◌, ◌&&◌, cond, false, ℕ, zero, suc, List, [], ◌∷◌, ◌++◌, length, get_or, set, replicate, Option, Some, None, IfSome, take, drop, All, refl, sym, ap, ◌∙◌, subst, arith, inl, inr, length-set}
 use Rattle.std.specs.Prelude.{filter, is_some}
 use Rattle.std.proofs.lemmas.List.{length-map, get_or-map, length-append, length-replicate, take-append-le, drop-append-le, take_all, drop_at, drop-take, length-take, length-drop, get_or_default, get_or-set_same, get_or-set_other, same_lists}
 use Rattle.std.proofs.lemmas.List.Elements.{All-nil, All-take, All-drop, All-append, All-replicate, All-set}
-use Rattle.std.proofs.lemmas.Bool.{cases_eq, cases_order}
-use Rattle.std.proofs.lemmas.Nat.{row_fits}
+use Rattle.std.proofs.lemmas.Bool.{cases_eq, cases_order, cases_Bool, cond-true, cond-false, and_parts, and_from, eqb-true, eq-eqb, false≢true}
+use Rattle.std.proofs.lemmas.Nat.{row_fits, same_from_place, mul-add-lt}
 use Rattle.std.proofs.lemmas.Slice.{take-put_mid_below, drop-put_mid, between-put_mid}
 use borrow.Rule.Slice.PartMut.{put_mid, set_mid_at}
 use Rattle.list_facts.proofs.Pairs.{AllPairs-nil}
@@ -90,6 +90,26 @@ counted_more (Some old ∷ places) (suc slot) row below none = omega (arith, cou
 
 pub next_row : (count endpoints : ℕ) → (count + 1) * endpoints ≡ count * endpoints + endpoints
 next_row count endpoints = grind arith
+
+-- where one place of a table is written, the others stay
+pub place-set : {X : Type 0} (endpoints : ℕ) (cells : List X) (src dst : ℕ) (new other : X) (s d : ℕ) → length cells ≡ endpoints * endpoints → src < endpoints → dst < endpoints → d < endpoints
+    → get_or (set cells (src * endpoints + dst) new) (s * endpoints + d) other ≡ cond ((src == s) && (dst == d)) new (get_or cells (s * endpoints + d) other)
+place-set endpoints cells src dst new other s d sized in_src in_dst in_d = elim (cases_Bool ((src == s) && (dst == d))) [
+  | inl here ↦
+      let parts = and_parts (src == s) (dst == d) here in
+      let of_src : src ≡ s = eqb-true src s parts.0 in
+      let of_dst : dst ≡ d = eqb-true dst d parts.1 in
+      let place : s * endpoints + d ≡ src * endpoints + dst = ap (λ (n : ℕ). n * endpoints + d) (sym of_src) ∙ ap (λ (n : ℕ). src * endpoints + n) (sym of_dst) in
+      ap (λ (n : ℕ). get_or (set cells (src * endpoints + dst) new) n other) place
+      ∙ (get_or-set_same cells (src * endpoints + dst) new other (omega (arith, sized, mul-add-lt src endpoints dst endpoints in_src in_dst))
+      ∙ sym (cond-true ((src == s) && (dst == d)) new (get_or cells (s * endpoints + d) other) here))
+  | inr elsewhere ↦
+      get_or-set_other cells (src * endpoints + dst) (s * endpoints + d) new other (λ same. apart elsewhere (same_from_place s d src dst endpoints in_d in_dst same))
+      ∙ sym (cond-false ((src == s) && (dst == d)) new (get_or cells (s * endpoints + d) other) elsewhere)
+]
+  where
+    apart : ((src == s) && (dst == d)) ≡ false → (s ≡ src) × (d ≡ dst) → ⊥
+    apart elsewhere same = false≢true (sym elsewhere ∙ and_from (src == s) (dst == d) (eq-eqb src s (sym same.0)) (eq-eqb dst d (sym same.1)))
 
 -- a slot without a row is given one in which nobody sends
 module _ (endpoints count slot : ℕ) (cells places : List (Option ℕ)) (are : AreRows endpoints count cells places) (below : slot < length places) (none : place_at places slot ≡ None) where

@@ -40,4 +40,4 @@ pub use limits::Limits;
 pub use no_memory::NoMemory;
 pub use plain::plain_batch;
 pub use recorded::{every_recorded_slot, recorded_batches_may_be_applied};
-pub use slots::SlotTable;
+pub use slots::{SlotTable, has_sender};

@@ -15,7 +15,7 @@ use Rattle.endpoint_history.specs.Agent.{AgentEvent, AgentHistory, Boots, Asks, 
 use Rattle.endpoint_history.specs.Lane.{LaneEvent, LaneHistory, MakesDown, TakesUp, packet_down}
 use Rattle.endpoint_history.specs.Reading.{spelled}
 use Rattle.endpoint_history.specs.RoundLaws.{RoundsAreInOrder}
-use Rattle.endpoint_history.specs.Rounds.{Round, Posted, PlayedEnds, arriving, then_each, begun, posted_down, heard, posted_up, read, recorded, played}
+use Rattle.endpoint_history.specs.Rounds.{Round, Posted, PlayedEnds, arriving, then_each, begun, posted_down, heard, posted_up, read, recorded, played, EachPosted}
 use Rattle.endpoint_history.specs.Steps.{Step, OfAgent, OfLane, agent_of, lane_of, RoundsRise}
 use Rattle.endpoint_history.specs.Tellings.{SlotsAreWithin, ToldWithin, RisesFrom, ToldRises, AreTo, ToldTo}
 use Rattle.endpoint_history.specs.Counts.{Allocation}
@@ -24,7 +24,7 @@ use Rattle.endpoint_history.proofs.Rounds.{agent-lane, lane-agent}
 use Rattle.arbiter_lane.specs.State.{LaneState}
 use Rattle.arbiter_lane.specs.Standing as lanes
 use Rattle.lane_rounds.specs.State.{RoundsState, with_each}
-use Rattle.lane_rounds.specs.Standing.{RoundsStandFor, HasCarried, EachPosted, IsDownOf, IsUpOf}
+use Rattle.lane_rounds.specs.Standing.{RoundsStandFor, HasCarried, IsDownOf, IsUpOf}
 use Rattle.lane_rounds.specs.Parts.{hearing, reading, handed, Each, IsReadDown, IsReadUp, MayHear}
 use Rattle.lane_rounds.proofs.Coming.{Laws, from-lane-read, may-hear}
 
@@ -118,10 +118,6 @@ due-arrives one spell world number sent alike it =
     ∙ alike
 
 -- ---- what was posted keeps the rules
-
-pub posted-append : {T : Type 0} (P : T → Type 0) (one two : List (Posted T)) → EachPosted P one → EachPosted P two → EachPosted P (one ++ two)
-posted-append P [] two a b = b
-posted-append P (p ∷ one) two a b = (a.0, posted-append P one two a.1 b)
 
 pub posted-some : {T : Type 0} (P : T → Type 0) (number : ℕ) (fate : Option Fate) (packet : Option T) → IfSome packet P → EachPosted P (posted number fate packet)
 posted-some P number fate None it = tt

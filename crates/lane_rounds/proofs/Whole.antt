@@ -16,7 +16,7 @@ use Rattle.endpoint_history.specs.Lane.{LaneHistory, MakesDown, Records, packet_
 use Rattle.endpoint_history.specs.Counts.{Allocation}
 use Rattle.endpoint_history.specs.Reading.{spelled, SpelledAlike}
 use Rattle.endpoint_history.specs.RoundLaws.{RoundsAreInOrder}
-use Rattle.endpoint_history.specs.Rounds.{Round, Posted, PlayedEnds, posted_down, posted_up, after_round, read, recorded, played, entries_by, sent_by}
+use Rattle.endpoint_history.specs.Rounds.{Round, Posted, PlayedEnds, posted_down, posted_up, after_round, read, recorded, played, entries_by, sent_by, EachPosted}
 use Rattle.endpoint_history.specs.Steps.{agent_of, lane_of}
 use Rattle.endpoint_history.specs.Tellings.{ToldWithin, ToldRises, ToldTo}
 use Rattle.endpoint_agent.specs.State.{AgentState}
@@ -25,15 +25,16 @@ use Rattle.arbiter_lane.specs.State.{LaneState, AreSlots, IsSameLane}
 use Rattle.arbiter_lane.specs.Standing as lanes
 use Rattle.endpoint_history.specs.Entries.{next_entry}
 use Rattle.endpoint_history.specs.Sending.{Slot, sent_in}
+use Rattle.endpoint_history.proofs.Rounds.{EachPosted-append}
 use Rattle.lane_rounds.specs.declared.events.Events.{Events}
 use Rattle.lane_rounds.specs.Outside.{round_with}
 use Rattle.lane_rounds.specs.Refused.{with_raw, refused_in, refused_by}
 use Rattle.lane_rounds.specs.State.{RoundsState, with_each}
 use Rattle.lane_rounds.proofs.Raw.{with_raw-reads}
-use Rattle.lane_rounds.specs.Standing.{RoundsStandFor, played_by, StandsAt, HasCarried, EachPosted, IsDownOf, IsUpOf, spell_down, spell_up}
+use Rattle.lane_rounds.specs.Standing.{RoundsStandFor, played_by, StandsAt, HasCarried, IsDownOf, IsUpOf, spell_down, spell_up}
 use Rattle.lane_rounds.specs.Parts.{IsSameAgent, hearing, reading, handed, Each, IsReadDown, IsReadUp, MayHear}
 use Rattle.lane_rounds.proofs.Coming.{Laws}
-use Rattle.lane_rounds.proofs.Playing.{posted, asked_calls, made_calls, down_now, heard_calls, up_now, read_calls, down-posted, up-posted, agent-recorded, lane-read, posted-spelled, due-arrives, posted-append, posted-some, each-arrives, read-down, read-up, within-read, rises-read, are-within, rises-from, are-to, to-read, round-heard}
+use Rattle.lane_rounds.proofs.Playing.{posted, asked_calls, made_calls, down_now, heard_calls, up_now, read_calls, down-posted, up-posted, agent-recorded, lane-read, posted-spelled, due-arrives, posted-some, each-arrives, read-down, read-up, within-read, rises-read, are-within, rises-from, are-to, to-read, round-heard}
 
 -- ---- by the sizes of an endpoint
 
@@ -83,7 +84,7 @@ module _ (laws : WorldLaws) (e n b g number : ℕ) (round : Round) (before : Pla
       (carries calls allocations (map (spelled (spell_down e)) before.down) stands carried) in
       let keeps : EachPosted (IsDownOf e n b) all =
       subst (λ (ps : List (Posted DownPacket)). EachPosted (IsDownOf e n b) ps) (sym is)
-      (posted-append (IsDownOf e n b) before.down (posted number round.down packet) rules (posted-some (IsDownOf e n b) number round.down packet (spells calls allocations stands))) in
+      (EachPosted-append (IsDownOf e n b) before.down (posted number round.down packet) rules (posted-some (IsDownOf e n b) number round.down packet (spells calls allocations stands))) in
       record {
         carried = holds;
         rules = keeps;
@@ -114,7 +115,7 @@ module _ (laws : WorldLaws) (e n b g number : ℕ) (round : Round) (before : Pla
       (carries calls (map (spelled (spell_up e)) before.up) stands carried) in
       let keeps : EachPosted (IsUpOf e n) all =
       subst (λ (ps : List (Posted UpPacket)). EachPosted (IsUpOf e n) ps) (sym is)
-      (posted-append (IsUpOf e n) before.up (posted number round.up packet) rules (posted-some (IsUpOf e n) number round.up packet (spells calls stands))) in
+      (EachPosted-append (IsUpOf e n) before.up (posted number round.up packet) rules (posted-some (IsUpOf e n) number round.up packet (spells calls stands))) in
       record {
         carried = holds;
         rules = keeps;

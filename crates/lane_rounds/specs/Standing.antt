@@ -1,5 +1,5 @@
 -- When an endpoint's agent, its lane and its world stand for a list of rounds, the latest first. From this project's own profile.
-use Rattle.std.specs.Prelude.{◌≡◌, ℕ, List, [], ◌∷◌, map, length}
+use Rattle.std.specs.Prelude.{◌≡◌, ℕ, List, map, length}
 use Rattle.loss_world.specs.Arrivals.{Departure}
 use Rattle.loss_world.specs.History.{WorldCall, departures_of, WorldStandsFor}
 use Rattle.loss_world.specs.InTransit.{Held}
@@ -7,7 +7,7 @@ use Rattle.fcp_framing.specs.Spelling.{up_bytes, down_bytes, SpellsUp, SpellsDow
 use Rattle.endpoint_history.specs.Counts.{Allocation}
 use Rattle.endpoint_history.specs.Packets.{DownPacket, UpPacket, framed_down, framed_up}
 use Rattle.endpoint_history.specs.Reading.{spelled, AsksBelow}
-use Rattle.endpoint_history.specs.Rounds.{Round, Posted, PlayedEnds, played}
+use Rattle.endpoint_history.specs.Rounds.{Round, EachPosted, PlayedEnds, played}
 use Rattle.endpoint_history.specs.Steps.{agent_of, lane_of}
 use Rattle.endpoint_history.specs.Tellings.{ToldWithin, ToldRises, ToldTo}
 use Rattle.endpoint_agent.specs.Standing as agents
@@ -29,11 +29,6 @@ IsDownOf endpoint endpoints b packet = SpellsDown endpoints b (spell_down endpoi
 
 abbrev pub IsUpOf : ℕ → ℕ → UpPacket → Type 0
 IsUpOf endpoint endpoints packet = SpellsUp endpoints (spell_up endpoint packet) (framed_up endpoint packet)
-
--- a fact of each packet that was posted
-abbrev pub EachPosted : {T : Type 0} → (T → Type 0) → List (Posted T) → Type 0
-EachPosted P [] = Unit {0}
-EachPosted P (p ∷ posted) = P p.packet × EachPosted P posted
 
 -- a direction of the world to which these packets were handed, and which was asked for earlier rounds alone
 pub record HasCarried (world : Held) (round : ℕ) (sent : List Departure) : Type 0 where

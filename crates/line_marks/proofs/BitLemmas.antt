@@ -4,7 +4,7 @@ use Rattle.std.specs.Int.{bit_at, trailing_zeros}
 use Rattle.std.proofs.lemmas.Bool.{cases_eq, cases_lt, and_right, or_right, eq-eqb, ne_eqb}
 use Rattle.std.proofs.lemmas.List.{get_or-set_same, get_or-set_other}
 use Rattle.std.proofs.lemmas.Nat.Bits.{bit_at_and, bit_at-lt, bit_at-zero, bit_at_ones, bit_at_set_same, bit_at_set_other, bit_at_clear_same, bit_at_clear_other, bit_at_mask_inside, bit_at_mask_below, bit_at-trailing_zeros, ones_shl}
-use Rattle.list_facts.proofs.Bools.{or-none, and_true}
+use Rattle.std.proofs.Math.Bool.{or-false, and-true}
 
 -- the bit of a place
 abbrev pub has_bit : List ℕ → ℕ → Bool
@@ -44,7 +44,7 @@ module _ (words : List ℕ) (at : ℕ) (within : at / 64 < length words) where
             ∙ sym (or_right (has_bit words place) (place == at) (eq-eqb place at same))))
         | inr apart ↦
             stays new place apart (λ k below other. bit_at_set_other w64 old (at % 64) bit k other)
-            ∙ (sym (or-none (has_bit words place)) ∙ ap (λ (b : Bool). has_bit words place || b) (sym (ne_eqb place at apart)))
+            ∙ (sym (or-false (has_bit words place)) ∙ ap (λ (b : Bool). has_bit words place || b) (sym (ne_eqb place at apart)))
       ]
 
   pub bit_is_cleared : (place : ℕ) → has_bit (with_word (bit_and (get_or words (at / 64) 0) (2 ^ 64 - 1 - 1 * 2 ^ (at % 64) % 2 ^ 64))) place ≡ (has_bit words place && not (place == at))
@@ -60,7 +60,7 @@ module _ (words : List ℕ) (at : ℕ) (within : at / 64 < length words) where
             ∙ sym (and_right (has_bit words place) (not (place == at)) (ap not (eq-eqb place at same)))))
         | inr apart ↦
             stays new place apart (λ k below other. bit_at_clear_other w64 old (at % 64) bit k below other)
-            ∙ (sym (and_true (has_bit words place)) ∙ ap (λ (b : Bool). has_bit words place && not b) (sym (ne_eqb place at apart)))
+            ∙ (sym (and-true (has_bit words place)) ∙ ap (λ (b : Bool). has_bit words place && not b) (sym (ne_eqb place at apart)))
       ]
 
 -- ---- every place

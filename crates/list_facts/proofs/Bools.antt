@@ -1,30 +1,29 @@
 -- Truth values.
-use Rattle.std.proofs.Common.{◌≡◌, Bool, true, false, ◌==◌, cond, refl, not, ◌&&◌, ◌||◌}
+use Rattle.std.proofs.Common.{◌≡◌, ◌≤◌, ℕ, Bool, true, false, ◌==◌, cond, refl, arith, not, ◌&&◌, ◌||◌}
 
 pub bit_test : (b : Bool) → (cond b 1 0 == 1) ≡ b
 bit_test true = refl
 bit_test false = refl
 
-pub none_yet : (b : Bool) → (b && not b) ≡ false
-none_yet true = refl
-none_yet false = refl
+pub at_most_one : (b : Bool) → cond {A = ℕ} b 1 0 ≤ 1
+at_most_one true = omega arith
+at_most_one false = omega arith
 
-pub and_true : (b : Bool) → (b && true) ≡ b
-and_true true = refl
-and_true false = refl
+pub cond-same : {X : Type 0} (b : Bool) (x : X) → cond b x x ≡ x
+cond-same true x = refl
+cond-same false x = refl
 
-pub not_true : (b : Bool) → not b ≡ false → b ≡ true
-not_true true e = refl
-not_true false e = absurd cc
+pub neither : (p q : Bool) → (not p && not q) ≡ not (p || q)
+neither true q = refl
+neither false q = refl
 
-pub both_true : (a b : Bool) → (a && b) ≡ true → (a ≡ true) × (b ≡ true)
-both_true true b e = (refl, e)
-both_true false b e = absurd cc
+-- what never holds adds nothing
+pub never_or : (b c : Bool) → ((b && false) || c) ≡ c
+never_or true c = refl
+never_or false c = refl
 
-pub or-none : (p : Bool) → (p || false) ≡ p
-or-none true = refl
-or-none false = refl
-
-pub not-not : (b : Bool) → not (not b) ≡ b
-not-not true = refl
-not-not false = refl
+-- where one isn't without the other
+pub not_without : (b c : Bool) → (b && not c) ≡ false → b ≡ true → c ≡ true
+not_without true true without is = refl
+not_without true false without is = absurd cc
+not_without false c without is = absurd cc

@@ -1,23 +1,14 @@
 -- Lists.
 use Rattle.std.proofs.Common.{◌≡◌, ℕ, zero, suc, ◌+◌, List, [], ◌∷◌, ◌++◌, ◌∙◌, ap, arith, take, drop, sym, ◌≤◌, length, refl, filter, Bool, ◌<◌, Some, map, All, false, true}
 use Rattle.std.proofs.lemmas.Bool.{cond_both, cond-false, cond-true}
-use Rattle.std.proofs.lemmas.List.{take_all, append-nil}
+use Rattle.std.proofs.lemmas.List.{take_all, take_more, append-nil}
+use Rattle.std.proofs.lemmas.Option.{slice_get_within, get_or_from_slice_get}
 use Rattle.std.proofs.lemmas.List.Concat.{flat_map-append}
 use Rattle.std.proofs.lemmas.List.Elements.{All-tail, All-head, All-nil, All-cons, All-append}
 use Rattle.std.specs.List.{range_with_len, flat_map}
 use Rattle.std.specs.Prelude.{slice_get}
 use Rattle.std.proofs.lemmas.List.Sums.{sum_by-cons}
 use Rattle.std.specs.Prelude.{sum_by}
-
-pub range-last : (a n : ℕ) → range_with_len a (suc n) ≡ range_with_len a n ++ (a + n) ∷ []
-range-last a zero = let e : a ≡ a + zero = omega arith in ap (λ (k : ℕ). k ∷ []) e
-range-last a (suc n) =
-    let e : a + 1 + n ≡ a + suc n = omega arith in
-    ap (λ (xs : List ℕ). a ∷ xs) (range-last (a + 1) n ∙ ap (λ (k : ℕ). range_with_len (a + 1) n ++ k ∷ []) e)
-
-pub empty_of : {Y : Type 0} (xs : List Y) → length xs ≡ 0 → xs ≡ []
-empty_of [] e = refl
-empty_of (x ∷ xs) e = absurd (omega arith)
 
 pub next_number : (from count : ℕ) → range_with_len from (count + 1) ≡ range_with_len from count ++ (from + count) ∷ []
 next_number from zero = let same : from ≡ from + 0 = omega arith in ap (λ (n : ℕ). n ∷ []) same
@@ -32,19 +23,6 @@ range_both from (suc m) k =
     let next : from + 1 + m ≡ from + suc m = omega arith in
     let more : suc m + k ≡ suc (m + k) = omega arith in
     ap (range_with_len from) more ∙ ap (λ (xs : List ℕ). from ∷ xs) (range_both (from + 1) m k ∙ ap (λ (a : ℕ). range_with_len (from + 1) m ++ range_with_len a k) next)
-
-pub joined : {X : Type 0} (n m : ℕ) (xs : List X) → take n xs ++ take m (drop n xs) ≡ take (n + m) xs
-joined zero m xs = ap (λ (k : ℕ). take k xs) (omega arith)
-joined (suc n) m [] = take_all m [] (omega arith) ∙ sym (take_all (suc n + m) [] (omega arith))
-joined {X = X} (suc n) m (x ∷ xs) =
-    let on : suc n + m ≡ suc (n + m) = omega arith in
-    ap (λ (ys : List X). x ∷ ys) (joined n m xs) ∙ ap (λ (k : ℕ). take k (x ∷ xs)) (sym on)
-
-pub drop_whole : {X : Type 0} (n : ℕ) (xs : List X) → length xs ≤ n → drop n xs ≡ []
-drop_whole zero [] short = refl
-drop_whole zero (x ∷ xs) short = absurd (omega arith)
-drop_whole (suc n) [] short = refl
-drop_whole (suc n) (x ∷ xs) short = drop_whole n xs (omega arith)
 
 pub flat-last : {X : Type 0} (f : ℕ → List X) (a n : ℕ) → flat_map f (range_with_len a (n + 1)) ≡ flat_map f (range_with_len a n) ++ f (a + n)
 flat-last f a n =
@@ -82,10 +60,6 @@ pub All-flat : {X : Type 0} (P : X → Type 0) (f : ℕ → List X) (ks : List �
 All-flat P f [] all = All-nil P
 All-flat P f (k ∷ ks) all = All-append P (f k) (flat_map f ks) (all k) (All-flat P f ks all)
 
-pub drop-none : {X : Type 0} (n : ℕ) → drop {A = X} n [] ≡ []
-drop-none zero = refl
-drop-none (suc n) = refl
-
 pub take_on : {X : Type 0} (n m : ℕ) (xs : List X) → take (n + m) xs ≡ take n xs ++ take m (drop n xs)
 take_on zero m xs = ap (λ (k : ℕ). take k xs) (let q : 0 + m ≡ m = omega arith in q)
 take_on {X} (suc n) m [] = take_all {A = X} (suc n + m) [] (omega arith) ∙ sym (take_all {A = X} m [] (omega arith))
@@ -94,3 +68,7 @@ take_on (suc n) m (x ∷ xs) = ap (λ (k : ℕ). take k (x ∷ xs)) (let q : suc
 pub sum_by-map : {X Y : Type 0} (f : Y → ℕ) (g : X → Y) (xs : List X) → sum_by f (map g xs) ≡ sum_by (λ x. f (g x)) xs
 sum_by-map f g [] = refl
 sum_by-map f g (x ∷ xs) = omega (arith, sum_by-cons f (g x) (map g xs), sum_by-cons (λ y. f (g y)) x xs, sum_by-map f g xs)
+
+-- the element that is read next is the next of those that are read
+pub take_got : {X : Type 0} (xs : List X) (i : ℕ) (x : X) → slice_get xs i ≡ Some x → take (i + 1) xs ≡ take i xs ++ x ∷ []
+take_got {X = X} xs i x is = take_more xs i x (slice_get_within xs i x is) ∙ ap (λ (y : X). take i xs ++ y ∷ []) (get_or_from_slice_get xs i x x is)

@@ -1,7 +1,8 @@
 -- Numbers.
-use Rattle.std.proofs.Common.{◌≡◌, ℕ, ◌*◌, ◌^◌, ◌∙◌, ap, inl, inr, arith, ◌<◌, zero, suc, ◌==◌, ◌&&◌, min, refl, ◌+◌}
+use Rattle.std.proofs.Common.{◌≡◌, ℕ, ◌*◌, ◌^◌, ◌∙◌, ap, inl, inr, arith, ◌<◌, zero, suc, ◌==◌, ◌&&◌, min, refl, ◌+◌, ◌-◌, ◌≤◌}
 use Rattle.std.proofs.lemmas.Bool.{cases_eq}
 use Rattle.std.proofs.lemmas.Nat.Bits.{bit_at-lt, and_pow}
+use Rattle.std.proofs.lemmas.Nat.{mul-le}
 use Rattle.std.specs.Int.{bit_at, IsBitSet}
 
 pub bit_at-set : (mask k : ℕ) → IsBitSet mask k → bit_at mask k ≡ 1
@@ -25,3 +26,7 @@ slots_on k b = grind arith
 
 pub rows_on : (p n b : ℕ) → (p + n) * b ≡ p * b + n * b
 rows_on p n b = grind arith
+
+-- no more pairs of two than pairs
+pub fewer_pairs : (n : ℕ) → n * (n - 1) ≤ n * n
+fewer_pairs n = mul-le n (n - 1) n n (omega arith) (omega arith)

@@ -1,6 +1,7 @@
 -- A text of recorded batches, each line of which fits its fields, passes each audit.
 use Rattle.std.proofs.Common.{◌≡◌, ◌⊎◌, ◌≤◌, ◌+◌, ℕ, List, [], ◌∷◌, ◌++◌, map, length, Option, Some, None, Result, Ok, Err, refl, sym, ap, ◌∙◌, subst, inl, inr, arith}
 use Rattle.std.proofs.lemmas.List.{length-map, map-append}
+use Rattle.std.proofs.lemmas.Option.{none-some}
 use Rattle.greedy_rules.specs.Batches.{DemandBatch}
 use Rattle.clos_topology.specs.Network.{Network}
 use Rattle.report_text.specs.declared.line.Line.{Line}
@@ -26,10 +27,7 @@ verdict : (net : Network) (b : ℕ) (body : List Line) (lines : List (Option Lin
 verdict net b body lines (Ok count) same none is =
     inl (ap (λ (n : ℕ). Ok n) (is.1 ∙ (ap (λ (xs : List (Option Line)). length xs) same ∙ length-map body (λ (l : Line). Some l))))
 verdict net b body lines (Err (Bad number)) same none is =
-    absurd (no_number number (sym none ∙ (ap (first_bad_line net b) (sym same) ∙ is)))
-  where
-    no_number : (n : ℕ) → None ≡ Some n → ⊥
-    no_number n wrong = cc
+    absurd (none-some number (sym none ∙ (ap (first_bad_line net b) (sym same) ∙ is)))
 verdict net b body lines (Err Memory) same none is = inr refl
 
 pub passes : EachTextIsRead → EachTextHasOneReading → ATextOfBatchesHasNoBadLine → (net : Network) (b rounds : ℕ) (batches : List DemandBatch) (body : List Line) → IsTextOf net b batches body

@@ -5,6 +5,7 @@ use Rattle.std.proofs.Math.Nat.{suc-mul}
 use Rattle.std.proofs.lemmas.List.{append-nil, take-append-drop}
 use Rattle.std.proofs.lemmas.List.Elements.{All-nil}
 use Rattle.list_facts.proofs.Pairs.{AllPairs-nil}
+use Rattle.list_facts.proofs.Numbers.{slots_on}
 use Rattle.greedy_rules.specs.declared.flows.Flow.{Flow}
 use Rattle.greedy_rules.specs.Batches.{DemandBatch}
 use Rattle.greedy_rules.specs.Fronts.{EveryBatchHasItsSlots}
@@ -45,16 +46,13 @@ back_long zero m xs long = long ∙ omega arith
 back_long (suc n) m [] long = absurd (omega arith)
 back_long (suc n) m (x ∷ xs) long = back_long n m xs (omega arith)
 
-next_first : (b k : ℕ) → first_slot b k + b ≡ first_slot b (k + 1)
-next_first b k = let one : k + 1 ≡ suc k = omega arith in let times : (k + 1) * b ≡ suc k * b = ap (λ n. n * b) one in omega (arith, suc-mul k b, times)
-
 batches_show : (b : ℕ) (e : Expected) (cores : SlotCores) (k : ℕ) (batches : List DemandBatch) (slots : List (List Flow)) → length slots ≡ length batches * b
     → Shows b e (batches_lines cores b k batches slots) (records_of k batches) (paths_by cores (first_slot b k) slots) []
 batches_show b e cores k [] [] long = shows-nil b e
 batches_show b e cores k [] (slot ∷ slots) long = absurd (omega arith)
 batches_show b e cores k (batch ∷ batches) slots long =
     let two : length slots ≡ b + length batches * b = long ∙ (suc-mul (length batches) b ∙ omega arith) in
-    let at : first_slot b (k + 1) ≡ first_slot b k + length (take b slots) = sym (next_first b k) ∙ ap (λ n. first_slot b k + n) (sym (front_long b (length batches * b) slots two)) in
+    let at : first_slot b (k + 1) ≡ first_slot b k + length (take b slots) = sym (slots_on k b) ∙ ap (λ n. first_slot b k + n) (sym (front_long b (length batches * b) slots two)) in
     shows-as
     (shows-append (shows-append (shows-entries b e k batch.entries) (shows-slots b e cores (first_slot b k) (take b slots)))
     (batches_show b e cores (k + 1) batches (drop b slots) (back_long b (length batches * b) slots two)))

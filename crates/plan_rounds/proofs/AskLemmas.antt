@@ -1,10 +1,11 @@
 -- What is asked for, flow by flow: the sums of the tallies, and the entries of a batch.
-use Rattle.std.proofs.Common.{◌≡◌, ◌<◌, ◌+◌, ℕ, zero, suc, List, [], ◌∷◌, length, get_or, take, Bool, true, false, not, ◌==◌, ◌&&◌, ◌||◌, cond, Some, IsTrue, All, slice_get, refl, sym, ap, ◌∙◌, arith, inl, inr}
+use Rattle.std.proofs.Common.{◌≡◌, ◌<◌, ◌+◌, ℕ, zero, suc, List, [], ◌∷◌, length, get_or, take, not, ◌==◌, ◌&&◌, cond, Some, IsTrue, All, slice_get, refl, sym, ap, ◌∙◌, arith, inl, inr}
 use Rattle.std.specs.List.{list_any}
 use Rattle.std.proofs.lemmas.Bool.{cond-true, cond-false, cases_Bool, ne_eqb}
 use Rattle.std.proofs.lemmas.Bool.Decides.{nat_tests}
 use Rattle.std.proofs.lemmas.List.Sums.{sum_by-cons}
 use Rattle.std.proofs.lemmas.List.Elements.{All-head, All-tail, All-take}
+use Rattle.list_facts.proofs.Bools.{neither}
 use Rattle.greedy_rules.specs.declared.flows.Flow.{Flow}
 use Rattle.greedy_rules.specs.declared.flows.Entry.{Entry}
 use Rattle.greedy_rules.specs.Flows.{flow_below}
@@ -24,10 +25,6 @@ row_of endpoints (row ∷ rows) (suc src) all = row_of endpoints rows src (All-t
 
 both_zero : (a b : ℕ) → (a + b == 0) ≡ ((a == 0) && (b == 0))
 both_zero a b = grind (arith, nat_tests)
-
-neither : (p q : Bool) → (not p && not q) ≡ not (p || q)
-neither true q = refl
-neither false q = refl
 
 abbrev pub slots_if : ℕ → (ℕ × ℕ) → ℕ
 slots_if dst p = cond (p.0 == dst) p.1 0

@@ -6,6 +6,7 @@ use Rattle.std.proofs.lemmas.Bool.{cond-true, cond-false, cases_Bool, eqb-true, 
 use Rattle.std.proofs.lemmas.List.Sums.{sum_by-cons, sum_by-append}
 use Rattle.std.proofs.lemmas.List.Folds.{find-append}
 use Rattle.std.proofs.lemmas.List.Elements.{All-nil, All-head, All-tail, All-append, All-map}
+use Rattle.list_facts.proofs.Options.{option_or-none}
 use Rattle.greedy_rules.specs.declared.flows.Flow.{Flow}
 use Rattle.greedy_rules.specs.declared.flows.Entry.{Entry}
 use Rattle.greedy_rules.specs.Flows.{same_flow}
@@ -51,10 +52,6 @@ later_others before start src sources lower = all_entries (λ e. e.flow.src ≢ 
 
 own_others : (before : List AskedRound) (start src : ℕ) (asks : List (ℕ × ℕ)) → start ≢ src → All (λ e. e.flow.src ≢ src) (map (asked_entry before start) asks)
 own_others before start src asks other = All-map (λ (e : Entry). e.flow.src ≢ src) (asked_entry before start) asks (λ k d within. other)
-
-pub option_or-none : {X : Type 0} (o : Option X) → option_or o None ≡ o
-option_or-none None = refl
-option_or-none (Some x) = refl
 
 -- a flow's entry is one of its source
 pub entry_at : (before : List AskedRound) (start n dst : ℕ) (sources : AskedRound)

@@ -10,7 +10,6 @@ pub mod LaneLists
 pub mod LaneReads
 pub mod OpenedLanes
 pub mod PublishedWindows
-pub mod LoopLemmas
 pub mod PlayLemmas
 pub mod SortLemmas
 pub mod DepartureLemmas

@@ -25,7 +25,8 @@ use Rattle.replay_rounds.specs.Played.{Played, departures_from}
 use Rattle.replay_rounds.specs.Collecting.{answers_of, entries_recorded, refused_of, round_part, with_behind, with_endpoint, with_numbers, AreRoundsFrom, LieBelow, RawPart, RoundPart}
 use Rattle.replay_rounds.specs.Departures.{by_slot}
 use Rattle.replay_rounds.proofs.PlayLemmas.{same_part}
-use Rattle.replay_rounds.proofs.SortLemmas.{sort_front, sort_back, sort_again}
+use Rattle.list_facts.proofs.StableSort.{sort_front}
+use Rattle.replay_rounds.proofs.SortLemmas.{sort_back, sort_again}
 
 -- ---- lists
 

@@ -10,6 +10,7 @@ use Rattle.std.proofs.lemmas.List.Sums.{sum_by-cons, sum_by-take-le, sum_by-take
 use Rattle.std.proofs.lemmas.List.Elements.{All-head, All-tail, All-weaker}
 use Rattle.std.proofs.lemmas.List.Folds.{list_any_none}
 use Rattle.std.proofs.lemmas.Nat.{le-div, div_below}
+use Rattle.std.proofs.Math.Bool.{or-false}
 use Rattle.greedy_rules.specs.declared.flows.Flow.{Flow}
 use Rattle.greedy_rules.specs.Flows.{same_flow}
 use Rattle.greedy_rules.specs.Slot.{has_flow}
@@ -17,6 +18,7 @@ use Rattle.greedy_rules.specs.SlotTable.{destination_of}
 use Rattle.greedy_rules.specs.Cells.{flow_of}
 use Rattle.greedy_rules.proofs.SlotSources.{Rises}
 use Rattle.list_facts.proofs.Pairs.{AllPairs-head, AllPairs-tail}
+use Rattle.list_facts.proofs.Bools.{cond-same}
 use Rattle.endpoint_history.specs.Counts.{Allocation}
 use Rattle.trace_run.specs.Allocations.{since}
 use Rattle.replay_rounds.specs.Publishing.{with_slot}
@@ -73,7 +75,7 @@ flow_goes (f ∷ slot) src dst rises =
           let none : has_flow slot (flow_of src dst) ≡ false = none_above slot src dst (subst (λ (n : ℕ). All (λ g. n < g.src) slot) here later) in
           ap (λ (c : Bool). c || has_flow slot (flow_of src dst)) (this_source f src dst same)
           ∙ (ap (λ (c : Bool). (f.dst == dst) || c) none
-          ∙ (or_none (f.dst == dst)
+          ∙ (or-false (f.dst == dst)
           ∙ sym (ap (λ (o : Option ℕ). goes_to o dst) goes)))
       | inr there ↦
           let other : (f.src == src) ≡ false = ne_eqb f.src src there in
@@ -82,10 +84,6 @@ flow_goes (f ∷ slot) src dst rises =
           ap (λ (c : Bool). c || has_flow slot (flow_of src dst)) (other_source f src dst other)
           ∙ (rest ∙ sym (ap (λ (o : Option ℕ). goes_to o dst) goes))
     ]
-  where
-    or_none : (c : Bool) → (c || false) ≡ c
-    or_none true = refl
-    or_none false = refl
 
 -- which is below the endpoints
 pub sent_within : (endpoints : ℕ) (slot : List Flow) (src dst : ℕ) → All (λ f. (f.src < endpoints) × (f.dst < endpoints)) slot → destination_of slot src ≡ Some dst → dst < endpoints
@@ -108,11 +106,7 @@ sent_within endpoints (f ∷ slot) src dst within goes =
 -- one slot more counts from its batch on
 pub since_more : (batch from dst : ℕ) (to : Option ℕ) (allocations : List Allocation) →
     since from (with_slot batch to allocations) dst ≡ since from allocations dst + cond (nat_le from batch) (cond (goes_to to dst) 1 0) 0
-since_more batch from dst None allocations = omega (arith, either (nat_le from batch))
-  where
-    either : (c : Bool) → cond {A = ℕ} c 0 0 ≡ 0
-    either true = refl
-    either false = refl
+since_more batch from dst None allocations = omega (arith, cond-same {X = ℕ} (nat_le from batch) 0)
 since_more batch from dst (Some to) allocations =
     let a : Allocation = record { dst = to; batch = batch; slots = 1 } in
     let push = sum_by-cons (λ (x : Allocation). cond (x.dst == dst && nat_le from x.batch) x.slots 0) a allocations in

@@ -1,7 +1,7 @@
 -- The stages of a worker as they begin their batches.
 use Rattle.std.proofs.Common.{◌≡◌, ◌<◌, ◌≤◌, ◌+◌, ◌-◌, ◌*◌, ◌/◌, ℕ, Bool, true, nat_le, Vec, Global, None, drop, List, length, get_or, set, Some, slice_get, All, false, [], refl, sym, ap, ◌∙◌, subst, arith, inl, inr}
 use Rattle.std.specs.Vec.{with_items}
-use Rattle.std.proofs.lemmas.Bool.{cases_lt}
+use Rattle.std.proofs.lemmas.Bool.{cases_lt, lt-leb}
 use Rattle.std.proofs.lemmas.Nat.{mul-le, div-mul-add}
 use Rattle.std.proofs.lemmas.Bool.Decides.{nat_tests}
 use Rattle.std.proofs.lemmas.List.{get_or_default, take_all, take_at}
@@ -63,10 +63,7 @@ one_begun endpoints b first batches workers worker at stage stages old new batch
 ]
 
 pub none_fed : (n : ℕ) → nat_le (n / 64 + 1) 0 ≡ false
-none_fed n = of (n / 64 + 1) 0 (omega arith)
-  where
-    of : (a b : ℕ) → b < a → nat_le a b ≡ false
-    of a b less = grind (arith, nat_tests)
+none_fed n = lt-leb (n / 64 + 1) 0 (omega arith)
 
 module _ (w : WorkerState) (window : Window) (first : ℕ) (batches : List DemandBatch) (is_window : IsWorkerWindow w first batches window) where
   begun_at : (number : ℕ) (state : StageState) → HasBegun w.endpoints w.b first batches number state → StageIsAt w.endpoints window number 0 0 state

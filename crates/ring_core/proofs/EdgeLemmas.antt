@@ -2,7 +2,7 @@
 use Rattle.std.proofs.Common.{◌≡◌, ◌≢◌, ◌<◌, ◌≤◌, ◌+◌, ℕ, zero, suc, List, [], ◌∷◌, ◌++◌, length, get_or, set, Option, Some, None, slice_get, refl, sym, ap, ◌∙◌, subst, arith, inl, inr, length-set}
 use Rattle.std.specs.Prelude.{MatchOption, MatchResult, Result, Ok, Err}
 use Rattle.std.proofs.lemmas.Bool.{cases_lt}
-use Rattle.std.proofs.lemmas.Option.{slice_get_read, same_Some}
+use Rattle.std.proofs.lemmas.Option.{slice_get_read, same_Some, slice_get_within}
 use Rattle.slot_batches.specs.declared.piece.Piece.{Piece}
 use Rattle.slot_batches.specs.Pieces.{Part, part_of}
 use Rattle.ring_core.specs.States.{EdgeState}
@@ -36,11 +36,6 @@ module _ {A : Type 0} where
   between_length (suc taken) (suc sent) [] le within = absurd (omega arith)
   between_length (suc taken) (suc sent) (y ∷ ys) le within = let r = between_length taken sent ys (omega arith) (omega arith) in omega arith
 
-  pub get_inside : (xs : List A) (i : ℕ) (x : A) → slice_get xs i ≡ Some x → i < length xs
-  get_inside [] i x e = absurd (cc)
-  get_inside (y ∷ ys) zero x e = omega arith
-  get_inside (y ∷ ys) (suc i) x e = let r = get_inside ys i x e in omega arith
-
 pub get_set_here : {X : Type 0} (xs : List X) (i : ℕ) (a : X) → i < length xs → slice_get (set xs i a) i ≡ Some a
 get_set_here [] i a below = absurd (omega arith)
 get_set_here (x ∷ xs) zero a below = refl
@@ -63,7 +58,7 @@ took into old new part holds items taken sent =
 gave : (into : EdgeInto) (old new : EdgeState) (part : Part) → Holds into old → slice_get (edge_stream into) old.sent ≡ Some part → new.pieces ≡ old.pieces ++ part ∷ [] → new.taken ≡ old.taken → new.sent ≡ old.sent + 1 → Holds into new
 gave into old new part holds next items taken sent =
     let more = between_more old.taken old.sent (edge_stream into) part holds.order next in
-    let inside = get_inside (edge_stream into) old.sent part next in
+    let inside = slice_get_within (edge_stream into) old.sent part next in
     let on : suc old.sent ≡ new.sent = omega arith in
     let same : old.taken ≡ new.taken = sym taken in
     record {

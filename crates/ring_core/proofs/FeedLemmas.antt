@@ -1,11 +1,11 @@
 -- What a worker takes up, and where it is then.
 use Rattle.std.proofs.Common.{◌≡◌, ◌<◌, ◌≤◌, ◌+◌, ◌-◌, ◌*◌, ◌/◌, ◌^◌, ℕ, Bool, true, false, cond, nat_le, nat_lt, List, ◌++◌, length, set, take, drop, Option, Some, None, slice_get, All, refl, sym, ap, ◌∙◌, subst, arith, inl, inr}
-use Rattle.std.proofs.lemmas.Bool.{cases_Bool, cases_lt, both_ways, or_right}
+use Rattle.std.proofs.lemmas.Bool.{cases_Bool, cases_lt, both_ways, or_right, lt-leb, le-leb, leb-true, leb-false}
 use Rattle.std.proofs.lemmas.Bool.Decides.{nat_tests}
 use Rattle.std.proofs.lemmas.Option.{same_Some}
 use Rattle.std.proofs.lemmas.List.{take-append-drop, take_all, take_at}
 use Rattle.std.proofs.lemmas.List.Elements.{All-take, All-drop}
-use Rattle.list_facts.proofs.Lists.{joined}
+use Rattle.list_facts.proofs.Lists.{take_on}
 use Rattle.greedy_rules.specs.declared.flows.Item.{Item}
 use Rattle.greedy_rules.specs.Batches.{DemandBatch, entry_of}
 use Rattle.greedy_rules.specs.Demands.{AreBelow, OpensNewFlows, opened, need_with}
@@ -25,23 +25,11 @@ use Rattle.ring_core.proofs.WindowLemmas.{one_list_on, list_before, few_pieces}
 use Rattle.ring_core.proofs.StreamLemmas.{own_here, stream_has, into_short}
 use Rattle.ring_core.proofs.PlayLemmas.{to_push, with_stage}
 
-pub le_of : (a b : ℕ) → nat_le a b ≡ true → a ≤ b
-le_of a b le = grind (arith, nat_tests)
-
-gt_of : (a b : ℕ) → nat_le a b ≡ false → b < a
-gt_of a b le = grind (arith, nat_tests)
-
 ended_alike : (n fed : ℕ) → nat_le n (64 * (fed + 1)) ≡ nat_le ((n - 1) / 64 + 1) (fed + 1)
 ended_alike n fed = elim (cases_lt (64 * (fed + 1)) n) [
-  | inl more ↦ no n (64 * (fed + 1)) more ∙ sym (no ((n - 1) / 64 + 1) (fed + 1) (omega (arith, more)))
-  | inr few ↦ yes n (64 * (fed + 1)) few ∙ sym (yes ((n - 1) / 64 + 1) (fed + 1) (omega (arith, few)))
+  | inl more ↦ lt-leb n (64 * (fed + 1)) more ∙ sym (lt-leb ((n - 1) / 64 + 1) (fed + 1) (omega (arith, more)))
+  | inr few ↦ le-leb n (64 * (fed + 1)) few ∙ sym (le-leb ((n - 1) / 64 + 1) (fed + 1) (omega (arith, few)))
 ]
-  where
-    no : (a b : ℕ) → b < a → nat_le a b ≡ false
-    no a b less = grind (arith, nat_tests)
-
-    yes : (a b : ℕ) → a ≤ b → nat_le a b ≡ true
-    yes a b le = grind (arith, nat_tests)
 
 has_none : (has : Bool) (x : Part) → cond has (Some x) None ≡ None → has ≡ false
 has_none true x is = absurd (cc)
@@ -63,7 +51,7 @@ module _ (endpoints : ℕ) (window : Window) (stage fed given : ℕ) (may : MayB
         let has : has_piece true given left ≡ false =
         has_none (has_piece true given left) (piece_at (stage + 1) left given)
         (subst (λ (b : Bool). next_piece (stage + 1) b given (settled batch (first_slot_in window stage) window.b (items_fed window stage fed) b) ≡ None) all none) in
-        let enough : pieces_before window stage ≤ fed = le_of (pieces_before window stage) fed all in
+        let enough : pieces_before window stage ≤ fed = leb-true (pieces_before window stage) fed all in
         let whole : items_fed window stage fed ≡ list = take_all (64 * fed) list (omega (arith, enough)) in
         let left_is : left ≡ list_before_stage window (stage + 1) = ap (λ (l : List Item). settled batch (first_slot_in window stage) window.b l true) whole ∙ sym (one_list_on window stage below) in
         let many : given < piece_count left = omega (arith, within, ap piece_count left_is) in
@@ -74,11 +62,11 @@ module _ (endpoints : ℕ) (window : Window) (stage fed given : ℕ) (may : MayB
       yes a b less = grind (arith, nat_tests)
 
   pub fed_below : is_fed window stage fed ≡ false → fed < pieces_before window stage
-  fed_below some = gt_of (pieces_before window stage) fed some
+  fed_below some = leb-false (pieces_before window stage) fed some
 
   -- the next piece's items may be fed
   pub one_piece_on : items_fed window stage fed ++ (piece_at stage list fed).items ≡ items_fed window stage (fed + 1)
-  one_piece_on = joined (64 * fed) 64 list ∙ ap (λ (n : ℕ). take n list) (let on : 64 * fed + 64 ≡ 64 * (fed + 1) = omega arith in on)
+  one_piece_on = sym (take_on (64 * fed) 64 list) ∙ ap (λ (n : ℕ). take n list) (let on : 64 * fed + 64 ≡ 64 * (fed + 1) = omega arith in on)
 
   pub may_be_fed : EveryBatchLeavesAList → ListsMayBeFed → MayBeFed batch.entries endpoints (first_slot_in window stage) (items_fed window stage (fed + 1))
   may_be_fed leaves feed =

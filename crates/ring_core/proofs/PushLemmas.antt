@@ -1,12 +1,12 @@
 -- What a worker pushes, and where it is then.
 use Rattle.std.proofs.Common.{◌≡◌, ◌<◌, ◌≤◌, ◌+◌, ◌-◌, ◌*◌, ◌/◌, ◌^◌, ℕ, Bool, true, false, ◌&&◌, ◌||◌, cond, nat_le, nat_lt, List, [], ◌++◌, length, drop, Option, Some, None, slice_get, refl, sym, ap, ◌∙◌, subst, arith, inl, inr, length-append}
 use Rattle.std.specs.Prelude.{is_some}
-use Rattle.std.proofs.lemmas.Bool.{cases_Bool, cases_lt}
+use Rattle.std.proofs.lemmas.Bool.{cases_Bool, cases_lt, leb-true, leb-false}
 use Rattle.std.proofs.lemmas.Bool.Decides.{nat_tests}
 use Rattle.std.proofs.lemmas.Nat.{mod_below, mul-le}
 use Rattle.std.proofs.lemmas.Option.{same_Some}
 use Rattle.std.proofs.lemmas.List.{length-drop, take-append-drop}
-use Rattle.list_facts.proofs.Lists.{drop_whole}
+use Rattle.std.proofs.Math.ListN.{drop_of_length-le}
 use Rattle.greedy_rules.specs.declared.flows.Item.{Item}
 use Rattle.greedy_rules.specs.Batches.{DemandBatch}
 use Rattle.greedy_rules.specs.Demands.{OpensNewFlows}
@@ -30,10 +30,7 @@ has_of true x p is = refl
 has_of false x p is = absurd (cc)
 
 fed_all : (n count fed : ℕ) → count ≡ (n - 1) / 64 + 1 → nat_le count fed ≡ true → n ≤ 64 * fed
-fed_all n count fed is le = let below : count ≤ fed = of count fed le in omega (arith, is, below)
-  where
-    of : (a b : ℕ) → nat_le a b ≡ true → a ≤ b
-    of a b le = grind (arith, nat_tests)
+fed_all n count fed is le = let below : count ≤ fed = leb-true count fed le in omega (arith, is, below)
 
 module _ (endpoints : ℕ) (window : Window) (stage fed given : ℕ) (part : Part) (may : MayBePlayed endpoints window) (leaves : EveryBatchLeavesAList) (stay : SettledItemsStay) (early : EarlyPiecesAreOfTheList)
     (below : stage < length window.batches) (is : piece_given_next window stage fed given ≡ Some part) where
@@ -65,7 +62,7 @@ module _ (endpoints : ℕ) (window : Window) (stage fed given : ℕ) (part : Par
   has = has_of (has_piece finished given (settled batch first window.b front finished)) (piece_at (stage + 1) (settled batch first window.b front finished) given) part is
 
   ended : finished ≡ true → rest ≡ []
-  ended all = drop_whole (64 * fed) list (fed_all (length list) (pieces_before window stage) fed refl all)
+  ended all = drop_of_length-le list (fed_all (length list) (pieces_before window stage) fed refl all)
 
   -- the list before the next stage
   next_is : settled batch first window.b (front ++ rest) true ≡ next
@@ -97,27 +94,18 @@ module _ (endpoints : ℕ) (window : Window) (stage fed given : ℕ) (part : Par
         let many : has_piece false given early_part ≡ true = subst (λ (b : Bool). has_piece b given (settled batch first window.b front b) ≡ true) some has in
         let more : 64 < length (drop (64 * given) early_part) = more_than (length (drop (64 * given) early_part)) (false && nat_lt given (piece_count early_part)) refl many in
         let long : length next ≡ length early_part + length kept.0 = ap length (sym next_is ∙ kept.1) ∙ length-append early_part kept.0 in
-        let few : length next ≤ 64 * (given + 1) = last_few (length next) (64 * (given + 1)) (sym (ap (λ (p : Part). p.end) part_is) ∙ last) in
+        let few : length next ≤ 64 * (given + 1) = leb-true (length next) (64 * (given + 1)) (sym (ap (λ (p : Part). p.end) part_is) ∙ last) in
         absurd (omega (arith, more, length-drop (64 * given) early_part, long, few))
   ]
     where
       more_than : (n : ℕ) (b : Bool) → b ≡ false → (nat_lt 64 n || b) ≡ true → 64 < n
       more_than n b none is = grind (arith, nat_tests)
 
-      last_few : (n m : ℕ) → nat_le n m ≡ true → n ≤ m
-      last_few n m is = grind (arith, nat_tests)
-
   pub last_given : part.end ≡ true → given < pieces_before window (stage + 1) → given + 1 ≡ pieces_before window (stage + 1)
-  last_given last within = let few = few_left (length next) (64 * (given + 1)) (sym (ap (λ (p : Part). p.end) part_is) ∙ last) in omega (arith, few, within)
-    where
-      few_left : (n m : ℕ) → nat_le n m ≡ true → n ≤ m
-      few_left n m is = grind (arith, nat_tests)
+  last_given last within = let few = leb-true (length next) (64 * (given + 1)) (sym (ap (λ (p : Part). p.end) part_is) ∙ last) in omega (arith, few, within)
 
   pub more_given : part.end ≡ false → given + 1 < pieces_before window (stage + 1)
-  more_given last = let many = many_left (length next) (64 * (given + 1)) (sym (ap (λ (p : Part). p.end) part_is) ∙ last) in omega (arith, many)
-    where
-      many_left : (n m : ℕ) → nat_le n m ≡ false → m < n
-      many_left n m is = grind (arith, nat_tests)
+  more_given last = let many = leb-false (length next) (64 * (given + 1)) (sym (ap (λ (p : Part). p.end) part_is) ∙ last) in omega (arith, many)
 
 -- what the present stage gives next is the next of the stream out of the worker
 pub gives_next : (batches : List DemandBatch) (ends : WorkerEnds) (w : WorkerState) (fed given : ℕ) (piece : Part) → HasPlayed batches ends w fed given → w.stage < length batches
@@ -193,11 +181,8 @@ module _ (batches : List DemandBatch) (ends : WorkerEnds) (w : WorkerState) (fed
   fed_whole leaves stay early last =
       let is = held_is batches ends w fed given played piece held in
       let all = end_is_last w.endpoints w_window w.stage fed given piece played.window.may leaves stay early inside is.1 last in
-      let at_least : pieces_before w_window w.stage ≤ fed = of (pieces_before w_window w.stage) fed all in
+      let at_least : pieces_before w_window w.stage ≤ fed = leb-true (pieces_before w_window w.stage) fed all in
       omega (arith, at_least, played.fed_within)
-    where
-      of : (a b : ℕ) → nat_le a b ≡ true → a ≤ b
-      of a b le = grind (arith, nat_tests)
 
   -- and where the piece has the end, the next stage follows
   pub sent_last : EveryBatchLeavesAList → SettledItemsStay → EarlyPiecesAreOfTheList → piece.end ≡ true → (h : Option Part) → h ≡ None

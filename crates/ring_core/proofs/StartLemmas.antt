@@ -1,9 +1,8 @@
 -- A ring as a window begins.
-use Rattle.std.proofs.Common.{◌≡◌, ◌<◌, ◌≤◌, ◌+◌, ◌-◌, ◌*◌, ◌^◌, ℕ, zero, suc, Bool, true, false, cond, nat_eq, nat_le, List, [], ◌∷◌, ◌++◌, length, set, get_or, Option, Some, None, slice_get, All, refl, sym, ap, ◌∙◌, subst, arith, inl, inr, length-append, length-set, append_assoc}
+use Rattle.std.proofs.Common.{◌≡◌, ◌<◌, ◌≤◌, ◌+◌, ◌-◌, ◌*◌, ◌^◌, ℕ, zero, suc, Bool, cond, nat_eq, nat_le, List, [], ◌∷◌, ◌++◌, length, set, get_or, Option, Some, None, slice_get, All, refl, sym, ap, ◌∙◌, subst, arith, inl, inr, length-append, length-set, append_assoc}
 use Rattle.std.proofs.lemmas.Nat.{mod-mul-add, mul-le}
 use Rattle.std.proofs.lemmas.List.FromFn.{length-map-range_with_len}
-use Rattle.std.proofs.lemmas.Bool.{cases_lt, ne_eqb}
-use Rattle.std.proofs.lemmas.Bool.Decides.{nat_tests}
+use Rattle.std.proofs.lemmas.Bool.{cases_lt, ne_eqb, lt-leb, le-leb}
 use Rattle.std.proofs.lemmas.Option.{slice_get-get_or, slice_get_within}
 use Rattle.std.proofs.lemmas.List.{get_or_default, drop_at}
 use Rattle.std.proofs.lemmas.List.Elements.{All-drop}
@@ -138,20 +137,14 @@ found_sent window worker some below = elim (cases_lt (worker + 1) window.workers
       let after = after_small window.workers worker small in
       let none : length (pieces_into window (worker_after window.workers worker) (worker + 1)) ≡ 0 =
       ap (λ (n : ℕ). length (pieces_into window n (worker + 1))) after ∙ ap length (into_none window (worker + 1) (worker + 1) small (omega arith)) in
-      (ap (λ (b : Bool). cond b (pieces_before window 0) 0) (gt window.workers (worker + 1) small) ∙ sym none, ap (λ (b : Bool). cond b (pieces_before window 0) 0) (ne_eqb (worker_after window.workers worker) 0 (λ q. omega (arith, q, after))) ∙ sym none)
+      (ap (λ (b : Bool). cond b (pieces_before window 0) 0) (lt-leb window.workers (worker + 1) small) ∙ sym none, ap (λ (b : Bool). cond b (pieces_before window 0) 0) (ne_eqb (worker_after window.workers worker) 0 (λ q. omega (arith, q, after))) ∙ sym none)
   | inr last ↦
       let after = after_last window.workers worker below last in
       let turned : worker + 1 ≡ 0 + window.workers = omega (arith, below, last) in
       let all : length (pieces_into window (worker_after window.workers worker) (worker + 1)) ≡ pieces_before window 0 =
       (λ i. length (pieces_into window (after i) (turned i))) ∙ (into_step window 0 0 some (own_zero window.workers some) ∙ (let q : 0 + pieces_before window 0 ≡ pieces_before window 0 = omega arith in q)) in
-      (ap (λ (b : Bool). cond b (pieces_before window 0) 0) (le window.workers (worker + 1) last) ∙ sym all, ap (λ (n : ℕ). cond (nat_eq n 0) (pieces_before window 0) 0) after ∙ sym all)
+      (ap (λ (b : Bool). cond b (pieces_before window 0) 0) (le-leb window.workers (worker + 1) last) ∙ sym all, ap (λ (n : ℕ). cond (nat_eq n 0) (pieces_before window 0) 0) after ∙ sym all)
 ]
-  where
-    gt : (a b : ℕ) → b < a → nat_le a b ≡ false
-    gt a b less = grind (arith, nat_tests)
-
-    le : (a b : ℕ) → a ≤ b → nat_le a b ≡ true
-    le a b less = grind (arith, nat_tests)
 
 -- what a window begins with
 pub record Starts (core : RingState) (first : ℕ) (batches : List DemandBatch) (list : List Item) : Type 0 where

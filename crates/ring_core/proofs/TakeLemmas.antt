@@ -3,7 +3,7 @@ use Rattle.std.proofs.Common.{◌≡◌, ◌<◌, ◌≤◌, ◌+◌, ◌-◌, �
 use Rattle.std.specs.List.{range_with_len}
 use Rattle.std.proofs.lemmas.Nat.{div-add-mod'}
 use Rattle.std.proofs.lemmas.List.{append-nil, append_assoc, length-append, length-replicate, length-take-le, take-append-drop, take_all, take_at, drop_all, drop-replicate}
-use Rattle.list_facts.proofs.Lists.{joined}
+use Rattle.list_facts.proofs.Lists.{take_on}
 use Rattle.greedy_rules.specs.declared.flows.Flow.{Flow}
 use Rattle.greedy_rules.specs.declared.flows.Item.{Item}
 use Rattle.greedy_rules.specs.Batches.{DemandBatch}
@@ -63,7 +63,7 @@ items_from stage list a (suc n) =
     let all : 64 + 64 * n ≡ 64 * suc n = omega arith in
     ap (λ (xs : List Item). take 64 (drop (64 * a) list) ++ xs) (items_from stage list (a + 1) n)
     ∙ (ap (λ (xs : List Item). take 64 (drop (64 * a) list) ++ take (64 * n) xs) (sym (drop_on (64 * a) 64 list ∙ ap (λ (k : ℕ). drop k list) on))
-    ∙ (joined 64 (64 * n) (drop (64 * a) list) ∙ ap (λ (k : ℕ). take k (drop (64 * a) list)) all))
+    ∙ (sym (take_on 64 (64 * n) (drop (64 * a) list)) ∙ ap (λ (k : ℕ). take k (drop (64 * a) list)) all))
 
 -- a list's pieces have its items
 pub items_are : (stage : ℕ) (list : List Item) → items_of (pieces stage list) ≡ list

@@ -1,7 +1,7 @@
 -- The lists of a window, stage after stage.
 use Rattle.std.proofs.Common.{◌≡◌, ◌<◌, ◌≤◌, ◌+◌, ◌-◌, ◌*◌, ℕ, zero, suc, List, [], ◌∷◌, length, refl, sym, ap, ◌∙◌, subst, arith}
 use Rattle.std.proofs.lemmas.Nat.{mul-le}
-use Rattle.list_facts.proofs.Numbers.{slots_on}
+use Rattle.list_facts.proofs.Numbers.{slots_on, fewer_pairs}
 use Rattle.greedy_rules.specs.declared.flows.Item.{Item}
 use Rattle.greedy_rules.specs.Batches.{DemandBatch}
 use Rattle.greedy_rules.specs.Demands.{opened}
@@ -62,15 +62,12 @@ module _ (endpoints : ℕ) (window : Window) (may : MayBePlayed endpoints window
       let most : endpoints * (endpoints - 1) ≤ 256 * 256 = mul-le endpoints (endpoints - 1) 256 256 may.few_endpoints (omega (arith, may.few_endpoints)) in
       omega (arith, long, keeps (is_barred batch.limits) (first_slot_in window stage) window.b batch.entries list, all, most)
 
-  fewer_pairs : endpoints * (endpoints - 1) ≤ endpoints * endpoints
-  fewer_pairs = mul-le endpoints (endpoints - 1) endpoints endpoints (omega arith) (omega arith)
-
   -- no more than there are pairs of endpoints
   pub few_before : FlowsFitPairs → (stage : ℕ) → stage < length window.batches → length (list_before_stage window stage) ≤ endpoints * endpoints
   few_before pairs stage below =
       let applies = may.applies stage below in
       let all = pairs endpoints (batch_of window stage).entries (list_before_stage window stage) applies.rises applies.opens applies.once applies.below applies.apart in
-      omega (arith, all, fewer_pairs)
+      omega (arith, all, fewer_pairs endpoints)
 
   pub few_after : EveryBatchKeepsItsFlows → FlowsFitPairs → (stage : ℕ) → stage < length window.batches → length (list_before_stage window (stage + 1)) ≤ endpoints * endpoints
   few_after keeps pairs stage below =
@@ -78,7 +75,7 @@ module _ (endpoints : ℕ) (window : Window) (may : MayBePlayed endpoints window
       let batch : DemandBatch = batch_of window stage in
       let list : List Item = list_before_stage window stage in
       let all = pairs endpoints batch.entries list applies.rises applies.opens applies.once applies.below applies.apart in
-      omega (arith, ap length (one_list_on window stage below), keeps (is_barred batch.limits) (first_slot_in window stage) window.b batch.entries list, all, fewer_pairs)
+      omega (arith, ap length (one_list_on window stage below), keeps (is_barred batch.limits) (first_slot_in window stage) window.b batch.entries list, all, fewer_pairs endpoints)
 
   pub few_pieces : EveryBatchKeepsItsFlows → FlowsFitPairs → (stage : ℕ) → stage ≤ length window.batches → pieces_before window stage ≤ 1024
   few_pieces keeps pairs stage within = let few = few_items keeps pairs stage within in omega (arith, few)

@@ -1,7 +1,7 @@
 -- A window whose first batch alone has entries, each of which opens a flow of one slot.
-use Rattle.std.proofs.Common.{◌≡◌, ◌<◌, ◌≤◌, ◌+◌, ℕ, true, false, List, [], ◌∷◌, ◌++◌, Option, Some, nat_lt, ◌==◌, ◌&&◌, All, refl, sym, ap, ◌∙◌, subst, arith, inl, inr}
+use Rattle.std.proofs.Common.{◌≡◌, ◌<◌, ◌≤◌, ◌+◌, ℕ, List, [], ◌∷◌, ◌++◌, Option, Some, nat_lt, ◌==◌, ◌&&◌, All, refl, sym, ap, ◌∙◌, subst, arith, inl, inr}
 use Rattle.std.specs.Prelude.{IsTrue}
-use Rattle.std.proofs.lemmas.Bool.{cases_Bool, cond-true, cond-false, or_left, lt-ltb}
+use Rattle.std.proofs.lemmas.Bool.{cases_Bool, cond-true, cond-false, or_left, lt-ltb, true≢false}
 use Rattle.std.proofs.lemmas.List.Elements.{All-head, All-tail}
 use Rattle.greedy_rules.specs.declared.flows.Flow.{Flow}
 use Rattle.greedy_rules.specs.declared.flows.Item.{Item}
@@ -43,12 +43,9 @@ asks_recorded limits batch same rises all = record {
   in_range = λ k d below. let it = all k d below in (it.1, omega (arith, it.2));
   apart = λ k d below q. let it = all k d below in omega (arith, q, it.0, it.2);
   opens = λ k d below. (all k d below).3;
-  clears = λ k d below clear. absurd (let it = all k d below in true_not_false (sym clear ∙ it.4));
+  clears = λ k d below clear. absurd (let it = all k d below in true≢false (sym clear ∙ it.4));
   fits = λ flow. omega (arith, adds_one batch.entries flow 0 all);
 }
-  where
-    true_not_false : true ≡ false → ⊥
-    true_not_false q = cc
 
 -- a batch without entries after others
 pub none_recorded : (limits : Limits) (earlier : List DemandBatch) → ((flow : Flow) → demand_of earlier flow ≤ 1) → IsRecordedAfter 132 limits earlier (record { entries = []; limits = limits })

@@ -1,10 +1,11 @@
 -- The batches that lines give are the batches that they were made of.
-use Rattle.std.proofs.Common.{◌≡◌, ◌<◌, ◌≤◌, ◌+◌, ◌==◌, nat_lt, ◌&&◌, ◌||◌, not, ℕ, suc, List, [], ◌∷◌, ◌++◌, map, filter, length, Bool, true, false, is_some, All, refl, sym, ap, ◌∙◌, inl, inr, arith}
+use Rattle.std.proofs.Common.{◌≡◌, ◌<◌, ◌≤◌, ◌+◌, ◌==◌, nat_lt, ◌&&◌, ◌||◌, not, ℕ, suc, List, [], ◌∷◌, ◌++◌, map, filter, length, Bool, false, is_some, All, refl, sym, ap, ◌∙◌, inl, inr, arith}
 use Rattle.std.specs.List.{list_any, range_with_len}
 use Rattle.std.proofs.lemmas.Bool.{cases_Bool, eq-eqb, ne_eqb, lt-ltb, le-ltb, or_from}
 use Rattle.std.proofs.lemmas.List.{append_assoc, append-nil, length-append}
 use Rattle.std.proofs.lemmas.List.Elements.{All-head, All-tail, filter-append}
 use Rattle.std.proofs.lemmas.List.Folds.{list_any-append}
+use Rattle.std.proofs.Math.Bool.{or-false}
 use Rattle.greedy_rules.specs.declared.flows.Flow.{Flow}
 use Rattle.greedy_rules.specs.declared.flows.Entry.{Entry}
 use Rattle.greedy_rules.specs.declared.limits.Limits.{Limits}
@@ -115,12 +116,8 @@ module _ (front : List DemandBatch) (batch : DemandBatch) (later : List DemandBa
       ap (λ xs. list_any t xs) parts
       ∙ (list_any-append t one (two ++ three)
       ∙ (ap (λ b. list_any t one || b) nothing
-      ∙ (or_false (list_any t one)
+      ∙ (or-false (list_any t one)
       ∙ (low n 0 front flow (omega arith) ∙ has-recorded 0 front flow))))
-    where
-      or_false : (b : Bool) → (b || false) ≡ b
-      or_false true = refl
-      or_false false = refl
 
   mine : filter (at n) all ≡ map (record_of n) batch.entries
   mine =

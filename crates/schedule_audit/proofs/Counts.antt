@@ -5,6 +5,7 @@ use Rattle.std.proofs.lemmas.Bool.{cases_Bool, cond-true, cond-false, or_from, o
 use Rattle.std.proofs.lemmas.List.Elements.{All-nil, All-cons, All-head, All-tail}
 use Rattle.std.proofs.lemmas.List.Folds.{list_any-append}
 use Rattle.std.proofs.lemmas.List.Sums.{sum_by-cons, sum_by-take-drop}
+use Rattle.std.proofs.Math.Bool.{and-false}
 use Rattle.greedy_rules.specs.declared.flows.Flow.{Flow}
 use Rattle.greedy_rules.specs.declared.flows.Entry.{Entry}
 use Rattle.greedy_rules.specs.declared.limits.Limits.{Limits}
@@ -19,6 +20,7 @@ use Rattle.greedy_rules.specs.Balance.{clears, NoneClears}
 use Rattle.greedy_rules.specs.Recorded.{AreRecordedAfter}
 use Rattle.greedy_rules.proofs.Facts.{same_flow-true, same_flow-refl, flow_below-not_same}
 use Rattle.list_facts.proofs.Pairs.{AllPairs-head, AllPairs-tail}
+use Rattle.list_facts.proofs.Bools.{never_or}
 use Rattle.schedule_audit.specs.Lines.{Recorded}
 use Rattle.schedule_audit.specs.Wrong.{last_clear}
 use Rattle.schedule_audit.specs.Texts.{record_of, records_of}
@@ -38,19 +40,11 @@ none_after k e (x ∷ es) all =
     let not_same : same_flow e.flow x.flow ≡ false = flow_below-not_same e.flow x.flow (All-head P x es all) in
     let is : same_flow e.flow x.flow ≡ true = subst (λ (f : Flow). same_flow e.flow f ≡ true) (sym equal) (same_flow-refl e.flow) in
     false≢true (sym not_same ∙ is)) in
-    or_from (x.clear && same_flow x.flow e.flow) (list_any (it_clears e.flow) (map (record_of k) es)) (ap (λ b. x.clear && b) other ∙ and_false x.clear) (none_after k e es (All-tail P x es all))
-  where
-    and_false : (b : Bool) → (b && false) ≡ false
-    and_false true = refl
-    and_false false = refl
+    or_from (x.clear && same_flow x.flow e.flow) (list_any (it_clears e.flow) (map (record_of k) es)) (ap (λ b. x.clear && b) other ∙ and-false x.clear) (none_after k e es (All-tail P x es all))
 
 this_one : (c rest : Bool) → rest ≡ false → ((c && true) || rest) ≡ c
 this_one true rest none = refl
 this_one false rest none = none
-
-other_one : (c rest : Bool) → ((c && false) || rest) ≡ rest
-other_one true rest = refl
-other_one false rest = refl
 
 clears-one : (k : ℕ) (es : List Entry) (flow : Flow) → IsBatch es → list_any (it_clears flow) (map (record_of k) es) ≡ clears (entry_of es flow)
 clears-one k [] flow rises = refl
@@ -61,7 +55,7 @@ clears-one k (e ∷ es) flow rises =
           let same : e.flow ≡ flow = same_flow-true e.flow flow here in
           let none : list_any (it_clears flow) (map (record_of k) es) ≡ false = subst (λ (f : Flow). list_any (it_clears f) (map (record_of k) es) ≡ false) same (none_after k e es (AllPairs-head R e es rises)) in
           rw here (this_one e.clear (list_any (it_clears flow) (map (record_of k) es)) none)
-      | inr other ↦ rw other (other_one e.clear (list_any (it_clears flow) (map (record_of k) es)) ∙ clears-one k es flow (AllPairs-tail R e es rises))
+      | inr other ↦ rw other (never_or e.clear (list_any (it_clears flow) (map (record_of k) es)) ∙ clears-one k es flow (AllPairs-tail R e es rises))
     ]
 
 -- ---- records before others

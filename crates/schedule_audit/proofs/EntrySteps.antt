@@ -1,10 +1,12 @@
 -- One entry more is entered.
-use Rattle.std.proofs.Common.{◌≡◌, ◌<◌, ◌≤◌, ◌+◌, ◌&&◌, ℕ, zero, suc, List, [], ◌∷◌, ◌++◌, length, take, drop, get_or, cond, Bool, true, false, Option, Some, None, is_some, All, IsTrue, refl, sym, ap, ◌∙◌, subst, inl, inr, arith}
+use Rattle.std.proofs.Common.{◌≡◌, ◌<◌, ◌≤◌, ◌+◌, ◌&&◌, ℕ, zero, suc, List, [], ◌∷◌, ◌++◌, length, take, drop, get_or, cond, true, false, Some, None, is_some, All, IsTrue, refl, sym, ap, ◌∙◌, subst, inl, inr, arith}
 use Rattle.std.specs.Option.{option_or}
 use Rattle.std.proofs.lemmas.Bool.{cases_Bool, cond-true, cond-false}
 use Rattle.std.proofs.lemmas.List.{take_more}
 use Rattle.std.proofs.lemmas.List.Elements.{All-head, All-tail}
 use Rattle.std.proofs.lemmas.List.Folds.{find-append}
+use Rattle.std.proofs.Math.Bool.{and-true, and-false}
+use Rattle.list_facts.proofs.Options.{option_or-none}
 use Rattle.greedy_rules.specs.declared.flows.Flow.{Flow}
 use Rattle.greedy_rules.specs.declared.flows.Entry.{Entry}
 use Rattle.greedy_rules.specs.Flows.{same_flow, flow_below}
@@ -60,11 +62,7 @@ entry-this entries at d flow rises within same =
 pub entry-other : (entries : List Entry) (at : ℕ) (d : Entry) (flow : Flow) → at < length entries → same_flow (get_or entries at d).flow flow ≡ false → entry_of (take (at + 1) entries) flow ≡ entry_of (take at entries) flow
 entry-other entries at d flow within other =
     entry-more entries at d flow within
-    ∙ (ap (λ o. option_or (entry_of (take at entries) flow) o) (cond-false (same_flow (get_or entries at d).flow flow) (Some (get_or entries at d)) None other) ∙ nothing (entry_of (take at entries) flow))
-  where
-    nothing : (o : Option Entry) → option_or o None ≡ o
-    nothing None = refl
-    nothing (Some e) = refl
+    ∙ (ap (λ o. option_or (entry_of (take at entries) flow) o) (cond-false (same_flow (get_or entries at d).flow flow) (Some (get_or entries at d)) None other) ∙ option_or-none (entry_of (take at entries) flow))
 
 -- ---- one entry more
 
@@ -118,14 +116,6 @@ enters-more entries at d slots start old new rises within small so seen added cl
       where
         plain : (n : ℕ) → n + 0 ≡ n
         plain n = omega arith
-
-        and-true : (b : Bool) → (b && true) ≡ b
-        and-true true = refl
-        and-true false = refl
-
-        and-false : (b : Bool) → (b && false) ≡ false
-        and-false true = refl
-        and-false false = refl
 
 pub enters-none : (slots : Numbers) (start : Ledger) → Enters [] slots start start
 enters-none slots start = record { seen = λ f. refl; added = λ f. omega arith; few = λ f. omega arith; cleared = λ f. refl }

@@ -1,9 +1,9 @@
 -- All rounds of a text were played.
-use Rattle.std.proofs.Common.{◌≡◌, ◌<◌, ◌≤◌, ◌+◌, ◌*◌, ◌^◌, nat_lt, ℕ, zero, suc, List, [], ◌∷◌, ◌++◌, length, take, drop, get_or, cond, Bool, Option, Some, None, All, refl, sym, ap, ◌∙◌, subst, arith, append-nil}
+use Rattle.std.proofs.Common.{◌≡◌, ◌<◌, ◌≤◌, ◌+◌, ◌*◌, ◌^◌, nat_lt, ℕ, suc, List, [], ◌∷◌, ◌++◌, length, take, drop, get_or, cond, Bool, Option, Some, None, All, refl, sym, ap, ◌∙◌, subst, arith, append-nil}
 use Rattle.std.specs.Prelude.{option_map}
 use Rattle.std.specs.List.{cons_option}
 use Rattle.std.proofs.Math.Nat.{mul-le-mul_right}
-use Rattle.std.proofs.lemmas.List.{take_all, take_more}
+use Rattle.std.proofs.lemmas.List.{take_all, take_more, drop_more}
 use Rattle.std.proofs.lemmas.List.Sums.{sum_by-take-drop}
 use Rattle.list_facts.specs.Order.{sort_by}
 use Rattle.greedy_rules.specs.declared.flows.Flow.{Flow}
@@ -41,20 +41,7 @@ use Rattle.schedule_audit.proofs.FirstWrong.{first-of-all}
 -- ---- the rounds one after the other
 
 pub next-batch : (batches : List DemandBatch) (k : ℕ) (d : DemandBatch) → k < length batches → (drop k batches ≡ get_or batches k d ∷ drop (k + 1) batches) × (take k batches ++ get_or batches k d ∷ [] ≡ take (k + 1) batches)
-next-batch batches k d within = (dropped batches k within, sym (take_more batches k d within))
-  where
-    dropped : (xs : List DemandBatch) (n : ℕ) → n < length xs → drop n xs ≡ get_or xs n d ∷ drop (n + 1) xs
-    dropped [] n less = absurd (omega arith)
-    dropped (x ∷ xs) zero less = refl
-    dropped (x ∷ xs) (suc n) less = dropped xs n (omega arith) ∙ ap (λ m. get_or xs n d ∷ drop m (x ∷ xs)) (same n)
-      where
-        same : (n : ℕ) → suc (n + 1) ≡ suc n + 1
-        same n = omega arith
-
-pub front-long : (batches : List DemandBatch) (k : ℕ) → k ≤ length batches → length (take k batches) ≡ k
-front-long batches zero le = refl
-front-long [] (suc k) le = absurd (omega arith)
-front-long (x ∷ batches) (suc k) le = ap suc (front-long batches k (omega arith))
+next-batch batches k d within = (drop_more batches k d within, sym (take_more batches k d within))
 
 pub numbers-fit : (round rounds b : ℕ) → round < rounds → rounds ≤ 100000 → b ≤ 255 → round * b + b + 1 ≤ 2 ^ 32
 numbers-fit round rounds b less few small = let most = mul-le-mul_right b (low less few) in omega (arith, most, small)

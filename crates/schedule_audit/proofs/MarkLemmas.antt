@@ -1,9 +1,10 @@
 -- The marks of one kind of links, and one path more.
-use Rattle.std.proofs.Common.{◌≡◌, ◌≢◌, ◌<◌, ◌≤◌, ◌==◌, ◌&&◌, ◌||◌, ℕ, List, [], ◌∷◌, length, set, get_or, Bool, true, false, Option, Some, None, inl, inr, refl, sym, ap, ◌∙◌, arith}
+use Rattle.std.proofs.Common.{◌≡◌, ◌≢◌, ◌<◌, ◌≤◌, ◌==◌, ◌&&◌, ◌||◌, ℕ, List, [], ◌∷◌, length, set, get_or, Bool, false, Option, Some, None, inl, inr, refl, sym, ap, ◌∙◌, arith}
 use Rattle.std.specs.List.{list_any}
 use Rattle.std.proofs.lemmas.Bool.{cases_eq, eq-eqb, ne_eqb, or_from, and_left}
 use Rattle.std.proofs.lemmas.List.{get_or-set_same, get_or-set_other}
 use Rattle.std.proofs.lemmas.List.Elements.{All-head, All-tail}
+use Rattle.list_facts.proofs.Bools.{never_or}
 use Rattle.schedule_audit.specs.Lines.{Path}
 use Rattle.schedule_audit.specs.Marks.{is_place, takes_link, AreUpTo, AreMarks}
 
@@ -18,14 +19,10 @@ module _ (place_of : Path → Option ℕ) where
       (and_left (q.place.slot == slot) (is_place (place_of q) place) (ne_eqb q.place.slot slot here))
       (none_later slot place last before (All-tail P q before upto) later)
 
-  skip : (b c : Bool) → ((b && false) || c) ≡ c
-  skip true c = refl
-  skip false c = refl
-
   pub mark-none : (marks : List ℕ) (before : List Path) (p : Path) → place_of p ≡ None → AreMarks place_of marks before → AreMarks place_of marks (p ∷ before)
   mark-none marks before p none are = λ slot place some upto.
       are slot place some (All-tail (λ (x : Path). x.place.slot ≤ slot) p before upto)
-      ∙ (sym (skip (p.place.slot == slot) (list_any (takes_link place_of slot place) before))
+      ∙ (sym (never_or (p.place.slot == slot) (list_any (takes_link place_of slot place) before))
       ∙ ap (λ (o : Option ℕ). ((p.place.slot == slot) && is_place o place) || list_any (takes_link place_of slot place) before) (sym none))
 
   pub mark-more : (marks : List ℕ) (before : List Path) (p : Path) (at : ℕ) → place_of p ≡ Some at → at < length marks → AreUpTo p.place.slot before → AreMarks place_of marks before
@@ -41,7 +38,7 @@ module _ (place_of : Path → Option ℕ) where
         | inr other ↦
             ap (λ (n : ℕ). n == slot) (get_or-set_other marks at place p.place.slot 0 (λ e. other (sym e)))
             ∙ (are slot place some (All-tail P p before upto)
-            ∙ (sym (skip (p.place.slot == slot) (list_any (takes_link place_of slot place) before))
+            ∙ (sym (never_or (p.place.slot == slot) (list_any (takes_link place_of slot place) before))
             ∙ (ap (λ (b : Bool). ((p.place.slot == slot) && b) || list_any (takes_link place_of slot place) before) (sym (ne_eqb at place other)) ∙ there)))
       ]
     where

@@ -1,11 +1,12 @@
 -- What each flow of a list needs, item after item.
-use Rattle.std.proofs.Common.{◌≡◌, ◌<◌, ◌+◌, ℕ, zero, suc, List, [], ◌∷◌, ◌++◌, length, take, drop, get_or, cond, Bool, false, Option, Some, None, All, refl, sym, ap, ◌∙◌, inl, inr, arith}
+use Rattle.std.proofs.Common.{◌≡◌, ◌<◌, ◌+◌, ℕ, zero, suc, List, [], ◌∷◌, ◌++◌, length, take, drop, get_or, cond, Bool, false, Some, None, All, refl, sym, ap, ◌∙◌, inl, inr, arith}
 use Rattle.std.specs.Option.{option_or}
 use Rattle.std.proofs.lemmas.Bool.{cases_Bool, cond-true, cond-false}
 use Rattle.std.proofs.lemmas.List.{take_more}
 use Rattle.std.proofs.lemmas.List.Elements.{All-head, All-tail}
 use Rattle.std.proofs.lemmas.List.Folds.{find-append}
 use Rattle.list_facts.proofs.Pairs.{AllPairs-head, AllPairs-tail}
+use Rattle.list_facts.proofs.Options.{option_or-none}
 use Rattle.greedy_rules.specs.declared.flows.Flow.{Flow}
 use Rattle.greedy_rules.specs.declared.flows.Item.{Item}
 use Rattle.greedy_rules.specs.Flows.{same_flow}
@@ -41,7 +42,7 @@ needs-more items at item old new once within is so_far set flow = elim (cases_Bo
       ∙ cond-true (same_flow item.flow flow) (Some item) None same))))
   | inr other ↦
       set flow ∙ (cond-false (same_flow item.flow flow) item.need (flow_number_of old flow) other
-      ∙ (so_far flow ∙ sym (ap need_in (more ∙ (ap (λ o. option_or (item_of (take at items) flow) o) (cond-false (same_flow item.flow flow) (Some item) None other) ∙ nothing (item_of (take at items) flow))))))
+      ∙ (so_far flow ∙ sym (ap need_in (more ∙ (ap (λ o. option_or (item_of (take at items) flow) o) (cond-false (same_flow item.flow flow) (Some item) None other) ∙ option_or-none (item_of (take at items) flow))))))
 ]
   where
     none : item_of (take at items) item.flow ≡ None
@@ -50,16 +51,9 @@ needs-more items at item old new once within is so_far set flow = elim (cases_Bo
     more : item_of (take (at + 1) items) flow ≡ option_or (item_of (take at items) flow) (item_of (item ∷ []) flow)
     more = ap (λ xs. item_of xs flow) (take_more items at item within ∙ ap (λ i. take at items ++ i ∷ []) (sym is)) ∙ find-append (λ (i : Item). same_flow i.flow flow) (take at items) (item ∷ [])
 
-    nothing : (o : Option Item) → option_or o None ≡ o
-    nothing None = refl
-    nothing (Some i) = refl
-
 -- ---- totals
 
 pub total-step : (wrong : Total → Bool) (totals : List (Numbered Total)) (i : ℕ) (d : Numbered Total) → i < length totals → wrong (get_or totals i d).said ≡ false → first_total wrong (drop i totals) ≡ first_total wrong (drop (i + 1) totals)
 total-step wrong [] i d within right = absurd (omega arith)
 total-step wrong (t ∷ totals) zero d within right = cond-false (wrong t.said) (Some t.line) (first_total wrong totals) right
-total-step wrong (t ∷ totals) (suc i) d within right = total-step wrong totals i d (omega arith) right ∙ ap (λ n. first_total wrong (drop n (t ∷ totals))) (next i)
-  where
-    next : (i : ℕ) → suc (i + 1) ≡ suc i + 1
-    next i = omega arith
+total-step wrong (t ∷ totals) (suc i) d within right = total-step wrong totals i d (omega arith) right ∙ ap (λ n. first_total wrong (drop n (t ∷ totals))) (let next : suc (i + 1) ≡ suc i + 1 = omega arith in next)

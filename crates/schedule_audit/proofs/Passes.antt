@@ -2,6 +2,7 @@
 use Rattle.std.proofs.Common.{◌≡◌, ◌+◌, nat_le, ◌||◌, ℕ, List, [], ◌∷◌, length, cond, Bool, true, false, Option, Some, None, refl, sym, ap, ◌∙◌, subst, arith}
 use Rattle.std.specs.List.{cons_option}
 use Rattle.std.proofs.lemmas.Bool.{cond-true, cond-false}
+use Rattle.std.proofs.Math.Bool.{or-false}
 use Rattle.report_text.specs.declared.line.Line.{Line}
 use Rattle.schedule_audit.specs.Reading.{ReadsLines, ReadsLine}
 use Rattle.schedule_audit.specs.Lines.{Recorded, recorded_by, rounds_by, records, ends, reaches}
@@ -92,7 +93,7 @@ module _ (endpoints : ℕ) (lines : List (Option Line)) (rest later : List ℕ) 
           same = from ∙ (cond-false (is_misplaced endpoints lines reached.before line) (Some number) (first_from (is_misplaced endpoints lines) (number + 1) (line ∷ reached.before) first.0) fine
               ∙ ap (λ n. first_from (is_misplaced endpoints lines) n (line ∷ reached.before) first.0) (sym is));
           stands = stands;
-          ended_is = sym (end-more line reached.before ∙ (ap (λ b. has_end (line ∷ []) || b) none ∙ or_false (has_end (line ∷ []))));
+          ended_is = sym (end-more line reached.before ∙ (ap (λ b. has_end (line ∷ []) || b) none ∙ or-false (has_end (line ∷ []))));
           has = reached.has ∙ (ap (λ xs. has_end reached.before || has_end xs) first.1
               ∙ (ap (λ b. has_end reached.before || b) (end-more line first.0)
               ∙ (swap (has_end reached.before) (has_end (line ∷ [])) (has_end first.0)
@@ -101,10 +102,6 @@ module _ (endpoints : ℕ) (lines : List (Option Line)) (rest later : List ℕ) 
         },
         first.1,
       )
-    where
-      or_false : (b : Bool) → (b || false) ≡ b
-      or_false true = refl
-      or_false false = refl
 
 -- ---- at the end
 
@@ -116,11 +113,7 @@ module _ (endpoints : ℕ) (lines : List (Option Line)) (rest : List ℕ) (numbe
   none_found = ap (λ o. or_else o (after_last lines)) (reached.same ∙ ap (λ xs. first_from (is_misplaced endpoints lines) number reached.before xs) nothing)
 
   has_one : has_end lines ≡ ended
-  has_one = reached.has ∙ (ap (λ xs. has_end reached.before || has_end xs) nothing ∙ (or_false (has_end reached.before) ∙ sym reached.ended_is))
-    where
-      or_false : (b : Bool) → (b || false) ≡ b
-      or_false true = refl
-      or_false false = refl
+  has_one = reached.has ∙ (ap (λ xs. has_end reached.before || has_end xs) nothing ∙ (or-false (has_end reached.before) ∙ sym reached.ended_is))
 
   pub with_end : ended ≡ true → None ≡ first_misplaced endpoints lines
   with_end end = sym (none_found ∙ cond-true (has_end lines) None (Some (length lines + 1)) (has_one ∙ end))

@@ -3,7 +3,7 @@ use Rattle.std.proofs.Common.{◌≡◌, ◌≢◌, ◌<◌, ◌≤◌, ◌+◌,
 use Rattle.std.specs.List.{list_any}
 use Rattle.std.proofs.lemmas.Bool.{cond-true, cond-false, false≢true}
 use Rattle.std.proofs.lemmas.List.Elements.{All-nil, All-cons, All-head, All-tail}
-use Rattle.list_facts.proofs.Lists.{drop_whole}
+use Rattle.std.proofs.Math.ListN.{drop_of_length-le}
 use Rattle.clos_topology.specs.Network.{Network}
 use Rattle.schedule_audit.specs.declared.path_lines.PathLines.{PathLines}
 use Rattle.schedule_audit.specs.Lines.{Place, Path}
@@ -71,7 +71,7 @@ module _ (net : Network) (visited : List Place) (place : Place) (old new : PathL
   -- all lines were judged before
   pub stays-done : length old.lines.items ≤ old.next → new.bad ≡ old.bad → new.next ≡ old.next → new.links ≡ old.links → PathsStand net (visited ++ place ∷ []) new
   stays-done done kept at links =
-      let past : drop old.next old.lines.items ≡ [] = drop_whole old.next old.lines.items done in
+      let past : drop old.next old.lines.items ≡ [] = drop_of_length-le old.lines.items done in
       let past' : drop new.next new.lines.items ≡ [] = ap (λ v. drop new.next v.items) same ∙ (ap (λ (n : ℕ). drop n old.lines.items) at ∙ past) in
       record {
         before = stands.before;

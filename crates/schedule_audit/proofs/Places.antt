@@ -4,6 +4,7 @@ use Rattle.std.specs.List.{list_any, slice_get}
 use Rattle.std.proofs.lemmas.Bool.{cases_eq, eq-eqb, ne_eqb, and_from, and_left, and_right, or_from}
 use Rattle.std.proofs.lemmas.List.{append_assoc, length-append}
 use Rattle.std.proofs.lemmas.List.Elements.{All-cons, All-head, All-tail, All-weaker}
+use Rattle.std.proofs.lemmas.List.Folds.{list_any_none}
 use Rattle.greedy_rules.proofs.Facts.{same_flow-refl}
 use Rattle.list_facts.proofs.Pairs.{AllPairs-head, AllPairs-tail}
 use Rattle.clos_topology.specs.Network.{Network}
@@ -11,12 +12,6 @@ use Rattle.greedy_rules.specs.Flows.{same_flow}
 use Rattle.schedule_audit.specs.Lines.{Place, Path}
 use Rattle.schedule_audit.specs.Wrong.{Expected, same_place, is_at, share_a_link, has_wrong_core}
 use Rattle.schedule_audit.specs.Laws.{GoodPaths, GoodSends}
-
-any-false : {X : Type 0} (f : X → Bool) (xs : List X) → All (λ x. f x ≡ false) xs → list_any f xs ≡ false
-any-false f [] all = refl
-any-false {X} f (x ∷ xs) all =
-    let P : X → Type 0 = λ y. f y ≡ false in
-    or_from (f x) (list_any f xs) (All-head P x xs all) (any-false f xs (All-tail P x xs all))
 
 get-at : {X : Type 0} (front : List X) (x : X) (rest : List X) → slice_get (front ++ x ∷ rest) (length front) ≡ Some x
 get-at [] x rest = refl
@@ -37,7 +32,7 @@ good_paths net expected front before (p ∷ ps) places long cores apart cross =
     let there : slice_get expected.places (length before) ≡ Some p.place =
     ap (λ (xs : List Place). slice_get xs (length before)) places ∙ (ap (λ (n : ℕ). slice_get (front ++ p.place ∷ later) n) (sym long) ∙ get-at front p.place later) in
     let at : is_at (slice_get expected.places (length before)) p.place ≡ true = ap (λ (o : Option Place). is_at o p.place) there ∙ place-refl p.place in
-    let shares : list_any (share_a_link net p) before ≡ false = any-false (share_a_link net p) before
+    let shares : list_any (share_a_link net p) before ≡ false = list_any_none (share_a_link net p) before
     (All-weaker (λ q. All (NoShare net q) (p ∷ ps)) (λ q. share_a_link net p q ≡ false) (λ q all. All-head (NoShare net q) p ps all) before cross) in (
       or_from (not (is_at (slice_get expected.places (length before)) p.place)) (has_wrong_core net p.place.flow p.core || list_any (share_a_link net p) before) (ap not at)
           (or_from (has_wrong_core net p.place.flow p.core) (list_any (share_a_link net p) before) (All-head C p ps cores) shares),
@@ -62,7 +57,7 @@ good_sends expected before (s ∷ ss) scheduled once cross =
     let S : Place → Type 0 = λ x. list_any (same_place x) expected.places ≡ true in
     let t : Place → Bool = λ other. (other.slot == s.slot) && (other.flow.src == s.flow.src) in (
       or_from (not (list_any (same_place s) expected.places)) (list_any t before) (ap not (All-head S s ss scheduled))
-          (any-false t before (All-weaker (λ q. All (Once q) (s ∷ ss)) (λ q. t q ≡ false) (λ q all. differ q s (All-head (Once q) s ss all)) before cross)),
+          (list_any_none t before (All-weaker (λ q. All (Once q) (s ∷ ss)) (λ q. t q ≡ false) (λ q all. differ q s (All-head (Once q) s ss all)) before cross)),
       good_sends expected (s ∷ before) ss (All-tail S s ss scheduled) (AllPairs-tail Once s ss once)
           (All-cons (λ q. All (Once q) ss) s before (AllPairs-head Once s ss once) (All-weaker (λ q. All (Once q) (s ∷ ss)) (λ q. All (Once q) ss) (λ q all. All-tail (Once q) s ss all) before cross)),
     )

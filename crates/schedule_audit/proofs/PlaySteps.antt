@@ -1,8 +1,8 @@
 -- One round more is played: what the calls ask, and what they come to.
-use Rattle.std.proofs.Common.{◌≡◌, ◌≤◌, ◌+◌, ◌*◌, ◌==◌, not, ℕ, zero, suc, List, [], ◌∷◌, ◌++◌, map, length, drop, All, refl, sym, ap, ◌∙◌, subst, arith, append_assoc, append-nil, length-append}
-use Rattle.std.proofs.lemmas.List.{length-map, length-drop}
+use Rattle.std.proofs.Common.{◌≡◌, ◌≤◌, ◌+◌, ◌*◌, ◌==◌, not, ℕ, List, [], ◌∷◌, ◌++◌, map, length, drop, All, sym, ap, ◌∙◌, subst, arith, append_assoc, append-nil, length-append}
+use Rattle.std.proofs.lemmas.List.{length-map, length-drop, drop-drop}
 use Rattle.std.proofs.lemmas.List.Elements.{All-nil, All-cons, All-weaker}
-use Rattle.list_facts.proofs.Lists.{drop-none}
+use Rattle.std.proofs.Math.Seq.{drop-append_seam}
 use Rattle.greedy_rules.specs.declared.flows.Flow.{Flow}
 use Rattle.greedy_rules.specs.declared.flows.Entry.{Entry}
 use Rattle.greedy_rules.specs.declared.flows.Item.{Item}
@@ -42,21 +42,6 @@ pub among-front : (endpoints : ℕ) (limits : Limits) (earlier front later : Lis
 among-front endpoints limits earlier [] later are = All-nil (λ (b : DemandBatch). AreAmong endpoints b.entries)
 among-front endpoints limits earlier (x ∷ front) later are =
     All-cons (λ (b : DemandBatch). AreAmong endpoints b.entries) x front are.0.in_range (among-front endpoints limits (earlier ++ x ∷ []) front later are.1)
-
-drop-all : {X : Type 0} (xs ys : List X) → drop (length xs) (xs ++ ys) ≡ ys
-drop-all [] ys = refl
-drop-all (x ∷ xs) ys = drop-all xs ys
-
-drop-more : {X : Type 0} (m n : ℕ) (xs : List X) → drop (m + n) xs ≡ drop n (drop m xs)
-drop-more zero n xs = ap (λ k. drop k xs) (plain n)
-  where
-    plain : (n : ℕ) → 0 + n ≡ n
-    plain n = omega arith
-drop-more (suc m) n [] = drop-none (suc m + n) ∙ sym (drop-none n)
-drop-more (suc m) n (x ∷ xs) = ap (λ k. drop k (x ∷ xs)) (next m n) ∙ drop-more m n xs
-  where
-    next : (m n : ℕ) → suc m + n ≡ suc (m + n)
-    next m n = omega arith
 
 module _ (net : Network) (b : ℕ) (front : List DemandBatch) (batch : DemandBatch) (later : List DemandBatch) (rounds : Rounds) (stands : RoundsStand net b front (batch ∷ later) rounds) where
   abbrev N : ℕ
@@ -182,10 +167,10 @@ module _ (net : Network) (b : ℕ) (front : List DemandBatch) (batch : DemandBat
             omega (arith, next, many, left, dropped, low, length-append (map (record_of (length front)) batch.entries) (records_of (length front + 1) later)));
         todo = ap (λ v. drop new.next v.items) kept
             ∙ (ap (λ m. drop m rounds.records.items) next
-            ∙ (drop-more rounds.next (length given.entries) rounds.records.items
+            ∙ (sym (drop-drop (length given.entries) rounds.next rounds.records.items)
             ∙ (ap (λ xs. drop (length given.entries) xs) stands.todo
             ∙ (ap (λ m. drop m (map (record_of (length front)) batch.entries ++ records_of (length front + 1) later)) many
-            ∙ (drop-all (map (record_of (length front)) batch.entries) (records_of (length front + 1) later) ∙ ap (λ m. records_of m later) (sym (length-append front (batch ∷ []))))))));
+            ∙ (drop-append_seam (map (record_of (length front)) batch.entries) (records_of (length front + 1) later) ∙ ap (λ m. records_of m later) (sym (length-append front (batch ∷ []))))))));
         ledger = ledger-more b front batch judges.slots rounds.ledger new.ledger fronts counts here.rises (counted-so-far ranged judges judged) stands.ledger (subst (λ xs. Enters xs judges.slots rounds.ledger new.ledger) entries enters);
         sized = subst (λ m. AreSized m new.ledger) stands.sized.seen sized;
         list = list-now fronts first given new.demand.items is at items;

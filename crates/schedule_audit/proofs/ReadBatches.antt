@@ -1,11 +1,12 @@
 -- The batches that are read off good records are recorded batches.
-use Rattle.std.proofs.Common.{◌≡◌, ◌≢◌, ◌<◌, ◌≤◌, ◌+◌, ◌==◌, nat_lt, nat_le, ◌&&◌, ◌||◌, not, ℕ, zero, suc, List, [], ◌∷◌, ◌++◌, map, length, cond, Bool, true, false, Option, Some, None, is_some, All, IsTrue, refl, sym, ap, ◌∙◌, subst, inl, inr, arith}
+use Rattle.std.proofs.Common.{◌≡◌, ◌≢◌, ◌<◌, ◌≤◌, ◌+◌, ◌==◌, nat_lt, nat_le, ◌&&◌, ◌||◌, not, ℕ, zero, suc, List, [], ◌∷◌, ◌++◌, map, length, cond, true, false, Option, Some, None, is_some, All, IsTrue, refl, sym, ap, ◌∙◌, subst, inl, inr, arith}
 use Rattle.std.specs.Prelude.{◌⊎◌}
 use Rattle.std.proofs.lemmas.Bool.{cases_Bool, cases_lt, cond-false, eqb-true, eqb-false, ltb-true, ltb-false, leb-false, and_parts, or_parts, or_cases, or_left, or_right, not-false, false≢true}
 use Rattle.std.proofs.lemmas.List.{append_assoc, append-nil}
 use Rattle.std.proofs.lemmas.List.Elements.{All-nil, All-cons, All-append, All-weaker}
 use Rattle.std.proofs.lemmas.List.Folds.{list_any-append}
 use Rattle.list_facts.proofs.Pairs.{AllPairs-nil, AllPairs-cons, AllPairs-append}
+use Rattle.list_facts.proofs.Bools.{not_without}
 use Rattle.greedy_rules.specs.declared.flows.Flow.{Flow}
 use Rattle.greedy_rules.specs.declared.flows.Entry.{Entry}
 use Rattle.greedy_rules.specs.declared.limits.Limits.{Limits}
@@ -101,13 +102,9 @@ is_good endpoints before r good =
       src = leb-false endpoints r.flow.src ends.0;
       dst = leb-false endpoints r.flow.dst others.0;
       apart = eqb-false r.flow.src r.flow.dst others.1;
-      clears = known r.clear (has_record r.flow before) four.0;
+      clears = not_without r.clear (has_record r.flow before) four.0;
       few = ltb-false most_added (added_since r.flow (r ∷ before)) four.1;
     }
-  where
-    known : (c h : Bool) → (c && not h) ≡ false → c ≡ true → h ≡ true
-    known true h none is = not-false h none
-    known false h none is = absurd (false≢true is)
 
 add_one : (endpoints k : ℕ) (front : List DemandBatch) (es : List Entry) (before : List Recorded) (r : Recorded) → r.batch ≡ k → All (Below r.flow) es → IsGood endpoints before r → Taken endpoints k front es before
     → Taken endpoints k front (es ++ entry_for front r ∷ []) (r ∷ before)

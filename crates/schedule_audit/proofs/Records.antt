@@ -1,5 +1,5 @@
 -- The records of recorded batches are good, one by one.
-use Rattle.std.proofs.Common.{◌≡◌, ◌≢◌, ◌<◌, ◌≤◌, ◌+◌, ◌==◌, nat_lt, nat_le, ◌&&◌, ◌||◌, not, ℕ, List, [], ◌∷◌, ◌++◌, map, length, cond, Bool, true, false, Option, Some, None, is_some, All, IsTrue, refl, sym, ap, ◌∙◌, subst, inl, inr, arith}
+use Rattle.std.proofs.Common.{◌≡◌, ◌≢◌, ◌<◌, ◌≤◌, ◌+◌, ◌==◌, nat_lt, nat_le, ◌&&◌, ◌||◌, not, ℕ, List, [], ◌∷◌, ◌++◌, map, length, cond, Bool, true, false, Some, None, is_some, All, IsTrue, refl, sym, ap, ◌∙◌, subst, inl, inr, arith}
 use Rattle.std.specs.List.{list_any}
 use Rattle.std.specs.Option.{option_or}
 use Rattle.std.proofs.lemmas.Bool.{cases_Bool, cond-true, cond-false, eq-eqb, ne_eqb, lt-ltb, le-ltb, lt-leb, and_from, or_from, or_left, or_right, or_cases, false≢true}
@@ -17,6 +17,7 @@ use Rattle.greedy_rules.specs.Recorded.{demand_of, IsRecordedAfter, AreRecordedA
 use Rattle.greedy_rules.proofs.Facts.{same_flow-true, same_flow-refl, flow_below-not_same}
 use Rattle.greedy_rules.proofs.RecordedLemmas.{demand_more}
 use Rattle.list_facts.proofs.Pairs.{AllPairs-head, AllPairs-tail}
+use Rattle.list_facts.proofs.Options.{option_or-none}
 use Rattle.schedule_audit.specs.Lines.{Recorded, has_record}
 use Rattle.schedule_audit.specs.Misplaced.{most_added, is_above, added_since, is_bad_record, is_bad_end}
 use Rattle.schedule_audit.specs.Laws.{GoodRecords}
@@ -40,10 +41,6 @@ start = record {
   next = λ r later. refl;
 }
 
-or_none : (o : Option Entry) → option_or o None ≡ o
-or_none None = refl
-or_none (Some e) = refl
-
 -- no earlier entry has the flow
 pub none_before : (es : List Entry) (flow : Flow) → All (λ x. flow_below x.flow flow ≡ true) es → entry_of es flow ≡ None
 none_before [] flow all = refl
@@ -55,7 +52,7 @@ entry-push : (es : List Entry) (e : Entry) (flow : Flow) → entry_of (es ++ e �
 entry-push es e flow = find-append (λ (x : Entry). same_flow x.flow flow) es (e ∷ [])
 
 entry-other : (es : List Entry) (e : Entry) (flow : Flow) → same_flow e.flow flow ≡ false → entry_of (es ++ e ∷ []) flow ≡ entry_of es flow
-entry-other es e flow other = entry-push es e flow ∙ (ap (λ o. option_or (entry_of es flow) o) (cond-false (same_flow e.flow flow) (Some e) None other) ∙ or_none (entry_of es flow))
+entry-other es e flow other = entry-push es e flow ∙ (ap (λ o. option_or (entry_of es flow) o) (cond-false (same_flow e.flow flow) (Some e) None other) ∙ option_or-none (entry_of es flow))
 
 entry-here : (es rest : List Entry) (e : Entry) → All (λ x. flow_below x.flow e.flow ≡ true) es → entry_of (es ++ e ∷ rest) e.flow ≡ Some e
 entry-here es rest e below =

@@ -4,9 +4,9 @@ use Rattle.std.specs.Prelude.{◌⊎◌, count_by, sum_by}
 use Rattle.std.specs.List.{slice_index_or}
 use Rattle.std.proofs.Math.Nat.{mul-le-mul_right}
 use Rattle.std.proofs.lemmas.Bool.{cases_Bool, cond-true, cond-false, ne_eqb, false≢true, false_from_ne_true}
-use Rattle.std.proofs.lemmas.List.{take-append-le, take_more}
+use Rattle.std.proofs.lemmas.List.{take-append-le, take_more, length-take-le}
 use Rattle.std.proofs.lemmas.List.Sums.{sum_by-append, sum_by-cons}
-use Rattle.std.proofs.lemmas.List.Elements.{All-nil, All-cons, All-append, All-head, All-tail}
+use Rattle.std.proofs.lemmas.List.Elements.{All-nil, All-cons, All-append, All-head, All-tail, All-take}
 use Rattle.std.proofs.lemmas.List.Folds.{list_any-append}
 use Rattle.list_facts.proofs.Pairs.{AllPairs-head, AllPairs-tail}
 use Rattle.greedy_rules.specs.declared.flows.Flow.{Flow}
@@ -55,16 +55,11 @@ places-before endpoints number (slot ∷ slots) few all =
     (rest-before ((number + 1) * 65536) ((number + length (slot ∷ slots)) * 65536) (in_slot number slot) (omega arith) (slot-before endpoints number slot few (All-head (IsSlotOf endpoints) slot slots all).in_range))
     (rest-before (((number + 1) + length slots) * 65536) ((number + length (slot ∷ slots)) * 65536) (slot_places_from (number + 1) slots) (omega arith) (places-before endpoints (number + 1) slots few (All-tail (IsSlotOf endpoints) slot slots all)))
 
-taken : {X : Type 0} (xs : List X) (n : ℕ) → n ≤ length xs → length (take n xs) ≡ n
-taken xs zero le = refl
-taken [] (suc n) le = absurd (omega arith)
-taken (x ∷ xs) (suc n) le = ap suc (taken xs n (omega arith))
-
 -- the slots so far, and one more
 pub slots-step : (number offset : ℕ) (visited : List Place) (slots : List (List Flow)) (slot : List Flow) → offset < length slots → slot ≡ slice_index_or slots offset []
     → (visited ++ slot_places_from number (take offset slots)) ++ in_slot (number + offset) slot ≡ visited ++ slot_places_from number (take (offset + 1) slots)
 slots-step number offset visited slots slot within is =
-    let long : number + length (take offset slots) ≡ number + offset = ap (λ n. number + n) (taken slots offset (omega (arith, within))) in
+    let long : number + length (take offset slots) ≡ number + offset = ap (λ n. number + n) (length-take-le offset slots (omega (arith, within))) in
     append_assoc visited (slot_places_from number (take offset slots)) (in_slot (number + offset) slot)
     ∙ ap (λ ps. visited ++ ps)
     (ap (λ ps. slot_places_from number (take offset slots) ++ ps) (sym (append-nil (in_slot (number + offset) slot)))
@@ -72,18 +67,13 @@ slots-step number offset visited slots slot within is =
     ∙ (sym (places-append number (take offset slots) (slot ∷ []))
     ∙ ap (λ ss. slot_places_from number ss) (ap (λ s. take offset slots ++ s ∷ []) is ∙ sym (take_more slots offset [] within)))))
 
-all-taken : {X : Type 0} (P : X → Type 0) (n : ℕ) (xs : List X) → All P xs → All P (take n xs)
-all-taken P zero xs all = All-nil P
-all-taken P (suc n) [] all = All-nil P
-all-taken P (suc n) (x ∷ xs) all = All-cons P x (take n xs) (All-head P x xs all) (all-taken P n xs (All-tail P x xs all))
-
 pub slots-before : (endpoints number offset : ℕ) (visited : List Place) (slots : List (List Flow)) → endpoints ≤ 65536 → offset ≤ length slots → All (IsSlotOf endpoints) slots → AreBefore (number * 65536) visited
     → AreBefore ((number + offset) * 65536) (visited ++ slot_places_from number (take offset slots))
 slots-before endpoints number offset visited slots few within all before =
-    let long = taken slots offset within in
+    let long = length-take-le offset slots within in
     both-before ((number + offset) * 65536) visited (slot_places_from number (take offset slots)) (rest-before (number * 65536) ((number + offset) * 65536) visited (omega arith) before)
     (rest-before ((number + length (take offset slots)) * 65536) ((number + offset) * 65536) (slot_places_from number (take offset slots)) (omega (arith, long))
-    (places-before endpoints number (take offset slots) few (all-taken (IsSlotOf endpoints) offset slots all)))
+    (places-before endpoints number (take offset slots) few (All-take (IsSlotOf endpoints) offset slots all)))
 
 -- ---- how often a flow stands in slots
 

@@ -5,7 +5,8 @@ use Rattle.std.specs.List.{list_any}
 use Rattle.std.proofs.lemmas.Bool.{eq-eqb, eqb-true, or_parts, leb-false, and_parts, and_from, not-false}
 use Rattle.std.proofs.lemmas.List.Elements.{All-head, All-tail}
 use Rattle.std.proofs.lemmas.Nat.{same_from_place}
-use Rattle.list_facts.proofs.Bools.{or-none}
+use Rattle.std.proofs.Math.Bool.{or-false, and_comm}
+use Rattle.list_facts.proofs.Bools.{neither}
 use Rattle.greedy_rules.specs.Limits.{rack_of}
 use Rattle.greedy_rules.proofs.WalkLemmas.{or_both}
 use Rattle.clos_topology.specs.Network.{Network}
@@ -40,20 +41,20 @@ abbrev links_when : Bool → ℕ → ℕ → ℕ → ℕ → ℕ → List Link
 links_when b s d r q core = up s ∷ (cond b [] (rise r core ∷ fall core q ∷ []) ++ down d ∷ [])
 
 up-in : (b : Bool) (x s d r q core : ℕ) → list_any (same_link (up x)) (links_when b s d r q core) ≡ (x == s)
-up-in true x s d r q core = or-none (x == s)
-up-in false x s d r q core = or-none (x == s)
+up-in true x s d r q core = or-false (x == s)
+up-in false x s d r q core = or-false (x == s)
 
 down-in : (b : Bool) (x s d r q core : ℕ) → list_any (same_link (down x)) (links_when b s d r q core) ≡ (x == d)
-down-in true x s d r q core = or-none (x == d)
-down-in false x s d r q core = or-none (x == d)
+down-in true x s d r q core = or-false (x == d)
+down-in false x s d r q core = or-false (x == d)
 
 rise-in : (b : Bool) (x n s d r q core : ℕ) → list_any (same_link (rise x n)) (links_when b s d r q core) ≡ (not b && ((x == r) && (n == core)))
 rise-in true x n s d r q core = refl
-rise-in false x n s d r q core = or-none ((x == r) && (n == core))
+rise-in false x n s d r q core = or-false ((x == r) && (n == core))
 
 fall-in : (b : Bool) (x n s d r q core : ℕ) → list_any (same_link (fall n x)) (links_when b s d r q core) ≡ (not b && ((n == core) && (x == q)))
 fall-in true x n s d r q core = refl
-fall-in false x n s d r q core = or-none ((n == core) && (x == q))
+fall-in false x n s d r q core = or-false ((n == core) && (x == q))
 
 module _ (net : Network) where
   abbrev stays : Path → Bool
@@ -80,12 +81,6 @@ module _ (net : Network) where
       let at : r ≡ x = sym (eqb-true x r parts.0) in
       let by : c ≡ n = sym (eqb-true n c parts.1) in
       eq-eqb (r * net.cores + c) (x * net.cores + n) (ap (λ (m : ℕ). m * net.cores + c) at ∙ ap (λ (m : ℕ). x * net.cores + m) by))
-
-  and-swap : (a b : Bool) → (a && b) ≡ (b && a)
-  and-swap true true = refl
-  and-swap true false = refl
-  and-swap false true = refl
-  and-swap false false = refl
 
   -- with a core named exactly where a path leaves its rack
   pub right-none : (q : Path) → q.core ≡ None → has_wrong_core net q.place.flow q.core ≡ false → stays q ≡ true
@@ -121,7 +116,7 @@ module _ (net : Network) where
       by_core (Some c) is =
           let leaves = right-some q c is right in
           rw (leaves.0, is)
-          (and-swap (core == c) (rack_of net.hosts p.place.flow.dst == rack_of net.hosts q.place.flow.dst)
+          (and_comm (core == c) (rack_of net.hosts p.place.flow.dst == rack_of net.hosts q.place.flow.dst)
           ∙ sym (place-same (rack_of net.hosts q.place.flow.dst) (rack_of net.hosts p.place.flow.dst) c core leaves.1 within))
 
   abbrev up_taken : Path → Path → Bool
@@ -145,7 +140,7 @@ module _ (net : Network) where
   stay-shares p q stay =
       ap (λ (b : Bool). (p.place.slot == q.place.slot) && list_any (meets q) (links_when b p.place.flow.src p.place.flow.dst (rack_of net.hosts p.place.flow.src) (rack_of net.hosts p.place.flow.dst) (unwrap_or p.core 0))) stay
       ∙ (ap (λ (b : Bool). b && (meets q (up p.place.flow.src) || (meets q (down p.place.flow.dst) || false))) (eq-sym p.place.slot q.place.slot)
-      ∙ (ap (λ (b : Bool). (q.place.slot == p.place.slot) && (meets q (up p.place.flow.src) || b)) (or-none (meets q (down p.place.flow.dst)))
+      ∙ (ap (λ (b : Bool). (q.place.slot == p.place.slot) && (meets q (up p.place.flow.src) || b)) (or-false (meets q (down p.place.flow.dst)))
       ∙ (ap (λ (b : Bool). (q.place.slot == p.place.slot) && (b || meets q (down p.place.flow.dst))) (up-meets p q)
       ∙ (ap (λ (b : Bool). (q.place.slot == p.place.slot) && (is_place (up_link q) p.place.flow.src || b)) (down-meets p q)
       ∙ spread (q.place.slot == p.place.slot) (is_place (up_link q) p.place.flow.src) (is_place (down_link q) p.place.flow.dst)))))
@@ -163,7 +158,7 @@ module _ (net : Network) where
       ap (λ (b : Bool). (p.place.slot == q.place.slot) && list_any (meets q) (links_when b p.place.flow.src p.place.flow.dst lower upper (unwrap_or p.core 0))) leave
       ∙ (ap (λ (o : Option ℕ). (p.place.slot == q.place.slot) && list_any (meets q) (links_when false p.place.flow.src p.place.flow.dst lower upper (unwrap_or o 0))) some
       ∙ (ap (λ (b : Bool). b && (meets q (up p.place.flow.src) || (meets q (rise lower core) || (meets q (fall core upper) || (meets q (down p.place.flow.dst) || false))))) (eq-sym p.place.slot q.place.slot)
-      ∙ (ap (λ (b : Bool). x && (meets q (up p.place.flow.src) || (meets q (rise lower core) || (meets q (fall core upper) || b)))) (or-none (meets q (down p.place.flow.dst)))
+      ∙ (ap (λ (b : Bool). x && (meets q (up p.place.flow.src) || (meets q (rise lower core) || (meets q (fall core upper) || b)))) (or-false (meets q (down p.place.flow.dst)))
       ∙ (ap (λ (b : Bool). x && (b || (meets q (rise lower core) || (meets q (fall core upper) || meets q (down p.place.flow.dst))))) (up-meets p q)
       ∙ (ap (λ (b : Bool). x && (a || (b || (meets q (fall core upper) || meets q (down p.place.flow.dst))))) (rise-meets p q core within right)
       ∙ (ap (λ (b : Bool). x && (a || (r || (b || meets q (down p.place.flow.dst))))) (fall-meets p q core within right)
@@ -206,10 +201,6 @@ module _ (net : Network) where
   each-free false false false true = refl
   each-free false false false false = refl
 
-  both-free : (a b : Bool) → (not a && not b) ≡ not (a || b)
-  both-free true b = refl
-  both-free false b = refl
-
   pub leave-free : (marks : Links) (p : Path) (core : ℕ) (before : List Path) (u d r f : Bool) → p.core ≡ Some core → has_wrong_core net p.place.flow p.core ≡ false → 0 < p.place.slot → AreUpTo p.place.slot before
       → PathsAreMarked net marks before → u ≡ not (get_or marks.up.items p.place.flow.src 0 == p.place.slot) → d ≡ not (get_or marks.down.items p.place.flow.dst 0 == p.place.slot)
       → r ≡ not (get_or marks.rise.items (rack_of net.hosts p.place.flow.src * net.cores + core) 0 == p.place.slot) → f ≡ not (get_or marks.fall.items (rack_of net.hosts p.place.flow.dst * net.cores + core) 0 == p.place.slot)
@@ -235,4 +226,4 @@ module _ (net : Network) where
       let slot = p.place.slot in
       ap (λ (b : Bool). b && d) (u_is ∙ ap not (marked.up slot p.place.flow.src late upto))
       ∙ (ap (λ (b : Bool). not (list_any (up_taken p) before) && b) (d_is ∙ ap not (marked.down slot p.place.flow.dst late upto))
-      ∙ (both-free (list_any (up_taken p) before) (list_any (down_taken p) before) ∙ ap not (sym (stay-any p before (right-none p none right)))))
+      ∙ (neither (list_any (up_taken p) before) (list_any (down_taken p) before) ∙ ap not (sym (stay-any p before (right-none p none right)))))

@@ -1,6 +1,6 @@
 -- One record more.
 use Rattle.std.proofs.Common.{◌≡◌, ◌<◌, ◌+◌, nat_lt, nat_le, ◌==◌, ◌&&◌, ◌||◌, not, ℕ, List, [], ◌∷◌, cond, Bool, true, false, Option, Some, None, is_some, refl, sym, ap, ◌∙◌, inl, inr, arith}
-use Rattle.std.proofs.lemmas.Bool.{cases_Bool, cond-true, cond-false, or_from, or_parts, leb-false}
+use Rattle.std.proofs.lemmas.Bool.{cases_Bool, cond-true, cond-false, or_from, or_parts, leb-false, or_right}
 use Rattle.greedy_rules.specs.declared.flows.Flow.{Flow}
 use Rattle.greedy_rules.specs.Flows.{same_flow}
 use Rattle.greedy_rules.proofs.Facts.{same_flow-refl, same_flow-true}
@@ -70,10 +70,6 @@ bad-clear endpoints earlier r is =
 pub bad-sum : (endpoints : ℕ) (earlier : List Recorded) (r : Recorded) → adds_too_much earlier r ≡ true → is_bad_record endpoints earlier r ≡ true
 bad-sum endpoints earlier r is =
     last_two (not (is_above earlier r)) (has_wrong_ends endpoints r.flow) (says_nothing r) (clears_none earlier r) (adds_too_much earlier r) (or_right (clears_none earlier r) (adds_too_much earlier r) is)
-  where
-    or_right : (d e : Bool) → e ≡ true → (d || e) ≡ true
-    or_right true e is = refl
-    or_right false e is = is
 
 pub good-record : (endpoints : ℕ) (earlier : List Recorded) (r : Recorded) → is_above earlier r ≡ true → has_wrong_ends endpoints r.flow ≡ false → says_nothing r ≡ false → clears_none earlier r ≡ false
     → adds_too_much earlier r ≡ false → is_bad_record endpoints earlier r ≡ false

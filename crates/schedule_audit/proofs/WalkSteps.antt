@@ -3,7 +3,7 @@ use Rattle.std.proofs.Common.{◌≡◌, ◌<◌, ◌≤◌, ◌+◌, ◌-◌, �
 use Rattle.std.specs.Prelude.{count_by}
 use Rattle.std.specs.List.{slice_index_or}
 use Rattle.std.proofs.lemmas.Bool.{cases_Bool, cases_lt, cond-true, cond-false}
-use Rattle.std.proofs.lemmas.List.{take_more}
+use Rattle.std.proofs.lemmas.List.{take_more, length-take-le}
 use Rattle.std.proofs.lemmas.List.Sums.{sum_by-append, sum_by-cons}
 use Rattle.greedy_rules.proofs.Facts.{same_flow-true}
 use Rattle.std.proofs.lemmas.List.Elements.{All-nil, All-cons, All-append, All-head, All-tail, All-weaker}
@@ -117,12 +117,7 @@ row-step slot src visited row to within is =
     ∙ (sym (flows_from-append 0 (take src row) (to ∷ [])) ∙ ap (λ xs. flows_from 0 xs) (ap (λ x. take src row ++ x ∷ []) is ∙ sym (take_more row src to within)))))
   where
     taken : 0 + length (take src row) ≡ src
-    taken = let len = length-take-of row src in omega (arith, len, within)
-      where
-        length-take-of : {X : Type 0} (xs : List X) (n : ℕ) → n ≤ length xs → length (take n xs) ≡ n
-        length-take-of xs zero le = refl
-        length-take-of [] (suc n) le = absurd (omega arith)
-        length-take-of (x ∷ xs) (suc n) le = ap suc (length-take-of xs n (omega arith))
+    taken = let len = length-take-le src row (omega (arith, within)) in omega (arith, len)
 
 -- a flow's slots fit 32 bits, and all of them 64
 pub few-slots : (held visited : List Place) (judges : Judges) (place : Place) → 0 < place.slot → place.slot < 2 ^ 32 → place.flow.src < 65536 → AreBefore (order_of place) visited → StandApart held visited judges → (length visited + 1 < 2 ^ 64) × (flow_number_of judges.slots place.flow + 1 < 2 ^ 32)

@@ -4,7 +4,7 @@ use Rattle.std.specs.List.{cons_option}
 use Rattle.std.proofs.lemmas.Bool.{cases_Bool, cases_eq, cond-true, cond-false, or_parts, ne_eqb, leb-false, false≢true, and_from}
 use Rattle.std.proofs.lemmas.List.Folds.{list_any-append}
 use Rattle.std.proofs.lemmas.List.Sums.{sum_by-append, sum_by-cons}
-use Rattle.list_facts.proofs.Bools.{or-none}
+use Rattle.std.proofs.Math.Bool.{or-false}
 use Rattle.takeover_history.specs.declared.event.Event.{Event}
 use Rattle.script_text.specs.Rows.{event_of}
 use Rattle.script_text.specs.Earlier.{pair_in, pair_of, is_end, is_ended, events_in_rows, script_row_slots}
@@ -93,10 +93,6 @@ no_event this = go (event_of this)
     go None none = refl
     go (Some e) none = absurd (false≢true (sym none))
 
-one_more : (b : Bool) → cond {A = ℕ} b 1 0 ≤ 1
-one_more true = omega arith
-one_more false = omega arith
-
 pub stands-more : (before : List Row) (old new : Rows) (this : Row) → ScriptStandsFor before old → IsAllowedRow old this → AddsRow old new this → ScriptStandsFor (before ++ this ∷ []) new
 stands-more before old new this s allowed a =
     let o = in_order old this allowed.order in
@@ -110,7 +106,7 @@ stands-more before old new this s allowed a =
         | inr other ↦ cond-false (is_pair this) (pair_in this) (pair_kept old) other ∙ (s.pair ∙ sym (pair-same before this other))
       ];
       few = a.few;
-      ended_is = a.ended_is ∙ (ap (λ (b : Bool). b || is_end this) s.ended_is ∙ (ap (λ (b : Bool). is_ended before || b) (sym (or-none (is_end this))) ∙ sym (list_any-append is_end before (this ∷ []))));
+      ended_is = a.ended_is ∙ (ap (λ (b : Bool). b || is_end this) s.ended_is ∙ (ap (λ (b : Bool). is_ended before || b) (sym (or-false (is_end this))) ∙ sym (list_any-append is_end before (this ∷ []))));
       events_are = a.events_are ∙ (ap (λ (xs : List Event). xs ++ events_in_rows (this ∷ [])) s.events_are ∙ sym (events-append before (this ∷ [])));
       many = a.many;
       totals_are = λ src dst in_src in_dst.

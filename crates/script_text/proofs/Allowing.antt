@@ -1,8 +1,8 @@
 -- What a row without fault keeps.
 use Rattle.std.proofs.Common.{◌≡◌, ◌==◌, ◌&&◌, not, ℕ, List, [], ◌∷◌, length, cond, codes, Bool, true, false, Option, Some, None, Result, Ok, Err, refl, sym, ap, ◌∙◌, subst}
 use Rattle.std.specs.Str.{bytes_eq}
-use Rattle.std.proofs.lemmas.Bool.{cond-true, true≢false}
-use Rattle.list_facts.proofs.Bools.{not_true}
+use Rattle.std.proofs.lemmas.Bool.{cond-true, not-false}
+use Rattle.list_facts.proofs.Bools.{not_without}
 use Rattle.trace_text.specs.Fields.{Record, field}
 use Rattle.trace_text.specs.declared.fault.Fault.{Fault}
 use Rattle.trace_text.specs.declared.fault.Fault.TheVariants as fault
@@ -43,7 +43,7 @@ checked-ok before row this is =
     let apart = ok_if (asks_for_itself row) fault.SelfFlow _ this range.1 in
     let order = ok_if (is_row_out_of_order before row) fault.Order _ this apart.1 in
     let sum = ok_if (asks_too_much before row) fault.Sum (Ok row) this order.1 in
-    record { same = ap (row_in row) sum.1; range = not_true (is_row_in_range (pair_of before).endpoints row) range.0; apart = apart.0; order = order.0; sum = sum.0 }
+    record { same = ap (row_in row) sum.1; range = not-false (is_row_in_range (pair_of before).endpoints row) range.0; apart = apart.0; order = order.0; sum = sum.0 }
 
 kind-ok : (before : List Row) (fields : Record) (k : Kind) (this : Row) → read_script_kind before fields k ≡ Ok this → checked_script_row before (script_row_of k fields) ≡ Ok this
 unfolding read_script_kind
@@ -59,10 +59,6 @@ abbrev kind_in : Kind → Option Kind → Kind
 kind_in other None = other
 kind_in other (Some k) = k
 
-first_is_pair : (first named : Bool) → (first && not named) ≡ false → first ≡ true → named ≡ true
-first_is_pair true named none is = not_true named none
-first_is_pair false named none is = absurd (true≢false (sym is))
-
 pub allowed : (before : List Row) (fields : Record) (this : Row) → read_script_row before fields ≡ Ok this → Allowed before this
 unfolding read_script_row
 allowed before fields this is =
@@ -73,7 +69,7 @@ allowed before fields this is =
     let c = checked-ok before (script_row_of k fields) this (kind-ok before fields k this named.2) in
     record {
       leads = λ leading.
-          let pair : script_kind_of name ≡ Some kind.Pair = cond-true (bytes_eq name (codes "pair")) (Some kind.Pair) _ (first_is_pair (is_first_row before) (bytes_eq name (codes "pair")) first.0 leading) in
+          let pair : script_kind_of name ≡ Some kind.Pair = cond-true (bytes_eq name (codes "pair")) (Some kind.Pair) _ (not_without (is_first_row before) (bytes_eq name (codes "pair")) first.0 leading) in
           let its : k ≡ kind.Pair = ap (kind_in k) (sym named.1 ∙ pair) in
           subst (λ (r : Row). is_pair r ≡ true) c.same (ap (λ (x : Kind). is_pair (script_row_of x fields)) its);
       range = subst (λ (r : Row). is_row_in_range (pair_of before).endpoints r ≡ true) c.same c.range;

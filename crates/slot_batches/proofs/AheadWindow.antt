@@ -1,7 +1,7 @@
 -- A window in which each item that is set aside is barred by those ahead of it.
 use Rattle.std.proofs.Common.{length, take, drop, ◌≡◌, ◌≢◌, ◌<◌, ◌≤◌, ◌+◌, ◌⊎◌, ℕ, List, [], ◌∷◌, ◌++◌, get_or, map, replicate, Bool, true, false, not, ◌&&◌, None, All, refl, sym, ap, ◌∙◌, subst, arith, inl, inr}
 use Rattle.std.specs.Option.{is_some}
-use Rattle.std.proofs.lemmas.Bool.{cases_Bool, and_right, or_left, or_right, or_cases, and_parts, ltb-true, ltb-false, ne_eqb, false_from_ne_true, both_ways}
+use Rattle.std.proofs.lemmas.Bool.{cases_Bool, or_left, or_right, or_cases, and_parts, ltb-true, false_from_ne_true, both_ways}
 use Rattle.std.proofs.lemmas.List.{append-nil}
 use Rattle.std.proofs.lemmas.List.Elements.{All-nil, All-head, All-tail, All-append, All-map, All-weaker, All-filter, filter_passes}
 use Rattle.std.proofs.lemmas.List.Folds.{list_any-append}
@@ -19,6 +19,7 @@ use Rattle.greedy_rules.specs.Recorded.{Applies, MayBeApplied}
 use Rattle.greedy_rules.proofs.Facts.{same_flow-true, listed-after_batch, listed-after_slots}
 use Rattle.greedy_rules.proofs.ScheduleLemmas.{length-batch_slots}
 use Rattle.list_facts.proofs.StableSort.{All-sort_by}
+use Rattle.list_facts.proofs.Numbers.{slots_on}
 use Rattle.slot_batches.specs.FlowByFlow.{slots_after}
 use Rattle.slot_batches.specs.Feeding.{was_served}
 use Rattle.slot_batches.specs.NextList.{IsListBefore}
@@ -27,9 +28,9 @@ use Rattle.slot_batches.specs.Beyond.{StayOut, AreBeyondReach, is_in}
 use Rattle.slot_batches.proofs.TurnSteps.{slots_after-append}
 use Rattle.slot_batches.proofs.WeaveLemmas.{applied_to_both, more_behind_both, IsGoneFrom}
 use Rattle.slot_batches.specs.Beyond.{seen_with, HaveRivals, AreBarredByThoseAhead, ItemsBarredByThoseAheadMayBeSetAside, AreBarredInSlots, ItemsBarredInSlotsMayBeSetAside}
-use Rattle.slot_batches.proofs.FrontWindow.{stood_in, each_stood, none_stood, through_slots, Was, opened_was}
+use Rattle.slot_batches.proofs.FrontWindow.{stood_in, each_stood, none_stood, through_slots, Was, opened_was, never_one, apart_parts}
 use Rattle.slot_batches.proofs.Ahead.{IsBehind, limits_bar_as_it_grows, kept_out_by_rivals}
-use Rattle.slot_batches.proofs.SetAside.{new_ones, parts_are, front, back, each_is_listed, slots_between, parts_of_batch, AreWoven, NoEntry, step, step_applies, opened_apart, next_first, woven_at_first, items_beyond_reach_may_be_set_aside}
+use Rattle.slot_batches.proofs.SetAside.{new_ones, parts_are, front, back, each_is_listed, slots_between, parts_of_batch, AreWoven, NoEntry, step, step_applies, opened_apart, woven_at_first, items_beyond_reach_may_be_set_aside}
 use Rattle.slot_batches.proofs.NextList.{last_of}
 
 -- the flows seen once the list was walked
@@ -98,7 +99,7 @@ module _ (aside : Item → Bool) (start : ℕ) (list : List Item) where
       let Never : Item → Type 0 = λ x. stood_in list x.flow ≡ 0 in
       let stood : All Stood list = each_stood list before.once in
       let stood_A : All Stood A = All-filter is_new Stood list stood in
-      let never_A : All Never A = λ d' d below. never_one (get_or A d' d) (stood_A d' d below) (new_ones list d' d below) in
+      let never_A : All Never A = λ d' d below. never_one list (get_or A d' d) (stood_A d' d below) (new_ones list d' d below) in
       let applies_rest = step_applies aside start list endpoints number batch rest whole are applies none in
       let of_rest = parts_of_batch bar number b entries rest (omega arith) applies.rises applies_rest.opens are.before_rest in
       let first = more_behind_both aside (opened entries) A (map put (never_served rest)) (map put (never_served whole))
@@ -127,12 +128,6 @@ module _ (aside : Item → Bool) (start : ℕ) (list : List Item) where
             (λ j d below. behind_served earlier full (get_or (back entries rest) j d) never_A (old_back j d below) (was_back j d below))
             (All-nil (IsBehind aside list earlier full (stood_in list) B seen));
       }
-    where
-      never_one : (x : Item) → stood_in list x.flow ≡ x.last → was_served x ≡ false → stood_in list x.flow ≡ 0
-      never_one x at never = let none : x.last ≤ 0 = ltb-false 0 x.last never in omega (arith, at, none)
-
-      apart_parts : (item x : Item) → was_served item ≡ false → 0 < x.last → stays item x ≡ false
-      apart_parts item x never some = let none : item.last ≤ 0 = ltb-false 0 item.last never in and_right _ _ (ne_eqb item.last x.last (λ e. absurd (omega (arith, e, none, some))))
 
   ahead_window : (endpoints b k : ℕ) (batches : List DemandBatch) (earlier : List (List Flow)) (rest whole : List Item) → start ≤ first_slot b k → IsListBefore start list
       → All (λ item. aside item ≡ true → HaveNoEntry batches item.flow) list → AreWoven aside start list (first_slot b k) rest whole → All (λ item. is_listed whole item.flow ≡ true) list → All (Was aside start list earlier) rest
@@ -173,8 +168,8 @@ module _ (aside : Item → Bool) (start : ℕ) (list : List Item) where
       All-sort_by Then last_of (list_through bar number b (after_batch entries rest))
       (through_slots (stood_in list) (λ flow. is_in (earlier ++ full) flow ≡ true) bar number b (after_batch entries rest) now_too was_applied) in (
         outside,
-        ahead_window endpoints b (k + 1) batches (earlier ++ full) (list_then b k batch rest) (list_then b k batch whole) (omega (arith, next_first aside start list b k)) before there
-            (subst (λ (n : ℕ). AreWoven aside start list n (list_then b k batch rest) (list_then b k batch whole)) (next_first aside start list b k) one.next) still_listed was_then may.1 reach.1,
+        ahead_window endpoints b (k + 1) batches (earlier ++ full) (list_then b k batch rest) (list_then b k batch whole) (omega (arith, slots_on k b)) before there
+            (subst (λ (n : ℕ). AreWoven aside start list n (list_then b k batch rest) (list_then b k batch whole)) (slots_on k b) one.next) still_listed was_then may.1 reach.1,
       )
 
 pub items_barred_by_those_ahead_may_be_set_aside : ItemsBarredByThoseAheadMayBeSetAside

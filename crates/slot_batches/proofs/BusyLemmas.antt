@@ -1,5 +1,5 @@
 -- Items that need a slot or have a mark, and the places that are noted of them.
-use Rattle.std.proofs.Common.{◌≡◌, ◌<◌, ◌≤◌, ◌+◌, ℕ, zero, suc, List, [], ◌∷◌, ◌++◌, length, take, get_or, set, Bool, true, not, ◌&&◌, ◌==◌, nat_lt, cond, bit_or, sym, ap, ◌∙◌, arith, inl, inr}
+use Rattle.std.proofs.Common.{◌≡◌, ◌<◌, ◌+◌, ℕ, zero, suc, List, [], ◌∷◌, ◌++◌, length, take, get_or, set, Bool, true, not, ◌&&◌, ◌==◌, nat_lt, cond, bit_or, sym, ap, ◌∙◌, arith, inl, inr}
 use Rattle.std.specs.Int.Bits.{or_zero_r}
 use mir.Val.{bool_byte}
 use Rattle.std.proofs.Math.Bool.{and-false}
@@ -14,12 +14,6 @@ pub one_or_none : (is : Bool) → bool_byte is ≡ cond is 1 0
 one_or_none is = elim (cases_Bool is) [
   | inl one ↦ ap bool_byte one ∙ sym (cond-true is 1 0 one)
   | inr none ↦ ap bool_byte none ∙ sym (cond-false is 1 0 none)
-]
-
-pub at_most_one : (is : Bool) → cond is 1 0 ≤ 1
-at_most_one is = elim (cases_Bool is) [
-  | inl one ↦ omega (arith, cond-true {A = ℕ} is 1 0 one)
-  | inr none ↦ omega (arith, cond-false {A = ℕ} is 1 0 none)
 ]
 
 -- a need and a mark, joined

@@ -73,7 +73,7 @@ module _ (bar : Bar) where
   chosen_past : (item : Item) (place : ℕ) → is_chosen bar item [] place ≡ false
   chosen_past item place = past place (not (bar (slot_in [] place) item.flow)) (nat_lt (count_below (is_free bar item.flow []) place) item.need)
 
-  length-slots_with : (number : ℕ) (item : Item) (slots : List (List Flow)) → length (slots_with bar number item slots) ≡ length slots
+  pub length-slots_with : (number : ℕ) (item : Item) (slots : List (List Flow)) → length (slots_with bar number item slots) ≡ length slots
   length-slots_with number item [] = refl
   length-slots_with number item (slot ∷ slots) = ap suc (length-slots_with (number + 1) (turn bar number slot item) slots)
 
@@ -89,7 +89,7 @@ module _ (bar : Bar) where
       ∙ (ap (λ (f : Flow). slot_then (is_chosen bar (turn bar number slot item) slots place) f (slot_in slots place)) (turn_flow number slot item)
       ∙ ap (λ (b : Bool). slot_then b item.flow (slot_in slots place)) (chosen_rest number item slot slots place))
 
-  item_after-flow : (number : ℕ) (item : Item) (slots : List (List Flow)) → (item_after bar number item slots).flow ≡ item.flow
+  pub item_after-flow : (number : ℕ) (item : Item) (slots : List (List Flow)) → (item_after bar number item slots).flow ≡ item.flow
   item_after-flow number item [] = refl
   item_after-flow number item (slot ∷ slots) = item_after-flow (number + 1) (turn bar number slot item) slots ∙ turn_flow number slot item
 

@@ -1,7 +1,7 @@
 -- A window in which the items that are set aside are barred by those in front.
 use Rattle.std.proofs.Common.{◌≡◌, ◌≢◌, ◌<◌, ◌≤◌, ◌+◌, ◌-◌, ◌⊎◌, ℕ, zero, suc, List, [], ◌∷◌, ◌++◌, get_or, map, filter, replicate, Bool, true, false, not, ◌&&◌, ◌||◌, ◌==◌, cond, None, All, refl, sym, ap, ◌∙◌, subst, arith, inl, inr}
 use Rattle.std.specs.Option.{is_some}
-use Rattle.std.proofs.lemmas.Bool.{cases_Bool, cond-true, cond-false, cond_both, and_right, or_left, or_right, or_parts, or_cases, and_parts, eqb-true, ltb-true, ltb-false, ne_eqb, not-true, false_from_ne_true, both_ways}
+use Rattle.std.proofs.lemmas.Bool.{cases_Bool, cond-true, cond-false, cond_both, or_left, or_right, or_parts, or_cases, and_parts, eqb-true, ltb-true, not-true, false_from_ne_true, both_ways, ltb-false, and_right, ne_eqb}
 use Rattle.std.proofs.lemmas.List.{append-nil}
 use Rattle.std.proofs.lemmas.List.Elements.{All-nil, All-cons, All-head, All-tail, All-append, All-map, All-weaker, All-filter, filter_passes}
 use Rattle.std.proofs.lemmas.List.Folds.{list_any-append}
@@ -19,6 +19,7 @@ use Rattle.greedy_rules.specs.Recorded.{Applies, MayBeApplied}
 use Rattle.greedy_rules.proofs.Facts.{same_flow-true, same_flow-refl, All-opened, listed-after_batch, listed-after_slots}
 use Rattle.list_facts.proofs.Pairs.{AllPairs-head, AllPairs-tail}
 use Rattle.list_facts.proofs.StableSort.{All-sort_by}
+use Rattle.list_facts.proofs.Numbers.{slots_on}
 use Rattle.slot_batches.specs.FlowByFlow.{slots_after}
 use Rattle.slot_batches.specs.Feeding.{was_served}
 use Rattle.slot_batches.specs.NextList.{IsListBefore}
@@ -27,7 +28,7 @@ use Rattle.slot_batches.specs.Beyond.{IsKeptOut, StayOut, AreBeyondReach, is_in,
 use Rattle.slot_batches.proofs.TurnSteps.{slots_after-append}
 use Rattle.slot_batches.proofs.WeaveLemmas.{applied_to_both, more_behind_both, IsGoneFrom}
 use Rattle.slot_batches.proofs.Front.{IsNotIn, Behind, IsSettled, kept_out_of_part}
-use Rattle.slot_batches.proofs.SetAside.{new_ones, parts_are, front, back, each_is_listed, slots_between, parts_of_batch, AreWoven, NoEntry, step, step_applies, opened_apart, next_first, woven_at_first, items_beyond_reach_may_be_set_aside}
+use Rattle.slot_batches.proofs.SetAside.{new_ones, parts_are, front, back, each_is_listed, slots_between, parts_of_batch, AreWoven, NoEntry, step, step_applies, opened_apart, woven_at_first, items_beyond_reach_may_be_set_aside}
 use Rattle.slot_batches.proofs.NextList.{last_of}
 
 -- when a flow of a list was last served, 0 where it is not listed
@@ -59,6 +60,13 @@ none_stood_of (item ∷ list) whole flow listed none =
     cond-false (same_flow item.flow flow) item.last (stood_in list flow)
     (false_from_ne_true _ (λ same. both_ways _ none (ap (is_listed whole) (sym (same_flow-true item.flow flow same)) ∙ All-head Listed item list listed)))
     ∙ none_stood_of list whole flow (All-tail Listed item list listed) none
+
+-- an item that was never served stood in none, and apart from those that were
+pub never_one : (list : List Item) (x : Item) → stood_in list x.flow ≡ x.last → was_served x ≡ false → stood_in list x.flow ≡ 0
+never_one list x at never = let none : x.last ≤ 0 = ltb-false 0 x.last never in omega (arith, at, none)
+
+pub apart_parts : (item x : Item) → was_served item ≡ false → 0 < x.last → stays item x ≡ false
+apart_parts item x never some = let none : item.last ≤ 0 = ltb-false 0 item.last never in and_right _ _ (ne_eqb item.last x.last (λ e. absurd (omega (arith, e, none, some))))
 
 -- a flow that no slot has
 not_in : (slots : List (List Flow)) (flow : Flow) → is_in slots flow ≡ false → IsNotIn slots flow
@@ -206,7 +214,7 @@ module _ (aside : Item → Bool) (start : ℕ) (list : List Item) where
       let Settled : Item → Type 0 = IsSettled aside bar number full (stood_in list) in
       let stood : All Stood list = each_stood list before.once in
       let stood_A : All Stood A = All-filter is_new Stood list stood in
-      let never_A : All Never A = λ d' d below. never_one (get_or A d' d) (stood_A d' d below) (new_ones list d' d below) in
+      let never_A : All Never A = λ d' d below. never_one list (get_or A d' d) (stood_A d' d below) (new_ones list d' d below) in
       let applies_rest = step_applies aside start list endpoints number batch rest whole are applies none in
       let of_rest = parts_of_batch bar number b entries rest (omega arith) applies.rises applies_rest.opens are.before_rest in
       let first = more_behind_both aside (opened entries) A (map put (never_served rest)) (map put (never_served whole))
@@ -235,12 +243,6 @@ module _ (aside : Item → Bool) (start : ℕ) (list : List Item) where
             (λ j d below. behind_second bar number earlier full (get_or (back entries rest) j d) parts never_A (old_back j d below) reach (was_back j d below))
             (All-nil (Behind aside bar number full (stood_in list) B));
       }
-    where
-      never_one : (x : Item) → stood_in list x.flow ≡ x.last → was_served x ≡ false → stood_in list x.flow ≡ 0
-      never_one x at never = let none : x.last ≤ 0 = ltb-false 0 x.last never in omega (arith, at, none)
-
-      apart_parts : (item x : Item) → was_served item ≡ false → 0 < x.last → stays item x ≡ false
-      apart_parts item x never some = let none : item.last ≤ 0 = ltb-false 0 item.last never in and_right _ _ (ne_eqb item.last x.last (λ e. absurd (omega (arith, e, none, some))))
 
   window_stays_out : (endpoints b k : ℕ) (batches : List DemandBatch) (earlier : List (List Flow)) (rest whole : List Item) → start ≤ first_slot b k → IsListBefore start list
       → All (λ item. aside item ≡ true → HaveNoEntry batches item.flow) list → AreWoven aside start list (first_slot b k) rest whole → All (λ item. is_listed whole item.flow ≡ true) list → All (Was earlier) rest
@@ -281,8 +283,8 @@ module _ (aside : Item → Bool) (start : ℕ) (list : List Item) where
       All-sort_by Then last_of (list_through bar number b (after_batch entries rest))
       (through_slots (stood_in list) (λ flow. is_in (earlier ++ full) flow ≡ true) bar number b (after_batch entries rest) now_too was_applied) in (
         outside,
-        window_stays_out endpoints b (k + 1) batches (earlier ++ full) (list_then b k batch rest) (list_then b k batch whole) (omega (arith, next_first aside start list b k)) before there
-            (subst (λ (n : ℕ). AreWoven aside start list n (list_then b k batch rest) (list_then b k batch whole)) (next_first aside start list b k) one.next) still_listed was_then may.1 reach.2,
+        window_stays_out endpoints b (k + 1) batches (earlier ++ full) (list_then b k batch rest) (list_then b k batch whole) (omega (arith, slots_on k b)) before there
+            (subst (λ (n : ℕ). AreWoven aside start list n (list_then b k batch rest) (list_then b k batch whole)) (slots_on k b) one.next) still_listed was_then may.1 reach.2,
       )
 
 pub items_barred_by_the_front_may_be_set_aside : ItemsBarredByTheFrontMayBeSetAside

@@ -3,7 +3,7 @@ use Rattle.std.proofs.Common.{◌≡◌, ◌≢◌, ◌<◌, ◌-◌, ◌^◌, �
 use Rattle.std.specs.Int.{trailing_zeros}
 use Rattle.std.proofs.lemmas.Bool.{and_right, and_parts, not-true, eq-eqb, ne_eqb, both_ways, cases_lt}
 use Rattle.std.proofs.lemmas.Nat.Bits.{bit_at-trailing_zeros}
-use Rattle.list_facts.proofs.Bools.{none_yet, and_true}
+use Rattle.std.proofs.Math.Bool.{and-not_self, and-true}
 use Rattle.greedy_rules.specs.declared.flows.Flow.{Flow}
 use Rattle.greedy_rules.specs.Slot.{slot_with}
 use Rattle.greedy_rules.specs.Schedule.{slot_in}
@@ -22,14 +22,14 @@ pub record IsPutting (flow : Flow) (places rest : ℕ) (old new : List (List Flo
 
 pub putting_starts : (flow : Flow) (places : ℕ) (slots : List (List Flow)) → IsPutting flow places places slots slots
 putting_starts flow places slots = record {
-  added = added-none flow (λ place. has_slot places place && not (has_slot places place)) slots (λ place. none_yet (has_slot places place));
+  added = added-none flow (λ place. has_slot places place && not (has_slot places place)) slots (λ place. and-not_self (has_slot places place));
   part = λ place is. is;
   above = λ place later is after. refl;
 }
 
 without_other : (rest place : ℕ) → rest < 2 ^ 64 → rest ≢ 0 → place ≢ trailing_zeros w64 rest → has_slot (bit_and rest (rest - 1)) place ≡ has_slot rest place
 without_other rest place fits some other =
-    without_lowest rest place fits some ∙ (ap (λ (b : Bool). has_slot rest place && not b) (ne_eqb place (trailing_zeros w64 rest) other) ∙ and_true (has_slot rest place))
+    without_lowest rest place fits some ∙ (ap (λ (b : Bool). has_slot rest place && not b) (ne_eqb place (trailing_zeros w64 rest) other) ∙ and-true (has_slot rest place))
 
 without_itself : (rest : ℕ) → rest < 2 ^ 64 → rest ≢ 0 → has_slot (bit_and rest (rest - 1)) (trailing_zeros w64 rest) ≡ false
 without_itself rest fits some =
@@ -73,7 +73,7 @@ put_one flow places rest old new fits some putting within =
 pub put_all : (flow : Flow) (places rest : ℕ) (old new : List (List Flow)) → rest ≡ 0 → IsPutting flow places rest old new → HasAdded flow (has_slot places) old new
 put_all flow places rest old new none putting =
     added-same flow (λ place. has_slot places place && not (has_slot rest place)) (has_slot places) old new
-    (λ place. ap (λ (n : ℕ). has_slot places place && not (has_slot n place)) none ∙ (ap (λ (b : Bool). has_slot places place && not b) (has_slot-none place) ∙ and_true (has_slot places place)))
+    (λ place. ap (λ (n : ℕ). has_slot places place && not (has_slot n place)) none ∙ (ap (λ (b : Bool). has_slot places place && not b) (has_slot-none place) ∙ and-true (has_slot places place)))
     putting.added
 
 -- the last place is the greatest

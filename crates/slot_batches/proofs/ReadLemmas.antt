@@ -1,9 +1,11 @@
 -- An element read from a list: what is true of all is true of it, and the front with it.
-use Rattle.std.proofs.Common.{◌≡◌, ◌<◌, ◌+◌, ℕ, zero, suc, List, [], ◌∷◌, ◌++◌, length, take, drop, Bool, true, false, ◌||◌, Some, All, sym, ap, ◌∙◌, subst, arith, inl, inr, get_or}
+use Rattle.std.proofs.Common.{◌≡◌, ◌<◌, ◌+◌, ℕ, zero, suc, List, [], ◌∷◌, ◌++◌, length, take, drop, Bool, true, false, ◌||◌, Some, All, sym, ap, ◌∙◌, subst, arith, inl, inr}
 use Rattle.std.specs.Prelude.{slice_get}
 use Rattle.std.specs.List.{list_any}
 use Rattle.std.proofs.lemmas.Bool.{cases_Bool}
 use Rattle.std.proofs.lemmas.List.{take-append-drop}
+use Rattle.std.proofs.lemmas.Option.{get_or_from_slice_get}
+use Rattle.list_facts.proofs.Lists.{take_got}
 use Rattle.greedy_rules.specs.declared.flows.Item.{Item}
 use Rattle.greedy_rules.specs.declared.flows.Entry.{Entry}
 use Rattle.greedy_rules.specs.Demands.{AreBelow, OpensNewFlows}
@@ -12,23 +14,8 @@ use Rattle.slot_batches.specs.ArrayStands.{MayBeFed}
 use Rattle.slot_batches.proofs.FedLemmas.{lists_may_be_fed}
 
 module _ {X : Type 0} where
-  take_read : (xs : List X) (at : ℕ) (x : X) → slice_get xs at ≡ Some x → take (suc at) xs ≡ take at xs ++ x ∷ []
-  take_read [] at x is = cc
-  take_read (y ∷ ys) zero x is = cc
-  take_read (y ∷ ys) (suc at) x is = ap (λ (zs : List X). y ∷ zs) (take_read ys at x is)
-
-  pub front_read : (xs : List X) (at : ℕ) (x : X) → slice_get xs at ≡ Some x → take (at + 1) xs ≡ take at xs ++ x ∷ []
-  front_read xs at x is =
-      let next : at + 1 ≡ suc at = omega arith in
-      ap (λ (n : ℕ). take n xs) next ∙ take_read xs at x is
-
-  read_is : (xs : List X) (at : ℕ) (x d : X) → at < length xs → slice_get xs at ≡ Some x → get_or xs at d ≡ x
-  read_is [] at x d below is = absurd (omega arith)
-  read_is (y ∷ ys) zero x d below is = cc
-  read_is (y ∷ ys) (suc at) x d below is = read_is ys at x d (omega arith) is
-
   pub all_read : (P : X → Type 0) (xs : List X) (at : ℕ) (x : X) → at < length xs → slice_get xs at ≡ Some x → All P xs → P x
-  all_read P xs at x below is all = subst P (read_is xs at x x below is) (all at x below)
+  all_read P xs at x below is all = subst P (get_or_from_slice_get xs at x x is) (all at x below)
 
   pub any_read : (p : X → Bool) (xs : List X) (at : ℕ) (x : X) → slice_get xs at ≡ Some x → p x ≡ true → list_any p xs ≡ true
   any_read p [] at x is hit = cc
@@ -50,8 +37,8 @@ pub may_feed_next : (batch : List Entry) (endpoints number endpoints' number' at
     → slice_get list at ≡ Some item → endpoints' ≡ endpoints → number' ≡ number → MayBeFed batch endpoints' number' (take at list ++ item ∷ [])
 may_feed_next batch endpoints number endpoints' number' at list item before in_range opens is endpoints_are number_is =
     let front : List Item = take at list ++ item ∷ [] in
-    let rest : List Item = drop (suc at) list in
-    let whole : list ≡ front ++ rest = sym (ap (λ (xs : List Item). xs ++ rest) (sym (take_read list at item is)) ∙ take-append-drop (suc at) list) in
+    let rest : List Item = drop (at + 1) list in
+    let whole : list ≡ front ++ rest = sym (ap (λ (xs : List Item). xs ++ rest) (sym (take_got list at item is)) ∙ take-append-drop (at + 1) list) in
     subst (λ (n : ℕ). MayBeFed batch n number' front) (sym endpoints_are)
     (subst (λ (n : ℕ). MayBeFed batch endpoints n front) (sym number_is)
     (lists_may_be_fed batch endpoints number front rest (subst (IsListBefore number) whole before) (subst (AreBelow endpoints) whole in_range) (subst (OpensNewFlows batch) whole opens)))

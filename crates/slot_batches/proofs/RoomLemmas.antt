@@ -15,6 +15,7 @@ use Rattle.list_facts.proofs.Pairs.{AllPairs-head, AllPairs-tail}
 use Rattle.slot_batches.specs.FlowByFlow.{slots_with, item_after, slots_after, items_after}
 use Rattle.slot_batches.specs.Room.{is_served_from, ServedFitPlaces}
 use Rattle.slot_batches.proofs.FreePlaces.{fits, once_served, takes_lowest_free}
+use Rattle.slot_batches.proofs.TurnFacts.{length-slots_after}
 
 -- sources that rise and stay below a number are at most as many
 few_from : (endpoints k : ℕ) (slot : List Flow) → k ≤ endpoints → AllPairs (λ f g. f.src < g.src) slot → All (λ f. f.src < endpoints) slot → All (λ f. k ≤ f.src) slot
@@ -100,11 +101,6 @@ module _ (bar : Bar) where
         sum_by-cons (λ x. cond (is_served_from number x) 1 0) then (items_after bar number list later),
       )
 
-  length-slots_after : (number : ℕ) (list : List Item) (slots : List (List Flow)) → length (slots_after bar number list slots) ≡ length slots
-  length-slots_after number [] slots = refl
-  length-slots_after number (item ∷ list) slots =
-      length-slots_after number list (slots_with bar number item slots) ∙ (takes_lowest_free bar number item slots).slots_then.count
-
   pub served_fit : (endpoints number b : ℕ) (list : List Item) → All (λ item. item.last < number) list → All (IsSlotOf endpoints) (slots_after bar number list (replicate b []))
       → count_by (is_served_from number) (items_after bar number list (replicate b [])) ≤ b * endpoints
   served_fit endpoints number b list before each =
@@ -112,7 +108,7 @@ module _ (bar : Bar) where
       let slots : List (List Flow) = slots_after bar number list empty in
       let total : flows_in slots ≤ length slots * endpoints =
       sum_by-le (λ (slot : List Flow). length slot) endpoints slots (All-weaker (IsSlotOf endpoints) (λ slot. length slot ≤ endpoints) (few_flows endpoints) slots each) in
-      let count : length slots ≡ b = length-slots_after number list empty ∙ length-replicate b [] in
+      let count : length slots ≡ b = length-slots_after bar number list empty ∙ length-replicate b [] in
       let fit : flows_in slots ≤ b * endpoints = subst (λ (n : ℕ). flows_in slots ≤ n * endpoints) count total in
       omega (arith, served_in_slots number list empty before, fit)
 

@@ -5,6 +5,7 @@ use Rattle.std.proofs.lemmas.Bool.{cases_Bool, cond-true, cond-false, cond_both,
 use Rattle.std.proofs.lemmas.List.{append-nil, append_assoc}
 use Rattle.std.proofs.lemmas.List.Elements.{All-nil, All-cons, All-head, All-tail, All-append, All-map, All-weaker, All-filter, filter-append, filter_passes}
 use Rattle.std.proofs.lemmas.List.Folds.{list_any-append}
+use Rattle.std.proofs.Math.Bool.{and_comm}
 use Rattle.greedy_rules.specs.declared.flows.Flow.{Flow}
 use Rattle.greedy_rules.specs.declared.flows.Item.{Item}
 use Rattle.greedy_rules.specs.declared.flows.Entry.{Entry}
@@ -21,6 +22,7 @@ use Rattle.greedy_rules.proofs.OnceLemmas.{Other}
 use Rattle.list_facts.proofs.Pairs.{AllPairs-cons, AllPairs-head, AllPairs-tail}
 use Rattle.list_facts.proofs.StableSort.{Floor, Rises, rises_from, All-sort_by}
 use Rattle.list_facts.proofs.Lists.{filter_none, filter_all, All-front}
+use Rattle.list_facts.proofs.Numbers.{slots_on}
 use Rattle.slot_batches.specs.FlowByFlow.{slots_after, items_after}
 use Rattle.slot_batches.specs.Feeding.{was_served, unserved, newly_served}
 use Rattle.slot_batches.specs.NextList.{IsListBefore}
@@ -60,19 +62,7 @@ once-filter p (x ∷ xs) once =
 pub filter_swap : (p q : Item → Bool) (xs : List Item) → filter p (filter q xs) ≡ filter q (filter p xs)
 filter_swap p q xs =
     filter_twice p q (λ x. q x && p x) (λ x. refl) xs
-    ∙ sym (filter_twice q p (λ x. q x && p x) (λ x. swap (p x) (q x)) xs)
-  where
-    swap : (a b : Bool) → (a && b) ≡ (b && a)
-    swap a b = elim a as (λ t. (t && b) ≡ (b && t)) [
-      | true ↦ elim b as (λ t. t ≡ (t && true)) [
-        | true ↦ refl
-        | false ↦ refl
-      ]
-      | false ↦ elim b as (λ t. false ≡ (t && false)) [
-        | true ↦ refl
-        | false ↦ refl
-      ]
-    ]
+    ∙ sym (filter_twice q p (λ x. q x && p x) (λ x. and_comm (p x) (q x)) xs)
 
 pub still_before : (number : ℕ) (p : Item → Bool) (list : List Item) → IsListBefore number list → IsListBefore number (filter p list)
 still_before number p list before = record {
@@ -328,9 +318,6 @@ module _ (aside : Item → Bool) (start : ℕ) (list : List Item) where
     slots : schedule_from b k rest batches ≡ schedule_from b k whole batches
     left : woven aside list (rest_from b k rest batches) ≡ rest_from b k whole batches
 
-  pub next_first : (b k : ℕ) → first_slot b k + b ≡ first_slot b (k + 1)
-  next_first b k = grind arith
-
   window : (endpoints b k : ℕ) (batches : List DemandBatch) (rest whole : List Item) → start ≤ first_slot b k → All (λ item. item.last < start) list → AreBeyondReach b k aside list rest batches
       → Asides aside (λ item. All (λ batch. entry_of batch.entries item.flow ≡ None) batches) list → AreWoven (first_slot b k) rest whole → MayBeApplied endpoints b k whole batches → Window endpoints b k batches rest whole
   window endpoints b k [] rest whole from low outside none are may = record {
@@ -349,8 +336,8 @@ module _ (aside : Item → Bool) (start : ℕ) (list : List Item) where
       let there : All (NoneIn batches) list =
       All-weaker (NoneIn (batch ∷ batches)) (NoneIn batches) (λ item has out. All-tail (λ other. NoneOf other item) batch batches (has out)) list none in
       let one = step endpoints bar (first_slot b k) b batch rest whole (omega arith) from low outside.0 here are may.0 in
-      let after = window endpoints b (k + 1) batches (list_then b k batch rest) (list_then b k batch whole) (omega (arith, next_first b k)) low outside.1 there
-      (subst (λ (n : ℕ). AreWoven n (list_then b k batch rest) (list_then b k batch whole)) (next_first b k) one.next) may.1 in
+      let after = window endpoints b (k + 1) batches (list_then b k batch rest) (list_then b k batch whole) (omega (arith, slots_on k b)) low outside.1 there
+      (subst (λ (n : ℕ). AreWoven n (list_then b k batch rest) (list_then b k batch whole)) (slots_on k b) one.next) may.1 in
       record {
         may = (one.applies, after.may);
         slots = ap (λ (s : List (List Flow)). s ++ schedule_from b (k + 1) (list_then b k batch rest) batches) one.slots ∙ ap (λ (s : List (List Flow)). slots_then b k batch whole ++ s) after.slots;

@@ -3,6 +3,7 @@ use Rattle.std.proofs.Common.{◌≡◌, ℕ, List, [], ◌∷◌, ◌++◌, map
 use Rattle.std.proofs.lemmas.Bool.{cases_Bool, cond-true, cond-false}
 use Rattle.std.proofs.lemmas.List.{append-nil}
 use Rattle.std.proofs.lemmas.List.Elements.{All-nil, All-cons, All-head, All-tail, All-map, All-weaker, filter-append}
+use Rattle.std.proofs.Math.Bool.{or_assoc}
 use Rattle.greedy_rules.specs.declared.flows.Flow.{Flow}
 use Rattle.greedy_rules.specs.declared.flows.Item.{Item}
 use Rattle.greedy_rules.specs.declared.flows.Entry.{Entry}
@@ -16,7 +17,7 @@ use Rattle.greedy_rules.proofs.Facts.{same_flow-true, once-map, once-opened, onc
 use Rattle.greedy_rules.proofs.OnceLemmas.{Other}
 use Rattle.list_facts.proofs.Pairs.{AllPairs-append, AllPairs-head, AllPairs-tail}
 use Rattle.list_facts.proofs.StableSort.{All-sort_by}
-use Rattle.list_facts.proofs.Lists.{All-front, all_back}
+use Rattle.list_facts.proofs.Lists.{All-front, all_back, filter_all, filter_none}
 use Rattle.slot_batches.specs.FlowByFlow.{slots_after, items_after}
 use Rattle.slot_batches.specs.Feeding.{IsInOrder, was_served, has_served, taken_up, unserved, newly_served}
 use Rattle.slot_batches.specs.Settled.{counts_as_fed, settled_of, settled, SettledItemsCountAsFed}
@@ -33,14 +34,6 @@ use Rattle.slot_batches.proofs.SetAside.{each_is_listed}
 -- ---- filters
 
 module _ {X : Type 0} (p : X → Bool) where
-  filter_all : (xs : List X) → All (λ x. p x ≡ true) xs → filter p xs ≡ xs
-  filter_all [] all = refl
-  filter_all (x ∷ xs) all = cond-true (p x) (x ∷ filter p xs) (filter p xs) (All-head (λ y. p y ≡ true) x xs all) ∙ ap (λ (ys : List X). x ∷ ys) (filter_all xs (All-tail (λ y. p y ≡ true) x xs all))
-
-  filter_none : (xs : List X) → All (λ x. p x ≡ false) xs → filter p xs ≡ []
-  filter_none [] all = refl
-  filter_none (x ∷ xs) all = cond-false (p x) (x ∷ filter p xs) (filter p xs) (All-head (λ y. p y ≡ false) x xs all) ∙ filter_none xs (All-tail (λ y. p y ≡ false) x xs all)
-
   -- what holds of those that pass, holds of the filtered
   All-passing : (P : X → Type 0) (xs : List X) → All (λ x. p x ≡ true → P x) xs → All P (filter p xs)
   All-passing P [] all = All-nil P
@@ -56,11 +49,7 @@ module _ {X : Type 0} (p : X → Bool) where
 
 listed-append : (xs ys : List Item) (flow : Flow) → is_listed (xs ++ ys) flow ≡ (is_listed xs flow || is_listed ys flow)
 listed-append [] ys flow = refl
-listed-append (x ∷ xs) ys flow = ap (λ (b : Bool). same_flow x.flow flow || b) (listed-append xs ys flow) ∙ or_assoc (same_flow x.flow flow) (is_listed xs flow) (is_listed ys flow)
-  where
-    or_assoc : (a b c : Bool) → (a || (b || c)) ≡ ((a || b) || c)
-    or_assoc true b c = refl
-    or_assoc false b c = refl
+listed-append (x ∷ xs) ys flow = ap (λ (b : Bool). same_flow x.flow flow || b) (listed-append xs ys flow) ∙ sym (or_assoc (same_flow x.flow flow) (is_listed xs flow) (is_listed ys flow))
 
 listed-put : (batch : List Entry) (xs : List Item) (flow : Flow) → is_listed (map (with_batch batch) xs) flow ≡ is_listed xs flow
 listed-put batch [] flow = refl
@@ -79,7 +68,7 @@ listed-taken batch (item ∷ fed) flow = elim (cases_Bool (was_served item)) [
   | inr never ↦
       ap (λ (xs : List Item). is_listed xs flow) (cond-false (was_served item) (opened batch ++ map (with_batch batch) (item ∷ fed)) (with_batch batch item ∷ taken_up batch fed false) never)
       ∙ (ap (λ (b : Bool). same_flow item.flow flow || b) (listed-taken batch fed flow)
-      ∙ (moved (same_flow item.flow flow) (is_listed fed flow) (has_served fed && is_listed (opened batch) flow)
+      ∙ (sym (or_assoc (same_flow item.flow flow) (is_listed fed flow) (has_served fed && is_listed (opened batch) flow))
       ∙ ap (λ (b : Bool). is_listed (item ∷ fed) flow || ((b || has_served fed) && is_listed (opened batch) flow)) (sym never)))
 ]
   where
@@ -88,10 +77,6 @@ listed-taken batch (item ∷ fed) flow = elim (cases_Bool (was_served item)) [
     turned true false c = refl
     turned false true c = refl
     turned false false c = refl
-
-    moved : (a b c : Bool) → (a || (b || c)) ≡ ((a || b) || c)
-    moved true b c = refl
-    moved false b c = refl
 
 -- where each flow stands once, none of the later ones is listed before
 none_listed : (xs ys : List Item) → HasEachFlowOnce (xs ++ ys) → All (λ y. is_listed xs y.flow ≡ false) ys

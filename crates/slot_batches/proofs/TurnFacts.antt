@@ -5,20 +5,14 @@ use Rattle.std.proofs.lemmas.List.Elements.{All-nil, All-cons, All-head, All-tai
 use Rattle.greedy_rules.specs.declared.flows.Flow.{Flow}
 use Rattle.greedy_rules.specs.declared.flows.Item.{Item}
 use Rattle.greedy_rules.specs.Slot.{Bar}
-use Rattle.greedy_rules.specs.Walk.{turn}
 use Rattle.greedy_rules.specs.Demands.{HasEachFlowOnce}
+use Rattle.greedy_rules.proofs.OnceLemmas.{Other}
 use Rattle.list_facts.proofs.Pairs.{AllPairs-cons, AllPairs-head, AllPairs-tail}
 use Rattle.slot_batches.specs.FlowByFlow.{slots_with, item_after, slots_after, items_after}
 use Rattle.slot_batches.proofs.SortedRuns.{item_after_cases}
+use Rattle.slot_batches.proofs.FreePlaces.{length-slots_with, item_after-flow}
 
 module _ (bar : Bar) where
-  pub item_after_flow : (number : ℕ) (item : Item) (slots : List (List Flow)) → (item_after bar number item slots).flow ≡ item.flow
-  item_after_flow number item [] = refl
-  item_after_flow number item (slot ∷ slots) =
-      cond_both (nat_lt 0 item.need && not (bar slot item.flow)) (record item { need = item.need - 1; last = number }) item
-      (λ now. (item_after bar (number + 1) now slots).flow ≡ item.flow)
-      (λ _. item_after_flow (number + 1) (record item { need = item.need - 1; last = number }) slots) (λ _. item_after_flow (number + 1) item slots)
-
   -- no need grows
   pub item_after_need : (number : ℕ) (item : Item) (slots : List (List Flow)) → (item_after bar number item slots).need ≤ item.need
   item_after_need number item [] = omega arith
@@ -27,13 +21,9 @@ module _ (bar : Bar) where
       (λ now. (item_after bar (number + 1) now slots).need ≤ item.need)
       (λ _. omega (arith, item_after_need (number + 1) (record item { need = item.need - 1; last = number }) slots)) (λ _. item_after_need (number + 1) item slots)
 
-  pub length-slots_with : (number : ℕ) (item : Item) (slots : List (List Flow)) → length (slots_with bar number item slots) ≡ length slots
-  length-slots_with number item [] = refl
-  length-slots_with number item (slot ∷ slots) = ap (λ n. suc n) (length-slots_with (number + 1) (turn bar number slot item) slots)
-
   pub length-slots_after : (number : ℕ) (list : List Item) (slots : List (List Flow)) → length (slots_after bar number list slots) ≡ length slots
   length-slots_after number [] slots = refl
-  length-slots_after number (item ∷ list) slots = length-slots_after number list (slots_with bar number item slots) ∙ length-slots_with number item slots
+  length-slots_after number (item ∷ list) slots = length-slots_after number list (slots_with bar number item slots) ∙ length-slots_with bar number item slots
 
   pub length-items_after : (number : ℕ) (list : List Item) (slots : List (List Flow)) → length (items_after bar number list slots) ≡ length list
   length-items_after number [] slots = refl
@@ -44,17 +34,14 @@ module _ (bar : Bar) where
   All-items_after P number [] slots all = All-nil (λ item. P item.flow)
   All-items_after P number (item ∷ list) slots all =
       All-cons (λ x. P x.flow) (item_after bar number item slots) (items_after bar number list (slots_with bar number item slots))
-      (subst P (sym (item_after_flow number item slots)) (All-head (λ x. P x.flow) item list all))
+      (subst P (sym (item_after-flow bar number item slots)) (All-head (λ x. P x.flow) item list all))
       (All-items_after P number list (slots_with bar number item slots) (All-tail (λ x. P x.flow) item list all))
-
-  abbrev Other : Item → Item → Type 0
-  Other i j = i.flow ≢ j.flow
 
   pub once-items_after : (number : ℕ) (list : List Item) (slots : List (List Flow)) → HasEachFlowOnce list → HasEachFlowOnce (items_after bar number list slots)
   once-items_after number [] slots once = once
   once-items_after number (item ∷ list) slots once =
       let now : Item = item_after bar number item slots in
-      let kept : now.flow ≡ item.flow = item_after_flow number item slots in
+      let kept : now.flow ≡ item.flow = item_after-flow bar number item slots in
       let others : All (Other now) list = All-weaker (Other item) (Other now) (λ x other e. other (sym kept ∙ e)) list (AllPairs-head Other item list once) in
       AllPairs-cons Other now (items_after bar number list (slots_with bar number item slots))
       (All-items_after (λ flow. now.flow ≢ flow) number list (slots_with bar number item slots) others)
@@ -67,7 +54,7 @@ module _ (bar : Bar) where
   lasts-items_after number (item ∷ list) slots below =
       let now : Item = item_after bar number item slots in
       let later : List (List Flow) = slots_with bar number item slots in
-      let long = length-slots_with number item slots in
+      let long = length-slots_with bar number item slots in
       let here : now.last < number + length slots =
       elim (item_after_cases bar number item slots) [
         | inl same ↦ let kept : now.last ≡ item.last = ap (λ (x : Item). x.last) same in omega (arith, All-head (λ x. x.last < number) item list below)

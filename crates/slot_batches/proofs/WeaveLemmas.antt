@@ -84,7 +84,7 @@ module _ (aside : Item → Bool) where
   abbrev pub Others : (Item → Type 0) → List Item → Type 0
   Others P list = All (λ item. aside item ≡ false → P item) list
 
-  is_set_aside : (item : Item) (list rest : List Item) → aside item ≡ true → weave aside (item ∷ list) rest ≡ item ∷ weave aside list rest
+  pub is_set_aside : (item : Item) (list rest : List Item) → aside item ≡ true → weave aside (item ∷ list) rest ≡ item ∷ weave aside list rest
   is_set_aside item list [] out = cond-true (aside item) (item ∷ weave aside list []) (weave aside list []) out
   is_set_aside item list (next ∷ rest) out =
       cond-true (aside item) (item ∷ weave aside list (next ∷ rest)) (cond (stays item next) (next ∷ weave aside list rest) (weave aside list (next ∷ rest))) out

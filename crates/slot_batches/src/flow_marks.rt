@@ -1,10 +1,10 @@
-ghost use Rattle.std.specs.Prelude.{◌≡◌, ◌<◌, ◌≤◌, ◌==◌, ◌&&◌, not, true, false, length, take, IfOk, All};
+ghost use Rattle.std.specs.Prelude.{◌≡◌, ◌<◌, true, false, length, IfOk, All};
 ghost use Rattle.greedy_rules.specs.declared.flows.Flow.{Flow};
 ghost use Rattle.slot_batches.specs.Marks.{own_place, own_bit, has_own_bit, HaveOwnBits, has_mark};
-ghost use Rattle.slot_batches.specs.Woven.{OnlyOpen, places_from};
+ghost use Rattle.slot_batches.specs.Woven.{OnlyOpen};
 
 use crate::marks::{clear_words, has_bit, set_bit};
-use greedy_rules::{Batch, Flow, Item};
+use greedy_rules::{Batch, Flow};
 use no_memory::NoMemory;
 use std::alloc::Global;
 use std::marker::Model;
@@ -70,35 +70,6 @@ fn mark_all(words: &mut [u64], batches: &[Batch])
     }
 }
 
-/// Whether the flow has a mark by these words, where some flow has one.
-fn is_marked(words: &[u64], some: bool, flow: Flow) -> bool
-    ensures { result ≡ (some && has_own_bit words.now flow) }
-{
-    has_bit(words, place(flow), bit(flow)) & some
-}
-
-/// Whether the item needs a slot or has a mark, by these words where some flow has one.
-fn is_busy(words: &[u64], some: bool, item: &Item) -> bool
-    ensures { result ≡ not ((item.now.need == 0) && not (some && has_own_bit words.now item.now.flow)) }
-{
-    item.need | u32::from(is_marked(words, some, item.flow)) > 0
-}
-
-/// Notes the places of the items that need a slot or have a mark, and answers how many these are.
-fn note_busy(words: &[u64], some: bool, items: &[Item], places: &mut [usize]) -> usize
-    requires { length items.now ≤ length places.old }
-    ensures within { result ≤ length items.now }
-    ensures places { take result places.new ≡ places_from (λ item. (item.need == 0) && not (some && has_own_bit words.now item.flow)) 0 items.now }
-    ensures length { length places.new ≡ length places.old }
-{
-    let mut count = 0;
-    for (at, item) in items.iter().enumerate() {
-        places[count] = at;
-        count += usize::from(is_busy(words, some, item));
-    }
-    count
-}
-
 impl FlowMarks {
     /// With no flow marked. No later call takes memory.
     pub fn open(alloc: Global) -> Result<FlowMarks, NoMemory>
@@ -128,22 +99,5 @@ impl FlowMarks {
         ensures { result ≡ false → has_mark self.now flow ≡ false }
     {
         has_bit(&self.words, place(flow), bit(flow))
-    }
-
-    /// Whether no flow has a mark.
-    pub fn is_empty(&self) -> bool
-        ensures { result ≡ true → (flow : Flow) → has_mark self.now flow ≡ false }
-    {
-        !self.some
-    }
-
-    /// Notes at the front of `places` where the items stand that need a slot or have a mark, and answers how many these are.
-    pub fn note_busy(&self, items: &[Item], places: &mut [usize]) -> usize
-        requires { length items.now ≤ length places.old }
-        ensures within { result ≤ length items.now }
-        ensures places { take result places.new ≡ places_from (λ item. (item.need == 0) && not (has_mark self.now item.flow)) 0 items.now }
-        ensures length { length places.new ≡ length places.old }
-    {
-        note_busy(&self.words, self.some, items, places)
     }
 }

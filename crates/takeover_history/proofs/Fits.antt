@@ -32,7 +32,7 @@ use Rattle.takeover_history.specs.Fits.{MayBeNext, EveryNextBatchMayBeApplied, N
 use Rattle.takeover_history.proofs.Follow.{lease-node, find-number, is_log}
 use Rattle.takeover_history.proofs.Counts.{Counts}
 use Rattle.takeover_history.proofs.Lists.{all, entry, of, rises, adds, recorded-more, IsListOf, lists, applies}
-use Rattle.takeover_history.proofs.Totals.{Holds, holds, allocated, unheard}
+use Rattle.takeover_history.proofs.Totals.{holds, allocated, unheard}
 use Rattle.takeover_history.proofs.Leases.{Leased, leased, IsOwned, IsUsed}
 use Rattle.takeover_history.proofs.Generations.{AreGranted, granted, Agree, all_agree}
 use Rattle.takeover_history.proofs.Anew.{taken-there}
@@ -67,9 +67,6 @@ rose zero now le = ap (λ (n : ℕ). nat_lt 0 n) (omega arith)
 rose (suc before) now le = or_left (nat_lt 0 (suc before)) (nat_lt 0 (now - suc before)) (lt-ltb 0 (suc before) (omega arith)) ∙ sym (lt-ltb 0 now (omega arith))
 
 module _ (balances : EveryBatchBalances) where
-  counts : (setting : PairSetting) (log : Log) (flow : Flow) → IsLog setting log → Holds setting log flow
-  counts setting log flow is = holds balances setting log flow is
-
   is_new-more : (setting : PairSetting) (k : ℕ) (log : Log) (lease : Lease) (src dst : ℕ) → IsLog setting log → src < setting.endpoints → dst < setting.endpoints
       → is_recorded (batches_only (published_batches k log)) (flow_of src dst) ≡ nat_lt 0 (published setting k log (flow_of src dst))
       → is_recorded (batches_only (published_batches k (Published (issue_for setting log lease) ∷ log))) (flow_of src dst) ≡ nat_lt 0 (published setting k (Published (issue_for setting log lease) ∷ log) (flow_of src dst))
@@ -84,7 +81,7 @@ module _ (balances : EveryBatchBalances) where
             ∙ (ap (λ (p : Bool). p || is_some (entry_of issue.batch.entries flow)) before
             ∙ (ap (λ (n : ℕ). nat_lt 0 (published setting k log flow) || is_some (entry_of (entries_for setting n log) flow)) here
             ∙ (ap (λ (p : Bool). nat_lt 0 (published setting k log flow) || p) (entry-there setting k log src dst in_src in_dst)
-            ∙ (rose (published setting k log flow) (recorded_of_flow setting k log flow) ((counts setting log flow is).grows k)
+            ∙ (rose (published setting k log flow) (recorded_of_flow setting k log flow) ((holds balances setting log flow is).grows k)
             ∙ ap (λ (n : ℕ). nat_lt 0 n) (sym (cond-true (lease.generation == k) (recorded_of_flow setting k log flow) (published setting k log flow) test)))))))
         | inr there ↦
             let test = ne_eqb lease.generation k there in
@@ -125,16 +122,16 @@ module _ (balances : EveryBatchBalances) where
         room = omega (arith, fits, length-then setting.b 0 (batch_for setting k log) list);
         needs = λ at d within.
             let item : Item = get_or list at d in
-            let c = counts setting log item.flow is in
+            let c = holds balances setting log item.flow is in
             omega (arith, need_of_item list at d of_k.once within, adds setting k log item.flow item.need, c.left k, c.grows k, c.within k);
-        grows = λ flow. (counts setting log flow is).grows k;
+        grows = λ flow. (holds balances setting log flow is).grows k;
         is_new = λ src dst in_src in_dst. is_new setting k log src dst is in_src in_dst;
       }
 
   -- ---- numbers
 
   based : (setting : PairSetting) (log : Log) (flow : Flow) → IsLog setting log → base_of setting log flow ≤ asked_of_flow log flow
-  based setting log flow is = let c = counts setting log flow is in omega (arith, c.now)
+  based setting log flow is = let c = holds balances setting log flow is in omega (arith, c.now)
 
 -- ---- generations
 

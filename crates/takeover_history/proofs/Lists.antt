@@ -18,7 +18,7 @@ use Rattle.greedy_rules.proofs.Facts.{same_flow-true, All-opened}
 use Rattle.greedy_rules.specs.Cells.{flow_of}
 use Rattle.greedy_rules.proofs.CellLemmas.{rows_rise, all_rows}
 use Rattle.list_facts.proofs.Pairs.{AllPairs-nil}
-use Rattle.list_facts.proofs.Bools.{or-none}
+use Rattle.std.proofs.Math.Bool.{or-false}
 use Rattle.takeover_history.specs.Events.{PairSetting, Lease, BatchIssue, Fact, Asked, Requested, Granted, Took, Told, Published, Heard, Crashed, Refused, Log}
 use Rattle.takeover_history.specs.Batches.{published_batches, batches_only, list_by, slots_by, list_of, published, rise, entry_for, entries_for, one_rack_limits, batch_for, issue_for}
 use Rattle.takeover_history.specs.Steps.{IsLog}
@@ -36,7 +36,7 @@ recorded-more xs number batch flow =
     let second : ℕ × DemandBatch → DemandBatch = λ y. y.1 in
     let test : DemandBatch → Bool = λ d. is_some (entry_of d.entries flow) in
     ap (λ (ds : List DemandBatch). list_any test ds) (map-append second xs (x ∷ []))
-    ∙ (list_any-append test (map second xs) (batch ∷ []) ∙ ap (λ (b : Bool). list_any test (map second xs) || b) (or-none (test batch)))
+    ∙ (list_any-append test (map second xs) (batch ∷ []) ∙ ap (λ (b : Bool). list_any test (map second xs) || b) (or-false (test batch)))
 
 -- ---- the entries of the next batch
 

@@ -6,8 +6,8 @@ ghost use Rattle.text_output.specs.Output.{Passes};
 ghost use Rattle.text_output.specs.Text.{text_of, slot_line, flow_list};
 
 use crate::output::{Output, Stop};
-use clos_topology::has_sender;
 use fp_edge::Sink;
+use greedy_rules::has_sender;
 use report_text::Numeral;
 
 /// So many places of a row are passed over at once where none of them has a destination.

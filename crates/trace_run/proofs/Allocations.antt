@@ -7,6 +7,7 @@ use Rattle.std.proofs.lemmas.List.{length-drop}
 use Rattle.std.proofs.lemmas.List.Sums.{sum_by-cons, count_by-le-length}
 use Rattle.std.proofs.lemmas.List.Folds.{list_any_none}
 use Rattle.std.proofs.lemmas.List.Elements.{All-drop, All-head, All-tail}
+use Rattle.list_facts.proofs.Bools.{cond-same}
 use Rattle.greedy_rules.specs.declared.flows.Flow.{Flow}
 use Rattle.greedy_rules.specs.Batches.{DemandBatch, entry_of}
 use Rattle.greedy_rules.specs.Demands.{need_with}
@@ -98,16 +99,12 @@ a_flow_without_slots s setting batches rounds src dst allocations below are none
       | inl here ↦
           let counted = batch_counted s setting batches rounds batch src dst below in
           let nothing : cond {A = ℕ} (nat_le batch batches) (allocated_in_batch setting batches rounds src dst) 0 ≡ 0 =
-          ap (λ (n : ℕ). cond {A = ℕ} (nat_le batch batches) n 0) none ∙ either (nat_le batch batches) in
+          ap (λ (n : ℕ). cond {A = ℕ} (nat_le batch batches) n 0) none ∙ cond-same (nat_le batch batches) 0 in
           let was : since batch allocations to ≡ allocated_from setting batches batch src to = before ∙ ap (λ (c : Bool). allocated_from setting (cond c (batches + 1) batches) batch src to) (le-ltb to dst (omega arith)) in
           let same = ap (λ (d : ℕ). allocated_from setting batches batch src d) here in
           let same_more = ap (λ (d : ℕ). allocated_from setting (batches + 1) batch src d) here in
           rw (lt-ltb to (dst + 1) (omega arith)) (omega arith)
     ]
-  where
-    either : (c : Bool) → cond {A = ℕ} c 0 0 ≡ 0
-    either true = refl
-    either false = refl
 
 pub a_batch_more : ABatchMore
 a_batch_more setting batches src allocations are batch dst low =

@@ -1,8 +1,7 @@
 -- The ledger of each lane and the demand list.
-use Rattle.std.proofs.Common.{◌≡◌, ◌<◌, ◌≤◌, ◌+◌, ◌-◌, ◌*◌, ℕ, zero, suc, List, [], ◌∷◌, ◌++◌, length, map, take, drop, Option, refl, sym, ap, ◌∙◌, subst, arith, mul-le-mul_right}
-use Rattle.std.proofs.Math.Seq.{drop-append_seam, drop-append-add}
+use Rattle.std.proofs.Common.{◌≡◌, ◌<◌, ◌≤◌, ◌+◌, ◌-◌, ◌*◌, ℕ, zero, suc, List, [], ◌∷◌, ◌++◌, length, map, take, drop, Option, sym, ap, ◌∙◌, subst, arith, mul-le-mul_right}
+use Rattle.std.proofs.Math.Seq.{drop-append_seam, drop-append-add, drop-nil}
 use Rattle.std.proofs.lemmas.List.{take_all, drop-append-le, append-nil}
-use Rattle.list_facts.proofs.Lists.{drop-none}
 use Rattle.greedy_rules.specs.declared.flows.Flow.{Flow}
 use Rattle.greedy_rules.specs.declared.flows.Item.{Item}
 use Rattle.greedy_rules.specs.declared.flows.Entry.{Entry}
@@ -18,6 +17,7 @@ use Rattle.endpoint_history.specs.Entries.{entries_of_batches}
 use Rattle.endpoint_history.specs.Rest.{need_through, need_left, FitNeeds, slots_from}
 use Rattle.endpoint_history.specs.LedgerLaws.{AddsSumToOwed}
 use Rattle.endpoint_history.specs.Steps.{TakesInRound}
+use Rattle.endpoint_history.proofs.OneRest.{none-allocated}
 use Rattle.trace_run.specs.Run.{Setting, slots_in_batch, replayed}
 use Rattle.trace_run.specs.Histories.{lane_after}
 use Rattle.trace_run.specs.Windows.{batch_at}
@@ -39,12 +39,8 @@ record IsLeft (flow : Flow) (b k : ℕ) (list : List Item) (batches later : List
 -- of the batches allocated and those still to come
 flow_is_left : (s : Schedules) (endpoints b k : ℕ) (list : List Item) (batches later : List DemandBatch) (flow : Flow) →
     EachFollows endpoints b k list batches → IsLeft flow b k list batches later
-flow_is_left s endpoints b k list [] later flow each = record { left = none (map (λ x. entry_of x.entries flow) later) (need_in (item_of list flow)); fits = fits_none (map (λ x. entry_of x.entries flow) later) }
+flow_is_left s endpoints b k list [] later flow each = record { left = none-allocated (map (λ x. entry_of x.entries flow) later) (need_in (item_of list flow)); fits = fits_none (map (λ x. entry_of x.entries flow) later) }
   where
-    none : (es : List (Option Entry)) (n : ℕ) → need_left es [] n ≡ need_through es n
-    none [] n = refl
-    none (e ∷ es) n = refl
-
     fits_none : (es : List (Option Entry)) → FitNeeds es [] (need_in (item_of list flow))
     fits_none [] = tt
     fits_none (e ∷ es) = tt
@@ -63,7 +59,7 @@ flow_is_left s endpoints b k list (batch ∷ batches) later flow each =
 
 from_batch : (s : Schedules) (flow : Flow) (b batch k : ℕ) (list : List Item) (batches : List DemandBatch) →
     slots_from batch (slots_by_batch flow b k list batches) ≡ slots_of flow (drop (batch * b) (schedule_from b k list batches))
-from_batch s flow b batch k list [] = sym (ap (slots_of flow) (drop-none (batch * b)))
+from_batch s flow b batch k list [] = sym (ap (slots_of flow) (drop-nil (batch * b)))
 from_batch s flow b zero k list (x ∷ batches) =
     let start : 0 ≡ zero * b = omega arith in
     let later : List (List Flow) = schedule_from b (k + 1) (list_then b k x list) batches in
@@ -89,7 +85,7 @@ pub owed_is_allocated_or_left : Schedules → EndsLaws → OwedIsAllocatedOrLeft
 owed_is_allocated_or_left s ends setting allocated zero src dst within low high =
     let none : allocated ≡ 0 = omega arith in
     subst (λ (m : ℕ). owed setting.g [] dst ≡ allocated_from setting m 0 src dst + need_after setting m 0 src dst) (sym none)
-    (owed-none setting.g dst ends.adds ∙ sym (ap (λ (xs : List (List Flow)). slots_of (flow_of src dst) xs + 0) (drop-none (0 * setting.b))))
+    (owed-none setting.g dst ends.adds ∙ sym (ap (λ (xs : List (List Flow)). slots_of (flow_of src dst) xs + 0) (drop-nil (0 * setting.b))))
 owed_is_allocated_or_left s ends setting allocated (suc rounds) src dst within low high =
     rest_now
     ∙ (ap (λ n. n + need_left (entries_of_batches src setting.g all_calls dst) slots 0) (from_batch s flow setting.b (last_reset calls) 0 [] front)

@@ -3,10 +3,9 @@
 use Rattle.std.proofs.Common.{◌≡◌, ℕ, ◌+◌, ◌-◌, ◌<◌, ◌≤◌, ◌⊎◌, List, [], ◌∷◌, ◌++◌, length, get_or, take, drop, Bool, true, false, cond, Option, Some, refl, sym, ap, subst, ◌∙◌, inl, inr, arith, append-nil, length-append}
 use Rattle.std.specs.Prelude.{◌==◌, ◌||◌, not}
 use Rattle.std.specs.List.{list_all}
-use Rattle.std.proofs.lemmas.Bool.{false≢true}
+use Rattle.std.proofs.lemmas.Bool.{false≢true, and_parts}
 use Rattle.std.proofs.lemmas.List.{append_assoc, drop_more, take-append-drop, take_rest}
 use Rattle.std.proofs.lemmas.Bool.Decides.{nat_tests}
-use Rattle.list_facts.proofs.Bools.{both_true}
 use Rattle.csv.specs.Machine.{Read, next_record, step, ends_at_end}
 use Rattle.csv.specs.Reading.{default_config}
 use Rattle.csv.specs.declared.parser.State.{State}
@@ -27,7 +26,7 @@ Ended fields rest o = (s : State) × (o ≡ Some (fields, s, rest)) × (is_reach
 pub record-ended : (text rest : List ℕ) (fields : Record) → Ended fields rest (next_record default_config st.StartRecord [] [] text) → records_in text ≡ fields ∷ records_in rest
 record-ended text rest fields (s, is, reached, outside) = records_from-next st.StartRecord text (fields, s, rest) refl is ∙ ap (λ (l : List Record). fields ∷ l) (between s rest reached outside)
 
--- what holds of both_true bytes that end a line
+-- what holds of both bytes that end a line
 at-ends : (P : ℕ → Type 0) (e : ℕ) → ends_line e ≡ true → P 10 → P 13 → P e
 at-ends P e line feed back = by (e == 10) refl line
   where
@@ -56,7 +55,7 @@ plain-last : (fields : Record) (field text : List ℕ) (e : ℕ) → list_all is
     → Ended (fields ++ field ∷ []) text (next_record default_config st.StartField fields [] (field ++ e ∷ text))
 plain-last fields [] text e plain line = ends-start fields [] text e line
 plain-last fields (c ∷ field) text e plain line =
-    let p = both_true (is_plain c) (list_all is_plain field) plain in
+    let p = and_parts (is_plain c) (list_all is_plain field) plain in
     let same : next_record default_config st.StartField fields [] (c ∷ (field ++ e ∷ text)) ≡ next_record default_config st.InField fields (c ∷ field) (e ∷ text) =
     one-byte st.StartField fields [] c (field ++ e ∷ text) ∙ ap (after fields [] c (field ++ e ∷ text)) (start-field c p.0) ∙ more-bytes fields (c ∷ []) field (e ∷ text) p.1 in
     subst (Ended (fields ++ (c ∷ field) ∷ []) text) (sym same) (ends-field fields (c ∷ field) text e line)
@@ -72,7 +71,7 @@ in-quoted c other = by (c == 34) other
 quoted-bytes : (fields : Record) (here field text : List ℕ) → list_all is_unquoted field ≡ true → next_record default_config st.InQuoted fields here (field ++ text) ≡ next_record default_config st.InQuoted fields (here ++ field) text
 quoted-bytes fields here [] text other = ap (λ h. next_record default_config st.InQuoted fields h text) (sym (append-nil here))
 quoted-bytes fields here (c ∷ field) text other =
-    let p = both_true (is_unquoted c) (list_all is_unquoted field) other in
+    let p = and_parts (is_unquoted c) (list_all is_unquoted field) other in
     one-byte st.InQuoted fields here c (field ++ text) ∙ ap (after fields here c (field ++ text)) (in-quoted c p.0) ∙ quoted-bytes fields (here ++ c ∷ []) field text p.1
     ∙ ap (λ h. next_record default_config st.InQuoted fields h text) (append_assoc here (c ∷ []) field)
 
@@ -152,7 +151,7 @@ unquoted-byte false false feed back plain = refl
 unquoted : (field : List ℕ) → list_all is_plain field ≡ true → list_all is_unquoted field ≡ true
 unquoted [] plain = refl
 unquoted (c ∷ field) plain =
-    let p = both_true (is_plain c) (list_all is_plain field) plain in
+    let p = and_parts (is_plain c) (list_all is_plain field) plain in
     let here : is_unquoted c ≡ true = unquoted-byte (c == 44) (c == 34) (c == 10) (c == 13) p.0 in
     let rest = unquoted field p.1 in
     rw (here, rest) refl

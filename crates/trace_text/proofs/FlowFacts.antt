@@ -4,6 +4,7 @@ use Rattle.std.proofs.lemmas.Bool.{cases_eq, cases_lt}
 use Rattle.std.proofs.lemmas.Bool.Decides.{nat_tests}
 use Rattle.std.proofs.lemmas.List.{get_or-set_same, get_or-set_other, set-get_or}
 use Rattle.std.proofs.lemmas.List.Sums.{sum_by_push}
+use Rattle.std.proofs.Math.Bool.{or-false, and-true, or-true, and-false}
 use Rattle.line_marks.specs.Places.{Places, is_marked}
 use Rattle.trace_text.specs.Asks.{slots_asked, IsAmong}
 use Rattle.trace_text.specs.FlowSums.{flow_number, slots_for_round, unmarked}
@@ -65,38 +66,22 @@ marked-more slots rows at number long within some more marked flow low = elim (c
 pub marks-more : (old new : Bool) (place at : ℕ) → place ≢ at → new ≡ (old || place == at) → new ≡ old
 marks-more old new place at apart is =
     let other : (place == at) ≡ false = grind (arith, nat_tests) in
-    is ∙ rw other (by old)
-  where
-    by : (b : Bool) → (b || false) ≡ b
-    by true = refl
-    by false = refl
+    is ∙ rw other (or-false old)
 
 pub marks-less : (old new : Bool) (place at : ℕ) → place ≢ at → new ≡ (old && not (place == at)) → new ≡ old
 marks-less old new place at apart is =
     let other : (place == at) ≡ false = grind (arith, nat_tests) in
-    is ∙ rw other (by old)
-  where
-    by : (b : Bool) → (b && true) ≡ b
-    by true = refl
-    by false = refl
+    is ∙ rw other (and-true old)
 
 pub marked-now : (old new : Bool) (at : ℕ) → new ≡ (old || at == at) → new ≡ true
 marked-now old new at is =
     let same : (at == at) ≡ true = grind (arith, nat_tests) in
-    is ∙ rw same (by old)
-  where
-    by : (b : Bool) → (b || true) ≡ true
-    by true = refl
-    by false = refl
+    is ∙ rw same (or-true old)
 
 pub cleared-now : (old new : Bool) (at : ℕ) → new ≡ (old && not (at == at)) → new ≡ false
 cleared-now old new at is =
     let same : (at == at) ≡ true = grind (arith, nat_tests) in
-    is ∙ rw same (by old)
-  where
-    by : (b : Bool) → (b && false) ≡ false
-    by true = refl
-    by false = refl
+    is ∙ rw same (and-false old)
 
 pub still-marked : (old new test : Bool) → new ≡ (old || test) → old ≡ true → new ≡ true
 still-marked old new test is was = is ∙ rw was refl

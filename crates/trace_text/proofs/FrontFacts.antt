@@ -34,41 +34,26 @@ in-field-reached c = by (c == 44) (c == 13) (c == 10)
     by false false true = refl
     by false false false = refl
 
+-- one of two steps
+either-reached : (test : Bool) (one other : State × Action) → is_reached one.0 ≡ true → is_reached other.0 ≡ true → is_reached (cond {A = State × Action} test one other).0 ≡ true
+either-reached true one other e f = e
+either-reached false one other e f = f
+
 start-field-reached : (c : ℕ) → is_reached (start_field default_config c).0 ≡ true
-start-field-reached c = by (c == 34) (in_field default_config c) (in-field-reached c)
-  where
-    by : (quote : Bool) (r : State × Action) → is_reached r.0 ≡ true → is_reached (cond {A = State × Action} quote (st.InQuoted, act.Skip) r).0 ≡ true
-    by true r e = refl
-    by false r e = e
+start-field-reached c = either-reached (c == 34) (st.InQuoted, act.Skip) (in_field default_config c) refl (in-field-reached c)
 
 start-record-reached : (c : ℕ) → is_reached (start_record default_config c).0 ≡ true
-start-record-reached c = by ((c == 13) || (c == 10)) (start_field default_config c) (start-field-reached c)
-  where
-    by : (end : Bool) (r : State × Action) → is_reached r.0 ≡ true → is_reached (cond {A = State × Action} end (st.StartRecord, act.Skip) r).0 ≡ true
-    by true r e = refl
-    by false r e = e
+start-record-reached c = either-reached ((c == 13) || (c == 10)) (st.StartRecord, act.Skip) (start_field default_config c) refl (start-field-reached c)
 
 step-reached : (s : State) (c : ℕ) → is_reached s ≡ true → is_reached (step default_config s c).0 ≡ true
 step-reached st.StartRecord c r = start-record-reached c
 step-reached st.StartField c r = start-field-reached c
 step-reached st.InField c r = in-field-reached c
-step-reached st.InQuoted c r = by (c == 34)
-  where
-    by : (quote : Bool) → is_reached (cond {A = State × Action} quote (st.AfterQuote, act.Skip) (st.InQuoted, act.Copy)).0 ≡ true
-    by true = refl
-    by false = refl
-step-reached st.AfterQuote c r = by (c == 34) (in_field default_config c) (in-field-reached c)
-  where
-    by : (quote : Bool) (r : State × Action) → is_reached r.0 ≡ true → is_reached (cond {A = State × Action} quote (st.InQuoted, act.Copy) r).0 ≡ true
-    by true r e = refl
-    by false r e = e
+step-reached st.InQuoted c r = either-reached (c == 34) (st.AfterQuote, act.Skip) (st.InQuoted, act.Copy) refl refl
+step-reached st.AfterQuote c r = either-reached (c == 34) (st.InQuoted, act.Copy) (in_field default_config c) refl (in-field-reached c)
 step-reached st.InEscape c r = absurd (false≢true r)
 step-reached st.InComment c r = absurd (false≢true r)
-step-reached st.AfterCr c r = by (c == 10) (start_record default_config c) (start-record-reached c)
-  where
-    by : (feed : Bool) (r : State × Action) → is_reached r.0 ≡ true → is_reached (cond {A = State × Action} feed (st.StartRecord, act.Skip) r).0 ≡ true
-    by true r e = refl
-    by false r e = e
+step-reached st.AfterCr c r = either-reached (c == 10) (st.StartRecord, act.Skip) (start_record default_config c) refl (start-record-reached c)
 
 -- what no byte more leads to
 at-end : (s : State) (fields : Record) (here : List ℕ) → next_record default_config s fields here [] ≡ cond (ends_at_end s) (Some (fields ++ here ∷ [], st.StartRecord, [])) None

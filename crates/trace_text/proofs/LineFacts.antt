@@ -3,10 +3,9 @@ use Rattle.std.proofs.Common.{◌≡◌, ◌≢◌, ℕ, List, [], ◌∷◌, �
 use Rattle.std.specs.Prelude.{◌==◌, ◌||◌, not}
 use Rattle.std.specs.List.{list_all}
 use Rattle.std.specs.Char.{is_ascii_digit}
-use Rattle.std.proofs.lemmas.Bool.{cond-true, false≢true}
+use Rattle.std.proofs.lemmas.Bool.{cond-true, false≢true, and_parts}
 use Rattle.std.proofs.lemmas.List.{append_assoc}
 use Rattle.std.proofs.lemmas.Bool.Decides.{nat_tests}
-use Rattle.list_facts.proofs.Bools.{both_true}
 use Rattle.csv.specs.Machine.{Read, next_record, step, in_field, start_field, is_end, ends_at_end, fields_after, field_after}
 use Rattle.csv.specs.Reading.{default_config, records_from, strip_bom, is_bom}
 use Rattle.csv.specs.declared.parser.State.{State}
@@ -48,7 +47,7 @@ start-field c plain = no-quote (c == 44) (c == 34) (c == 10) (c == 13) _ _ plain
 pub more-bytes : (fields : Record) (here field text : List ℕ) → list_all is_plain field ≡ true → next_record default_config st.InField fields here (field ++ text) ≡ next_record default_config st.InField fields (here ++ field) text
 more-bytes fields here [] text plain = ap (λ h. next_record default_config st.InField fields h text) (sym (append-nil here))
 more-bytes fields here (c ∷ field) text plain =
-    let p = both_true (is_plain c) (list_all is_plain field) plain in
+    let p = and_parts (is_plain c) (list_all is_plain field) plain in
     one-byte st.InField fields here c (field ++ text) ∙ ap (after fields here c (field ++ text)) (in-field c p.0) ∙ more-bytes fields (here ++ c ∷ []) field text p.1
     ∙ ap (λ h. next_record default_config st.InField fields h text) (append_assoc here (c ∷ []) field)
 
@@ -58,7 +57,7 @@ pub field-comma : (fields : Record) (field text : List ℕ) → list_all is_plai
 unfolding next_record
 field-comma fields [] text plain = refl
 field-comma fields (c ∷ field) text plain =
-    let p = both_true (is_plain c) (list_all is_plain field) plain in
+    let p = and_parts (is_plain c) (list_all is_plain field) plain in
     one-byte st.StartField fields [] c (field ++ 44 ∷ text) ∙ ap (after fields [] c (field ++ 44 ∷ text)) (start-field c p.0) ∙ more-bytes fields (c ∷ []) field (44 ∷ text) p.1
 
 -- a record begins as its first field does
@@ -80,7 +79,7 @@ record-more text rest fields e = records_from-next st.StartRecord text (fields, 
 digits-plain : (digits : List ℕ) → list_all is_ascii_digit digits ≡ true → list_all is_plain digits ≡ true
 digits-plain [] all = refl
 digits-plain (c ∷ digits) all =
-    let p = both_true (is_ascii_digit c) (list_all is_ascii_digit digits) all in
+    let p = and_parts (is_ascii_digit c) (list_all is_ascii_digit digits) all in
     let digit = p.0 in
     let here : is_plain c ≡ true = grind (arith, nat_tests) in
     let rest = digits-plain digits p.1 in
@@ -88,7 +87,7 @@ digits-plain (c ∷ digits) all =
 
 pub number-plain : (digits : List ℕ) → is_number digits ≡ true → list_all is_plain digits ≡ true
 unfolding is_number
-number-plain digits number = digits-plain digits (both_true _ (list_all is_ascii_digit digits) (both_true _ _ number).0).1
+number-plain digits number = digits-plain digits (and_parts _ (list_all is_ascii_digit digits) (and_parts _ _ number).0).1
 
 -- the fields of an ask
 pub ask-fields : (ask : PlainAsk) (a b c d : List ℕ) → is_number a ≡ true → is_number b ≡ true → is_number c ≡ true → is_number d ≡ true
@@ -140,6 +139,6 @@ at-end s fields here ends = cond-true (ends_at_end s) (Some (fields ++ (here ∷
 pub field-end : (fields : Record) (field : List ℕ) → list_all is_plain field ≡ true → next_record default_config st.StartField fields [] field ≡ Some (fields ++ field ∷ [], st.StartRecord, [])
 field-end fields [] plain = at-end st.StartField fields [] refl
 field-end fields (c ∷ field) plain =
-    let p = both_true (is_plain c) (list_all is_plain field) plain in
+    let p = and_parts (is_plain c) (list_all is_plain field) plain in
     one-byte st.StartField fields [] c field ∙ (ap (after fields [] c field) (start-field c p.0)
     ∙ (ap (next_record default_config st.InField fields (c ∷ [])) (sym (append-nil field)) ∙ (more-bytes fields (c ∷ []) field [] p.1 ∙ at-end st.InField fields (c ∷ field) refl)))

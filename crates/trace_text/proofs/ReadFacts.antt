@@ -1,8 +1,9 @@
 -- Rows that give a fate, raw rows, and rows that put a packet.
-use Rattle.std.proofs.Common.{◌≡◌, ℕ, ◌<◌, ◌≤◌, List, length, Bool, true, false, Result, Ok, Err, inl, inr, refl, sym, ap, ◌∙◌, arith}
+use Rattle.std.proofs.Common.{◌≡◌, ℕ, ◌<◌, ◌≤◌, List, length, true, false, Result, Ok, Err, inl, inr, refl, sym, ap, ◌∙◌, arith}
 use Rattle.std.specs.Prelude.{◌&&◌, ◌||◌, nat_le, nat_lt, is_some}
 use Rattle.std.specs.List.{filter_map}
 use Rattle.std.proofs.lemmas.Bool.Decides.{nat_tests}
+use Rattle.std.proofs.Math.Bool.{and-false}
 use Rattle.loss_world.specs.declared.fate.Fate.TheVariants.{Lose, Twice}
 use Rattle.trace_text.specs.Fields.{Record, field, has_number, field_number_at, is_hex, bytes_of}
 use Rattle.trace_text.specs.Rows.{Row, Raw, Put, may_have}
@@ -35,12 +36,8 @@ unfolding read_kind checked
 long-packet command before fields takes three number hex long =
     let bytes = hex-bytes (field fields 2) hex in
     let many : nat_le (length (bytes_of (field fields 2))) 2048 ≡ false = let half = bytes.1 in grind (arith, nat_tests) in
-    let out : (is_round (field_number_at fields 1) && nat_le (length (bytes_of (field fields 2))) 2048) ≡ false = rw many (by (is_round (field_number_at fields 1))) in
+    let out : (is_round (field_number_at fields 1) && nat_le (length (bytes_of (field fields 2))) 2048) ≡ false = rw many (and-false (is_round (field_number_at fields 1))) in
     rw (takes, three, number, hex, out) refl
-  where
-    by : (b : Bool) → (b && false) ≡ false
-    by true = refl
-    by false = refl
 
 long-put : (command : Command) (before : List Row) (fields : Record) → takes_kind command kind.Put ≡ true → length fields ≡ 3 → has_number fields 1 ≡ true → is_hex (field fields 2) ≡ true → 4096 < length (field fields 2)
     → read_kind command before fields kind.Put ≡ Err fault.Range
@@ -48,12 +45,8 @@ unfolding read_kind checked
 long-put command before fields takes three number hex long =
     let bytes = hex-bytes (field fields 2) hex in
     let many : nat_le (length (bytes_of (field fields 2))) 2048 ≡ false = let half = bytes.1 in grind (arith, nat_tests) in
-    let out : (nat_lt (field_number_at fields 1) (endpoints_of (net_of before)) && nat_le (length (bytes_of (field fields 2))) 2048) ≡ false = rw many (by (nat_lt (field_number_at fields 1) (endpoints_of (net_of before)))) in
+    let out : (nat_lt (field_number_at fields 1) (endpoints_of (net_of before)) && nat_le (length (bytes_of (field fields 2))) 2048) ≡ false = rw many (and-false (nat_lt (field_number_at fields 1) (endpoints_of (net_of before)))) in
     rw (takes, three, number, hex, out) refl
-  where
-    by : (b : Bool) → (b && false) ≡ false
-    by true = refl
-    by false = refl
 
 -- a row whose packet can't be read
 pub raw-refused : (command : Command) (fields : Record) (why : Fault) → takes_kind command kind.Raw ≡ true → length fields ≡ 3 → has_number fields 1 ≡ true → ReadsPacket fields (Err why) → ReadsKind command kind.Raw fields (Err why)

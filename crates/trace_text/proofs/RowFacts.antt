@@ -5,6 +5,7 @@ use Rattle.std.specs.Option.{option_or}
 use Rattle.std.proofs.lemmas.List.Sums.{sum_by_push}
 use Rattle.std.proofs.lemmas.Bool.{false≢true}
 use Rattle.std.proofs.lemmas.Bool.Decides.{nat_tests}
+use Rattle.list_facts.proofs.Options.{option_or-none}
 use Rattle.clos_topology.specs.Network.{Network}
 use Rattle.trace_text.specs.Rows.{Row, Ask}
 use Rattle.trace_text.specs.Earlier.{greatest_round, end_in, end_of, named_round, row_slots}
@@ -44,10 +45,6 @@ greatest_round-more (first ∷ rows) row = let rest = greatest_round-more rows r
 option_or-assoc : (a b c : Option ℕ) → option_or a (option_or b c) ≡ option_or (option_or a b) c
 option_or-assoc None b c = refl
 option_or-assoc (Some n) b c = refl
-
-pub option_or-none : (o : Option ℕ) → option_or o None ≡ o
-option_or-none None = refl
-option_or-none (Some n) = refl
 
 pub end_of-more : (before : List Row) (row : Row) → end_of (before ++ row ∷ []) ≡ option_or (end_of before) (end_in row)
 end_of-more [] row = option_or-none (end_in row)

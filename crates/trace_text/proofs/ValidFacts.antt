@@ -10,6 +10,7 @@ use Rattle.std.proofs.lemmas.List.FromFn.{get_or-map-range_with_len, length-map-
 use Rattle.std.proofs.lemmas.List.Kept.{AllPairs-from_increasing}
 use Rattle.std.proofs.lemmas.List.Sums.{sum_by-cons}
 use Rattle.list_facts.proofs.Lists.{sum_by-map}
+use Rattle.list_facts.proofs.Bools.{at_most_one}
 use Rattle.clos_topology.specs.Network.{Network, endpoints_of}
 use Rattle.clos_topology.specs.Limits.{IsNetwork}
 use Rattle.trace_text.specs.Asks.{IsAmong, slots_asked, slots_for}
@@ -223,17 +224,13 @@ boots-le count endpoint (boot ∷ boots) =
       split,
       sum_by-plus (λ r. cond ((boot.round == r) && (boot.endpoint == endpoint)) 1 0) told (range_with_len 0 count),
       (some-round count 0 boot.round 1 (boot.endpoint == endpoint)).0,
-      at_most (boot.endpoint == endpoint),
+      at_most_one (boot.endpoint == endpoint),
       boots-le count endpoint boots,
     )
   where
     by : (b : Bool) (rest : List Boot) → length (map (λ (b : Boot). b.version) (cond b (boot ∷ rest) rest)) ≡ cond b 1 0 + length (map (λ (b : Boot). b.version) rest)
     by true rest = omega arith
     by false rest = omega arith
-
-    at_most : (b : Bool) → cond b 1 0 ≤ 1
-    at_most true = omega arith
-    at_most false = omega arith
 
 -- what a source asks for, in a round
 abbrev some_asked : ℕ → (ℕ → ℕ → ℕ → ℕ) → ℕ → ℕ → List (ℕ × ℕ)

@@ -1,8 +1,8 @@
 use Rattle.std.proofs.Common.{◌<◌, ◌^◌, length, sym, subst, arith}
 use Rattle.greedy_rules.specs.declared.flows.Item.{Item}
 use Rattle.greedy_rules.specs.Batches.{entry_of}
-use Rattle.greedy_rules.specs.Demands.{need_with}
-use Rattle.greedy_rules.proofs.ApplyLemmas.{left_at, applied_more, left_more}
+use Rattle.greedy_rules.specs.Demands.{need_with, with_batch}
+use Rattle.list_facts.proofs.Turns.{left_at, done_more, left_more}
 use Rattle.greedy_rules.proofs.plain.apply_entries.Goals as goal
 
 pub apply_entry-requires : goal.apply_entry-requires
@@ -21,6 +21,6 @@ loop-item-preserved c =
     let below : i < length items = omega arith in
     let within : i < length initial = omega arith in
     record {
-      done = applied_more c.args.batch.now.entries items initial i d c.apply_entry.new.item below within c.loop-item.invariant.done c.loop-item.invariant.left c.apply_entry.ensures;
+      done = done_more (with_batch c.args.batch.now.entries) items initial i d c.apply_entry.new.item below within c.loop-item.invariant.done c.loop-item.invariant.left c.apply_entry.ensures;
       left = left_more items initial i c.apply_entry.new.item below within c.loop-item.invariant.left;
     }

@@ -1,5 +1,5 @@
 use Rattle.std.proofs.Common.{◌≡◌, [], List, subst, arith}
-use Rattle.list_facts.proofs.Lists.{empty_of}
+use Rattle.std.proofs.lemmas.List.{nil_from_length}
 use Rattle.receive_text.specs.declared.filling.Filling.{Filling}
 use Rattle.receive_text.proofs.Closing.{AreClosed, may_close, one_closed, all_closed, all_taken}
 use Rattle.receive_text.proofs.receive.close_all.Goals as goal
@@ -17,10 +17,10 @@ loop-filling-preserved c =
 
 pub returns-clause-closed : goal.returns-clause-closed
 returns-clause-closed c =
-    let none : c.loop-filling.fillings.items ≡ [] = empty_of c.loop-filling.fillings.items (omega (arith, c.in_default.ensures.cases.0, c.loop-filling.fillings.ok.0)) in
+    let none : c.loop-filling.fillings.items ≡ [] = nil_from_length c.loop-filling.fillings.items (omega (arith, c.in_default.ensures.cases.0, c.loop-filling.fillings.ok.0)) in
     all_closed c.args.desk.now c.args.fillings.items c.requires c.loop-filling.desk (subst (λ (l : List Filling). AreClosed c.args.desk.now c.args.fillings.items c.loop-filling.desk l) none c.loop-filling.invariant)
 
 pub returns-clause-received : goal.returns-clause-received
 returns-clause-received c =
-    let none : c.loop-filling.fillings.items ≡ [] = empty_of c.loop-filling.fillings.items (omega (arith, c.in_default.ensures.cases.0, c.loop-filling.fillings.ok.0)) in
+    let none : c.loop-filling.fillings.items ≡ [] = nil_from_length c.loop-filling.fillings.items (omega (arith, c.in_default.ensures.cases.0, c.loop-filling.fillings.ok.0)) in
     all_taken c.args.desk.now c.args.fillings.items c.requires c.loop-filling.desk (subst (λ (l : List Filling). AreClosed c.args.desk.now c.args.fillings.items c.loop-filling.desk l) none c.loop-filling.invariant)

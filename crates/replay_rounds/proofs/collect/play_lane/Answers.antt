@@ -6,7 +6,7 @@ use Rattle.greedy_rules.specs.Batches.{IsAboveLast}
 use Rattle.clos_topology.specs.NetSlots.{SlotCores}
 use Rattle.replay_rounds.specs.Standing.{LaneStands}
 use Rattle.replay_rounds.specs.Collecting.{named_in, published_by, raw_part, run_told, with_endpoint, MayBeTold, MayPlayLane, RawPart, RoundPart}
-use Rattle.replay_rounds.proofs.LoopLemmas.{left_at, done_more, left_more}
+use Rattle.list_facts.proofs.Turns.{left_at, done_more, left_more}
 use Rattle.replay_rounds.proofs.collect.play_lane.Goals as goal
 
 pub loop-at-init : goal.loop-at-init

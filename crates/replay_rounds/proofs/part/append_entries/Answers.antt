@@ -1,7 +1,7 @@
 use Rattle.std.proofs.Common.{◌++◌, List, [], ◌∷◌, take, sym, ap, ◌∙◌, append_assoc, subst}
 use Rattle.greedy_rules.specs.declared.flows.Entry.{Entry}
 use Rattle.greedy_rules.specs.Batches.{IsAboveLast}
-use Rattle.replay_rounds.proofs.LoopLemmas.{take_got}
+use Rattle.list_facts.proofs.Lists.{take_got}
 use Rattle.replay_rounds.proofs.PartLemmas.{rises_at}
 use Rattle.replay_rounds.proofs.part.append_entries.Goals as goal
 

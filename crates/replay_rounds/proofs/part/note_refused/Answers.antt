@@ -1,5 +1,5 @@
 use Rattle.std.proofs.Common.{ℕ, List, ◌++◌, [], ◌∷◌, take, sym, ap, ◌∙◌, append_assoc}
-use Rattle.replay_rounds.proofs.LoopLemmas.{take_got}
+use Rattle.list_facts.proofs.Lists.{take_got}
 use Rattle.replay_rounds.proofs.part.note_refused.Goals as goal
 
 pub loop-at-preserved : goal.loop-at-preserved

@@ -11,7 +11,8 @@ use Rattle.trace_text.specs.Trace.{raw_at}
 use Rattle.replay_rounds.specs.declared.named.Named.{Named}
 use Rattle.replay_rounds.specs.Setting.{raw_rows}
 use Rattle.replay_rounds.specs.Collecting.{framed_answer, named_at, source_of}
-use Rattle.replay_rounds.proofs.LoopLemmas.{map_got, take_got}
+use Rattle.list_facts.proofs.Lists.{take_got}
+use Rattle.list_facts.proofs.Turns.{map_got}
 use Rattle.replay_rounds.proofs.Naming.{named_by}
 use Rattle.replay_rounds.proofs.RowLemmas.{length-rows, row_got}
 use Rattle.replay_rounds.proofs.raw.read_raw.Goals as goal

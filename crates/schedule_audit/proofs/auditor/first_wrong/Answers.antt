@@ -1,4 +1,5 @@
 use Rattle.std.proofs.Common.{◌≡◌, ◌<◌, ◌+◌, ℕ, List, [], ◌∷◌, ◌++◌, length, take, drop, get_or, Option, refl, sym, ap, ◌∙◌, subst, arith}
+use Rattle.std.proofs.lemmas.List.{length-take-le}
 use Rattle.list_facts.specs.Order.{sort_by}
 use Rattle.greedy_rules.specs.declared.flows.Item.{Item}
 use Rattle.greedy_rules.specs.Batches.{DemandBatch}
@@ -14,7 +15,7 @@ use Rattle.schedule_audit.specs.Judged.{earlier, PathsStand}
 use Rattle.schedule_audit.specs.Played.{AuditIsPlayed}
 use Rattle.schedule_audit.proofs.ReadBatches.{read_off}
 use Rattle.schedule_audit.proofs.SendOrder.{number}
-use Rattle.schedule_audit.proofs.Finished.{next-batch, front-long, numbers-fit, all-played, told, figures-are, found-is, short-is}
+use Rattle.schedule_audit.proofs.Finished.{next-batch, numbers-fit, all-played, told, figures-are, found-is, short-is}
 use Rattle.schedule_audit.proofs.auditor.first_wrong.Goals as goal
 
 pub play-requires-clause-numbers : goal.play-requires-clause-numbers
@@ -52,7 +53,7 @@ play-requires-clause-played c =
       take round off.batches,
       get_or off.batches round no_batch,
       drop (round + 1) off.batches,
-      front-long off.batches round (omega (arith, less)),
+      length-take-le round off.batches (omega (arith, less)),
       subst (λ (n : Network). AuditIsPlayed n b (take round off.batches) (get_or off.batches round no_batch ∷ drop (round + 1) off.batches) c.loop-round.played c.loop-round.judges) (sym c.loop-round.invariant.net)
           (subst (λ (xs : List DemandBatch). AuditIsPlayed net b (take round off.batches) xs c.loop-round.played c.loop-round.judges) next.0 (c.loop-round.invariant.played lines x.1 off)),
     )
@@ -68,7 +69,7 @@ loop-round-preserved c =
           let next = next-batch off.batches round no_batch less in
           subst (λ (xs : List DemandBatch). AuditIsPlayed net b xs (drop (round + 1) off.batches) c.play.new.self c.play.new.judges) next.1
           (subst (λ (n : Network). AuditIsPlayed n b (take round off.batches ++ get_or off.batches round no_batch ∷ []) (drop (round + 1) off.batches) c.play.new.self c.play.new.judges) c.loop-round.invariant.net
-          (c.in_ok-play.ensures.played (take round off.batches) (get_or off.batches round no_batch) (drop (round + 1) off.batches) (front-long off.batches round (omega (arith, less)))
+          (c.in_ok-play.ensures.played (take round off.batches) (get_or off.batches round no_batch) (drop (round + 1) off.batches) (length-take-le round off.batches (omega (arith, less)))
           (subst (λ (n : Network). AuditIsPlayed n b (take round off.batches) (get_or off.batches round no_batch ∷ drop (round + 1) off.batches) c.loop-round.played c.loop-round.judges) (sym c.loop-round.invariant.net)
           (subst (λ (xs : List DemandBatch). AuditIsPlayed net b (take round off.batches) xs c.loop-round.played c.loop-round.judges) next.0 (c.loop-round.invariant.played lines collects off)))));
       net = c.in_ok-play.ensures.text.net ∙ c.loop-round.invariant.net;

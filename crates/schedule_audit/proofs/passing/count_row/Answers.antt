@@ -1,10 +1,10 @@
 use Rattle.std.proofs.Common.{◌≡◌, ◌<◌, ◌++◌, ◌∷◌, [], List, ℕ, Option, None, length, take, get_or, sym, subst, arith}
 use Rattle.std.proofs.lemmas.List.{take_all}
+use Rattle.std.proofs.lemmas.Option.{get_or_from_slice_get, slice_get-get_or}
 use Rattle.greedy_rules.specs.SlotTable.{flows_from}
 use Rattle.clos_topology.specs.Network.{Network, endpoints_of}
 use Rattle.schedule_audit.specs.Lines.{Place}
 use Rattle.schedule_audit.specs.Walked.{in_slot, StandApart, FlowsAreBetween}
-use Rattle.schedule_audit.proofs.SendSteps.{get-is, some-get}
 use Rattle.schedule_audit.proofs.WalkSteps.{cell-between, cells-before, row-step, same-text}
 use Rattle.schedule_audit.proofs.passing.count_row.Goals as goal
 
@@ -14,7 +14,7 @@ count_cell-requires-clause-flows c =
     let src = c.loop-src.src in
     let within : src < length row = omega (arith, c.loop-src-test.true, c.requires.row) in
     subst (λ (net : Network). FlowsAreBetween (endpoints_of net) (flows_from src (get_or row src None ∷ []))) (sym c.loop-src.invariant.text.net)
-    (cell-between (endpoints_of c.args.judges.now.net) src row (get_or row src None) within (sym (get-is row src (get_or row src None) (get_or row src None) (some-get row src None within))) c.requires.flows)
+    (cell-between (endpoints_of c.args.judges.now.net) src row (get_or row src None) within (sym (get_or_from_slice_get row src (get_or row src None) (get_or row src None) (slice_get-get_or row src None within))) c.requires.flows)
 
 pub count_cell-requires-clause-stands : goal.count_cell-requires-clause-stands
 count_cell-requires-clause-stands c =
@@ -35,7 +35,7 @@ loop-src-preserved c =
     let to : Option ℕ = get_or row src None in
     record {
       stands = λ held counted before apart.
-          subst (λ (ps : List Place). StandApart held ps c.count_cell.new.judges) (row-step c.args.slot src counted row to within (sym (get-is row src to to (some-get row src None within))))
+          subst (λ (ps : List Place). StandApart held ps c.count_cell.new.judges) (row-step c.args.slot src counted row to within (sym (get_or_from_slice_get row src to to (slice_get-get_or row src None within))))
           (c.count_cell.ensures.stands held (counted ++ in_slot c.args.slot (flows_from 0 (take src row)))
           (cells-before c.args.slot src counted row (omega (arith, within)) before) (c.loop-src.invariant.stands held counted before apart));
       text = same-text c.args.judges.now c.loop-src.judges c.count_cell.new.judges c.loop-src.invariant.text c.count_cell.ensures.text;

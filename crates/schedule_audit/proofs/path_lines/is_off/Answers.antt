@@ -1,6 +1,6 @@
 use Rattle.std.proofs.Common.{◌≡◌, not, ◌||◌, ◌∷◌, true, false, sym, ap, ◌∙◌, subst}
 use Rattle.std.specs.List.{list_any}
-use Rattle.list_facts.proofs.Bools.{not-not}
+use Rattle.std.proofs.Math.Bool.{not-not}
 use Rattle.schedule_audit.specs.Lines.{Path}
 use Rattle.schedule_audit.specs.Wrong.{same_place, share_a_link, has_wrong_core}
 use Rattle.schedule_audit.specs.Marks.{PathsAreMarked}

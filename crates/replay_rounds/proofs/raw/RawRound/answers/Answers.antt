@@ -1,7 +1,7 @@
 use Rattle.std.proofs.Common.{ℕ, List, Option, Some, get_or, take, slice_set, sym, ap, ◌∙◌}
 use Rattle.std.proofs.lemmas.Option.{slice_get-get_or}
 use Rattle.replay_rounds.specs.Collecting.{with_numbers}
-use Rattle.replay_rounds.proofs.LoopLemmas.{take_got}
+use Rattle.list_facts.proofs.Lists.{take_got}
 use Rattle.replay_rounds.proofs.PartLemmas.{with_numbers-more}
 use Rattle.replay_rounds.proofs.raw.RawRound.answers.Goals as goal
 

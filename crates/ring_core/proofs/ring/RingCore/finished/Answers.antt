@@ -1,6 +1,5 @@
 use Rattle.std.proofs.Common.{◌≡◌, ◌<◌, ◌≤◌, ◌+◌, ℕ, List, true, false, nat_le, length, get_or, Some, slice_get, refl, sym, ap, ◌∙◌, subst, arith, inl, inr}
-use Rattle.std.proofs.lemmas.Bool.{cases_lt}
-use Rattle.std.proofs.lemmas.Bool.Decides.{nat_tests}
+use Rattle.std.proofs.lemmas.Bool.{cases_lt, leb-true, leb-false}
 use Rattle.std.proofs.lemmas.Option.{slice_get_within, slice_get_read, same_Some}
 use Rattle.ring_core.specs.contracts.ring.RingCore.{the_view}
 use Rattle.ring_core.specs.States.{WorkerState}
@@ -18,21 +17,15 @@ one_more crew items stages at d same within is ended earlier number worker below
       let at_is : number ≡ at = omega (arith, below, here) in
       let read : slice_get crew at ≡ Some d = ap (λ (ws : List WorkerState). slice_get ws at) (sym same) ∙ slice_get_read items (length items) at d refl within is in
       let same_worker : d ≡ worker = same_Some d worker (sym read ∙ (ap (slice_get crew) (sym at_is) ∙ there)) in
-      subst (λ (w : WorkerState). stages ≤ w.stage) same_worker (le stages d.stage ended)
+      subst (λ (w : WorkerState). stages ≤ w.stage) same_worker (leb-true stages d.stage ended)
 ]
-  where
-    le : (a b : ℕ) → nat_le a b ≡ true → a ≤ b
-    le a b is = grind (arith, nat_tests)
 
 -- one that has not ended stands against it
 not_all : (crew items : List WorkerState) (stages at : ℕ) (d : WorkerState) → items ≡ crew → at < length items → d ≡ get_or items at d → nat_le stages d.stage ≡ false
     → ((number : ℕ) (worker : WorkerState) → slice_get crew number ≡ Some worker → stages ≤ worker.stage) → ⊥
 not_all crew items stages at d same within is going all =
     let read : slice_get crew at ≡ Some d = ap (λ (ws : List WorkerState). slice_get ws at) (sym same) ∙ slice_get_read items (length items) at d refl within is in
-    omega (arith, all at d read, gt stages d.stage going)
-  where
-    gt : (a b : ℕ) → nat_le a b ≡ false → b < a
-    gt a b is = grind (arith, nat_tests)
+    omega (arith, all at d read, leb-false stages d.stage going)
 
 pub loop-worker-preserved : goal.loop-worker-preserved
 loop-worker-preserved c =

@@ -1,5 +1,6 @@
 use Rattle.std.proofs.Common.{◌≡◌, ◌<◌, ◌+◌, length, true, false, Option, None, Some, option_map, refl, sym, ap, ◌∙◌, subst}
 use Rattle.std.specs.Prelude.{IsSome, is_some}
+use Rattle.std.proofs.lemmas.Bool.{true≢false, false≢true}
 use Rattle.slot_batches.specs.declared.piece.Piece.{Piece}
 use Rattle.slot_batches.specs.Pieces.{Part, part_of}
 use Rattle.slot_batches.specs.Stands.{StageState}
@@ -12,16 +13,10 @@ use Rattle.ring_core.proofs.worker.Worker.next_piece.Goals as goal
 
 is_none : (o : Option Piece) → is_some o ≡ false → o ≡ None
 is_none None is = refl
-is_none (Some piece) is = absurd (true_not_false is)
-  where
-    true_not_false : true ≡ false → ⊥
-    true_not_false q = cc
+is_none (Some piece) is = absurd (true≢false is)
 
 some_piece : (o : Option Piece) → is_some o ≡ true → (piece : Piece) × (o ≡ Some piece)
-some_piece None is = absurd (false_not_true is)
-  where
-    false_not_true : false ≡ true → ⊥
-    false_not_true q = cc
+some_piece None is = absurd (false≢true is)
 some_piece (Some piece) is = (piece, refl)
 
 pub emit-requires : goal.emit-requires

@@ -1,10 +1,10 @@
 use Rattle.std.proofs.Common.{◌≡◌, ◌<◌, ◌≤◌, ◌+◌, ℕ, length, get_or, cond, ◌&&◌, sym, subst, arith}
+use Rattle.std.proofs.lemmas.Option.{get_or_from_slice_get}
 use Rattle.greedy_rules.specs.declared.flows.Entry.{Entry}
 use Rattle.greedy_rules.specs.Flows.{same_flow}
 use Rattle.schedule_audit.specs.FlowNumbers.{flow_number_of}
 use Rattle.schedule_audit.specs.Entered.{AreSized}
 use Rattle.schedule_audit.proofs.EntrySteps.{enters-more}
-use Rattle.schedule_audit.proofs.SendSteps.{get-is}
 use Rattle.schedule_audit.proofs.ledger.Ledger.enter.Goals as goal
 
 pub loop-at-preserved : goal.loop-at-preserved
@@ -14,7 +14,7 @@ loop-at-preserved c =
     let entry = c.entry-entry.result in
     let old = c.loop-at.self in
     let within : at < length entries = omega (arith, c.loop-at-test.true, c.len-at-end.ensures.entries) in
-    let is : entry ≡ get_or entries at entry = sym (get-is entries at entry entry c.entry-entry.ensures) in
+    let is : entry ≡ get_or entries at entry = sym (get_or_from_slice_get entries at entry entry c.entry-entry.ensures) in
     let small : entry.add ≤ 4294967295 = c.enter_one.ensures.small in
     record {
       enters = enters-more entries at entry c.args.slots.now c.args.self.now old c.enter_one.new.self c.len-at-end.ensures.rising within (subst (λ (e : Entry). e.add ≤ 4294967295) is small) c.loop-at.invariant.enters

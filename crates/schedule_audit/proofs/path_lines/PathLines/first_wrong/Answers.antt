@@ -1,5 +1,5 @@
 use Rattle.std.proofs.Common.{◌∷◌, [], suc, drop, sym, ap, ◌∙◌, arith}
-use Rattle.list_facts.proofs.Lists.{drop_whole}
+use Rattle.std.proofs.Math.ListN.{drop_of_length-le}
 use Rattle.greedy_rules.proofs.WalkLemmas.{none_is}
 use Rattle.schedule_audit.proofs.PathSteps.{first-found, first-left, drop-here}
 use Rattle.schedule_audit.proofs.path_lines.PathLines.first_wrong.Goals as goal
@@ -17,4 +17,4 @@ returns-then-self-len c = λ visited stands.
 pub returns : goal.returns
 returns c = λ visited stands.
     let self = c.args.self.now in
-    first-left c.args.net.now visited self stands (none_is self.bad (sym c.is_some.ensures ∙ c.if-is_some.false)) [] (drop_whole self.next self.lines.items (omega (arith, c.if-self-len.false, c.len.ensures)))
+    first-left c.args.net.now visited self stands (none_is self.bad (sym c.is_some.ensures ∙ c.if-is_some.false)) [] (drop_of_length-le self.lines.items {i = self.next} (omega (arith, c.if-self-len.false, c.len.ensures)))

@@ -1,12 +1,13 @@
 use Rattle.std.proofs.Common.{◌≡◌, ◌+◌, ◌*◌, get_or, refl, sym, ap, ◌∙◌, arith, length-set}
 use Rattle.std.proofs.lemmas.Grind.{common_steps}
 use Rattle.std.proofs.lemmas.List.Sums.{sum_by_push}
+use Rattle.list_facts.proofs.Options.{option_or-none}
 use Rattle.trace_text.specs.Asks.{IsAmong}
 use Rattle.trace_text.specs.Rows.{Ask}
 use Rattle.trace_text.specs.Earlier.{row_slots, slots_in_round, end_of}
 use Rattle.trace_text.specs.Standing.{endpoints_kept}
 use Rattle.trace_text.specs.declared.ask.Ask.{Ask as Asked}
-use Rattle.trace_text.proofs.RowFacts.{length-more, net-more, net-some, greatest_round-more, end_of-more, option_or-none, slots_of-bounded, few-endpoints}
+use Rattle.trace_text.proofs.RowFacts.{length-more, net-more, net-some, greatest_round-more, end_of-more, slots_of-bounded, few-endpoints}
 use Rattle.trace_text.proofs.EventRowFacts.{no_event, latest_fate-more}
 use Rattle.trace_text.proofs.TableFacts.{table-more}
 use Rattle.trace_text.proofs.PutFacts.{no_put}

@@ -2,12 +2,13 @@ use Rattle.std.proofs.Common.{◌≡◌, ◌≤◌, ◌∷◌, [], true, refl, s
 use Rattle.std.proofs.lemmas.Bool.Decides.{nat_tests}
 use Rattle.std.proofs.lemmas.List.Sums.{sum_by_push}
 use Rattle.std.proofs.lemmas.List.Elements.{All-push}
+use Rattle.list_facts.proofs.Options.{option_or-none}
 use Rattle.trace_text.specs.Rows.{Boot}
 use Rattle.trace_text.specs.Earlier.{row_slots, slots_in_round, end_of}
 use Rattle.trace_text.specs.Events.{IsBootAmong}
 use Rattle.trace_text.specs.Faults.{is_between}
 use Rattle.trace_text.specs.Standing.{endpoints_kept}
-use Rattle.trace_text.proofs.RowFacts.{length-more, net-more, net-some, greatest_round-more, end_of-more, option_or-none}
+use Rattle.trace_text.proofs.RowFacts.{length-more, net-more, net-some, greatest_round-more, end_of-more}
 use Rattle.trace_text.proofs.EventRowFacts.{boot-event, latest_fate-more}
 use Rattle.trace_text.proofs.PutFacts.{no_put}
 use Rattle.trace_text.proofs.rows.Rows.push_boot.Goals as goal

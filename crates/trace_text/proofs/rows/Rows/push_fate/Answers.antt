@@ -1,11 +1,12 @@
 use Rattle.std.proofs.Common.{◌≡◌, ◌≤◌, ◌+◌, ◌*◌, refl, sym, ◌∙◌, arith, length-set}
 use Rattle.std.proofs.lemmas.List.Sums.{sum_by_push}
 use Rattle.std.proofs.lemmas.List.Elements.{All-push}
+use Rattle.list_facts.proofs.Options.{option_or-none}
 use Rattle.trace_text.specs.Rows.{Meets}
 use Rattle.trace_text.specs.Earlier.{row_slots, slots_in_round, end_of, greatest_round}
 use Rattle.trace_text.specs.Events.{IsFateAmong, way_number}
 use Rattle.trace_text.specs.Standing.{endpoints_kept}
-use Rattle.trace_text.proofs.RowFacts.{length-more, net-more, net-some, greatest_round-more, end_of-more, option_or-none}
+use Rattle.trace_text.proofs.RowFacts.{length-more, net-more, net-some, greatest_round-more, end_of-more}
 use Rattle.trace_text.proofs.EventRowFacts.{fate-event, fated-more}
 use Rattle.trace_text.proofs.PutFacts.{no_put}
 use Rattle.trace_text.proofs.rows.Rows.push_fate.Goals as goal

@@ -1,11 +1,12 @@
 use Rattle.std.proofs.Common.{◌≤◌, length, refl, sym, ◌∙◌, arith}
 use Rattle.std.proofs.lemmas.List.Sums.{sum_by_push}
+use Rattle.list_facts.proofs.Options.{option_or-none}
 use Rattle.trace_text.specs.Rows.{Put}
 use Rattle.trace_text.specs.Earlier.{row_slots, slots_in_round, end_of}
 use Rattle.trace_text.specs.Fields.{bytes_of}
 use Rattle.trace_text.specs.Standing.{endpoints_kept}
 use Rattle.trace_text.proofs.HexFacts.{hex-bytes}
-use Rattle.trace_text.proofs.RowFacts.{length-more, net-more, net-some, greatest_round-more, end_of-more, option_or-none}
+use Rattle.trace_text.proofs.RowFacts.{length-more, net-more, net-some, greatest_round-more, end_of-more}
 use Rattle.trace_text.proofs.EventRowFacts.{no_event, latest_fate-more}
 use Rattle.trace_text.proofs.PutFacts.{put_more}
 use Rattle.trace_text.proofs.rows.Rows.push_put.Goals as goal

@@ -1,12 +1,13 @@
 use Rattle.std.proofs.Common.{[], ◌∷◌, ◌++◌, length, refl, sym, ◌∙◌, arith, length-append}
 use Rattle.std.proofs.lemmas.List.Sums.{sum_by_push}
 use Rattle.std.proofs.lemmas.List.Elements.{All-push}
+use Rattle.list_facts.proofs.Options.{option_or-none}
 use Rattle.trace_text.specs.Rows.{Raw}
 use Rattle.trace_text.specs.Earlier.{row_slots, slots_in_round, end_of}
 use Rattle.trace_text.specs.Events.{IsWithin, packet_from}
 use Rattle.trace_text.specs.Fields.{bytes_of}
 use Rattle.trace_text.proofs.HexFacts.{hex-bytes}
-use Rattle.trace_text.proofs.RowFacts.{length-more, net-more, greatest_round-more, end_of-more, option_or-none}
+use Rattle.trace_text.proofs.RowFacts.{length-more, net-more, greatest_round-more, end_of-more}
 use Rattle.trace_text.proofs.EventRowFacts.{raw-event, start-from, latest_fate-more}
 use Rattle.trace_text.proofs.PutFacts.{no_put}
 use Rattle.trace_text.proofs.rows.Rows.push_raw.Goals as goal

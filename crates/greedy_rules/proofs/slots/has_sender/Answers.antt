@@ -2,7 +2,7 @@ use Rattle.std.proofs.Common.{false, ap, ◌∙◌, arith}
 use Rattle.std.specs.List.{fold}
 use Rattle.std.proofs.lemmas.List.{take_all, length-take-le}
 use Rattle.greedy_rules.proofs.RowLemmas.{or_sends}
-use Rattle.clos_topology.proofs.senders.has_sender.Goals as goal
+use Rattle.greedy_rules.proofs.slots.has_sender.Goals as goal
 
 pub slice_bounds-sends-end : goal.slice_bounds-sends-end
 slice_bounds-sends-end c = omega (arith, length-take-le 32 c.args.row.now (omega (arith, c.if-row-eq-FEW.true)))

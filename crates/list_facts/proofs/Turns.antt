@@ -1,7 +1,7 @@
 -- A loop that changes each element of a list in turn: those that it has reached, and those that it has not.
 use Rattle.std.proofs.Common.{◌≡◌, ◌<◌, ◌+◌, ℕ, List, [], ◌∷◌, ◌++◌, length, get_or, set, take, drop, map, Some, slice_get, sym, ap, ◌∙◌, arith}
-use Rattle.std.proofs.lemmas.List.{get_or-drop, drop_more, drop-set-lt, take_more, take_more_set, map_more, map-append}
-use Rattle.std.proofs.lemmas.Option.{get_or_from_slice_get, slice_get_within}
+use Rattle.std.proofs.lemmas.List.{get_or-drop, drop_more, drop-set-lt, take_more_set, map_more, map-append}
+use Rattle.list_facts.proofs.Lists.{take_got}
 
 module _ {X : Type 0} where
   -- an element that was not reached yet
@@ -30,10 +30,6 @@ module _ {X : Type 0} where
       let here : get_or now i x ∷ drop (i + 1) now ≡ get_or first i x ∷ drop (i + 1) first = sym (drop_more now i x below) ∙ (left ∙ drop_more first i x within) in
       let tails : drop (i + 1) now ≡ drop (i + 1) first = cc in
       drop-set-lt (i + 1) now i x (omega arith) ∙ tails
-
-  -- the element that is read next is the next of those that are read
-  pub take_got : (xs : List X) (i : ℕ) (x : X) → slice_get xs i ≡ Some x → take (i + 1) xs ≡ take i xs ++ x ∷ []
-  take_got xs i x is = take_more xs i x (slice_get_within xs i x is) ∙ ap (λ (y : X). take i xs ++ y ∷ []) (get_or_from_slice_get xs i x x is)
 
 module _ {X Y : Type 0} where
   pub map_got : (f : X → Y) (xs : List X) (i : ℕ) (x : X) → slice_get xs i ≡ Some x → map f (take (i + 1) xs) ≡ map f (take i xs) ++ f x ∷ []
