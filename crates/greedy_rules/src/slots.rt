@@ -81,6 +81,14 @@ impl SlotTable {
         !self.rows.has_row(slot) || !sends(self.rows.row(slot))
     }
 
+    /// Whether the slot has a row. One without a row is idle, and this is told without a look at its packets.
+    pub fn has_row(&self, slot: u16) -> bool
+        requires { slot < length self.now.slots }
+        ensures { result ≡ false → slot_in self.now.slots slot ≡ [] }
+    {
+        self.rows.has_row(slot)
+    }
+
     /// Empties every slot.
     pub fn clear(&mut self)
         ensures slots { self.new.slots ≡ replicate (length self.old.slots) [] }
@@ -96,8 +104,20 @@ impl SlotTable {
         ensures slots { self.new.slots ≡ take to self.old.slots ++ from.now.slots ++ drop (to + length from.now.slots) self.old.slots }
         ensures endpoints { self.new.endpoints ≡ self.old.endpoints }
     {
+        self.copy_front(from, from.slots(), to);
+    }
+
+    /// Makes the slots from place `to` on the first `count` of a table for as many endpoints or fewer.
+    pub fn copy_front(&mut self, from: &SlotTable, count: u16, to: u16)
+        requires endpoints { from.now.endpoints ≤ self.old.endpoints }
+        requires count { count ≤ length from.now.slots }
+        requires places { to + count ≤ length self.old.slots }
+        ensures slots { self.new.slots ≡ take to self.old.slots ++ take count from.now.slots ++ drop (to + count) self.old.slots }
+        ensures endpoints { self.new.endpoints ≡ self.old.endpoints }
+    {
+        // A table has no more slots than 16 bits count.
         let _slots = self.slots();
-        for slot in 0..from.slots() {
+        for slot in 0..count {
             self.copy_slot(from, slot, to + slot);
         }
     }

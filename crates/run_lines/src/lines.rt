@@ -27,7 +27,7 @@ fn put_slot<K: Sink>(
     ensures { Passes output.old output.new
         (text_of (map (slot_line number (core_of cores.now place)) (slot_in table.now.slots place))) result }
 {
-    if table.is_idle(place) {
+    if !table.has_row(place) {
         return Ok(());
     }
     let _endpoints = table.endpoints();
