@@ -2,6 +2,7 @@
 use Rattle.std.proofs.Common.{◌≡◌, ◌≢◌, ◌<◌, ◌≤◌, ◌+◌, ◌*◌, ℕ, List, [], length, get_or, set, take, drop, Option, Some, None, Vec, vec_len, sym, ap, ◌∙◌, subst, arith, inl, inr}
 use borrow.Rule.Slice.PartMut.{put_mid, same_len_mid}
 use Rattle.std.specs.Vec.{with_items}
+use Rattle.std.proofs.Math.Nat.{mul-le-mul_left}
 use Rattle.std.proofs.Math.Path.{fun_ext}
 use Rattle.std.proofs.lemmas.Bool.{cases_eq}
 use Rattle.std.proofs.lemmas.List.{get_or_past, get_or_default, get_or-set_same, get_or-set_other, length-take, length-drop, with_items_is}
@@ -28,24 +29,23 @@ row_behind : (endpoints place : ℕ) (cores : List (Option ℕ)) → length core
 row_behind endpoints place cores behind source = get_or_past (cores_row endpoints cores place) source None (omega (arith, behind, length-take endpoints (drop (place * endpoints) cores), length-drop (place * endpoints) cores))
 
 -- a worker's place past the rows
-pub idle_none : (net : Network) (room : ℕ) (painter : Painter) (place : ℕ) → place ≡ room → IsPainter net room painter → NamesNone (row_at painter place)
-idle_none net room painter place last sized =
-    let rows : vec_len painter.rows ≡ place * endpoints_of painter.net = sized.rows ∙ ap (λ (n : ℕ). n * endpoints_of net) (sym last) ∙ ap (λ (n : Network). place * endpoints_of n) (sym sized.same_net) in
-    row_behind (endpoints_of painter.net) place painter.rows.items (omega (arith, rows, painter.rows.ok.0))
+pub idle_none : (net : Network) (room : ℕ) (painter : Painter) (place : ℕ) → room ≤ place → IsPainter net room painter → NamesNone (row_at painter place)
+idle_none net room painter place past sized =
+    let rows : vec_len painter.rows ≡ room * endpoints_of painter.net = sized.rows ∙ ap (λ (n : Network). room * endpoints_of n) (sym sized.same_net) in
+    row_behind (endpoints_of painter.net) place painter.rows.items (omega (arith, rows, painter.rows.ok.0, mul-le-mul_left (endpoints_of painter.net) past))
 
 -- a slot without packets between racks needs no core
-pub idle_row : (net : Network) (room : ℕ) (slots : List (List Flow)) (painter : Painter) (slot place : ℕ) → place ≡ room → EveryColouringMakesAMatchingClean → IsPainter net room painter → AreColourable net room slots
+pub idle_row : (net : Network) (room : ℕ) (slots : List (List Flow)) (painter : Painter) (slot place : ℕ) → room ≤ place → EveryColouringMakesAMatchingClean → IsPainter net room painter → AreColourable net room slots
     → slot < length slots → rack_edges net.hosts (slot_in slots slot) ≡ [] → HasRow net room slots painter slot place
-idle_row net room slots painter slot place last clean sized colourable below idle =
-    let nothing : NamesNone (row_at painter place) = idle_none net room painter place last sized in
+idle_row net room slots painter slot place past clean sized colourable below idle =
+    let nothing : NamesNone (row_at painter place) = idle_none net room painter place past sized in
     let none : IsColouring net.cores [] (row_at painter place) = record {
       named = λ k d under. absurd (omega (arith, under));
       proper = λ i j d lt under. absurd (omega (arith, under));
       others = λ source apart. nothing source;
     } in
     record {
-      within = omega (arith, last);
-      same = λ lt. absurd (omega (arith, lt, last));
+      same = λ lt. absurd (omega (arith, lt, past));
       cores = record {
         clean = clean net.hosts net.cores [] (row_at painter place) none (slot_in slots slot) (colourable.matchings slot [] below) (sym idle);
         others = λ source apart. nothing source;
@@ -97,7 +97,7 @@ regraphed net room slots p q painted same_net same_table same_room same_places s
       };
       rows = λ slot place below is.
           let old = painted.rows slot place below (ap (λ (v : _). get_or v.items slot None) (sym same_places) ∙ is) in
-          record { within = old.within; same = old.same; cores = subst (HasItsCores net (slot_in slots slot)) (rows_same place) old.cores };
+          record { same = old.same; cores = subst (HasItsCores net (slot_in slots slot)) (rows_same place) old.cores };
     }
 
 -- where a slot's own row was written, with its cores
@@ -117,7 +117,6 @@ repainted net room slots p q slot painted within same_net table graph same_place
       rows = λ other place below is.
           let old = painted.rows other place below (ap (λ (v : _). get_or v.items other None) (sym same_places) ∙ is) in
           record {
-            within = old.within;
             same = old.same;
             cores = elim (cases_eq place slot) [
               | inl here ↦
@@ -134,7 +133,7 @@ pub placed : (net : Network) (room : ℕ) (slots : List (List Flow)) (p q : Pain
 placed net room slots p q slot place painted below fits row same_net same_table same_graph same_rows len places =
     let rows_same : (at : ℕ) → row_at p at ≡ row_at q at = λ at. ap (λ (n : ℕ). core_in (cores_row n p.rows.items at)) (ap endpoints_of (sym same_net)) ∙ ap (λ (v : _). core_in (cores_row (endpoints_of q.net) v.items at)) (sym same_rows) in
     let s = painted.sized in
-    let moved : (other at : ℕ) → HasRow net room slots p other at → HasRow net room slots q other at = λ other at old. record { within = old.within; same = old.same; cores = subst (HasItsCores net (slot_in slots other)) (rows_same at) old.cores } in
+    let moved : (other at : ℕ) → HasRow net room slots p other at → HasRow net room slots q other at = λ other at old. record { same = old.same; cores = subst (HasItsCores net (slot_in slots other)) (rows_same at) old.cores } in
     record {
       sized = record {
         few = s.few;

@@ -33,3 +33,7 @@ rows_with cores row places place within from len =
     map_push (row_there (cores ++ row)) places place
     ∙ (ap (λ (rows : List (List (Option ℕ))). rows ++ row_there (cores ++ row) place ∷ []) (rows_stay cores row places within)
     ∙ ap (λ (last : List (Option ℕ)). rows_at_places cores places ++ last ∷ []) (row_added cores row place from len))
+
+-- an empty row that is added
+pub rows_with_empty : (cores : List (Option ℕ)) (places : List Place) → rows_at_places cores (places ++ record { from = 0; len = 0 } ∷ []) ≡ rows_at_places cores places ++ [] ∷ []
+rows_with_empty cores places = map_push (row_there cores) places (record { from = 0; len = 0 })

@@ -48,7 +48,6 @@ pub record IsPainter (net : Network) (room : ℕ) (painter : Painter) : Type 0 w
 
 -- a slot's row has its cores; it is the row of a slot with the same packets, or an empty one past the rows
 pub record HasRow (net : Network) (room : ℕ) (slots : List (List Flow)) (painter : Painter) (slot place : ℕ) : Type 0 where
-  pub within : place ≤ room
   pub same : place < room → slot_in slots place ≡ slot_in slots slot
   pub cores : HasItsCores net (slot_in slots slot) (row_at painter place)
 

@@ -65,11 +65,24 @@ impl CoreTable {
         requires endpoint_room { length row.now ≤ self.old.endpoints }
         ensures { self.new ≡ record self.old { rows = self.old.rows ++ row.now ∷ [] } }
     {
+        if row.is_empty() {
+            self.push_empty();
+            return;
+        }
         self.places.push_reserved(Place {
             from: self.cores.len() as u32,
             len: row.len() as u16,
         });
         add_row(&mut self.cores, row);
+    }
+
+    /// Adds an empty row for the next slot.
+    #[inline(always)]
+    fn push_empty(&mut self)
+        requires { length self.old.rows < self.old.slots }
+        ensures { self.new ≡ record self.old { rows = self.old.rows ++ [] ∷ [] } }
+    {
+        self.places.push_reserved(Place { from: 0, len: 0 });
     }
 
     /// How many slots there is room for.
@@ -113,14 +126,11 @@ impl CoreTable {
     }
 }
 
-/// Puts a row behind the cores, which have room for it. For an empty one there is nothing to do.
+/// Puts a row behind the cores, which have room for it.
 fn add_row(cores: &mut Vec<Option<u16>>, row: &[Option<u16>])
     requires room { vec_len cores.old + length row.now ≤ vec_capacity cores.old }
     ensures items { cores.new.items ≡ cores.old.items ++ row.now }
     ensures capacity { vec_capacity cores.old ≤ vec_capacity cores.new }
 {
-    if row.is_empty() {
-        return;
-    }
     let _ = cores.extend_from_slice(row);
 }

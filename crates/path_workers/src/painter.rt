@@ -19,6 +19,9 @@ use std::alloc::Global;
 /// So few packets between racks are coloured sooner than two slots are compared.
 const FEW: usize = 16;
 
+/// The place of a slot whose packets have no core: past the rows of every worker.
+const IDLE: u16 = 1_024;
+
 /// What a path worker colours slots with, and the rows of cores that it has made.
 #[derive(Drop)]
 pub(crate) struct Painter {
@@ -95,9 +98,13 @@ impl Painter {
         ensures keeps { (other : ℕ) → IsTrue (has_row other self.old) → IsTrue (has_row other self.new) }
         ensures number { self.new.number ≡ self.old.number }
     {
+        every_colouring_makes_a_matching_clean();
+        if !slots.has_row(slot) {
+            self.places[slot as usize] = Some(IDLE);
+            return;
+        }
         let place = self.make_row(slots, slot);
         self.places[slot as usize] = Some(place);
-        self.last = slot;
     }
 
     /// The row of the slot coloured last, where that one has the same packets. It isn't looked at where few packets were coloured
@@ -122,25 +129,8 @@ impl Painter {
     }
 
     /// Where the cores of the slot's packets stand: in its own row, which is written, or in one that has them already.
-    #[inline(always)]
-    fn make_row(&mut self, slots: &SlotTable, slot: u16) -> u16
-        requires slot { slot < length slots.now.slots }
-        requires may { MayPaint slots.now.slots self.old }
-        ensures painted { HasPainted self.old.net (vec_len self.old.places) slots.now.slots self.new }
-        ensures row { HasRow self.old.net (vec_len self.old.places) slots.now.slots self.new slot result }
-        ensures places { self.new.places ≡ self.old.places }
-        ensures number { self.new.number ≡ self.old.number }
-    {
-        every_colouring_makes_a_matching_clean();
-        if slots.is_idle(slot) {
-            return self.idle_place();
-        }
-        self.make_other_row(slots, slot)
-    }
-
-    /// The same for a slot that need not be idle.
     #[inline(never)]
-    fn make_other_row(&mut self, slots: &SlotTable, slot: u16) -> u16
+    fn make_row(&mut self, slots: &SlotTable, slot: u16) -> u16
         requires slot { slot < length slots.now.slots }
         requires may { MayPaint slots.now.slots self.old }
         ensures painted { HasPainted self.old.net (vec_len self.old.places) slots.now.slots self.new }
@@ -153,9 +143,10 @@ impl Painter {
         if let Some(place) = self.last_row(slots, slot) {
             return place;
         }
+        self.last = slot;
         self.graph.load(&self.net, slots, slot);
         if self.graph.is_empty() {
-            return self.idle_place();
+            return IDLE;
         }
         let coloured = colour(&self.graph, self.net.cores(), &mut self.table).is_ok();
         prove!(coloured);
@@ -166,14 +157,6 @@ impl Painter {
         slot
     }
 
-    /// The place of a slot whose packets have no core: past the rows.
-    fn idle_place(&self) -> u16
-        requires { vec_len self.now.places ≤ 1024 }
-        ensures { result ≡ vec_len self.now.places }
-    {
-        self.places.len() as u16
-    }
-
     /// The slot's cores by source, where this worker has coloured it: an empty row where its packets have none.
     pub(crate) fn row(&self, slot: u16) -> Option<&[Option<u16>]>
         requires { (slots : List (List Flow)) × MayPaint slots self.now × (slot < length slots) }
@@ -182,7 +165,7 @@ impl Painter {
         ensures len { IfSome result (λ row. length row.now ≤ endpoints_of self.now.net) }
     {
         let place = self.places[slot as usize]?;
-        if place == self.idle_place() {
+        if place as usize >= self.places.len() {
             return Some(&[]);
         }
         let endpoints = self.net.endpoints() as usize;

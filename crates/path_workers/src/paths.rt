@@ -142,7 +142,7 @@ fn has_many(slots: &SlotTable) -> bool {
 fn count_packets(slots: &SlotTable, slot: u16) -> u32
     requires { slot < length slots.now.slots }
 {
-    if slots.is_idle(slot) {
+    if !slots.has_row(slot) {
         return 0;
     }
     slots.row(slot).iter().fold(

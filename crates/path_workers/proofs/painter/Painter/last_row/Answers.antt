@@ -16,7 +16,6 @@ returns-then-are_equal c =
     c.requires.may.painted.rows painter.last place below (named_place slots painter painter.last place c.index.result.now c.requires.may below c.index.ensures c.in_ok-place.was) in
     let same : slot_in slots painter.last ≡ slot_in slots c.args.slot = c.are_equal.ensures c.if-are_equal.true in
     record {
-      within = old.within;
       same = λ lt. old.same lt ∙ same;
       cores = subst (λ (flows : List Flow). HasItsCores painter.net flows (row_at painter place)) same old.cores;
     }
