@@ -1,5 +1,5 @@
 -- The digits of a number, read from the left.
-use Rattle.std.proofs.Common.{◌≡◌, ◌≢◌, ℕ, ◌+◌, ◌-◌, ◌*◌, ◌<◌, ◌≤◌, List, [], ◌∷◌, ◌++◌, length, take, drop, get_or, true, false, Bool, ltb, ◌%◌, refl, sym, ap, ◌∙◌, inl, inr, arith}
+use Rattle.std.proofs.Common.{◌≡◌, ◌≢◌, ℕ, ◌+◌, ◌-◌, ◌*◌, ◌<◌, ◌≤◌, List, [], ◌∷◌, ◌++◌, length, take, drop, get_or, true, false, refl, sym, ap, ◌∙◌, inl, inr, arith}
 use Rattle.std.specs.Prelude.{nat_le, ◌==◌}
 use Rattle.std.specs.Char.{is_ascii_digit, digit_value}
 use Rattle.std.specs.List.{list_all}
@@ -8,7 +8,6 @@ use Rattle.std.proofs.lemmas.List.Folds.{list_all_at}
 use Rattle.std.proofs.lemmas.Str.Parse.{digits_value-take-le}
 use Rattle.std.proofs.lemmas.Bool.Decides.{nat_tests}
 use Rattle.std.proofs.lemmas.List.{drop_more, take_more}
-use mir.Val.{bool_byte}
 use Rattle.trace_text.specs.Fields.{has_shape, is_number, number_of}
 use Rattle.trace_text.specs.Lines.{IsLonger, IsNumberAt}
 
@@ -89,19 +88,6 @@ three-at text at a b c lt p q r some =
     ∙ ap (λ (l : List ℕ). x ∷ l) (drop_more text (at + 1) 0 (omega arith) ∙ ap (λ k. y ∷ drop k text) second ∙ ap (λ (l : List ℕ). y ∷ l) (drop_more text (at + 2) 0 lt ∙ ap (λ k. z ∷ drop k text) third)) in
     (x ∷ y ∷ z ∷ [], all, number-all (x ∷ y ∷ z ∷ []) (rw other refl) (rw (p.0, q.0, r.0) refl) (omega (arith, v, p.2, q.2, r.2)), sym v, omega arith)
 
--- a byte that is a digit is one more, and is counted so; another counts for nothing
-pub longer-by : (x n k more at next : ℕ) (is_digit : Bool) → x < 256 → ltb ((x + 208) % 256) 10 ≡ is_digit → k ≡ bool_byte is_digit → more ≡ n + k * (n * 9 + (x + 208) % 256) → next ≡ at + k → IsLonger x n more at next
-longer-by x n k more at next true byte low one is behind =
-    let few : (x + 208) % 256 < 10 = grind (arith, nat_tests) in
-    let from : x ≡ 48 + (x + 208) % 256 = omega arith in
-    let digit : is_ascii_digit x ≡ true = grind (arith, nat_tests) in
-    let single : k ≡ 1 = one in
-    let sum : more ≡ n * 10 + (x + 208) % 256 = is ∙ rw single (omega arith) in
-    inr ((x + 208) % 256, digit, from, few, sum, behind ∙ ap (λ j. at + j) single)
-longer-by x n k more at next false byte low none is behind =
-    let single : k ≡ 0 = none in
-    inl (is ∙ rw single (omega arith), behind ∙ rw single (omega arith))
-
 -- a number of two digits, and of one more where that stands behind them
 pub longer-at : (text : List ℕ) (at a b n next : ℕ) → at + 2 < length text → IsDigitAt text at a → IsDigitAt text (at + 1) b → a ≢ 0 → IsLonger (get_or text (at + 2) 0) (a * 10 + b) n (at + 2) next
     → IsNumberAt text at n next
@@ -109,3 +95,10 @@ longer-at text at a b n next lt p q some (inl (same, stays)) = rw (same, stays) 
 longer-at text at a b n next lt p q some (inr (c, digit, is, few, more, behind)) =
     let third : next ≡ at + 3 = omega arith in
     rw (more, third) (three-at text at a b c lt p q (digit, is, few) some)
+
+-- a number of one digit, and of one more where that stands behind it
+pub longer-one : (text : List ℕ) (at a n next : ℕ) → at + 1 < length text → IsDigitAt text at a → a ≢ 0 → IsLonger (get_or text (at + 1) 0) a n (at + 1) next → IsNumberAt text at n next
+longer-one text at a n next lt p some (inl (same, stays)) = rw (same, stays) (one-at text at a (omega arith) p)
+longer-one text at a n next lt p some (inr (b, digit, is, few, more, behind)) =
+    let second : next ≡ at + 2 = omega arith in
+    rw (more, second) (two-at text at a b lt p (digit, is, few) some)

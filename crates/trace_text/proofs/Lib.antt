@@ -10,6 +10,7 @@ mod HeadFacts
 mod FieldFacts
 mod ReadFacts
 mod RowFacts
+mod SoundFacts
 mod EventRowFacts
 mod PutFacts
 mod TableFacts

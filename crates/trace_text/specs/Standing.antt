@@ -15,10 +15,11 @@ use Rattle.trace_text.specs.Asks.{IsAmong, slots_asked}
 use Rattle.trace_text.specs.FlowSums.{held_sum, IsTidy, HoldsAmong}
 use Rattle.trace_text.specs.Events.{EventsAreAmong, AreEventsOf, way_number}
 use Rattle.trace_text.specs.Puts.{ArePutsOf}
-use Rattle.trace_text.specs.Trace.{TraceContent, IsFaultOf, content_or_fault, ended}
+use Rattle.trace_text.specs.Trace.{TraceContent, IsFaultOf, content_or_fault, ended, rows_after}
 use Rattle.trace_text.specs.Valid.{IsTrace}
 use Rattle.trace_text.specs.declared.command.Command.{Command}
 use Rattle.trace_text.specs.declared.kind.Kind.{Kind}
+use Rattle.trace_text.specs.declared.kind.Kind.TheVariants as kind
 use Rattle.trace_text.specs.declared.fault.Fault.{Fault}
 use Rattle.trace_text.specs.declared.fault.Fault.TheVariants as fault
 use Rattle.trace_text.specs.declared.fault.TraceRefused.{TraceRefused}
@@ -121,6 +122,19 @@ pub record StandsFor (before : List Row) (rows : Rows) : Type 0 where
   pub few_bytes : length rows.events.bytes.items ≤ 2048 * length before
   pub bounds : EventsAreAmong (endpoints_kept rows.net) rows.events.fates.items rows.events.boots.items rows.events.raws.items rows.events.bytes.items
   pub puts : ArePutsOf before (endpoints_kept rows.net) rows.puts
+
+-- an ask of this round may be the next row, and is of the round of the latest row and of the latest ask
+pub record IsWithin (command : Command) (round : ℕ) (rows : Rows) : Type 0 where
+  pub some : 0 < rows.count
+  pub unended : rows.end ≡ None
+  pub takes : takes_kind command kind.Ask ≡ true
+  pub early : round ≤ 99999
+  pub same : rows.round ≡ round
+  pub turned : rows.sums.round ≡ round
+
+-- asks were taken: what is kept stands for them too, and these records are left
+abbrev pub TakesAsks : Command → List Row → List Record → Rows → List Record → Type 0
+TakesAsks command before records rows left = (after : List Row) × StandsFor after rows × (rows_after command records before ≡ rows_after command left after)
 
 -- what is kept stands for some rows
 abbrev pub RowsAreKept : Rows → Type 0

@@ -1,5 +1,5 @@
 // The asks of a round, summed by flow.
-ghost use Rattle.std.specs.Prelude.{◌≡◌, ◌+◌, ◌<◌, ◌≤◌, ◌^◌, ℕ, length, slice_index, sum_by, All, IfOk, OnOk};
+ghost use Rattle.std.specs.Prelude.{◌≡◌, ◌+◌, ◌<◌, ◌≤◌, ◌^◌, ℕ, length, slice_index, sum_by, All, IfOk, OnOk, true};
 ghost use Rattle.std.specs.List.{slice_set};
 ghost use Rattle.trace_text.specs.Asks.{slots_asked, IsAmong};
 ghost use Rattle.trace_text.specs.FlowSums.{flow_number, held_sum, holds_none, IsTidy, HoldsAmong};
@@ -73,6 +73,13 @@ impl FlowSums {
         self.drain_into(summed)?;
         self.round = round;
         Ok(())
+    }
+
+    /// Whether the asks are of this round.
+    pub fn is_of(&self, round: u32) -> bool
+        ensures { result ≡ true → self.now.round ≡ round }
+    {
+        self.round == round
     }
 
     /// Adds the slots of an ask of the round to those of its flow.

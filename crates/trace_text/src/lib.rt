@@ -7,11 +7,12 @@
 //! front. A record of which no front shows the end is read by growing parts, until it is seen to have more fields than a row. Of
 //! a line the first six fields are kept: they tell what a row is as all do. `taken_row.rt` reads the fields (a net at once as
 //! `clos_topology`'s `Net`, which has the limits; a raw packet stays in hexadecimal until it is kept), `rows.rt` judges the row
-//! against the rows so far and keeps it, `events.rt` has fates, boots and raw packets, `order.rt` sorts by rank and finds a part
-//! of what is sorted, for any type with a rank, `flow_sums.rt` makes one ask a flow of the asks of a round, in order and without
-//! a sort, as they are read, so that no other ask is kept, `trace.rt` answers. `make.rt` draws a trace. `packets.rt` keeps packets
-//! one behind the other, each under a number: raw packets under their round, packets that are put under their endpoint
-//! (`puts.rt`). `proofs/Crossing.antt`: a trace may be read in several threads.
+//! against the rows so far and keeps it, and takes the asks of a round that follow with the same head in a loop of their own,
+//! `events.rt` has fates, boots and raw packets, `order.rt` sorts by rank and finds a part of what is sorted, for any type with a
+//! rank, `flow_sums.rt` makes one ask a flow of the asks of a round, in order and without a sort, as they are read, so that no
+//! other ask is kept, `trace.rt` answers. `make.rt` draws a trace. `packets.rt` keeps packets one behind the other, each under a
+//! number: raw packets under their round, packets that are put under their endpoint (`puts.rt`). `proofs/Crossing.antt`: a trace
+//! may be read in several threads.
 #![tactic(auto)]
 
 mod ask;

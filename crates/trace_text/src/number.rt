@@ -103,6 +103,16 @@ pub fn short_number(text: &[u8], at: usize) -> Option<(u32, usize)>
     Some(longer(text, at + 2, first * 10 + second))
 }
 
+/// The number from 1 to 99 that stands at a place, and the place behind its digits.
+#[inline(always)]
+pub fn number_below_100(text: &[u8], at: usize) -> Option<(u32, usize)>
+    requires { at + 2 ≤ length text.now }
+    ensures { IfSome result (λ r. IsNumberAt text.now at r.0 r.1) }
+{
+    let first = digit_above_0(text[at])?;
+    Some(longer(text, at + 1, first))
+}
+
 // The number with the digit that stands at a place, if one does, and the place behind it. There is no branch, since nothing tells
 // ahead how long a number is.
 #[inline(always)]
@@ -111,12 +121,10 @@ fn longer(text: &[u8], at: usize, number: u32) -> (u32, usize)
     requires small { number ≤ 99 }
     ensures { IsLonger (slice_index text.now at) number result.0 at result.1 }
 {
-    let digit = text[at].wrapping_sub(b'0');
+    let digit = u32::from(text[at]).wrapping_sub(ZERO);
     let more = digit < 10;
-    (
-        number + u32::from(more) * (number * 9 + u32::from(digit)),
-        at + usize::from(more),
-    )
+    let longer = if more { number * 10 + digit } else { number };
+    (longer, at + usize::from(more))
 }
 
 // The same of the number 0.

@@ -4,7 +4,7 @@ ghost use Rattle.std.specs.Int.{w32, from_le_bytes};
 ghost use Rattle.trace_text.specs.Lines.{records_in, BeginsWithAsk, IsAskHead, IsEndBefore, IsLastNumberBefore, IsNumberBefore};
 
 use crate::line::behind_blank_line;
-use crate::number::{number_before, short_number};
+use crate::number::{number_before, number_below_100, short_number};
 
 // A head is kept where it has at most so many bytes, as that of each round has.
 const MOST_HEAD: usize = 12;
@@ -48,11 +48,19 @@ impl<'a> AskHead<'a> {
         Some((AskHead { bytes, round }, rest))
     }
 
+    /// The round of the asks.
+    pub fn round(&self) -> u32
+        ensures { result ≡ self.now.round }
+    {
+        self.round
+    }
+
     /// The ask with this head that a text begins with, and what stands behind its line; None where its endpoints have more than three
     /// digits, or the text ends soon.
     #[inline(always)]
     pub fn ask<'b>(&self, text: &'b [u8]) -> Option<(PlainAsk, &'b [u8])>
-        ensures { IfSome result (λ r. BeginsWithAsk (records_in text.now) r.0 (records_in r.1.now)) }
+        ensures ask { IfSome result (λ r. BeginsWithAsk (records_in text.now) r.0 (records_in r.1.now)) }
+        ensures round { IfSome result (λ r. r.0.round ≡ self.now.round) }
     {
         if text.len() < ROOM || !self.begins(text) {
             return None;
@@ -157,13 +165,13 @@ fn long_last_number_at(text: &[u8], at: usize) -> Option<(u32, &[u8])>
     last_number_before(&text[at..])
 }
 
-// The same of a short number.
+// The same of a number below 100.
 #[inline(always)]
 fn short_last_number_at(text: &[u8], at: usize) -> Option<(u32, &[u8])>
     requires { at + 5 ≤ length text.now }
     ensures { IfSome result (λ r. IsLastNumberBefore (drop at text.now) r.0 r.1.now) }
 {
-    let (number, end) = short_number(text, at)?;
+    let (number, end) = number_below_100(text, at)?;
     let rest = &text[end + 1..];
     match text[end] {
         b'\n' => Some((number, rest)),

@@ -1,8 +1,9 @@
 // A text read as a trace.
-ghost use Rattle.std.specs.Prelude.{◌≡◌, ◌≤◌, Ok, length, IfOk, IfErr};
+ghost use Rattle.std.specs.Prelude.{◌≡◌, ◌+◌, ◌≤◌, List, Ok, length, IfOk, IfErr};
 ghost use Rattle.trace_text.specs.Trace.{trace_of, IsFaultOf};
+ghost use Rattle.trace_text.specs.Rows.{Row};
 ghost use Rattle.trace_text.specs.Valid.{IsTrace};
-ghost use Rattle.trace_text.specs.Standing.{RowsAreKept, Finishes};
+ghost use Rattle.trace_text.specs.Standing.{RowsAreKept, StandsFor, TakesAsks, Finishes};
 
 use crate::records::{Found, Records};
 use crate::rows::Rows;
@@ -22,10 +23,7 @@ pub fn read_trace(alloc: Global, bytes: &[u8], command: Command) -> Result<Trace
     let mut fields = ByteRecord::new(alloc);
     let mut rows = Rows::new(alloc)?;
     loop {
-        if let Some(ask) = records.next_ask() {
-            rows.take_ask(command, &ask)?;
-            continue;
-        }
+        take_asks(&mut rows, command, &mut records);
         let found = records.read(&mut fields)?;
         match found {
             Found::Ask(ask) => rows.take_ask(command, &ask)?,
@@ -33,6 +31,20 @@ pub fn read_trace(alloc: Global, bytes: &[u8], command: Command) -> Result<Trace
             Found::TooMany => return Err(rows.refuse_too_many(command, &fields)),
             Found::End => return finish(rows),
         }
+    }
+}
+
+// Takes the asks that follow with the head of the latest, as long as nothing is wrong with them.
+fn take_asks(rows: &mut Rows, command: Command, records: &mut Records)
+    requires stands { RowsAreKept rows.old }
+    requires room { rows.old.count + length records.old ≤ 67108864 }
+    ensures rows { (before : List Row) → StandsFor before rows.old → TakesAsks command before records.old rows.new records.new }
+    ensures room { rows.new.count + length records.new ≡ rows.old.count + length records.old }
+    ensures fewer { length records.new ≤ length records.old }
+{
+    if let Some((head, text)) = records.headed() {
+        let rest = rows.take_asks(command, &head, text);
+        records.go_on(head, rest);
     }
 }
 

@@ -1,11 +1,11 @@
 // The records of a text, one at a time: read where they stand as long as their fields are plain or stand between quotes, and by
 // the kit where they do not, a front of the text after the other.
-ghost use Rattle.std.specs.Prelude.{◌≡◌, ◌<◌, ◌≤◌, ◌++◌, ℕ, List, true, length, IfOk, MatchOption};
+ghost use Rattle.std.specs.Prelude.{◌≡◌, ◌<◌, ◌≤◌, ◌++◌, ℕ, List, true, length, IfOk, IfSome};
 ghost use Rattle.std.specs.Bool.{MatchBool};
 ghost use Rattle.csv.specs.Reading.{strip_bom};
 ghost use Rattle.csv.specs.Records.{fields_of};
 ghost use Rattle.trace_text.specs.Trace.{records_of_text};
-ghost use Rattle.trace_text.specs.Lines.{BeginsWithAsk, Finds, BeginsLong, records_in};
+ghost use Rattle.trace_text.specs.Lines.{Finds, BeginsLong, records_in};
 ghost use Rattle.trace_text.specs.declared.records.Found.TheVariants as found;
 
 use crate::csv_records::CsvRecords;
@@ -95,22 +95,24 @@ impl<'a> Records<'a> {
         }
     }
 
-    /// Takes the next record, where it is seen to be an ask with the head of the latest plain one, as most asks are.
-    #[inline(always)]
-    pub fn next_ask(&mut self) -> Option<PlainAsk>
-        ensures { MatchOption result (self.new ≡ self.old) (λ ask. BeginsWithAsk self.old ask self.new) }
+    /// The head of the latest plain ask, and the text that is left, where no front of it is read.
+    pub fn headed(&self) -> Option<(AskHead<'a>, &'a [u8])>
+        ensures { IfSome result (λ r. self.now ≡ records_in r.1.now) }
     {
         if self.front.is_some() {
             return None;
         }
-        let Some(head) = &self.head else {
-            return None;
-        };
-        let Some((ask, rest)) = head.ask(self.text) else {
-            return None;
-        };
-        self.text = rest;
-        Some(ask)
+        let head = self.head?;
+        Some((head, self.text))
+    }
+
+    /// Goes on at a text, of which asks may have this head.
+    pub fn go_on(&mut self, head: AskHead<'a>, text: &'a [u8])
+        ensures { self.new ≡ records_in text.now }
+    {
+        self.front = None;
+        self.text = text;
+        self.head = Some(head);
     }
 
     /// Takes the next record, where there is one; the first fields of one that is no plain ask go into the buffer, and those

@@ -3,14 +3,14 @@ ghost use Rattle.std.specs.Prelude.{◌≡◌, ◌+◌, ◌*◌, ◌<◌, ◌≤
 ghost use Rattle.csv.specs.Records.{fields_of};
 ghost use Rattle.clos_topology.specs.Limits.{IsNetwork};
 ghost use Rattle.trace_text.specs.Fields.{Record, bytes_of};
-ghost use Rattle.trace_text.specs.Lines.{IsAskRow};
+ghost use Rattle.trace_text.specs.Lines.{IsAskRow, records_in};
 ghost use Rattle.trace_text.specs.Rows.{Row};
 ghost use Rattle.trace_text.specs.Rows as row;
 ghost use Rattle.trace_text.specs.Faults.{read_row, checked, is_in_range, is_between, is_fate};
 ghost use Rattle.std.specs.List.{list_any, filter_map};
 ghost use Rattle.trace_text.specs.Earlier.{fate_in, put_in};
 ghost use Rattle.trace_text.specs.Events.{way_number};
-ghost use Rattle.trace_text.specs.Standing.{StandsFor, RowsAreKept, IsAllowed, IsWholeRow, IsPacket, is_net, endpoints_kept, row_value, as_rows, row_unless, TakesRow};
+ghost use Rattle.trace_text.specs.Standing.{StandsFor, RowsAreKept, IsAllowed, IsWithin, TakesAsks, IsWholeRow, IsPacket, is_net, endpoints_kept, row_value, as_rows, row_unless, TakesRow};
 ghost use Rattle.trace_text.specs.declared.fault.TraceRefused.TheVariants as refused;
 ghost use Rattle.trace_text.specs.declared.taken_row.TakenRow.TheVariants as taken;
 
@@ -19,7 +19,7 @@ use crate::events::{Boot, EventRows, GivenFate};
 use crate::fields::field;
 use crate::flow_sums::FlowSums;
 use crate::kind::Kind;
-use crate::plain_ask::PlainAsk;
+use crate::plain_ask::{AskHead, PlainAsk};
 use crate::puts::PutRows;
 use crate::taken_row::TakenRow;
 use crate::{Command, Fault, TraceRefused};
@@ -125,6 +125,62 @@ impl Rows {
             None => Ok(self.push_ask(ask.round, ask.src, ask.dst, ask.slots)?),
             Some(fault) => Err(self.refused(fault)),
         }
+    }
+
+    /// Takes the asks of a round that a text goes on with, as long as they have this head and nothing is wrong with them; answers
+    /// what is left.
+    #[inline(never)]
+    pub fn take_asks<'a>(&mut self, command: Command, head: &AskHead, text: &'a [u8]) -> &'a [u8]
+        requires stands { RowsAreKept self.old }
+        requires room { self.old.count + length (records_in text.now) ≤ 67108864 }
+        ensures rows { (before : List Row) → StandsFor before self.old → TakesAsks command before (records_in text.now) self.new (records_in result.now) }
+        ensures room { self.new.count + length (records_in result.now) ≡ self.old.count + length (records_in text.now) }
+        ensures fewer { length (records_in result.now) ≤ length (records_in text.now) }
+    {
+        let mut rest = text;
+        if !self.is_within(command, head.round()) {
+            return rest;
+        }
+        while let Some((ask, more)) = head.ask(rest) {
+            if !self.is_sound(&ask) {
+                return rest;
+            }
+            self.add_ask(ask.round, ask.src, ask.dst, ask.slots);
+            rest = more;
+        }
+        rest
+    }
+
+    // Whether an ask of this round may be the next row, and is of the round of the latest row and of the latest ask.
+    fn is_within(&self, command: Command, round: u32) -> bool
+        ensures { result ≡ true → IsWithin command round self.now }
+    {
+        if self.count == 0 || self.end.is_some() {
+            return false;
+        }
+        if !command.takes(Kind::Ask) || round > LAST_ROUND {
+            return false;
+        }
+        round == self.round && self.sums.is_of(round)
+    }
+
+    // Whether nothing is wrong with the flow and the slots of an ask that is the next row.
+    #[inline(always)]
+    fn is_sound(&self, ask: &PlainAsk) -> bool
+        requires { RowsAreKept self.now }
+        ensures { result ≡ true → self.now.round ≤ ask.now.round → IsAllowed self.now (taken.Ask ask.now.round ask.now.src ask.now.dst ask.now.slots) }
+    {
+        let endpoints = self.endpoints();
+        if ask.src >= endpoints || ask.dst >= endpoints {
+            return false;
+        }
+        if ask.src == ask.dst {
+            return false;
+        }
+        if ask.slots < 1 || ask.slots > MOST_ASKED {
+            return false;
+        }
+        self.total(ask.src, ask.dst) + ask.slots <= MOST_ASKED
     }
 
     /// The number and the fault of the next row, which has more fields than a row of any kind.
@@ -394,18 +450,44 @@ impl Rows {
         requires room { self.old.count < 4294967295 }
         ensures { (before : List Row) → StandsFor before self.old → OnOk result (StandsFor (before ++ row.Ask round src dst slots ∷ []) self.new) }
     {
-        let at = self.place_of(src, dst);
+        self.turn_to(round)?;
+        self.add_ask(round, src, dst, slots);
+        Ok(())
+    }
+
+    // Goes on with asks of this round.
+    #[inline(always)]
+    fn turn_to(&mut self, round: u32) -> Result<(), NoMemory>
+        requires { RowsAreKept self.old }
+        ensures stands { (before : List Row) → StandsFor before self.old → OnOk result (StandsFor before self.new) }
+        ensures same { OnOk result ((self.new.net ≡ self.old.net) × (self.new.round ≡ self.old.round) × (self.new.count ≡ self.old.count) × (self.new.totals.items ≡ self.old.totals.items)) }
+        ensures turned { OnOk result (self.new.sums.round ≡ round) }
+    {
         self.sums.turn_to(round, &mut self.asks)?;
+        Ok(())
+    }
+
+    // Keeps an ask of the round of the latest asks.
+    #[inline(always)]
+    fn add_ask(&mut self, round: u32, src: u32, dst: u32, slots: u32)
+        requires stands { RowsAreKept self.old }
+        requires allowed { IsAllowed self.old (taken.Ask round src dst slots) }
+        requires room { self.old.count < 4294967295 }
+        requires turned { self.old.sums.round ≡ round }
+        ensures rows { (before : List Row) → StandsFor before self.old → StandsFor (before ++ row.Ask round src dst slots ∷ []) self.new }
+        ensures within { (command : Command) → IsWithin command round self.old → IsWithin command round self.new }
+        ensures count { self.new.count ≡ self.old.count + 1 }
+    {
+        let at = self.place_of(src, dst);
+        self.totals[at] += slots;
         self.sums.add(&Ask {
             round,
             src: src as u16,
             dst: dst as u16,
             slots,
         });
-        self.totals[at] += slots;
         self.round = round;
         self.count += 1;
-        Ok(())
     }
 
     fn push_fate(&mut self, round: u32, endpoint: u32, up: bool, fate: Fate) -> Result<(), NoMemory>

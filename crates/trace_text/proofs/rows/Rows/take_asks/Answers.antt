@@ -1,0 +1,71 @@
+use Rattle.std.proofs.Common.{◌∷◌, [], ◌++◌, length, sym, ap, ◌∙◌, refl, arith}
+use Rattle.trace_text.specs.Trace.{rows_after}
+use Rattle.trace_text.specs.Rows.{Row, Ask}
+use Rattle.trace_text.specs.Lines.{records_in}
+use Rattle.trace_text.specs.Standing.{IsWithin}
+use Rattle.trace_text.proofs.TraceFacts.{rows_after-ok}
+use Rattle.trace_text.proofs.SoundFacts.{ask-sound}
+use Rattle.trace_text.proofs.rows.Rows.take_asks.Goals as goal
+
+pub loop-ask-init : goal.loop-ask-init
+loop-ask-init c = record {
+  kept = c.requires.stands;
+  within = rw (← c.round.ensures) (c.is_within.ensures c.if-not-is_within.false);
+  rows = λ before s. (before, s, refl);
+  room = refl;
+  fewer = omega arith;
+}
+
+pub is_sound-requires : goal.is_sound-requires
+is_sound-requires c = c.loop-ask.invariant.kept
+
+pub returns-then-not-is_sound-clause-rows : goal.returns-then-not-is_sound-clause-rows
+returns-then-not-is_sound-clause-rows c = c.loop-ask.invariant.rows
+
+pub returns-then-not-is_sound-clause-room : goal.returns-then-not-is_sound-clause-room
+returns-then-not-is_sound-clause-room c = c.loop-ask.invariant.room
+
+pub returns-then-not-is_sound-clause-fewer : goal.returns-then-not-is_sound-clause-fewer
+returns-then-not-is_sound-clause-fewer c = c.loop-ask.invariant.fewer
+
+pub add_ask-requires-clause-stands : goal.add_ask-requires-clause-stands
+add_ask-requires-clause-stands c = c.loop-ask.invariant.kept
+
+pub add_ask-requires-clause-allowed : goal.add_ask-requires-clause-allowed
+add_ask-requires-clause-allowed c = c.is_sound.ensures c.if-not-is_sound.false (omega (arith, c.loop-ask.invariant.within.same, c.in-Some.ensures.round))
+
+pub add_ask-requires-clause-room : goal.add_ask-requires-clause-room
+add_ask-requires-clause-room c = omega (arith, c.loop-ask.invariant.room, c.requires.room)
+
+pub add_ask-requires-clause-turned : goal.add_ask-requires-clause-turned
+add_ask-requires-clause-turned c = c.loop-ask.invariant.within.turned ∙ sym c.in-Some.ensures.round
+
+pub loop-ask-preserved : goal.loop-ask-preserved
+loop-ask-preserved c =
+    let (fields, row, found) = c.in-Some.ensures.ask in
+    let (before, s) = c.loop-ask.invariant.kept in
+    let within : IsWithin c.args.command c.in-Some.ask.round c.loop-ask.self = rw c.in-Some.ensures.round c.loop-ask.invariant.within in
+    let allowed = c.is_sound.ensures c.if-not-is_sound.false (omega (arith, c.loop-ask.invariant.within.same, c.in-Some.ensures.round)) in
+    let ask : Row = Ask c.in-Some.ask.round c.in-Some.ask.src c.in-Some.ask.dst c.in-Some.ask.slots in
+    record {
+      kept = (before ++ ask ∷ [], c.add_ask.ensures.rows before s);
+      within = rw (← c.in-Some.ensures.round) (c.add_ask.ensures.within c.args.command within);
+      rows = λ before s.
+          let (after, stands, same) = c.loop-ask.invariant.rows before s in
+          let read = ask-sound c.args.command after fields c.in-Some.ask c.loop-ask.self stands within row allowed in (
+            after ++ ask ∷ [],
+            c.add_ask.ensures.rows after stands,
+            same ∙ ap (λ l. rows_after c.args.command l after) found ∙ rows_after-ok c.args.command fields (records_in c.in-Some.more.now) after ask read,
+          );
+      room = omega (arith, c.loop-ask.invariant.room, c.add_ask.ensures.count, ap length found);
+      fewer = omega (arith, c.loop-ask.invariant.fewer, ap length found);
+    }
+
+pub returns-clause-rows : goal.returns-clause-rows
+returns-clause-rows c = c.loop-ask.invariant.rows
+
+pub returns-clause-room : goal.returns-clause-room
+returns-clause-room c = c.loop-ask.invariant.room
+
+pub returns-clause-fewer : goal.returns-clause-fewer
+returns-clause-fewer c = c.loop-ask.invariant.fewer
