@@ -13,13 +13,13 @@ pub count_below-more : (p : ℕ → Bool) (n : ℕ) → count_below p (suc n) �
 count_below-more p zero = omega arith
 count_below-more p (suc n) = let more = count_below-more (λ k. p (suc k)) n in omega (arith, more)
 
-count_below-passes : (p : ℕ → Bool) (n : ℕ) → p n ≡ true → count_below p (suc n) ≡ count_below p n + 1
+pub count_below-passes : (p : ℕ → Bool) (n : ℕ) → p n ≡ true → count_below p (suc n) ≡ count_below p n + 1
 count_below-passes p n passes = count_below-more p n ∙ ap (λ (b : Bool). count_below p n + cond b 1 0) passes
 
 count_below-fails : (p : ℕ → Bool) (n : ℕ) → p n ≡ false → count_below p (suc n) ≡ count_below p n
 count_below-fails p n fails = count_below-more p n ∙ (ap (λ (b : Bool). count_below p n + cond b 1 0) fails ∙ omega arith)
 
-count_below-rises : (p : ℕ → Bool) (j k : ℕ) → j ≤ k → count_below p j ≤ count_below p k
+pub count_below-rises : (p : ℕ → Bool) (j k : ℕ) → j ≤ k → count_below p j ≤ count_below p k
 count_below-rises p zero k below = omega arith
 count_below-rises p (suc j) zero below = absurd (omega arith)
 count_below-rises p (suc j) (suc k) below = let rest = count_below-rises (λ i. p (suc i)) j k (omega arith) in omega (arith, rest)
@@ -66,7 +66,7 @@ abbrev pub is_left : (ℕ → Bool) → ℕ → ℕ → Bool
 is_left p i k = p k && not (nat_lt (count_below p k) i)
 
 -- where nothing below is left, at most i pass below
-few_below : (p : ℕ → Bool) (t i : ℕ) → ((k : ℕ) → k < t → is_left p i k ≡ false) → count_below p t ≤ i
+pub few_below : (p : ℕ → Bool) (t i : ℕ) → ((k : ℕ) → k < t → is_left p i k ≡ false) → count_below p t ≤ i
 few_below p zero i none = omega arith
 few_below p (suc t) i none =
     let so_far = few_below p t i (λ k below. none k (omega arith)) in

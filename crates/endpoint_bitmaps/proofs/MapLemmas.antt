@@ -4,7 +4,7 @@ use Rattle.std.proofs.lemmas.Bool.{cases_eq, and_left, eq-eqb, ne_eqb}
 use Rattle.std.proofs.lemmas.List.{get_or-set_same, get_or-set_other, get_or_read}
 use Rattle.std.proofs.Math.Bool.{and-true}
 use Rattle.endpoint_bitmaps.specs.Slots.{has_slot}
-use Rattle.endpoint_bitmaps.specs.FreeSlots.{FreeSlots, is_free_to_send, may_receive, leaving_in, entering_in, rack_in, is_between_racks, has_links, is_common, HasTaken}
+use Rattle.endpoint_bitmaps.specs.FreeSlots.{FreeSlots, is_free_to_send, may_receive, leaving_in, entering_in, rack_in, needs_links, has_links, is_common, HasTaken}
 use Rattle.endpoint_bitmaps.proofs.WordLemmas.{has_slot-both, has_slot-without, has_slot-none}
 
 -- what two endpoints have in common
@@ -38,8 +38,8 @@ none_taken src dst taken maps none = record {
   limits = refl;
   senders = λ endpoint slot. stays (is_free_to_send maps endpoint slot) (endpoint == src) (has_slot taken slot) (no_slot slot);
   receivers = λ endpoint slot. stays (may_receive maps endpoint slot) (endpoint == dst) (has_slot taken slot) (no_slot slot);
-  leaving = λ rack slot below. no_more (leaving_in maps rack slot) (rack == rack_in maps src) (is_between_racks maps src dst) (has_slot taken slot) (no_slot slot);
-  entering = λ rack slot below. no_more (entering_in maps rack slot) (rack == rack_in maps dst) (is_between_racks maps src dst) (has_slot taken slot) (no_slot slot);
+  leaving = λ rack slot below. no_more (leaving_in maps rack slot) (rack == rack_in maps src) (needs_links maps src dst) (has_slot taken slot) (no_slot slot);
+  entering = λ rack slot below. no_more (entering_in maps rack slot) (rack == rack_in maps dst) (needs_links maps src dst) (has_slot taken slot) (no_slot slot);
 }
   where
     no_slot : (slot : ℕ) → has_slot taken slot ≡ false
@@ -48,9 +48,9 @@ none_taken src dst taken maps none = record {
     stays : (free here taken : Bool) → taken ≡ false → free ≡ (free && not (here && taken))
     stays free here taken none = grind arith
 
-    no_more : (n : ℕ) (here between taken : Bool) → taken ≡ false → n ≡ n + cond (here && (between && taken)) 1 0
-    no_more n here between taken none = grind arith
+    no_more : (n : ℕ) (here counted taken : Bool) → taken ≡ false → n ≡ n + cond (here && (counted && taken)) 1 0
+    no_more n here counted taken none = grind arith
 
 -- where either end isn't free, the slot is not common
 pub none_common : (maps : FreeSlots) (src dst slot : ℕ) → false ≡ (is_free_to_send maps src slot && may_receive maps dst slot) → false ≡ is_common maps src dst slot
-none_common maps src dst slot none = ap (λ (b : Bool). b && (not (is_between_racks maps src dst) || has_links maps src dst slot)) none
+none_common maps src dst slot none = ap (λ (b : Bool). b && (not (needs_links maps src dst) || has_links maps src dst slot)) none

@@ -1,14 +1,14 @@
 -- The maps as parts that fit: the racks of two endpoints, and the slots that these have in common.
-use Rattle.std.proofs.Common.{◌≡◌, ◌≢◌, ◌<◌, ◌+◌, ◌^◌, ℕ, List, length, get_or, Bool, true, false, not, ◌==◌, ◌&&◌, ◌||◌, nat_lt, cond, bit_and, refl, sym, ap, ◌∙◌, arith, inl, inr}
+use Rattle.std.proofs.Common.{◌≡◌, ◌<◌, ◌+◌, ◌^◌, ℕ, List, length, get_or, Bool, true, false, not, ◌==◌, ◌&&◌, ◌||◌, nat_lt, cond, bit_and, refl, sym, ap, ◌∙◌, arith, inl, inr}
 use Rattle.std.proofs.Math.Nat.{div-le_self}
-use Rattle.std.proofs.lemmas.Bool.{cases_lt, and_left, and_parts, eq-eqb, ne_eqb, both_ways}
+use Rattle.std.proofs.lemmas.Bool.{cases_lt, and_left, and_parts, both_ways}
 use Rattle.std.proofs.lemmas.List.{get_or_read}
 use Rattle.greedy_rules.specs.declared.limits.Limits.{Limits}
-use Rattle.greedy_rules.specs.Limits.{rack_of, is_outward}
+use Rattle.greedy_rules.specs.Limits.{rack_of}
 use Rattle.endpoint_bitmaps.specs.Slots.{has_slot}
 use Rattle.endpoint_bitmaps.specs.Links.{taken_in, ShowsLeft, HasTakenLinks}
 use Rattle.endpoint_bitmaps.specs.Fit.{Fit}
-use Rattle.endpoint_bitmaps.specs.FreeSlots.{FreeSlots, is_free_to_send, may_receive, leaving_in, entering_in, rack_in, is_between_racks, has_links, is_common}
+use Rattle.endpoint_bitmaps.specs.FreeSlots.{FreeSlots, is_free_to_send, may_receive, leaving_in, entering_in, rack_in, needs_links, has_links, is_common}
 use Rattle.endpoint_bitmaps.proofs.WordLemmas.{has_slot-both, has_slot-above}
 
 module _ (n : ℕ) (limits : Limits) (senders receivers racks leaving leaving_left entering entering_left : List ℕ)
@@ -32,29 +32,16 @@ module _ (n : ℕ) (limits : Limits) (senders receivers racks leaving leaving_le
     pub seen_rack : (rack : ℕ) → rack ≡ get_or racks endpoint rack → rack ≡ rack_of limits.hosts endpoint
     seen_rack rack is = rack_read endpoint rack seen_below is
 
-  -- within a rack it is enough that both are free
-  pub common_within : (src dst from to free slot : ℕ) → from ≡ rack_of limits.hosts src → to ≡ rack_of limits.hosts dst → from ≡ to
-      → has_slot free slot ≡ (is_free_to_send maps src slot && may_receive maps dst slot) → has_slot free slot ≡ is_common maps src dst slot
-  common_within src dst from to free slot from_is to_is same free_is =
-      let level : (rack_of limits.hosts src == rack_of limits.hosts dst) ≡ true = eq-eqb _ _ (sym from_is ∙ (same ∙ to_is)) in
-      free_is ∙ within_rack (is_free_to_send maps src slot && may_receive maps dst slot) (rack_of limits.hosts src == rack_of limits.hosts dst) (has_links maps src dst slot) level
-    where
-      within_rack : (both level links : Bool) → level ≡ true → both ≡ (both && (not (not level) || links))
-      within_rack true true links is = refl
-      within_rack false true links is = refl
-      within_rack both false links is = absurd (both_ways false refl is)
-
   left_is : (cores rack word slot : ℕ) (counts words : List ℕ) → ShowsLeft cores counts words → rack < length words → word ≡ get_or words rack word → slot < 64
       → has_slot word slot ≡ nat_lt (taken_in counts rack slot) cores
   left_is cores rack word slot counts words shows below is within =
       ap (λ (m : ℕ). has_slot m slot) (get_or_read words rack word below is 0) ∙ shows.each rack slot below within
 
-  -- between racks both racks need a link, too
-  pub common_between : (src dst from to free up down slot : ℕ) → src < length senders → dst < length senders → free < 2 ^ 64 → from ≡ rack_of limits.hosts src
-      → to ≡ rack_of limits.hosts dst → from ≢ to → up ≡ get_or leaving_left from up → down ≡ get_or entering_left to down
+  -- where it needs links both racks have one left, too
+  pub common_with : (src dst from to free up down slot : ℕ) → src < length senders → dst < length senders → free < 2 ^ 64 → from ≡ rack_of limits.hosts src
+      → to ≡ rack_of limits.hosts dst → needs_links maps src dst ≡ true → up ≡ get_or leaving_left from up → down ≡ get_or entering_left to down
       → has_slot free slot ≡ (is_free_to_send maps src slot && may_receive maps dst slot) → has_slot (bit_and free (bit_and up down)) slot ≡ is_common maps src dst slot
-  common_between src dst from to free up down slot src_below dst_below fits from_is to_is differ up_is down_is free_is =
-      let apart : (rack_of limits.hosts src == rack_of limits.hosts dst) ≡ false = ne_eqb _ _ (λ same. differ (from_is ∙ (same ∙ sym to_is))) in
+  common_with src dst from to free up down slot src_below dst_below fits from_is to_is needed up_is down_is free_is =
       let both : Bool = is_free_to_send maps src slot && may_receive maps dst slot in
       has_slot-both free (bit_and up down) slot
       ∙ elim (cases_lt slot 64) [
@@ -67,36 +54,35 @@ module _ (n : ℕ) (limits : Limits) (senders receivers racks leaving leaving_le
             ∙ (ap (λ (b : Bool). both && (nat_lt (taken_in leaving (rack_of limits.hosts src) slot) limits.cores && b))
             (left_is limits.cores to down slot entering entering_left fit.entering_shown (omega (arith, to_is, rack_below dst dst_below, fit.entering_count)) down_is within
             ∙ ap (λ (r : ℕ). nat_lt (taken_in entering r slot) limits.cores) to_is)
-            ∙ between both (rack_of limits.hosts src == rack_of limits.hosts dst) (has_links maps src dst slot) apart)))
+            ∙ with_links both (needs_links maps src dst) (has_links maps src dst slot) needed)))
         | inr from_64 ↦
             let none : has_slot free slot ≡ false = has_slot-above free slot fits from_64 in
             and_left (has_slot free slot) (has_slot (bit_and up down) slot) none
-            ∙ sym (and_left both (not (is_between_racks maps src dst) || has_links maps src dst slot) (sym free_is ∙ none))
+            ∙ sym (and_left both (not (needs_links maps src dst) || has_links maps src dst slot) (sym free_is ∙ none))
       ]
     where
-      between : (both level links : Bool) → level ≡ false → (both && links) ≡ (both && (not (not level) || links))
-      between both false links is = refl
-      between both true links is = absurd (both_ways true is refl)
+      with_links : (both needs links : Bool) → needs ≡ true → (both && links) ≡ (both && (not needs || links))
+      with_links both true links is = refl
+      with_links both false links is = absurd (both_ways false refl is)
 
-  -- in a common slot of two racks both have a link left
-  pub links_left : (src dst slot : ℕ) → is_common maps src dst slot ≡ true → (rack_of limits.hosts src == rack_of limits.hosts dst) ≡ false → has_links maps src dst slot ≡ true
-  links_left src dst slot common apart =
-      needs (is_free_to_send maps src slot && may_receive maps dst slot) (rack_of limits.hosts src == rack_of limits.hosts dst) (has_links maps src dst slot) common apart
+  -- in a common slot of a flow that needs links both racks have one left
+  links_left : (src dst slot : ℕ) → is_common maps src dst slot ≡ true → needs_links maps src dst ≡ true → has_links maps src dst slot ≡ true
+  links_left src dst slot common needed =
+      left (is_free_to_send maps src slot && may_receive maps dst slot) (needs_links maps src dst) (has_links maps src dst slot) common needed
     where
-      needs : (both level links : Bool) → (both && (not (not level) || links)) ≡ true → level ≡ false → links ≡ true
-      needs both false links all is = (and_parts both links all).1
-      needs both true links all is = absurd (both_ways true is refl)
+      left : (both needs links : Bool) → (both && (not needs || links)) ≡ true → needs ≡ true → links ≡ true
+      left both true links all is = (and_parts both links all).1
+      left both false links all is = absurd (both_ways false refl is)
 
-  pub common_links_left : (src dst from to common slot : ℕ) → common < 2 ^ 64 → from ≡ rack_of limits.hosts src → to ≡ rack_of limits.hosts dst → (from == to) ≡ false
-      → ((k : ℕ) → has_slot common k ≡ is_common maps src dst k) → has_slot common slot ≡ true → (slot < 64) × (has_links maps src dst slot ≡ true)
-  common_links_left src dst from to common slot fits from_is to_is apart common_is here =
-      let differ : (rack_of limits.hosts src == rack_of limits.hosts dst) ≡ false = ap (λ (r : ℕ). r == rack_of limits.hosts dst) (sym from_is) ∙ (ap (λ (r : ℕ). from == r) (sym to_is) ∙ apart) in (
-        elim (cases_lt slot 64) [
-          | inl within ↦ within
-          | inr above ↦ absurd (both_ways (has_slot common slot) (has_slot-above common slot fits above) here)
-        ],
-        links_left src dst slot (sym (common_is slot) ∙ here) differ,
-      )
+  pub common_links_left : (src dst common slot : ℕ) → common < 2 ^ 64 → needs_links maps src dst ≡ true → ((k : ℕ) → has_slot common k ≡ is_common maps src dst k) → has_slot common slot ≡ true
+      → (slot < 64) × (has_links maps src dst slot ≡ true)
+  common_links_left src dst common slot fits needed common_is here = (
+    elim (cases_lt slot 64) [
+      | inl within ↦ within
+      | inr above ↦ absurd (both_ways (has_slot common slot) (has_slot-above common slot fits above) here)
+    ],
+    links_left src dst slot (sym (common_is slot) ∙ here) needed,
+  )
 
   pub up_left : (src dst from slot : ℕ) → src < length senders → slot < 64 → from ≡ rack_of limits.hosts src → has_links maps src dst slot ≡ true
       → has_slot (get_or leaving_left from 0) slot ≡ true
@@ -113,11 +99,9 @@ module _ (n : ℕ) (limits : Limits) (senders receivers racks leaving leaving_le
       ∙ (and_parts (nat_lt (leaving_in maps (rack_in maps src) slot) limits.cores) (nat_lt (entering_in maps (rack_in maps dst) slot) limits.cores) links).1)
 
 -- one more is counted in the rack of the endpoint
-pub links_taken : (hosts src dst own from to rack slot : ℕ) (taken : ℕ → Bool) (old new : List ℕ) → slot < 64 → own ≡ rack → from ≡ rack_of hosts src → to ≡ rack_of hosts dst
-    → HasTakenLinks own (λ k. not (from == to) && taken k) old new → (at : ℕ)
-    → taken_in new at slot ≡ taken_in old at slot + cond ((at == rack) && (is_outward hosts (record { src = src; dst = dst }) && taken slot)) 1 0
-links_taken hosts src dst own from to rack slot taken old new within own_is from_is to_is took at =
+pub links_taken : (own rack slot : ℕ) (counted needs : Bool) (taken : ℕ → Bool) (old new : List ℕ) → slot < 64 → own ≡ rack → counted ≡ needs
+    → HasTakenLinks own (λ k. counted && taken k) old new → (at : ℕ) → taken_in new at slot ≡ taken_in old at slot + cond ((at == rack) && (needs && taken slot)) 1 0
+links_taken own rack slot counted needs taken old new within own_is counted_is took at =
     took at slot within
-    ∙ (ap (λ (r : ℕ). taken_in old at slot + cond ((at == r) && (not (from == to) && taken slot)) 1 0) own_is
-    ∙ (ap (λ (r : ℕ). taken_in old at slot + cond ((at == rack) && (not (r == to) && taken slot)) 1 0) from_is
-    ∙ ap (λ (r : ℕ). taken_in old at slot + cond ((at == rack) && (not (rack_of hosts src == r) && taken slot)) 1 0) to_is))
+    ∙ (ap (λ (r : ℕ). taken_in old at slot + cond ((at == r) && (counted && taken slot)) 1 0) own_is
+    ∙ ap (λ (b : Bool). taken_in old at slot + cond ((at == rack) && (b && taken slot)) 1 0) counted_is)

@@ -9,7 +9,7 @@ use Rattle.endpoint_bitmaps.specs.Slots.{has_slot}
 use Rattle.endpoint_bitmaps.specs.Links.{taken_in}
 
 -- for each endpoint the slots in which it may send, as a word, and those in which it may receive; for each rack and slot how
--- many flows to other racks were taken, and how many from other racks
+-- many flows to other racks were taken, and how many from other racks, where links are counted
 pub record FreeSlots : Type 0 where
   pub endpoints : ℕ
   pub limits : Limits
@@ -28,7 +28,12 @@ may_receive maps dst slot = has_slot (slice_index_or maps.to_receive dst 0) slot
 abbrev pub NoneMaySend : FreeSlots → Type 0
 NoneMaySend maps = (src slot : ℕ) → is_free_to_send maps src slot ≡ false
 
--- how many of the flows taken in the slot go from this rack to others, and how many come to it from others
+-- a rack has fewer links than endpoints, so that it may have none left for an endpoint that is free: then they are counted
+abbrev pub counts_links : Limits → Bool
+counts_links limits = nat_lt limits.cores limits.hosts
+
+-- where links are counted, how many of the flows taken in the slot go from this rack to others, and how many come to it from
+-- others
 abbrev pub leaving_in : FreeSlots → ℕ → ℕ → ℕ
 leaving_in maps rack slot = taken_in maps.leaving rack slot
 
@@ -38,9 +43,9 @@ entering_in maps rack slot = taken_in maps.entering rack slot
 abbrev pub rack_in : FreeSlots → ℕ → ℕ
 rack_in maps endpoint = rack_of maps.limits.hosts endpoint
 
--- the flow goes from one rack into another
-abbrev pub is_between_racks : FreeSlots → ℕ → ℕ → Bool
-is_between_racks maps src dst = is_outward maps.limits.hosts (record { src = src; dst = dst })
+-- the flow takes a link of each of two racks: it goes from one into another, and links are counted
+abbrev pub needs_links : FreeSlots → ℕ → ℕ → Bool
+needs_links maps src dst = counts_links maps.limits && is_outward maps.limits.hosts (record { src = src; dst = dst })
 
 -- every endpoint is free in the slots below this one, and in no other
 pub record IsFreeBelow (slots : ℕ) (maps : FreeSlots) : Type 0 where
@@ -57,18 +62,18 @@ abbrev pub has_links : FreeSlots → ℕ → ℕ → ℕ → Bool
 has_links maps src dst slot =
     nat_lt (leaving_in maps (rack_in maps src) slot) maps.limits.cores && nat_lt (entering_in maps (rack_in maps dst) slot) maps.limits.cores
 
--- the source may send in the slot, and the destination may receive; and so may their racks, where these differ
+-- the source may send in the slot, and the destination may receive; and so may their racks, where the flow needs their links
 abbrev pub is_common : FreeSlots → ℕ → ℕ → ℕ → Bool
-is_common maps src dst slot = (is_free_to_send maps src slot && may_receive maps dst slot) && (not (is_between_racks maps src dst) || has_links maps src dst slot)
+is_common maps src dst slot = (is_free_to_send maps src slot && may_receive maps dst slot) && (not (needs_links maps src dst) || has_links maps src dst slot)
 
 -- these slots are taken: in them the source no longer sends, and the destination no longer receives, and their racks, where
--- these differ, have one flow more; the rest stays
+-- the flow needs their links, have one flow more; the rest stays
 pub record HasTaken (src dst : ℕ) (is_taken : ℕ → Bool) (old new : FreeSlots) : Type 0 where
   pub endpoints : new.endpoints ≡ old.endpoints
   pub limits : new.limits ≡ old.limits
   pub senders : (endpoint slot : ℕ) → is_free_to_send new endpoint slot ≡ (is_free_to_send old endpoint slot && not ((endpoint == src) && is_taken slot))
   pub receivers : (endpoint slot : ℕ) → may_receive new endpoint slot ≡ (may_receive old endpoint slot && not ((endpoint == dst) && is_taken slot))
   pub leaving : (rack slot : ℕ) → slot < 64
-      → leaving_in new rack slot ≡ leaving_in old rack slot + (if (rack == rack_in old src) && (is_between_racks old src dst && is_taken slot) then 1 else 0)
+      → leaving_in new rack slot ≡ leaving_in old rack slot + (if (rack == rack_in old src) && (needs_links old src dst && is_taken slot) then 1 else 0)
   pub entering : (rack slot : ℕ) → slot < 64
-      → entering_in new rack slot ≡ entering_in old rack slot + (if (rack == rack_in old dst) && (is_between_racks old src dst && is_taken slot) then 1 else 0)
+      → entering_in new rack slot ≡ entering_in old rack slot + (if (rack == rack_in old dst) && (needs_links old src dst && is_taken slot) then 1 else 0)

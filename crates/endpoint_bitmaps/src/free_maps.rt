@@ -1,10 +1,10 @@
-ghost use Rattle.std.specs.Prelude.{◌≡◌, ◌≢◌, ◌<◌, ◌≤◌, ◌↔◌, ℕ, IfOk, IsTrue, min, count_ones, nat_lt, length, vec_len, true, false, ◌==◌, ◌&&◌, not};
+ghost use Rattle.std.specs.Prelude.{◌≡◌, ◌≢◌, ◌<◌, ◌≤◌, ◌↔◌, ℕ, IfOk, IsTrue, min, count_ones, nat_lt, length, vec_len, true, ◌==◌, ◌&&◌, not};
 ghost use Rattle.std.specs.List.{slice_index_or};
 ghost use Rattle.greedy_rules.specs.Limits.{AreLimits};
 ghost use Rattle.endpoint_bitmaps.specs.Slots.{has_slot, count_below, is_among_lowest, NoneFrom};
 ghost use Rattle.endpoint_bitmaps.specs.Links.{HasTakenLinks, ShowsLeft, IsUsed};
 ghost use Rattle.endpoint_bitmaps.specs.Fit.{AreRacks, naming};
-ghost use Rattle.endpoint_bitmaps.specs.FreeSlots.{is_free_to_send, may_receive, IsFreeBelow, HasNoneBetween, is_common, NoneMaySend, HasTaken};
+ghost use Rattle.endpoint_bitmaps.specs.FreeSlots.{is_free_to_send, may_receive, IsFreeBelow, HasNoneBetween, needs_links, is_common, NoneMaySend, HasTaken};
 
 use crate::rack_links::RackLinks;
 use greedy_rules::Limits;
@@ -96,6 +96,19 @@ impl FreeMaps {
         self.senders[src as usize] & self.receivers[dst as usize]
     }
 
+    /// Whether a packet takes a link of each of two racks: its endpoints are in different ones, and a rack has fewer links
+    /// than endpoints. Where it has as many, a rack with a free endpoint has one left.
+    fn needs_links(&self, src: u16, dst: u16) -> bool
+        requires src_in_range { src < self.now.endpoints }
+        requires dst_in_range { dst < self.now.endpoints }
+        ensures { result ≡ needs_links self.now src dst }
+    {
+        if self.limits.hosts <= self.limits.cores {
+            return false;
+        }
+        self.racks[src as usize] != self.racks[dst as usize]
+    }
+
     /// The slots in which the source may send and the destination may receive; where they are in different racks, only
     /// those in which each of these has a packet left, of the limit that the last reset gave.
     pub fn common(&self, src: u16, dst: u16) -> u64
@@ -107,13 +120,12 @@ impl FreeMaps {
         if free == 0 {
             return 0;
         }
+        if !self.needs_links(src, dst) {
+            return free;
+        }
         let from = self.racks[src as usize];
         let to = self.racks[dst as usize];
-        if from == to {
-            free
-        } else {
-            free & (self.leaving.left[from as usize] & self.entering.left[to as usize])
-        }
+        free & (self.leaving.left[from as usize] & self.entering.left[to as usize])
     }
 
     /// Takes the lowest `need` slots that the source and the destination have in common, or all where there are fewer, and
@@ -132,11 +144,13 @@ impl FreeMaps {
         if common == 0 {
             return 0;
         }
+        let counted = self.needs_links(src, dst);
         let from = self.racks[src as usize];
         let to = self.racks[dst as usize];
         let taken = take_links(
             &mut self.leaving,
             &mut self.entering,
+            counted,
             from,
             to,
             common,
@@ -163,11 +177,12 @@ fn take_slots(words: &mut [u64], count: &mut usize, endpoint: u16, slots: u64)
     *count -= usize::from(*word == 0);
 }
 
-/// Takes the lowest `need` of these slots for a flow, or all where there are fewer, and answers them. From one rack to another
-/// it takes a link of each in each of them; within a rack it needs none.
+/// Takes the lowest `need` of these slots for a flow, or all where there are fewer, and answers them; where its links are
+/// counted, it takes one of both racks in each of them.
 fn take_links(
     leaving: &mut RackLinks,
     entering: &mut RackLinks,
+    counted: bool,
     from: u16,
     to: u16,
     slots: u64,
@@ -179,8 +194,8 @@ fn take_links(
     requires to { to < vec_len entering.old.left }
     requires leaving { ShowsLeft cores leaving.old.taken.items leaving.old.left.items }
     requires entering { ShowsLeft cores entering.old.taken.items entering.old.left.items }
-    requires leaving_left { (from == to) ≡ false → (slot : ℕ) → has_slot slots slot ≡ true → has_slot (slice_index_or leaving.old.left.items from 0) slot ≡ true }
-    requires entering_left { (from == to) ≡ false → (slot : ℕ) → has_slot slots slot ≡ true → has_slot (slice_index_or entering.old.left.items to 0) slot ≡ true }
+    requires leaving_left { counted ≡ true → (slot : ℕ) → has_slot slots slot ≡ true → has_slot (slice_index_or leaving.old.left.items from 0) slot ≡ true }
+    requires entering_left { counted ≡ true → (slot : ℕ) → has_slot slots slot ≡ true → has_slot (slice_index_or entering.old.left.items to 0) slot ≡ true }
     requires leaving_used { IsUsed leaving.old.used leaving.old.taken.items }
     requires entering_used { IsUsed entering.old.used entering.old.taken.items }
     ensures lowest { (slot : ℕ) → has_slot result slot ≡ is_among_lowest (has_slot slots) need slot }
@@ -190,13 +205,13 @@ fn take_links(
     ensures entering_racks { vec_len entering.new.left ≡ vec_len entering.old.left }
     ensures leaving_shown { ShowsLeft cores leaving.new.taken.items leaving.new.left.items }
     ensures entering_shown { ShowsLeft cores entering.new.taken.items entering.new.left.items }
-    ensures leaving { HasTakenLinks from (λ slot. not (from == to) && has_slot result slot) leaving.old.taken.items leaving.new.taken.items }
-    ensures entering { HasTakenLinks to (λ slot. not (from == to) && has_slot result slot) entering.old.taken.items entering.new.taken.items }
+    ensures leaving { HasTakenLinks from (λ slot. counted && has_slot result slot) leaving.old.taken.items leaving.new.taken.items }
+    ensures entering { HasTakenLinks to (λ slot. counted && has_slot result slot) entering.old.taken.items entering.new.taken.items }
 {
-    if from == to {
-        lowest(slots, need)
-    } else {
+    if counted {
         take_between(leaving, entering, from, to, slots, need, cores)
+    } else {
+        lowest(slots, need)
     }
 }
 
@@ -284,11 +299,11 @@ fn first_slots(count: u8) -> u64
 fn lowest(slots: u64, need: u32) -> u64
     ensures { (slot : ℕ) → has_slot result slot ≡ is_among_lowest (has_slot slots) need slot }
 {
+    if slots.count_ones() <= need {
+        return slots;
+    }
     let mut rest = slots;
     for _ in 0..need {
-        if rest == 0 {
-            break;
-        }
         rest &= rest - 1;
     }
     slots & !rest

@@ -8,7 +8,7 @@ use Rattle.std.proofs.lemmas.List.Elements.{All-nil, All-more, All-append}
 use Rattle.std.proofs.lemmas.Bool.Decides.{nat_tests}
 use Rattle.greedy_rules.specs.declared.flows.Item.{Item}
 use Rattle.endpoint_bitmaps.specs.Slots.{has_slot, count_below}
-use Rattle.endpoint_bitmaps.specs.FreeSlots.{FreeSlots, is_free_to_send, may_receive, is_between_racks, has_links, is_common}
+use Rattle.endpoint_bitmaps.specs.FreeSlots.{FreeSlots, is_free_to_send, may_receive, needs_links, has_links, is_common}
 use Rattle.endpoint_bitmaps.proofs.Facts.{has_slot-none}
 use Rattle.slot_batches.specs.Rests.{TakesNone}
 
@@ -28,7 +28,7 @@ shares_none : (maps : FreeSlots) (item : Item) (place : ℕ) → (is_free_to_sen
 shares_none maps item place none =
     and_left (is_common maps item.flow.src item.flow.dst place) (nat_lt (count_below (is_common maps item.flow.src item.flow.dst) place) item.need)
     (and_left (is_free_to_send maps item.flow.src place && may_receive maps item.flow.dst place)
-    (not (is_between_racks maps item.flow.src item.flow.dst) || has_links maps item.flow.src item.flow.dst place) none)
+    (not (needs_links maps item.flow.src item.flow.dst) || has_links maps item.flow.src item.flow.dst place) none)
 
 -- nor does one without a need
 pub needs_none : (maps : FreeSlots) (item : Item) → item.need ≡ 0 → TakesNone maps item
@@ -45,8 +45,13 @@ takes_none maps item shared is none = λ place. elim (cases_eq item.need 0) [
       shares_none maps item place (sym (is place) ∙ (ap (λ (n : ℕ). has_slot n place) zero_shared ∙ has_slot-none place))
 ]
 
+-- no flow opens before an item that was never served
 pub none_open_before : (last unopened : ℕ) → last ≡ 0 → (nat_lt 0 last && not (unopened == 0)) ≡ false
 none_open_before last unopened none = grind (arith, nat_tests)
+
+-- nor once all flows have opened
+pub opened_before : (last unopened : ℕ) → unopened ≡ 0 → (nat_lt 0 last && not (unopened == 0)) ≡ false
+opened_before last unopened all = grind (arith, nat_tests)
 
 -- a fact of each of four
 pub all_four : {X : Type 0} (P : X → Type 0) (xs : List X) (d : X) → length xs ≡ 4 → P (get_or xs 0 d) → P (get_or xs 1 d) → P (get_or xs 2 d) → P (get_or xs 3 d) → All P xs

@@ -1,5 +1,5 @@
 -- A list before a batch may be fed, item by item.
-use Rattle.std.proofs.Common.{◌-◌, take, drop, get_or, length, ◌+◌, ◌∷◌, sym, ◌∙◌, subst, arith, ◌≡◌, ◌<◌, ℕ, List, [], ◌++◌, All, ap}
+use Rattle.std.proofs.Common.{◌-◌, take, drop, get_or, length, ◌+◌, ◌∷◌, sym, ◌∙◌, subst, ◌≡◌, ◌<◌, ℕ, List, [], ◌++◌, All, ap}
 use Rattle.std.proofs.lemmas.Bool.{not-true}
 use Rattle.std.proofs.Math.Seq.{take-add}
 use Rattle.std.proofs.lemmas.List.{take_more, take_rest, append_assoc, take-append-drop}
@@ -85,20 +85,6 @@ may_feed_rest batch endpoints number endpoints' number' fed items from may endpo
     ∙ (append_assoc fed (take from items) (drop from items) ∙ ap (λ (xs : List Item). fed ++ xs) (take-append-drop from items)) in
     subst (MayBeFed batch endpoints' number') (sym whole)
     (subst (λ (n : ℕ). MayBeFed batch n number' (fed ++ items)) (sym endpoints_are) (subst (λ (n : ℕ). MayBeFed batch endpoints n (fed ++ items)) (sym number_is) may))
-
--- so many of the items, and a few after them
-pub few_on : (fed items : List Item) (at few : ℕ) → (fed ++ take at items) ++ take (at + few - at) (drop at items) ≡ fed ++ take (at + few) items
-few_on fed items at few =
-    let same : at + few - at ≡ few = omega arith in
-    ap (λ (n : ℕ). (fed ++ take at items) ++ take n (drop at items)) same
-    ∙ (append_assoc fed (take at items) (take few (drop at items)) ∙ ap (λ (xs : List Item). fed ++ xs) (sym (take-add at few items)))
-
-pub may_feed_few : (batch : List Entry) (endpoints number endpoints' number' : ℕ) (fed items : List Item) (at few : ℕ) → MayBeFed batch endpoints number (fed ++ items) → endpoints' ≡ endpoints → number' ≡ number
-    → MayBeFed batch endpoints' number' ((fed ++ take at items) ++ take (at + few - at) (drop at items))
-may_feed_few batch endpoints number endpoints' number' fed items at few may endpoints_are number_is =
-    subst (MayBeFed batch endpoints' number') (sym (few_on fed items at few))
-    (subst (λ (n : ℕ). MayBeFed batch n number' (fed ++ take (at + few) items)) (sym endpoints_are)
-    (subst (λ (n : ℕ). MayBeFed batch endpoints n (fed ++ take (at + few) items)) (sym number_is) (may_feed_part batch endpoints number fed items (at + few) may)))
 
 -- one work after the other
 pub same_on : (was mid now : ArrayState) → IsSameArrayWork (array_endpoints was) (array_size was) (array_number was) (array_first was) mid

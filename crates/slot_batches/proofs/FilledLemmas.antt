@@ -1,17 +1,22 @@
 -- What holds of the parts of a batch, flow by flow, as its items are taken up.
-use Rattle.std.proofs.Common.{◌≡◌, ◌≤◌, ◌+◌, ℕ, List, [], ◌∷◌, length, replicate, not, nat_lt, refl, ap, arith, inl, inr}
+use Rattle.std.proofs.Common.{◌≡◌, ◌≤◌, ◌+◌, ℕ, List, [], ◌∷◌, length, replicate, not, nat_lt, All, refl, sym, ap, ◌∙◌, subst, arith, inl, inr}
 use Rattle.std.specs.Prelude.{vec_capacity, vec_len}
 use Rattle.greedy_rules.specs.declared.flows.Flow.{Flow}
 use Rattle.greedy_rules.specs.declared.flows.Item.{Item}
-use Rattle.greedy_rules.proofs.Facts.{few}
+use Rattle.greedy_rules.specs.declared.limits.Limits.{Limits}
+use Rattle.greedy_rules.proofs.Facts.{few, Apart, apart_from_all, IsMatching-slot_with, not_taken, All-batch_slots}
+use Rattle.greedy_rules.specs.Allocation.{batch_slots}
+use Rattle.greedy_rules.specs.Matching.{IsMatching}
 use Rattle.greedy_rules.specs.Slot.{Bar}
 use Rattle.greedy_rules.specs.Limits.{is_barred}
 use Rattle.slot_batches.specs.FlowByFlow.{items_after}
 use Rattle.slot_batches.specs.Feeding.{unserved, newly_served}
 use Rattle.slot_batches.specs.Progress.{StandsAfter}
-use Rattle.slot_batches.specs.Filled.{HasTakenUp}
+use Rattle.slot_batches.specs.Filled.{Fill, HasTakenUp}
 use Rattle.slot_batches.specs.Parts.{fill_of, FillingHasRoom}
 use Rattle.slot_batches.specs.declared.filling.Filling.{Filling}
+use Rattle.list_facts.proofs.Pairs.{AllPairs-nil}
+use Rattle.slot_batches.proofs.SlotExchange.{slot_by_slot}
 use Rattle.slot_batches.proofs.TurnFacts.{length-items_after}
 use Rattle.std.proofs.lemmas.Bool.{cases_Bool, cond-true, cond-false}
 
@@ -59,3 +64,14 @@ fits_waiting taken filling room is =
       filling.served.ok.0,
       room.pairs,
     )
+
+-- the slots as they stand are matchings
+pub matchings_so_far : (taken : List Item) (fill : Fill) → HasTakenUp taken fill → All IsMatching fill.slots
+matchings_so_far taken fill is =
+    let limits : Limits = fill.maps.limits in
+    let bar : Bar = is_barred limits in
+    let batch : All IsMatching (batch_slots bar fill.first_slot fill.b taken) =
+    All-batch_slots bar (λ flow. Unit {0}) IsMatching
+    (λ slot flow any free matching. IsMatching-slot_with flow slot (apart_from_all slot flow (not_taken limits slot flow free)) matching)
+    (AllPairs-nil Apart) fill.first_slot fill.b taken (λ at d within. tt) in
+    subst (All IsMatching) (sym (is.stands.slots_are ∙ (slot_by_slot bar fill.first_slot fill.b taken is.may.once).slots)) batch

@@ -1,6 +1,7 @@
 pub mod SlotExchange
 pub mod FreePlaces
 pub mod Added
+pub mod RackShare
 pub mod FreeMaps
 pub mod RoomLemmas
 pub mod ListOrder

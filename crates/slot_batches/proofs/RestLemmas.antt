@@ -20,7 +20,7 @@ use Rattle.slot_batches.specs.Rests.{TakesNone, ItemRests}
 use Rattle.slot_batches.specs.ArrayStands.{HasBeenFed, MayBeFed}
 use Rattle.slot_batches.specs.declared.filling.Filling.{Filling}
 use Rattle.slot_batches.specs.Parts.{fill_of, FillingHasRoom}
-use Rattle.slot_batches.proofs.FilledLemmas.{lengths_after}
+use Rattle.slot_batches.proofs.FilledLemmas.{lengths_after, matchings_so_far}
 use Rattle.slot_batches.proofs.Added.{added-none, added-unique}
 use Rattle.slot_batches.proofs.FreePlaces.{takes_lowest_free}
 use Rattle.slot_batches.proofs.FreeMaps.{lowest_common_is_chosen}
@@ -39,7 +39,7 @@ keep_one taken fill item is may none =
     let in_range = last_of_all (λ x. (x.flow.src < fill.endpoints) × (x.flow.dst < fill.endpoints)) taken item may.in_range in
     let old_last : item.last < fill.first_slot = last_of_all (λ x. x.last < fill.first_slot) taken item may.below in
     let none_chosen : (place : ℕ) → is_chosen bar item fill.slots place ≡ false =
-    λ place. sym (lowest_common_is_chosen fill.endpoints fill.maps fill.slots item place is.free in_range.0 in_range.1) ∙ none place in
+    λ place. sym (lowest_common_is_chosen fill.endpoints fill.maps fill.slots item place is.free (matchings_so_far taken fill is) in_range.0 in_range.1) ∙ none place in
     let turns = takes_lowest_free bar fill.first_slot item fill.slots in
     let stays : item ≡ item_after bar fill.first_slot item fill.slots = sym (turns.unserved none_chosen) in
     let same_slots : fill.slots ≡ slots_with bar fill.first_slot item fill.slots =

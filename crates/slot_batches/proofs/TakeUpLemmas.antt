@@ -11,6 +11,7 @@ use Rattle.greedy_rules.specs.declared.flows.Item.{Item}
 use Rattle.greedy_rules.specs.Slot.{Bar}
 use Rattle.greedy_rules.specs.declared.limits.Limits.{Limits}
 use Rattle.greedy_rules.specs.Limits.{is_barred}
+use Rattle.greedy_rules.specs.Matching.{IsMatching}
 use Rattle.greedy_rules.specs.Schedule.{slot_in}
 use Rattle.greedy_rules.specs.SlotTable.{Slots, destination_of, IsSlotOf}
 use Rattle.greedy_rules.proofs.Facts.{slots-batch, few}
@@ -26,7 +27,7 @@ use Rattle.slot_batches.specs.Parts.{fill_of, FillingHasRoom}
 use Rattle.slot_batches.proofs.Added.{added-none, added-same, added-unique}
 use Rattle.slot_batches.proofs.FreePlaces.{takes_lowest_free, item_after-served, chosen_within}
 use Rattle.slot_batches.proofs.FreeMaps.{common_is_free, lowest_common_is_chosen, shows_added, chosen_no_destination}
-use Rattle.slot_batches.proofs.FilledLemmas.{lengths_after}
+use Rattle.slot_batches.proofs.FilledLemmas.{lengths_after, matchings_so_far}
 use Rattle.slot_batches.proofs.ProgressLemmas.{stands_with_waiting, stands_with_served}
 use Rattle.slot_batches.proofs.RoomLemmas.{served_fit}
 use Rattle.slot_batches.proofs.SlotExchange.{slot_by_slot}
@@ -61,6 +62,9 @@ module _ (taken : List Item) (f : Filling) (item : Item) (room : FillingHasRoom 
   old_last : item.last < f.first_slot
   old_last = last_of_all (λ x. x.last < f.first_slot) taken item may.below
 
+  matchings : All IsMatching f.slots.slots
+  matchings = matchings_so_far taken (fill_of f) is
+
   few_slots : length f.slots.slots ≤ 64
   few_slots = omega (arith, room.count, room.few_slots)
 
@@ -85,7 +89,7 @@ module _ (taken : List Item) (f : Filling) (item : Item) (room : FillingHasRoom 
   module _ (places : ℕ) (lowest : (slot : ℕ) → has_slot places slot ≡ is_among_lowest (is_common f.maps item.flow.src item.flow.dst) item.need slot) where
     pub chosen_is : (place : ℕ) → has_slot places place ≡ is_chosen bar item f.slots.slots place
     chosen_is place =
-        lowest place ∙ lowest_common_is_chosen f.endpoints f.maps f.slots.slots item place is.free in_range.0 in_range.1
+        lowest place ∙ lowest_common_is_chosen f.endpoints f.maps f.slots.slots item place is.free matchings in_range.0 in_range.1
 
     pub places_within : (place : ℕ) → has_slot places place ≡ true → place < length f.slots.slots
     places_within place here = chosen_within bar item f.slots.slots place (sym (chosen_is place) ∙ here)
@@ -124,7 +128,7 @@ module _ (taken : List Item) (f : Filling) (item : Item) (room : FillingHasRoom 
     module _ (count : (b : ℕ) → NoneFrom b (is_common f.maps item.flow.src item.flow.dst) → count_ones places ≡ min item.need (count_below (is_common f.maps item.flow.src item.flow.dst) b)) (slots : Slots) (greatest : ℕ)
         (added : HasAdded item.flow (has_slot places) f.slots.slots slots.slots) (top : IsGreatest (has_slot places) greatest) where
       common_free : (place : ℕ) → is_common f.maps item.flow.src item.flow.dst place ≡ is_free bar item.flow f.slots.slots place
-      common_free place = common_is_free f.endpoints f.maps f.slots.slots item.flow place is.free in_range.0 in_range.1
+      common_free place = common_is_free f.endpoints f.maps f.slots.slots item.flow place is.free matchings in_range.0 in_range.1
 
       ones_are : count_ones places ≡ count_below (is_chosen bar item f.slots.slots) (length f.slots.slots)
       ones_are =

@@ -1,5 +1,5 @@
 -- The places of a batch's slots, counted from 0, that a flow is not kept out of, and which of them an item takes (this project's own way to the greedy slots).
-use Rattle.std.specs.Prelude.{◌≡◌, ◌<◌, ◌≤◌, ℕ, ◌+◌, List, length, Bool, ◌==◌, ◌&&◌, not, nat_lt, IsTrue, IsFalse, if◌then◌else◌}
+use Rattle.std.specs.Prelude.{◌≡◌, ◌<◌, ◌≤◌, ℕ, ◌+◌, List, length, Bool, true, ◌==◌, ◌&&◌, not, nat_lt, IsTrue, IsFalse, if◌then◌else◌}
 use Rattle.std.specs.List.{list_any}
 use Rattle.greedy_rules.specs.declared.flows.Flow.{Flow}
 use Rattle.greedy_rules.specs.declared.flows.Item.{Item}
@@ -8,7 +8,7 @@ use Rattle.greedy_rules.specs.Limits.{leaving, entering}
 use Rattle.greedy_rules.specs.Schedule.{slot_in}
 use Rattle.slot_batches.specs.FlowByFlow.{slots_with, item_after}
 use Rattle.endpoint_bitmaps.specs.Slots.{count_below, is_among_lowest}
-use Rattle.endpoint_bitmaps.specs.FreeSlots.{FreeSlots, is_free_to_send, may_receive, leaving_in, entering_in}
+use Rattle.endpoint_bitmaps.specs.FreeSlots.{FreeSlots, is_free_to_send, may_receive, counts_links, leaving_in, entering_in}
 
 -- the source sends in the slot
 abbrev pub has_source : ℕ → List Flow → Bool
@@ -43,10 +43,10 @@ pub record TakesLowestFree (bar : Bar) (number : ℕ) (item : Item) (slots : Lis
 abbrev pub EachItemTakesItsLowestFreePlaces : Type 0
 EachItemTakesItsLowestFreePlaces = (bar : Bar) (number : ℕ) (item : Item) (slots : List (List Flow)) → TakesLowestFree bar number item slots
 
--- the maps say at which places of the slots an endpoint does not send, and at which it does not receive; and how many flows
--- leave a rack for others there, and come into it from others
+-- the maps say at which places of the slots an endpoint does not send, and at which it does not receive; and, where they count
+-- links, how many flows leave a rack for others there, and come into it from others
 pub record ShowsFree (endpoints : ℕ) (maps : FreeSlots) (slots : List (List Flow)) : Type 0 where
   pub senders : (src place : ℕ) → src < endpoints → is_free_to_send maps src place ≡ (nat_lt place (length slots) && not (has_source src (slot_in slots place)))
   pub receivers : (dst place : ℕ) → dst < endpoints → may_receive maps dst place ≡ (nat_lt place (length slots) && not (has_destination dst (slot_in slots place)))
-  pub leaving_is : (rack place : ℕ) → place < length slots → leaving_in maps rack place ≡ leaving maps.limits.hosts rack (slot_in slots place)
-  pub entering_is : (rack place : ℕ) → place < length slots → entering_in maps rack place ≡ entering maps.limits.hosts rack (slot_in slots place)
+  pub leaving_is : counts_links maps.limits ≡ true → (rack place : ℕ) → place < length slots → leaving_in maps rack place ≡ leaving maps.limits.hosts rack (slot_in slots place)
+  pub entering_is : counts_links maps.limits ≡ true → (rack place : ℕ) → place < length slots → entering_in maps rack place ≡ entering maps.limits.hosts rack (slot_in slots place)

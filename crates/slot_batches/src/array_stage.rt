@@ -120,24 +120,10 @@ impl ArrayStage {
         let mut from = 0;
         while from < items.len() {
             from += self.keep_resting(batch, &items[from..]);
-            let few = (items.len() - from).min(4);
-            self.feed_few(batch, &items[from..from + few]);
-            from += few;
-        }
-    }
-
-    /// Feeds these items, one after the other.
-    fn feed_few(&mut self, batch: &Batch, items: &[Item])
-        requires may { (fed : List Item) × (given : ℕ) × ArrayStands batch.now fed false given self.old × MayBeFed batch.now.entries (array_endpoints self.old) (array_first self.old) (fed ++ items.now) }
-        requires needs { All (λ item. need_with (entry_of batch.now.entries item.flow) item.need < 2 ^ 32) items.now }
-        ensures work { IsSameArrayWork (array_endpoints self.old) (array_size self.old) (array_number self.old) (array_first self.old) self.new }
-        ensures stands { (fed : List Item) → (given : ℕ) →
-            ArrayStands batch.now fed false given self.old →
-            MayBeFed batch.now.entries (array_endpoints self.old) (array_first self.old) (fed ++ items.now) →
-            ArrayStands batch.now (fed ++ items.now) false given self.new }
-    {
-        for item in items {
-            self.feed(batch, *item);
+            if from < items.len() {
+                self.feed(batch, items[from]);
+                from += 1;
+            }
         }
     }
 

@@ -8,7 +8,7 @@ use no_memory::NoMemory;
 use std::alloc::Global;
 
 /// For each source below 256 a place in a batch, where its last entry stands once they were noted. Nothing rests on that but speed:
-/// a batch has few entries of one source, so the one that is sought mostly stands there.
+/// a batch has few entries of one source, which stand together, so the one that is sought mostly stands there or shortly before.
 #[derive(Debug, Drop)]
 pub(crate) struct EntryPlaces {
     places: Vec<usize>,
@@ -26,6 +26,21 @@ fn entry_at(batch: &Batch, place: usize, flow: Flow) -> Option<Entry>
         return None;
     }
     Some(entry)
+}
+
+/// The entry of the flow, if it stands at this place or among the seven before it.
+fn entry_up_to(batch: &Batch, place: usize, flow: Flow) -> Option<Entry>
+    ensures { IfSome result (λ entry. entry_of batch.now.entries flow ≡ Some entry) }
+{
+    let mut at = place;
+    for _ in 0..8 {
+        let found = entry_at(batch, at, flow);
+        if found.is_some() || at == 0 {
+            return found;
+        }
+        at -= 1;
+    }
+    None
 }
 
 impl EntryPlaces {
@@ -60,7 +75,7 @@ impl EntryPlaces {
     pub(crate) fn find(&self, batch: &Batch, flow: Flow) -> Option<Entry>
         ensures { result ≡ entry_of batch.now.entries flow }
     {
-        let found = entry_at(batch, self.of(flow.src), flow);
+        let found = entry_up_to(batch, self.of(flow.src), flow);
         if found.is_some() {
             return found;
         }

@@ -131,7 +131,7 @@ impl Filling {
             MayBeTakenUp self.old.endpoints self.old.first_slot (taken ++ items.now) →
             HasTakenUp (taken ++ items.now) (fill_of self.new) }
     {
-        let _ = self.waiting.extend_from_slice(items);
+        append_items(&mut self.waiting, items);
     }
 
     /// Ends the batch: what was served follows what waits, by the last slots.
@@ -144,6 +144,21 @@ impl Filling {
         ensures list { self.new.waiting.items ≡ self.old.waiting.items ++ by_last self.old.served.items }
     {
         append_served(&mut self.waiting, &self.served, self.first_slot, self.b);
+    }
+}
+
+/// Appends the items, for which there is room. A few are written one by one: that is sooner done than a copy of all.
+fn append_items(waiting: &mut Vec<Item>, items: &[Item])
+    requires { vec_len waiting.old + length items.now ≤ vec_capacity waiting.old }
+    ensures items { waiting.new.items ≡ waiting.old.items ++ items.now }
+    ensures capacity { vec_capacity waiting.old ≤ vec_capacity waiting.new }
+{
+    if items.len() > 4 {
+        let _ = waiting.extend_from_slice(items);
+        return;
+    }
+    for item in items {
+        waiting.push_reserved(*item);
     }
 }
 

@@ -5,15 +5,15 @@ ghost use Rattle.slot_batches.specs.Marks.{source_place, destination_place, mark
 use greedy_rules::{Batch, Flow};
 
 /// Where the marks of a flow's source stand.
-fn source_at(flow: Flow) -> usize
-    ensures { result ≡ source_place flow }
+fn source_at(flow: &Flow) -> usize
+    ensures { result ≡ source_place flow.now }
 {
     flow.src as usize
 }
 
 /// Where the marks of a flow's destination stand.
-fn destination_at(flow: Flow) -> usize
-    ensures { result ≡ destination_place flow }
+fn destination_at(flow: &Flow) -> usize
+    ensures { result ≡ destination_place flow.now }
 {
     flow.dst as usize + 256
 }
@@ -41,14 +41,14 @@ pub(crate) fn has_bit(words: &[u64], at: usize, bit: u32) -> bool
 pub(crate) fn is_marked(words: &[u64], flow: Flow) -> bool
     ensures { result ≡ is_marked_in words.now flow }
 {
-    has_bit(words, source_at(flow), bit(flow)) && has_bit(words, destination_at(flow), bit(flow))
+    has_bit(words, source_at(&flow), bit(flow)) && has_bit(words, destination_at(&flow), bit(flow))
 }
 
 /// The marks that the flow's source and its destination have in common: 0 only where the flow has none.
-pub(crate) fn common_marks(words: &[u64], flow: Flow) -> u64
-    requires source { source_place flow < length words.now }
-    requires destination { destination_place flow < length words.now }
-    ensures { result ≡ 0 → is_marked_in words.now flow ≡ false }
+pub(crate) fn common_marks(words: &[u64], flow: &Flow) -> u64
+    requires source { source_place flow.now < length words.now }
+    requires destination { destination_place flow.now < length words.now }
+    ensures { result ≡ 0 → is_marked_in words.now flow.now ≡ false }
 {
     words[source_at(flow)] & words[destination_at(flow)]
 }
@@ -71,8 +71,8 @@ fn mark(words: &mut [u64], flow: Flow)
     ensures others { (other : Flow) → is_marked_in words.old other ≡ true → is_marked_in words.new other ≡ true }
     ensures count { length words.new ≡ length words.old }
 {
-    set_bit(words, source_at(flow), bit(flow));
-    set_bit(words, destination_at(flow), bit(flow));
+    set_bit(words, source_at(&flow), bit(flow));
+    set_bit(words, destination_at(&flow), bit(flow));
 }
 
 /// Lets each word be 0, part by part: a short part is filled by the machine's wide stores.

@@ -80,7 +80,8 @@ fn open_flow(filling: &mut Filling, entry: Entry)
     }
 }
 
-/// Takes up the flows that open by the first so many entries of the batch.
+/// Takes up the flows that open by the first so many entries of the batch: once in a batch, so it stays out of its callers.
+#[inline(never)]
 pub(crate) fn open_flows(filling: &mut Filling, batch: &Batch, entries: usize)
     requires entries { entries ≤ length batch.now.entries }
     requires room { FillingHasRoom filling.old }
@@ -109,7 +110,9 @@ pub(crate) fn open_due(filling: &mut Filling, unopened: &mut usize, batch: &Batc
         HasTakenUp (taken_up batch.now.entries fed due) (fill_of filling.new) }
 {
     if due {
-        open_flows(filling, batch, *unopened);
-        *unopened = 0;
+        if *unopened > 0 {
+            open_flows(filling, batch, *unopened);
+            *unopened = 0;
+        }
     }
 }

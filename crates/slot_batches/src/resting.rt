@@ -11,7 +11,7 @@ use crate::marks::common_marks;
 use greedy_rules::{Batch, Item};
 
 /// How many slots the item takes at most: 0 only where it takes none.
-fn wanted(filling: &Filling, item: &Item) -> u64
+pub(crate) fn wanted(filling: &Filling, item: &Item) -> u64
     requires src { item.now.flow.src < filling.now.maps.endpoints }
     requires dst { item.now.flow.dst < filling.now.maps.endpoints }
     ensures { result ≡ 0 → TakesNone filling.now.maps item.now }
@@ -20,67 +20,57 @@ fn wanted(filling: &Filling, item: &Item) -> u64
     slots.min(u64::from(item.need))
 }
 
-/// Whether none of four items takes a slot, as far as this is seen at once; what they need is looked at first.
-pub(crate) fn four_take_none(filling: &Filling, four: &[Item]) -> bool
-    requires below { AreBelow filling.now.maps.endpoints four.now }
-    requires four { length four.now ≡ 4 }
-    ensures { result ≡ true → All (TakesNone filling.now.maps) four.now }
-{
-    if four[0].need | four[1].need | four[2].need | four[3].need == 0 {
-        return true;
-    }
-    let first = wanted(filling, &four[0]);
-    let second = wanted(filling, &four[1]);
-    let third = wanted(filling, &four[2]);
-    let fourth = wanted(filling, &four[3]);
-    first | second | third | fourth == 0
-}
-
-/// Whether none of four items' flows is marked.
-fn none_is_marked(marks: &[u64], four: &[Item]) -> bool
-    requires long { length marks.now ≡ 512 }
-    requires below { AreBelow 256 four.now }
-    requires four { length four.now ≡ 4 }
-    ensures { (entries : List Entry) → AreMarked entries marks.now → result ≡ true → All (λ item. entry_of entries item.flow ≡ None) four.now }
-{
-    let first = common_marks(marks, four[0].flow);
-    let second = common_marks(marks, four[1].flow);
-    let third = common_marks(marks, four[2].flow);
-    let fourth = common_marks(marks, four[3].flow);
-    first | second | third | fourth == 0
-}
-
-/// Whether no flow may open before any of four items.
-fn none_opens(unopened: usize, four: &[Item]) -> bool
-    requires { length four.now ≡ 4 }
-    ensures { result ≡ true → All (λ item. opens_before unopened item ≡ false) four.now }
-{
-    unopened == 0 || four[0].last | four[1].last | four[2].last | four[3].last == 0
-}
-
-/// Whether nothing speaks against any of four items waiting as they are.
-fn four_rest(filling: &Filling, marks: &[u64], unopened: usize, four: &[Item]) -> bool
+/// What may speak against an item waiting as it is where no flow opens before it, whatever its racks may: 0 only where nothing
+/// does.
+fn doubt(filling: &Filling, marks: &[u64], item: &Item) -> u64
     requires whole { IsWhole filling.now marks.now }
-    requires below { AreBelow filling.now.maps.endpoints four.now }
-    requires four { length four.now ≡ 4 }
-    ensures { (entries : List Entry) → AreMarked entries marks.now → result ≡ true → All (ItemRests entries unopened filling.now.maps) four.now }
+    requires src { item.now.flow.src < filling.now.maps.endpoints }
+    requires dst { item.now.flow.dst < filling.now.maps.endpoints }
+    ensures { (entries : List Entry) → AreMarked entries marks.now → result ≡ 0 → ItemRests entries 0 filling.now.maps item.now }
 {
-    if !four_take_none(filling, four) {
+    wanted(filling, item) | common_marks(marks, &item.flow)
+}
+
+/// How many items at the front wait as they are, at least, where no flow may open any more.
+fn undoubted(filling: &Filling, marks: &[u64], items: &[Item]) -> usize
+    requires whole { IsWhole filling.now marks.now }
+    requires below { AreBelow filling.now.maps.endpoints items.now }
+    ensures within { result ≤ length items.now }
+    ensures rest { (entries : List Entry) → AreMarked entries marks.now → All (ItemRests entries 0 filling.now.maps) (take result items.now) }
+{
+    let mut at = 0;
+    while at < items.len() && doubt(filling, marks, &items[at]) == 0 {
+        at += 1;
+    }
+    at
+}
+
+/// Whether the item waits as it is: no flow opens before it, it takes no slot, and its ends have no mark in common.
+fn rests(filling: &Filling, marks: &[u64], unopened: usize, item: &Item) -> bool
+    requires whole { IsWhole filling.now marks.now }
+    requires src { item.now.flow.src < filling.now.maps.endpoints }
+    requires dst { item.now.flow.dst < filling.now.maps.endpoints }
+    ensures { (entries : List Entry) → AreMarked entries marks.now → result ≡ true → ItemRests entries unopened filling.now.maps item.now }
+{
+    if unopened > 0 && item.last > 0 {
         return false;
     }
-    none_is_marked(marks, four) && none_opens(unopened, four)
+    if !filling.must_wait(item) {
+        return false;
+    }
+    common_marks(marks, &item.flow) == 0
 }
 
-/// How many items at the front wait as they are, at least, going on by fours.
-fn resting_fours(filling: &Filling, marks: &[u64], unopened: usize, items: &[Item]) -> usize
+/// How many items at the front wait as they are, also where flows may still open or racks limit them.
+fn resting_each(filling: &Filling, marks: &[u64], unopened: usize, items: &[Item]) -> usize
     requires whole { IsWhole filling.now marks.now }
     requires below { AreBelow filling.now.maps.endpoints items.now }
     ensures within { result ≤ length items.now }
     ensures rest { (entries : List Entry) → AreMarked entries marks.now → All (ItemRests entries unopened filling.now.maps) (take result items.now) }
 {
     let mut at = 0;
-    while items.len() - at >= 4 && four_rest(filling, marks, unopened, &items[at..at + 4]) {
-        at += 4;
+    while at < items.len() && rests(filling, marks, unopened, &items[at]) {
+        at += 1;
     }
     at
 }
@@ -108,5 +98,9 @@ pub(crate) fn resting(
     if all_rest(filling, unopened, batch) {
         return items.len();
     }
-    resting_fours(filling, marks, unopened, items)
+    let limits = batch.limits();
+    if unopened == 0 && limits.hosts <= limits.cores {
+        return undoubted(filling, marks, items);
+    }
+    resting_each(filling, marks, unopened, items)
 }

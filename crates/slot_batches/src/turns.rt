@@ -6,7 +6,7 @@ ghost use Rattle.slot_batches.specs.Parts.{fill_of, FillingHasRoom, IsSameBatch}
 ghost use Rattle.slot_batches.specs.Rests.{TakesNone};
 
 use crate::filling::Filling;
-use crate::resting::four_take_none;
+use crate::resting::wanted;
 use greedy_rules::{Item, Limits, SlotTable};
 use no_memory::NoMemory;
 use std::alloc::Global;
@@ -86,6 +86,22 @@ fn none_takes(filling: &Filling) -> bool
     ensures { result ≡ true → (item : Item) → TakesNone filling.now.maps item }
 {
     filling.maps.none_may_send()
+}
+
+/// Whether none of four items takes a slot, as far as this is seen at once; what they need is looked at first.
+fn four_take_none(filling: &Filling, four: &[Item]) -> bool
+    requires below { AreBelow filling.now.maps.endpoints four.now }
+    requires four { length four.now ≡ 4 }
+    ensures { result ≡ true → All (TakesNone filling.now.maps) four.now }
+{
+    if four[0].need | four[1].need | four[2].need | four[3].need == 0 {
+        return true;
+    }
+    let first = wanted(filling, &four[0]);
+    let second = wanted(filling, &four[1]);
+    let third = wanted(filling, &four[2]);
+    let fourth = wanted(filling, &four[3]);
+    first | second | third | fourth == 0
 }
 
 /// How many items at the front take no slot, at least: all where none can, else going on by fours.

@@ -136,3 +136,36 @@ fn a_rack_has_one_packet_a_slot_for_each_core(rt: HostRuntime) -> Result<(), Fai
     );
     Ok(())
 }
+
+// Racks of two endpoints and two cores: only the endpoints themselves keep a packet out of a slot. With one core, after that,
+// nothing is left of what was taken before.
+#[test]
+fn a_rack_with_a_core_for_each_endpoint_is_never_full(rt: HostRuntime) -> Result<(), Fail> {
+    let mut maps = FreeMaps::open(rt.alloc(), 4)?;
+    let limits = Limits { hosts: 2, cores: 2 };
+    maps.reset(3, limits);
+    check_asks(
+        &rt,
+        &mut maps,
+        &[
+            ask(0, 2, 1, 0b001),
+            ask(1, 3, 3, 0b111),
+            ask(0, 3, 3, 0),
+            ask(0, 2, 2, 0b110),
+            ask(2, 1, 2, 0b011),
+            ask(3, 0, 9, 0b111),
+        ],
+    );
+    let fewer = Limits { hosts: 2, cores: 1 };
+    maps.reset(3, fewer);
+    check_asks(
+        &rt,
+        &mut maps,
+        &[
+            ask(0, 2, 1, 0b001),
+            ask(1, 3, 3, 0b110),
+            ask(3, 1, 3, 0b111),
+        ],
+    );
+    Ok(())
+}

@@ -5,37 +5,37 @@ use Rattle.std.proofs.lemmas.List.{take_at}
 use Rattle.std.specs.Prelude.{vec_len}
 use Rattle.greedy_rules.specs.Limits.{rack_of}
 use Rattle.endpoint_bitmaps.specs.Slots.{has_slot, count_below}
-use Rattle.endpoint_bitmaps.specs.FreeSlots.{FreeSlots, is_common, is_free_to_send, may_receive, has_links, leaving_in, entering_in, rack_in, is_between_racks}
+use Rattle.endpoint_bitmaps.specs.FreeSlots.{FreeSlots, is_common, is_free_to_send, may_receive, has_links, leaving_in, entering_in, rack_in, needs_links}
 use Rattle.endpoint_bitmaps.proofs.CountLemmas.{is_among_lowest-same}
 use Rattle.endpoint_bitmaps.proofs.WordLemmas.{has_slot-above, has_slot-none, lowest_is}
 use Rattle.endpoint_bitmaps.proofs.NamingLemmas.{names_some}
 use Rattle.endpoint_bitmaps.proofs.LowestLemmas.{count_is}
 use Rattle.endpoint_bitmaps.proofs.MapLemmas.{without_taken}
-use Rattle.endpoint_bitmaps.proofs.RackLemmas.{seen_below, seen_rack, common_links_left, up_left, down_left, links_taken}
+use Rattle.endpoint_bitmaps.proofs.RackLemmas.{maps, seen_below, seen_rack, common_links_left, up_left, down_left, links_taken}
 use Rattle.endpoint_bitmaps.proofs.free_maps.FreeMaps.take_lowest.Goals as goal
 
 pub take_links-taken-requires-clause-leaving_left : goal.take_links-taken-requires-clause-leaving_left
-take_links-taken-requires-clause-leaving_left c = λ apart slot here.
+take_links-taken-requires-clause-leaving_left c = λ needed slot here.
     let m = c.self.inside in
     let fit = c.self.invariant.0 in
     let count : vec_len m.senders ≡ length m.senders.items = omega (arith, m.senders.ok) in
     let from_is = seen_rack (vec_len m.senders) m.limits m.senders.items m.receivers.items m.racks.items m.leaving.taken.items m.leaving.left.items m.entering.taken.items m.entering.left.items fit c.args.self.now c.self.view_is count c.args.src c.requires.src_in_range c.index-from.result.now c.index-from.ensures in
-    let to_is = seen_rack (vec_len m.senders) m.limits m.senders.items m.receivers.items m.racks.items m.leaving.taken.items m.leaving.left.items m.entering.taken.items m.entering.left.items fit c.args.self.now c.self.view_is count c.args.dst c.requires.dst_in_range c.index-to.result.now c.index-to.ensures in
     let left = common_links_left (vec_len m.senders) m.limits m.senders.items m.receivers.items m.racks.items m.leaving.taken.items m.leaving.left.items m.entering.taken.items m.entering.left.items
-    fit c.args.src c.args.dst c.index-from.result.now c.index-to.result.now c.common-common.result slot (search rules) from_is to_is apart
+    fit c.args.src c.args.dst c.common-common.result slot (search rules)
+    (ap (λ (v : FreeSlots). needs_links v c.args.src c.args.dst) c.self.view_is ∙ sym c.needs_links-counted.ensures ∙ needed)
     (λ k. c.common-common.ensures k ∙ ap (λ (v : FreeSlots). is_common v c.args.src c.args.dst k) (sym c.self.view_is)) here in
     up_left (vec_len m.senders) m.limits m.senders.items m.receivers.items m.racks.items m.leaving.taken.items m.leaving.left.items m.entering.taken.items m.entering.left.items
     fit c.args.src c.args.dst c.index-from.result.now slot (seen_below (vec_len m.senders) m.limits m.senders.items m.receivers.items m.racks.items m.leaving.taken.items m.leaving.left.items m.entering.taken.items m.entering.left.items fit c.args.self.now c.self.view_is count c.args.src c.requires.src_in_range) left.0 from_is left.1
 
 pub take_links-taken-requires-clause-entering_left : goal.take_links-taken-requires-clause-entering_left
-take_links-taken-requires-clause-entering_left c = λ apart slot here.
+take_links-taken-requires-clause-entering_left c = λ needed slot here.
     let m = c.self.inside in
     let fit = c.self.invariant.0 in
     let count : vec_len m.senders ≡ length m.senders.items = omega (arith, m.senders.ok) in
-    let from_is = seen_rack (vec_len m.senders) m.limits m.senders.items m.receivers.items m.racks.items m.leaving.taken.items m.leaving.left.items m.entering.taken.items m.entering.left.items fit c.args.self.now c.self.view_is count c.args.src c.requires.src_in_range c.index-from.result.now c.index-from.ensures in
     let to_is = seen_rack (vec_len m.senders) m.limits m.senders.items m.receivers.items m.racks.items m.leaving.taken.items m.leaving.left.items m.entering.taken.items m.entering.left.items fit c.args.self.now c.self.view_is count c.args.dst c.requires.dst_in_range c.index-to.result.now c.index-to.ensures in
     let left = common_links_left (vec_len m.senders) m.limits m.senders.items m.receivers.items m.racks.items m.leaving.taken.items m.leaving.left.items m.entering.taken.items m.entering.left.items
-    fit c.args.src c.args.dst c.index-from.result.now c.index-to.result.now c.common-common.result slot (search rules) from_is to_is apart
+    fit c.args.src c.args.dst c.common-common.result slot (search rules)
+    (ap (λ (v : FreeSlots). needs_links v c.args.src c.args.dst) c.self.view_is ∙ sym c.needs_links-counted.ensures ∙ needed)
     (λ k. c.common-common.ensures k ∙ ap (λ (v : FreeSlots). is_common v c.args.src c.args.dst k) (sym c.self.view_is)) here in
     down_left (vec_len m.senders) m.limits m.senders.items m.receivers.items m.racks.items m.leaving.taken.items m.leaving.left.items m.entering.taken.items m.entering.left.items
     fit c.args.src c.args.dst c.index-to.result.now slot (seen_below (vec_len m.senders) m.limits m.senders.items m.receivers.items m.racks.items m.leaving.taken.items m.leaving.left.items m.entering.taken.items m.entering.left.items fit c.args.self.now c.self.view_is count c.args.dst c.requires.dst_in_range) left.0 to_is left.1
@@ -46,7 +46,7 @@ take_slots-requires-clause-some c =
     let common : ℕ = c.common-common.result in
     let slot : ℕ = trailing_zeros w64 common in
     let in_common : has_slot common slot ≡ true = lowest_is common (search rules) c.if-common-eq0.false in
-    let both = (and_parts (is_free_to_send maps c.args.src slot && may_receive maps c.args.dst slot) (not (is_between_racks maps c.args.src c.args.dst) || has_links maps c.args.src c.args.dst slot) (sym (c.common-common.ensures slot) ∙ in_common)).0 in
+    let both = (and_parts (is_free_to_send maps c.args.src slot && may_receive maps c.args.dst slot) (not (needs_links maps c.args.src c.args.dst) || has_links maps c.args.src c.args.dst slot) (sym (c.common-common.ensures slot) ∙ in_common)).0 in
     names_some (get_or c.deref_mut.result.now c.args.src 0) slot
     (ap (λ (words : List ℕ). has_slot (get_or words c.args.src 0) slot) c.deref_mut.ensures.value
     ∙ ap (λ (v : FreeSlots). is_free_to_send v c.args.src slot) c.self.view_is ∙ (and_parts (is_free_to_send maps c.args.src slot) (may_receive maps c.args.dst slot) both).0)
@@ -77,6 +77,9 @@ returns-clause-taken c =
     let dst_below : dst < length m.receivers.items = omega (arith, seen_below (vec_len m.senders) m.limits m.senders.items m.receivers.items m.racks.items m.leaving.taken.items m.leaving.left.items m.entering.taken.items m.entering.left.items fit now view_is count dst c.requires.dst_in_range, fit.receivers_count) in
     let from_is = seen_rack (vec_len m.senders) m.limits m.senders.items m.receivers.items m.racks.items m.leaving.taken.items m.leaving.left.items m.entering.taken.items m.entering.left.items fit now view_is count src c.requires.src_in_range c.index-from.result.now c.index-from.ensures in
     let to_is = seen_rack (vec_len m.senders) m.limits m.senders.items m.receivers.items m.racks.items m.leaving.taken.items m.leaving.left.items m.entering.taken.items m.entering.left.items fit now view_is count dst c.requires.dst_in_range c.index-to.result.now c.index-to.ensures in
+    let seen = maps (vec_len m.senders) m.limits m.senders.items m.receivers.items m.racks.items m.leaving.taken.items m.leaving.left.items m.entering.taken.items m.entering.left.items fit in
+    let counted = c.needs_links-counted.result in
+    let counted_is : counted ≡ needs_links seen src dst = c.needs_links-counted.ensures ∙ ap (λ (v : FreeSlots). needs_links v src dst) (sym view_is) in
     let receiver_fits : c.index_mut.result.now < 2 ^ 64 = search rules in
     let taken_fits : taken < 2 ^ 64 = search rules in
     let left = c.take_slots.new.words in
@@ -94,13 +97,13 @@ returns-clause-taken c =
           without_taken m.receivers.items dst c.index_mut.result.now taken endpoint slot dst_below receiver_fits taken_fits c.index_mut.ensures.value
           ∙ ap (λ (v : FreeSlots). may_receive v endpoint slot && not ((endpoint == dst) && has_slot taken slot)) view_is;
       leaving = λ rack slot below.
-          links_taken m.limits.hosts src dst c.index-from.result.now c.index-from.result.now c.index-to.result.now (rack_of m.limits.hosts src) slot (has_slot taken) m.leaving.taken.items
-          c.take_links-taken.new.leaving.taken.items below from_is from_is to_is c.take_links-taken.ensures.leaving rack
-          ∙ ap (λ (v : FreeSlots). leaving_in v rack slot + cond ((rack == rack_in v src) && (is_between_racks v src dst && has_slot taken slot)) 1 0) view_is;
+          links_taken c.index-from.result.now (rack_of m.limits.hosts src) slot counted (needs_links seen src dst) (has_slot taken) m.leaving.taken.items
+          c.take_links-taken.new.leaving.taken.items below from_is counted_is c.take_links-taken.ensures.leaving rack
+          ∙ ap (λ (v : FreeSlots). leaving_in v rack slot + cond ((rack == rack_in v src) && (needs_links v src dst && has_slot taken slot)) 1 0) view_is;
       entering = λ rack slot below.
-          links_taken m.limits.hosts src dst c.index-to.result.now c.index-from.result.now c.index-to.result.now (rack_of m.limits.hosts dst) slot (has_slot taken) m.entering.taken.items
-          c.take_links-taken.new.entering.taken.items below to_is from_is to_is c.take_links-taken.ensures.entering rack
-          ∙ ap (λ (v : FreeSlots). entering_in v rack slot + cond ((rack == rack_in v dst) && (is_between_racks v src dst && has_slot taken slot)) 1 0) view_is;
+          links_taken c.index-to.result.now (rack_of m.limits.hosts dst) slot counted (needs_links seen src dst) (has_slot taken) m.entering.taken.items
+          c.take_links-taken.new.entering.taken.items below to_is counted_is c.take_links-taken.ensures.entering rack
+          ∙ ap (λ (v : FreeSlots). entering_in v rack slot + cond ((rack == rack_in v dst) && (needs_links v src dst && has_slot taken slot)) 1 0) view_is;
     }
 
 pub returns-then-common-eq0-clause-count : goal.returns-then-common-eq0-clause-count

@@ -3,7 +3,7 @@ use Rattle.std.proofs.lemmas.Bool.Decides.{Decides-eqb}
 use Rattle.greedy_rules.specs.declared.flows.Item.{Item}
 use Rattle.slot_batches.specs.Rests.{TakesNone}
 use Rattle.slot_batches.proofs.DoubtLemmas.{four_none, needs_none, all_four}
-use Rattle.slot_batches.proofs.resting.four_take_none.Goals as goal
+use Rattle.slot_batches.proofs.turns.four_take_none.Goals as goal
 
 abbrev nothing : Item
 nothing = record { flow = record { src = 0; dst = 0 }; need = 0; last = 0 }

@@ -2,7 +2,7 @@ use Rattle.std.proofs.Common.{◌≤◌, ◌-◌, List, All, length, take}
 use Rattle.greedy_rules.specs.declared.flows.Entry.{Entry}
 use Rattle.slot_batches.specs.Marks.{AreMarked}
 use Rattle.slot_batches.specs.Rests.{ItemRests}
-use Rattle.slot_batches.proofs.resting.resting_fours.Given as goal
+use Rattle.slot_batches.proofs.resting.resting_each.Given as goal
 
 abbrev pub invariant-loop-at : goal.invariant-loop-at
 invariant-loop-at l = record {
