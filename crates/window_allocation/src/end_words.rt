@@ -59,13 +59,6 @@ impl EndWords {
         word_at(&self.sources, flow.src) | word_at(&self.destinations, flow.dst)
     }
 
-    /// The slots that are named at the source.
-    pub(crate) fn of_source(&self, source: u16) -> u64
-        ensures { (at : ℕ) → has_slot result at ≡ names_source self.now source at }
-    {
-        word_at(&self.sources, source)
-    }
-
     /// Lets the words of the flow's ends name these slots too.
     pub(crate) fn add(&mut self, flow: Flow, slots: u64)
         ensures { (b : ℕ) (all : List (List Flow)) (ahead : Flow → Bool) → AreAhead b all ahead self.old → ahead flow ≡ true → ((at : ℕ) → has_slot slots at ≡ true → IsEarliest b all at flow) → AreAhead b all ahead self.new }

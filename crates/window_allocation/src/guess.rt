@@ -99,11 +99,8 @@ fn lowest(slots: u64, need: u32) -> u64 {
     slots & !rest
 }
 
-/// Those of the slots that are named at neither end of the flow. The words name no others, and mostly its source's names them all.
+/// Those of the slots that are named at neither end of the flow.
 fn free_of(words: &EndWords, flow: Flow, slots: u64) -> u64 {
-    if words.of_source(flow.src) == slots {
-        return 0;
-    }
     slots & !words.either(flow)
 }
 
@@ -210,14 +207,13 @@ fn take_all_opened(
     }
 }
 
-/// Whether the item may have an entry, or needs a slot and has one of these free at both ends.
+/// Whether the item may have an entry, or needs a slot and has one of these free at both ends. Whether it has is hard to foresee,
+/// so there is one branch on all of it.
 fn may_reach(words: &EndWords, marks: &FlowMarks, item: &Item, slots: u64) -> bool
     ensures { result ≡ false → has_mark_in marks.now item.now.flow ≡ false }
 {
-    if free_of(words, item.flow, slots) > 0 && item.need > 0 {
-        return true;
-    }
-    has_mark(marks, item.flow)
+    let takes = free_of(words, item.flow, slots).min(u64::from(item.need)) > 0;
+    has_mark(marks, item.flow) | takes
 }
 
 /// How many items at the front the batches don't reach. Most items are passed here: the loop does nothing else.

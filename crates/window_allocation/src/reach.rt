@@ -62,17 +62,13 @@ fn note_opened_if(
     }
 }
 
-/// Whether the item needs nothing, or its ends are named in each of these slots; mostly its source is, which is looked at first.
+/// Whether the item needs nothing, or its ends are named in each of these slots. Which of the two is hard to foresee, so there is
+/// no branch on it.
 fn is_out(words: &EndWords, item: &Item, all: u64) -> bool
     ensures { result ≡ true → (count : ℕ) → ((at : ℕ) → at < count → has_slot all at ≡ true) → IsNamed words.now count item.now }
 {
-    if words.of_source(item.flow.src) == all {
-        return true;
-    }
-    if item.need == 0 {
-        return true;
-    }
-    words.either(item.flow) == all
+    let open = all & !words.either(item.flow);
+    open.min(u64::from(item.need)) == 0
 }
 
 /// Whether each of the items is out.
