@@ -9,7 +9,7 @@ use Rattle.trace_text.specs.Lines.{IsAskRow}
 use Rattle.trace_text.specs.Stage.{takes_kind}
 use Rattle.trace_text.specs.Earlier.{net_of, greatest_round, end_of, row_slots}
 use Rattle.trace_text.specs.Faults.{is_first, read_row, read_kind, checked}
-use Rattle.trace_text.specs.Standing.{StandsFor, IsNetOf, IsAllowed, IsWithin, endpoints_kept}
+use Rattle.trace_text.specs.Standing.{StandsFor, IsNetOf, IsAllowed, AwaitsAsks, endpoints_kept}
 use Rattle.trace_text.specs.declared.command.Command.{Command}
 use Rattle.trace_text.specs.declared.kind.Kind.TheVariants as kind
 use Rattle.trace_text.specs.declared.plain_ask.PlainAsk.{PlainAsk}
@@ -44,7 +44,7 @@ kept-endpoints : (before : List Row) (net : Option Network) → IsNetOf before n
 kept-endpoints before None is some = absurd (omega arith)
 kept-endpoints before (Some net) is some = ap endpoints_of is.1
 
-pub ask-sound : (command : Command) (before : List Row) (fields : Record) (ask : PlainAsk) (rows : Rows) → StandsFor before rows → IsWithin command ask.round rows → IsAskRow ask fields
+pub ask-sound : (command : Command) (before : List Row) (fields : Record) (ask : PlainAsk) (rows : Rows) → StandsFor before rows → AwaitsAsks command ask.round rows → IsAskRow ask fields
     → IsAllowed rows (taken.Ask ask.round ask.src ask.dst ask.slots) → read_row command before fields ≡ Ok (Ask ask.round ask.src ask.dst ask.slots)
 ask-sound command before fields ask rows s within row (late, low, low2, other, some, few) =
     let later : 0 < length before = omega (arith, s.count, within.some) in

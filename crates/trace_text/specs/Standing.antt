@@ -124,7 +124,7 @@ pub record StandsFor (before : List Row) (rows : Rows) : Type 0 where
   pub puts : ArePutsOf before (endpoints_kept rows.net) rows.puts
 
 -- an ask of this round may be the next row, and is of the round of the latest row and of the latest ask
-pub record IsWithin (command : Command) (round : ℕ) (rows : Rows) : Type 0 where
+pub record AwaitsAsks (command : Command) (round : ℕ) (rows : Rows) : Type 0 where
   pub some : 0 < rows.count
   pub unended : rows.end ≡ None
   pub takes : takes_kind command kind.Ask ≡ true

@@ -10,7 +10,7 @@ ghost use Rattle.trace_text.specs.Faults.{read_row, checked, is_in_range, is_bet
 ghost use Rattle.std.specs.List.{list_any, filter_map};
 ghost use Rattle.trace_text.specs.Earlier.{fate_in, put_in};
 ghost use Rattle.trace_text.specs.Events.{way_number};
-ghost use Rattle.trace_text.specs.Standing.{StandsFor, RowsAreKept, IsAllowed, IsWithin, TakesAsks, IsWholeRow, IsPacket, is_net, endpoints_kept, row_value, as_rows, row_unless, TakesRow};
+ghost use Rattle.trace_text.specs.Standing.{StandsFor, RowsAreKept, IsAllowed, AwaitsAsks, TakesAsks, IsWholeRow, IsPacket, is_net, endpoints_kept, row_value, as_rows, row_unless, TakesRow};
 ghost use Rattle.trace_text.specs.declared.fault.TraceRefused.TheVariants as refused;
 ghost use Rattle.trace_text.specs.declared.taken_row.TakenRow.TheVariants as taken;
 
@@ -138,7 +138,7 @@ impl Rows {
         ensures fewer { length (records_in result.now) ≤ length (records_in text.now) }
     {
         let mut rest = text;
-        if !self.is_within(command, head.round()) {
+        if !self.awaits_asks(command, head.round()) {
             return rest;
         }
         while let Some((ask, more)) = head.ask(rest) {
@@ -152,8 +152,8 @@ impl Rows {
     }
 
     // Whether an ask of this round may be the next row, and is of the round of the latest row and of the latest ask.
-    fn is_within(&self, command: Command, round: u32) -> bool
-        ensures { result ≡ true → IsWithin command round self.now }
+    fn awaits_asks(&self, command: Command, round: u32) -> bool
+        ensures { result ≡ true → AwaitsAsks command round self.now }
     {
         if self.count == 0 || self.end.is_some() {
             return false;
@@ -475,7 +475,7 @@ impl Rows {
         requires room { self.old.count < 4294967295 }
         requires turned { self.old.sums.round ≡ round }
         ensures rows { (before : List Row) → StandsFor before self.old → StandsFor (before ++ row.Ask round src dst slots ∷ []) self.new }
-        ensures within { (command : Command) → IsWithin command round self.old → IsWithin command round self.new }
+        ensures within { (command : Command) → AwaitsAsks command round self.old → AwaitsAsks command round self.new }
         ensures count { self.new.count ≡ self.old.count + 1 }
     {
         let at = self.place_of(src, dst);

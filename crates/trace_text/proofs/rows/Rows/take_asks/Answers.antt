@@ -2,7 +2,7 @@ use Rattle.std.proofs.Common.{◌∷◌, [], ◌++◌, length, sym, ap, ◌∙�
 use Rattle.trace_text.specs.Trace.{rows_after}
 use Rattle.trace_text.specs.Rows.{Row, Ask}
 use Rattle.trace_text.specs.Lines.{records_in}
-use Rattle.trace_text.specs.Standing.{IsWithin}
+use Rattle.trace_text.specs.Standing.{AwaitsAsks}
 use Rattle.trace_text.proofs.TraceFacts.{rows_after-ok}
 use Rattle.trace_text.proofs.SoundFacts.{ask-sound}
 use Rattle.trace_text.proofs.rows.Rows.take_asks.Goals as goal
@@ -10,7 +10,7 @@ use Rattle.trace_text.proofs.rows.Rows.take_asks.Goals as goal
 pub loop-ask-init : goal.loop-ask-init
 loop-ask-init c = record {
   kept = c.requires.stands;
-  within = rw (← c.round.ensures) (c.is_within.ensures c.if-not-is_within.false);
+  within = rw (← c.round.ensures) (c.awaits_asks.ensures c.if-not-awaits_asks.false);
   rows = λ before s. (before, s, refl);
   room = refl;
   fewer = omega arith;
@@ -44,7 +44,7 @@ pub loop-ask-preserved : goal.loop-ask-preserved
 loop-ask-preserved c =
     let (fields, row, found) = c.in-Some.ensures.ask in
     let (before, s) = c.loop-ask.invariant.kept in
-    let within : IsWithin c.args.command c.in-Some.ask.round c.loop-ask.self = rw c.in-Some.ensures.round c.loop-ask.invariant.within in
+    let within : AwaitsAsks c.args.command c.in-Some.ask.round c.loop-ask.self = rw c.in-Some.ensures.round c.loop-ask.invariant.within in
     let allowed = c.is_sound.ensures c.if-not-is_sound.false (omega (arith, c.loop-ask.invariant.within.same, c.in-Some.ensures.round)) in
     let ask : Row = Ask c.in-Some.ask.round c.in-Some.ask.src c.in-Some.ask.dst c.in-Some.ask.slots in
     record {
