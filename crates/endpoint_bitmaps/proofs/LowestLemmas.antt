@@ -5,7 +5,8 @@ use Rattle.std.proofs.lemmas.Bool.{cases_Bool, cases_lt, and_left, and_from, lt-
 use Rattle.std.proofs.lemmas.Nat.Bits.{bit_at-trailing_zeros}
 use Rattle.endpoint_bitmaps.specs.Slots.{has_slot, count_below, is_among_lowest, NoneFrom}
 use Rattle.endpoint_bitmaps.proofs.CountLemmas.{is_left, one_more_taken, taken_is, few_below, count_below-same, count_below-passes, count_below-rises, count_of_lowest, count_of_all}
-use Rattle.endpoint_bitmaps.proofs.WordLemmas.{has_slot-without, has_slot-without_lowest, has_slot-none, has_slot-above, count_ones_is}
+use Rattle.list_facts.proofs.Bits.{bit-without_lowest}
+use Rattle.endpoint_bitmaps.proofs.WordLemmas.{has_slot-without, has_slot-none, has_slot-above, count_ones_is}
 
 pub next_taken : (slots rest i k : ℕ) → rest < 2 ^ 64 → rest ≢ 0 → ((j : ℕ) → has_slot rest j ≡ is_left (has_slot slots) i j) → has_slot (bit_and rest (rest - 1)) k ≡ is_left (has_slot slots) (i + 1) k
 next_taken slots rest i k fits some so_far =
@@ -14,7 +15,7 @@ next_taken slots rest i k fits some so_far =
     let t : ℕ = trailing_zeros w64 rest in
     let first : is_left (has_slot slots) i t ≡ true = sym (so_far t) ∙ ap (λ (n : ℕ). n == 1) at.1 in
     let lowest : (j : ℕ) → j < t → is_left (has_slot slots) i j ≡ false = λ j below. sym (so_far j) ∙ ap (λ (n : ℕ). n == 1) (at.2 j below) in
-    has_slot-without_lowest rest t k at.1 at.2
+    bit-without_lowest rest t k at.1 at.2
     ∙ (ap (λ (b : Bool). b && not (k == t)) (so_far k)
     ∙ (sym (one_more_taken (has_slot slots) i t k first lowest) ∙ ap (λ (n : ℕ). is_left (has_slot slots) n k) (omega arith)))
 

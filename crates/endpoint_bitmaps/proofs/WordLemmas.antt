@@ -1,10 +1,11 @@
 -- Words as sets of slots: both of two, one without another, without its lowest, the first ones, and how many.
-use Rattle.std.proofs.Common.{◌≡◌, ◌≢◌, ◌<◌, ◌≤◌, ◌+◌, ◌-◌, ◌/◌, ◌%◌, ◌^◌, ℕ, zero, suc, Bool, true, false, not, ◌==◌, ◌&&◌, nat_lt, cond, min, bit_and, count_ones, w64, pow-suc, refl, sym, ap, ◌∙◌, arith, inl, inr}
+use Rattle.std.proofs.Common.{◌≡◌, ◌≢◌, ◌<◌, ◌≤◌, ◌+◌, ◌-◌, ◌/◌, ◌%◌, ◌^◌, ℕ, zero, suc, Bool, true, false, not, ◌==◌, ◌&&◌, nat_lt, cond, bit_and, count_ones, w64, pow-suc, refl, sym, ap, ◌∙◌, arith, inl, inr}
 use Rattle.std.specs.Int.{bit_at, trailing_zeros}
 use Rattle.std.specs.Int.Count.{ones_step}
-use Rattle.std.proofs.lemmas.Bool.{cases_lt, cases_eq, and_left, and_right, lt-ltb, le-ltb, eq-eqb, ne_eqb, both_ways}
+use Rattle.std.proofs.lemmas.Bool.{cases_lt, and_left, and_right, lt-ltb, le-ltb, eq-eqb, ne_eqb, both_ways}
 use Rattle.std.proofs.lemmas.Nat.Bits.{bit_at-lt, bit_at_lowest, bit_at-suc, bit_at-zero, bit_at_and, bit_at_not, bit_at_above, bit_at_ones, bit_at_ones_above, bit_at-trailing_zeros}
 use Rattle.list_facts.proofs.Numbers.{both_bits}
+use Rattle.list_facts.proofs.Bits.{bit-without_lowest}
 use Rattle.std.proofs.Math.Bool.{and-true}
 use Rattle.endpoint_bitmaps.specs.Slots.{has_slot, count_below}
 use Rattle.endpoint_bitmaps.proofs.CountLemmas.{count_below-same, count_below-more}
@@ -33,35 +34,6 @@ has_slot-without a b k a_fits b_fits =
       | inr from ↦ and_left _ _ (has_slot-above a k a_fits from) ∙ sym (and_left _ _ (has_slot-above a k a_fits from))
     ]
 
--- `n & (n - 1)` is n without its lowest 1, whose place is t
-lowest_gone : (n t : ℕ) → bit_at n t ≡ 1 → ((j : ℕ) → j < t → bit_at n j ≡ 0) → min (bit_at n t) (bit_at (n - 1) t) ≡ 0
-lowest_gone n zero is none = omega (arith, bit_at_lowest n, bit_at_lowest (n - 1))
-lowest_gone n (suc t) is none =
-    let even : n % 2 ≡ 0 = sym (bit_at_lowest n) ∙ none 0 (omega arith) in
-    let half : (n - 1) / 2 ≡ n / 2 - 1 = omega arith in
-    let rest = lowest_gone (n / 2) t (sym (bit_at-suc n t) ∙ is) (λ j below. sym (bit_at-suc n j) ∙ none (suc j) (omega arith)) in
-    omega (arith, rest, bit_at-suc n t, bit_at-suc (n - 1) t ∙ ap (λ (m : ℕ). bit_at m t) half)
-
-others_stay : (n t k : ℕ) → bit_at n t ≡ 1 → ((j : ℕ) → j < t → bit_at n j ≡ 0) → k ≢ t → min (bit_at n k) (bit_at (n - 1) k) ≡ bit_at n k
-others_stay n zero zero is none other = absurd (other refl)
-others_stay n zero (suc k) is none other =
-    let half : (n - 1) / 2 ≡ n / 2 = omega (arith, bit_at_lowest n) in
-    omega (arith, bit_at-suc n k, bit_at-suc (n - 1) k ∙ ap (λ (m : ℕ). bit_at m k) half)
-others_stay n (suc t) zero is none other = omega (arith, none 0 (omega arith))
-others_stay n (suc t) (suc k) is none other =
-    let even : n % 2 ≡ 0 = sym (bit_at_lowest n) ∙ none 0 (omega arith) in
-    let half : (n - 1) / 2 ≡ n / 2 - 1 = omega arith in
-    let rest = others_stay (n / 2) t k (sym (bit_at-suc n t) ∙ is) (λ j below. sym (bit_at-suc n j) ∙ none (suc j) (omega arith)) (λ e. other (ap suc e)) in
-    omega (arith, rest, bit_at-suc n k, bit_at-suc (n - 1) k ∙ ap (λ (m : ℕ). bit_at m k) half)
-
-pub has_slot-without_lowest : (n t k : ℕ) → bit_at n t ≡ 1 → ((j : ℕ) → j < t → bit_at n j ≡ 0) → has_slot (bit_and n (n - 1)) k ≡ (has_slot n k && not (k == t))
-has_slot-without_lowest n t k is none =
-    ap (λ (m : ℕ). m == 1) (bit_at_and n (n - 1) k)
-    ∙ elim (cases_eq k t) [
-      | inl here ↦ rw here (ap (λ (m : ℕ). m == 1) (lowest_gone n t is none) ∙ sym (and_right _ _ (ap not (eq-eqb t t refl))))
-      | inr there ↦ ap (λ (m : ℕ). m == 1) (others_stay n t k is none there) ∙ (sym (and-true (has_slot n k)) ∙ ap (λ (b : Bool). has_slot n k && not b) (sym (ne_eqb k t there)))
-    ]
-
 pub has_slot-first : (n k : ℕ) → has_slot (2 ^ n - 1) k ≡ nat_lt k n
 has_slot-first n k = elim (cases_lt k n) [
   | inl below ↦ ap (λ (m : ℕ). m == 1) (bit_at_ones n k below) ∙ sym (lt-ltb k n below)
@@ -86,7 +58,7 @@ lowest_is rest fits some = ap (λ (n : ℕ). n == 1) (bit_at-trailing_zeros w64 
 pub without_lowest : (rest k : ℕ) → rest < 2 ^ 64 → rest ≢ 0 → has_slot (bit_and rest (rest - 1)) k ≡ (has_slot rest k && not (k == trailing_zeros w64 rest))
 without_lowest rest k fits some =
     let at = bit_at-trailing_zeros w64 rest (omega (arith, some)) fits in
-    has_slot-without_lowest rest (trailing_zeros w64 rest) k at.1 at.2
+    bit-without_lowest rest (trailing_zeros w64 rest) k at.1 at.2
 
 -- one less where one that passes is left out
 count_less : (p : ℕ → Bool) (n t : ℕ) → t < n → p t ≡ true → count_below (λ k. p k && not (k == t)) n + 1 ≡ count_below p n

@@ -6,3 +6,4 @@ pub mod Lists
 pub mod Turns
 pub mod Options
 pub mod Counting
+pub mod Bits

@@ -1,7 +1,7 @@
 -- Lists.
-use Rattle.std.proofs.Common.{◌≡◌, ℕ, zero, suc, ◌+◌, List, [], ◌∷◌, ◌++◌, ◌∙◌, ap, arith, take, drop, sym, ◌≤◌, length, refl, filter, Bool, ◌<◌, Some, map, All, false, true}
-use Rattle.std.proofs.lemmas.Bool.{cond_both, cond-false, cond-true}
-use Rattle.std.proofs.lemmas.List.{take_all, take_more, append-nil}
+use Rattle.std.proofs.Common.{◌≡◌, ℕ, zero, suc, ◌+◌, List, [], ◌∷◌, ◌++◌, ◌∙◌, ap, arith, take, drop, sym, ◌-◌, min, inl, inr, ◌≤◌, length, refl, filter, Bool, ◌<◌, Some, map, All, false, true}
+use Rattle.std.proofs.lemmas.Bool.{cases_lt, cond_both, cond-false, cond-true}
+use Rattle.std.proofs.lemmas.List.{take_all, take_more, append-nil, length-drop}
 use Rattle.std.proofs.lemmas.Option.{slice_get_within, get_or_from_slice_get}
 use Rattle.std.proofs.lemmas.List.Concat.{flat_map-append}
 use Rattle.std.proofs.lemmas.List.Elements.{All-tail, All-head, All-nil, All-cons, All-append}
@@ -72,3 +72,11 @@ sum_by-map f g (x ∷ xs) = omega (arith, sum_by-cons f (g x) (map g xs), sum_by
 -- the element that is read next is the next of those that are read
 pub take_got : {X : Type 0} (xs : List X) (i : ℕ) (x : X) → slice_get xs i ≡ Some x → take (i + 1) xs ≡ take i xs ++ x ∷ []
 take_got {X = X} xs i x is = take_more xs i x (slice_get_within xs i x is) ∙ ap (λ (y : X). take i xs ++ y ∷ []) (get_or_from_slice_get xs i x x is)
+
+-- the part from a place on, of which at most so many elements are left
+pub part_within : {X : Type 0} (xs : List X) (from count end : ℕ) → from ≤ length xs → end ≡ min (length xs) (from + count) → take (end - from) (drop from xs) ≡ take count (drop from xs)
+part_within xs from count end within is = elim (cases_lt (length xs) (from + count)) [
+  | inl short ↦
+      take_all (end - from) (drop from xs) (omega (arith, length-drop from xs, is, short)) ∙ sym (take_all count (drop from xs) (omega (arith, length-drop from xs, short)))
+  | inr long ↦ let whole : end - from ≡ count = omega (arith, is, long) in ap (λ (n : ℕ). take n (drop from xs)) whole
+]
