@@ -1,14 +1,15 @@
-ghost use Rattle.std.specs.Prelude.{◌≡◌, ◌<◌, ◌≤◌, ◌↔◌, IsTrue, Some, List, [], ◌++◌, ◌+◌, ◌^◌, length, map, take, option_map, All, IfOk, IfSome, slice_get};
+ghost use Rattle.std.specs.Prelude.{◌≡◌, ◌<◌, ◌≤◌, ◌↔◌, IsTrue, Some, List, [], ◌++◌, ◌+◌, ◌^◌, length, take, option_map, All, IfOk, IfSome, slice_get};
 ghost use Rattle.std.specs.List.{cons_option};
+ghost use Rattle.list_facts.specs.Bits.{TellsHeld};
 ghost use Rattle.greedy_rules.specs.Schedule.{slot_in};
 ghost use Rattle.greedy_rules.specs.SlotTable.{flows_from};
+ghost use Rattle.greedy_rules.specs.Senders.{AreSendersOf, words_for};
 ghost use Rattle.greedy_rules.specs.Limits.{rack_of};
 ghost use Rattle.clos_topology.specs.Network.{endpoints_of};
 ghost use Rattle.clos_topology.specs.RackFactor.{IsRackFactor};
 ghost use Rattle.clos_topology.specs.RackGraph.{rack_edges, IsGraphOf};
 
 use crate::net::Net;
-use crate::senders::note_senders;
 use greedy_rules::SlotTable;
 use no_memory::NoMemory;
 use std::alloc::Global;
@@ -21,9 +22,6 @@ pub struct Edge {
     left: u16,
     right: u16,
 }
-
-/// A slot with so few edges is sparse.
-const FEW: usize = 16;
 
 /// What stands in a place that no edge has taken yet.
 const BLANK: Edge = Edge {
@@ -39,8 +37,6 @@ pub struct RackGraph {
     places: Vec<Edge>,
     count: usize,
     room: u16,
-    // Room for the sources that send in a slot.
-    senders: Vec<u16>,
 }
 
 impl Model for RackGraph {
@@ -51,7 +47,7 @@ impl Model for RackGraph {
 
     ghost view = { λ g. record { edges = take g.count g.places.items; room = g.room } };
 
-    ghost invariant = { λ g. (g.count ≤ g.room) × (g.room ≤ vec_len g.places) × (g.room ≤ vec_len g.senders) × (g.room < 2 ^ 16) };
+    ghost invariant = { λ g. (g.count ≤ g.room) × (g.room ≤ vec_len g.places) × (g.room < 2 ^ 16) };
 }
 
 impl RackGraph {
@@ -64,7 +60,6 @@ impl RackGraph {
             places: vec![in alloc; BLANK; endpoints as usize]?,
             count: 0,
             room: endpoints,
-            senders: vec![in alloc; 0; endpoints as usize]?,
         })
     }
 
@@ -81,11 +76,7 @@ impl RackGraph {
         prove!(net.endpoints() <= self.room);
         let row = slots.row(slot);
         let sources = row.len().min(net.endpoints() as usize);
-        let row = &row[..sources];
-        let senders = &mut self.senders[..];
-        // A slot mostly has about as many packets as the one before it.
-        let sending = note_senders(row, senders, self.count <= FEW);
-        self.count = add_all(&mut self.places, net, row, &self.senders[..sending]);
+        self.count = add_all(&mut self.places, net, &row[..sources], slots.senders(slot));
     }
 
     pub fn len(&self) -> usize
@@ -112,18 +103,60 @@ impl RackGraph {
     }
 }
 
-/// Writes the edges of what these sources of a row send, which are all that send, and answers how many there are.
-fn add_all(places: &mut [Edge], net: &Net, row: &[Option<u16>], senders: &[u16]) -> usize
-    requires senders { senders.now ≡ map (λ flow. flow.src) (flows_from 0 row.now) }
+/// Writes the edges of what the sources of a row send, and answers how many there are. The words tell which of them send.
+fn add_all(places: &mut [Edge], net: &Net, row: &[Option<u16>], senders: &[u64]) -> usize
+    requires senders { AreSendersOf (flows_from 0 row.now) senders.now }
+    requires words { words_for (length row.now) ≤ length senders.now }
     requires endpoints { All (λ flow. (flow.src < endpoints_of net.now) × (flow.dst < endpoints_of net.now)) (flows_from 0 row.now) }
-    requires room { length senders.now ≤ length places.old }
-    ensures within { result ≤ length senders.now }
+    requires few { length row.now < 2 ^ 16 }
+    requires room { length row.now ≤ length places.old }
+    ensures within { result ≤ length row.now }
     ensures edges { take result places.new ≡ rack_edges net.now.hosts (flows_from 0 row.now) }
 {
     let factor = net.rack_factor();
     let mut count = 0;
-    for source in senders {
-        count = add(places, count, net, factor, *source, row[*source as usize]);
+    for word in 0..row.len().div_ceil(64) {
+        let from = word * 64;
+        let end = row.len().min(from + 64);
+        let cells = &row[from..end];
+        count = add_word(places, count, net, factor, from, cells, senders[word]);
+    }
+    count
+}
+
+/// The same for the sources of a word, the first of them `from`, behind so many edges.
+#[inline(always)]
+fn add_word(
+    places: &mut [Edge],
+    before: usize,
+    net: &Net,
+    factor: u32,
+    from: usize,
+    row: &[Option<u16>],
+    senders: u64,
+) -> usize
+    requires factor { IsRackFactor net.now.hosts factor }
+    requires senders { TellsHeld row.now senders }
+    requires endpoints { All (λ flow. (flow.src < endpoints_of net.now) × (flow.dst < endpoints_of net.now)) (flows_from from row.now) }
+    requires few { from + length row.now < 2 ^ 16 }
+    requires room { before + length row.now ≤ length places.old }
+    ensures within { result ≤ before + length row.now }
+    ensures edges { take result places.new ≡ take before places.old ++ rack_edges net.now.hosts (flows_from from row.now) }
+    ensures count { length places.new ≡ length places.old }
+{
+    let mut count = before;
+    let mut rest = senders;
+    while rest != 0 {
+        let place = rest.trailing_zeros() as usize;
+        count = add(
+            places,
+            count,
+            net,
+            factor,
+            (from + place) as u16,
+            row[place],
+        );
+        rest &= rest - 1;
     }
     count
 }
@@ -142,7 +175,7 @@ fn add(
     requires source { source < endpoints_of net.now }
     requires destination { IfSome destination (λ to. to < endpoints_of net.now) }
     requires room { count < length places.old }
-    ensures count { result ≤ count + 1 }
+    ensures within { result ≤ count + 1 }
     ensures edges { take result places.new ≡ take count places.old ++ rack_edges net.now.hosts (cons_option (option_map (λ to. record { src = source; dst = to }) destination) []) }
 {
     let Some(to) = destination else {

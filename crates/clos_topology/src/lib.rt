@@ -2,13 +2,12 @@
 //!
 //! `clos_topology` has the network's three numbers, the links of a packet, and the bipartite graph of a slot. `Net` is plain
 //! data; `RackGraph` is opened once and loaded slot after slot, where a packet's racks are found by a factor (`rack_factor`,
-//! `rack_by` of `net.rt`) and not by division. `senders.rt` lists who sends in a slot, where few do by a look at 32 places at once.
+//! `rack_by` of `net.rt`) and not by division, and the table's bits tell who sends.
 #![tactic(auto)]
 
 mod graph;
 mod laws;
 mod net;
-mod senders;
 
 pub use graph::RackGraph;
 pub use laws::small_networks;

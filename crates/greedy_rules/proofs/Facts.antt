@@ -10,4 +10,5 @@ pub use Rattle.greedy_rules.proofs.KeptLemmas.{All-batch_slots}
 pub use Rattle.greedy_rules.proofs.RangeLemmas.{slots-batch}
 pub use Rattle.greedy_rules.proofs.FillLemmas.{walk_is}
 pub use Rattle.greedy_rules.proofs.WalkLemmas.{taken_by_end}
+pub use Rattle.greedy_rules.proofs.SenderLemmas.{word_of_senders}
 pub use Rattle.greedy_rules.proofs.SlotSources.{before, sent, before-none, before-all, other_source, this_source, before_more, no_source, sent_flow}

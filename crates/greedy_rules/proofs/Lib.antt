@@ -6,6 +6,8 @@ pub mod BarLemmas
 mod KeptLemmas
 pub mod ScheduleLemmas
 pub mod RowLemmas
+mod SenderLemmas
+mod SlotRows
 pub mod TableLemmas
 pub mod WalkLemmas
 mod FillLemmas

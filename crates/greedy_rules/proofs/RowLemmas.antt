@@ -1,7 +1,6 @@
 -- A row holds each source's destination at the source's place, and is seen as its flows, rising by source.
-use Rattle.std.proofs.Common.{◌≡◌, ◌<◌, ◌≤◌, ◌+◌, ℕ, zero, suc, List, [], ◌∷◌, ◌++◌, length, get_or, set, replicate, Bool, true, false, ◌||◌, ◌==◌, nat_lt, Option, Some, None, IfSome, All, AllPairs, find, refl, sym, ap, ◌∙◌, arith}
-use Rattle.std.specs.List.{fold}
-use Rattle.std.specs.Option.{option_map, is_some}
+use Rattle.std.proofs.Common.{◌≡◌, ◌<◌, ◌≤◌, ◌+◌, ℕ, zero, suc, List, [], ◌∷◌, ◌++◌, length, get_or, set, replicate, true, false, ◌==◌, nat_lt, Option, Some, None, IfSome, All, AllPairs, find, refl, sym, ap, ◌∙◌, arith}
+use Rattle.std.specs.Option.{option_map}
 use Rattle.std.proofs.lemmas.Bool.{cond-true, cond-false, eq-eqb, ne_eqb, lt-ltb, le-ltb}
 use Rattle.std.proofs.lemmas.List.Elements.{All-nil, All-cons, All-head, All-tail, All-weaker}
 use Rattle.greedy_rules.specs.declared.flows.Flow.{Flow}
@@ -89,24 +88,6 @@ slot_of_row endpoints cells full row = record {
   rising = rising_from 0 cells;
   in_range = in_range_from endpoints 0 cells (omega arith) row;
 }
-
--- whether this place has a destination, or one before it had
-abbrev pub or_sends : Bool → Option ℕ → Bool
-or_sends sends to = sends || is_some to
-
-pub stays_true : (row : List (Option ℕ)) → fold or_sends true row ≡ true
-stays_true [] = refl
-stays_true (to ∷ row) = stays_true row
-
-pub no_flows : (src : ℕ) (row : List (Option ℕ)) → fold or_sends false row ≡ false → flows_from src row ≡ []
-no_flows src [] none = refl
-no_flows src (None ∷ row) none = no_flows (src + 1) row none
-no_flows src (Some dst ∷ row) none = let both : true ≡ false = sym (stays_true row) ∙ none in absurd (cc)
-
-pub no_senders : (src : ℕ) (row : List (Option ℕ)) → flows_from src row ≡ [] → fold or_sends false row ≡ false
-no_senders src [] none = refl
-no_senders src (None ∷ row) none = no_senders (src + 1) row none
-no_senders src (Some dst ∷ row) none = absurd (cc)
 
 pub flows_from-append : (src : ℕ) (xs ys : List (Option ℕ)) → flows_from src (xs ++ ys) ≡ flows_from src xs ++ flows_from (src + length xs) ys
 flows_from-append src [] ys = let here : src ≡ src + 0 = omega arith in ap (λ (n : ℕ). flows_from n ys) here

@@ -4,6 +4,7 @@ pub mod Demands
 pub mod Slot
 pub mod Limits
 pub mod SlotTable
+pub mod Senders
 pub mod Allocation
 pub mod Walk
 pub mod Schedule

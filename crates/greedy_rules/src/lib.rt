@@ -1,13 +1,13 @@
 //! The rules of greedy allocation: flows, demand batches, the demand list, timeslots, and the plain allocator.
 //!
 //! `greedy_rules` allocates. `flows.rt` has flows, items and entries, `batches.rt` a batch that rises by flow and carries the
-//! limits of the racks (`limits.rt`), `demands.rt` the demand list, `slots.rt` the table of slots, whose rows, a place for each
-//! endpoint, stand in `rows.rt`: one for each slot that was written, in the order of their first writing, `plain.rt` greedy
-//! allocation of one batch on one thread. `marks.rt` is what a slot's flows keep taken beside their sources: destinations, and a
-//! count for each rack and side; it is opened once a batch and cleared for each slot. That body stays beside the faster one: it
-//! is the definition's program. `laws.rt` has the laws on schedules and on what batches leave, `recorded.rt` those on batches as
-//! they are recorded, round after round. `proofs/Facts.antt` is the one page that proofs of crates above cite; all other proof
-//! files are private.
+//! limits of the racks (`limits.rt`), `demands.rt` the demand list, `slots.rt` the table of slots. Its rows, a place for each
+//! endpoint, stand in `rows.rt`: one for each slot that was written, in the order of their first writing. `senders.rt` has a bit
+//! for each endpoint and slot, so that who sends is found without a look at the others. `plain.rt` is greedy allocation of one
+//! batch on one thread. `marks.rt` is what a slot's flows keep taken beside their sources: destinations, and a count for each rack
+//! and side; it is opened once a batch and cleared for each slot. That body stays beside the faster one: it is the definition's
+//! program. `laws.rt` has the laws on schedules and on what batches leave, `recorded.rt` those on batches as they are recorded,
+//! round after round. `proofs/Facts.antt` is the one page that proofs of crates above cite; all other proof files are private.
 #![tactic(auto)]
 
 mod batches;
@@ -20,6 +20,7 @@ mod marks;
 mod plain;
 mod recorded;
 mod rows;
+mod senders;
 mod slots;
 
 pub use batches::Batch;
@@ -40,4 +41,4 @@ pub use limits::Limits;
 pub use no_memory::NoMemory;
 pub use plain::plain_batch;
 pub use recorded::{every_recorded_slot, recorded_batches_may_be_applied};
-pub use slots::{SlotTable, has_sender};
+pub use slots::SlotTable;

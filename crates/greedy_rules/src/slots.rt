@@ -1,32 +1,32 @@
-ghost use Rattle.std.specs.Prelude.{◌≡◌, ◌<◌, ◌≤◌, ◌+◌, ◌↔◌, ◌||◌, List, [], ◌++◌, length, take, drop, replicate, None, IfOk, IsTrue, false, is_some, All, slice_set};
-ghost use Rattle.std.specs.List.{fold};
+ghost use Rattle.std.specs.Prelude.{◌≡◌, ◌<◌, ◌≤◌, ◌+◌, List, [], ◌++◌, length, take, drop, replicate, None, IfOk, IsTrue, false, All, slice_set};
 ghost use Rattle.greedy_rules.specs.Slot.{slot_with};
 ghost use Rattle.greedy_rules.specs.Schedule.{slot_in};
 ghost use Rattle.greedy_rules.specs.SlotTable.{destination_of, flows_from, AreCells, IsSlotOf};
+ghost use Rattle.greedy_rules.specs.Senders.{AreSendersOf, words_for};
 
 use crate::rows::Rows;
+use crate::senders::Senders;
 use no_memory::NoMemory;
 use std::alloc::Global;
 use std::marker::Model;
 
-/// So many places of a row are mostly read at once.
-const FEW: usize = 32;
-
-/// Timeslots of a window, counted from 0: in each, where each endpoint sends. Memory is written for the slots alone in which
-/// some endpoint sends.
+/// Timeslots of a window, counted from 0: in each, where each endpoint sends. A row of destinations is written for the slots
+/// alone in which some endpoint sends; who does is also told by a bit each, 64 in a word.
 #[derive(Debug, Drop)]
 pub struct SlotTable {
     rows: Rows,
+    senders: Senders,
 }
 
 impl Model for SlotTable {
     ghost use Rattle.greedy_rules.specs.SlotTable.{Slots, IsTable, slots_of_rows};
+    ghost use Rattle.greedy_rules.specs.Senders.{TellSenders};
 
     ghost Value = { Slots };
 
     ghost view = { λ t. record { slots = slots_of_rows t.rows; endpoints = t.rows.endpoints } };
 
-    ghost invariant = { λ t. IsTable t.rows };
+    ghost invariant = { λ t. IsTable t.rows × TellSenders t.rows.endpoints (slots_of_rows t.rows) t.senders };
 }
 
 impl SlotTable {
@@ -37,6 +37,7 @@ impl SlotTable {
     {
         Ok(SlotTable {
             rows: Rows::open(alloc, slots, endpoints)?,
+            senders: Senders::open(alloc, slots, endpoints)?,
         })
     }
 
@@ -73,12 +74,24 @@ impl SlotTable {
         self.rows.row(slot)
     }
 
-    /// Whether no endpoint sends in the slot.
-    pub fn is_idle(&self, slot: u16) -> bool
+    /// Which endpoints send in the slot: a word for each 64 of them, with a bit for each, the first one's the lowest.
+    pub fn senders(&self, slot: u16) -> &[u64]
         requires { slot < length self.now.slots }
-        ensures { IsTrue result ↔ (slot_in self.now.slots slot ≡ []) }
+        ensures bits { AreSendersOf (slot_in self.now.slots slot) result.now }
+        ensures count { length result.now ≡ words_for self.now.endpoints }
     {
-        !self.rows.has_row(slot) || !sends(self.rows.row(slot))
+        self.senders.of(slot)
+    }
+
+    /// Whether two slots have the same packets. Who sends is compared first, as slots with other packets mostly have other
+    /// senders.
+    pub fn are_equal(&self, slot: u16, other: u16) -> bool
+        requires slot { slot < length self.now.slots }
+        requires other { other < length self.now.slots }
+        ensures { IsTrue result → slot_in self.now.slots slot ≡ slot_in self.now.slots other }
+    {
+        self.senders.of(slot) == self.senders.of(other)
+            && self.rows.row(slot) == self.rows.row(other)
     }
 
     /// Whether the slot has a row. One without a row is idle, and this is told without a look at its packets.
@@ -95,6 +108,7 @@ impl SlotTable {
         ensures endpoints { self.new.endpoints ≡ self.old.endpoints }
     {
         self.rows.clear();
+        self.senders.clear();
     }
 
     /// Makes the slots from place `to` on those of a table for as many endpoints or fewer.
@@ -132,6 +146,7 @@ impl SlotTable {
     {
         if from.rows.has_row(slot) || self.rows.has_row(to) {
             self.rows.write(to, from.rows.row(slot));
+            self.senders.copy(to, &from.senders, slot);
         }
     }
 
@@ -144,6 +159,7 @@ impl SlotTable {
         ensures endpoints { self.new.endpoints ≡ self.old.endpoints }
     {
         self.rows.write(slot, row);
+        self.senders.note(slot, row);
     }
 
     /// Lets the source, which sends nothing in the slot, send to this destination.
@@ -156,23 +172,6 @@ impl SlotTable {
         ensures endpoints { self.new.endpoints ≡ self.old.endpoints }
     {
         self.rows.put(slot, src, dst);
+        self.senders.set(slot, src);
     }
-}
-
-/// Whether one of these sources sends. Of 32 sources, as callers mostly ask, this is told without a loop.
-pub fn has_sender(row: &[Option<u16>]) -> bool
-    ensures { result ≡ fold (λ sends to. sends || is_some to) false row.now }
-{
-    if row.len() == FEW {
-        return sends(&row[..FEW]);
-    }
-    sends(row)
-}
-
-/// Whether a place of the row has a destination. There is no early end, so many places are read at once.
-#[inline(always)]
-fn sends(row: &[Option<u16>]) -> bool
-    ensures { result ≡ fold (λ sends to. sends || is_some to) false row.now }
-{
-    row.iter().fold(false, |sends, to| sends | to.is_some())
 }

@@ -1,4 +1,3 @@
-pub mod SlotRows
 pub mod QueueLemmas
 pub mod PainterLemmas
 pub mod PlayLemmas

@@ -121,7 +121,7 @@ impl Painter {
             return None;
         }
         let place = self.places[self.last as usize]?;
-        if are_equal(slots, self.last, slot) {
+        if slots.are_equal(self.last, slot) {
             Some(place)
         } else {
             None
@@ -172,13 +172,4 @@ impl Painter {
         let from = place as usize * endpoints;
         Some(&self.rows[from..from + endpoints])
     }
-}
-
-/// Whether two slots have the same packets.
-fn are_equal(slots: &SlotTable, one: u16, other: u16) -> bool
-    requires one { one < length slots.now.slots }
-    requires other { other < length slots.now.slots }
-    ensures { IsTrue result → slot_in slots.now.slots one ≡ slot_in slots.now.slots other }
-{
-    slots.row(one) == slots.row(other)
 }

@@ -13,9 +13,3 @@ packet_text number cores src (Some dst) = line_bytes (line.Slot number src dst (
 abbrev pub row_text : ℕ → List (Option ℕ) → ℕ → List (Option ℕ) → List ℕ
 row_text number cores src [] = []
 row_text number cores src (to ∷ row) = packet_text number cores src to ++ row_text number cores (src + 1) row
-
--- the places of a row that hold a destination, where the first one has this number
-abbrev pub places_of : ℕ → List (Option ℕ) → List ℕ
-places_of at [] = []
-places_of at (None ∷ row) = places_of (at + 1) row
-places_of at (Some dst ∷ row) = at ∷ places_of (at + 1) row

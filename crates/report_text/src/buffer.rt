@@ -1,5 +1,6 @@
 //! Lines spelled one behind the other.
 ghost use Rattle.std.specs.Prelude.{◌≡◌, ◌+◌, ◌≤◌, ◌↔◌, [], ◌∷◌, ◌++◌, length, take, Option, IfOk, IsTrue, MatchBool};
+ghost use Rattle.list_facts.specs.Bits.{TellsHeld};
 ghost use Rattle.report_text.specs.Lines.{line_bytes, fields, core_field, HasName};
 ghost use Rattle.report_text.specs.Buffer.{HasRoom, HasRoomFor, IsFull};
 ghost use Rattle.report_text.specs.SlotLines.{row_text};
@@ -90,21 +91,24 @@ impl LineBuffer {
         self.end = spell_slot(&self.small, buf, self.end, slot, src, dst, core);
     }
 
-    /// The packets of a slot that some sources send, the first of them `from`, each with the core at its place.
+    /// The packets of a slot that some sources send, the first of them `from`, each with the core at its place. A bit of
+    /// `senders` tells of each source whether it sends, the lowest bit of the first one; none past the 64th does.
     pub fn put_packets(
         &mut self,
         slot: &Numeral,
         from: usize,
         row: &[Option<u16>],
+        senders: u64,
         cores: &[Option<u16>],
     )
+        requires senders { TellsHeld row.now senders }
         requires sources { from + length row.now ≤ 1000 }
         requires cores { from + length row.now ≤ length cores.now }
         requires room { HasRoomFor (length row.now) self.old }
         ensures { self.new ≡ self.old ++ row_text slot.now cores.now from row.now }
     {
         let buf = &mut self.bytes[..];
-        self.end = spell_packets(&self.small, buf, self.end, slot, from, row, cores);
+        self.end = spell_packets(&self.small, buf, self.end, slot, from, row, senders, cores);
     }
 
     /// A packet that its endpoint sent.

@@ -35,6 +35,7 @@ fn put_slot<K: Sink>(
         output,
         &Numeral::new(number),
         table.row(place),
+        table.senders(place),
         cores.row(place),
     )
 }

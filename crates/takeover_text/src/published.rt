@@ -20,11 +20,17 @@ fn put_slot<K: Sink>(
     requires { place < length slots.now.slots }
     ensures { Passes output.old output.new (text_of (map (slot_line number (no_cores number)) (slot_in slots.now.slots place))) result }
 {
-    if slots.is_idle(place) {
+    if !slots.has_row(place) {
         return Ok(());
     }
     let _endpoints = slots.endpoints();
-    put_row(output, &Numeral::new(number), slots.row(place), &[])
+    put_row(
+        output,
+        &Numeral::new(number),
+        slots.row(place),
+        slots.senders(place),
+        &[],
+    )
 }
 
 /// The packets of the table's slots, of which the first has this number.

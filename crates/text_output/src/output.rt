@@ -1,4 +1,5 @@
 ghost use Rattle.std.specs.Prelude.{◌≡◌, ◌≤◌, ◌+◌, [], length, OnOk, IfErr};
+ghost use Rattle.list_facts.specs.Bits.{TellsHeld};
 ghost use Rattle.report_text.specs.Buffer.{HasRoom, HasRoomFor};
 ghost use Rattle.report_text.specs.Lines.{HasName};
 ghost use Rattle.report_text.specs.SlotLines.{row_text};
@@ -165,20 +166,23 @@ impl<'a, K: Sink> Output<'a, K> {
     }
 
     /// The packets of the slot of this number that some sources send, the first of them `from`, each with the core at its place.
+    /// A bit of `senders` tells of each source whether it sends, the lowest bit of the first one.
     #[inline(always)]
     pub(crate) fn put_packets(
         &mut self,
         number: &Numeral,
         from: usize,
         row: &[Option<u16>],
+        senders: u64,
         cores: &[Option<u16>],
     ) -> Result<(), Stop>
+        requires senders { TellsHeld row.now senders }
         requires sources { from + length row.now ≤ 1000 }
         requires cores { from + length row.now ≤ length cores.now }
         ensures { Passes self.old self.new (row_text number.now cores.now from row.now) result }
     {
         self.make_room_for(row.len())?;
-        self.gathered.put_packets(number, from, row, cores);
+        self.gathered.put_packets(number, from, row, senders, cores);
         Ok(())
     }
 

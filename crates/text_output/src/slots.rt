@@ -1,17 +1,15 @@
 // The lines of a slot.
 ghost use Rattle.std.specs.Prelude.{◌≡◌, ◌<◌, ◌+◌, ◌^◌, length, map};
+ghost use Rattle.list_facts.specs.Bits.{TellsHeld};
 ghost use Rattle.greedy_rules.specs.SlotTable.{flows_from};
+ghost use Rattle.greedy_rules.specs.Senders.{AreSendersOf, words_for};
 ghost use Rattle.edge_colouring.specs.Cores.{core_in};
 ghost use Rattle.text_output.specs.Output.{Passes};
 ghost use Rattle.text_output.specs.Text.{text_of, slot_line, flow_list};
 
 use crate::output::{Output, Stop};
 use fp_edge::Sink;
-use greedy_rules::has_sender;
 use report_text::Numeral;
-
-/// So many places of a row are passed over at once where none of them has a destination.
-const FEW: usize = 32;
 
 /// Sources below this have short numbers.
 const SHORT: usize = 1_000;
@@ -62,43 +60,49 @@ fn put_each<K: Sink>(
 }
 
 /// The packets of some sources, the first of them `from`: at once where their numbers are short and each has its place in the
-/// row of cores.
-fn put_few<K: Sink>(
+/// row of cores. A bit of `senders` tells of each source whether it sends, the lowest bit of the first one.
+fn put_word<K: Sink>(
     output: &mut Output<'_, K>,
     number: &Numeral,
     from: usize,
     row: &[Option<u16>],
+    senders: u64,
     cores: &[Option<u16>],
 ) -> Result<(), Stop>
-    requires { from + length row.now < 2 ^ 16 }
+    requires senders { TellsHeld row.now senders }
+    requires sources { from + length row.now < 2 ^ 16 }
     ensures { Passes output.old output.new
         (text_of (map (slot_line number.now (core_in cores.now)) (flows_from from row.now))) result }
 {
-    if !has_sender(row) {
+    if senders == 0 {
         return Ok(());
     }
     let end = from + row.len();
     if end <= SHORT && end <= cores.len() {
-        return output.put_packets(number, from, row, cores);
+        return output.put_packets(number, from, row, senders, cores);
     }
     put_each(output, number, from, row, cores)
 }
 
-/// The packets of a row, by source, in the slot of this number; each with its core, where there is a row of cores.
+/// The packets of a row, by source, in the slot of this number; each with its core, where there is a row of cores. There is a word
+/// for each 64 sources, with a bit for each that sends, the first one's the lowest.
 pub fn put_row<K: Sink>(
     output: &mut Output<'_, K>,
     number: &Numeral,
     row: &[Option<u16>],
+    senders: &[u64],
     cores: &[Option<u16>],
 ) -> Result<(), Stop>
-    requires { length row.now < 2 ^ 16 }
+    requires sources { length row.now < 2 ^ 16 }
+    requires senders { AreSendersOf (flows_from 0 row.now) senders.now }
+    requires words { length senders.now ≡ words_for (length row.now) }
     ensures { Passes output.old output.new
         (text_of (map (slot_line number.now (core_in cores.now)) (flows_from 0 row.now))) result }
 {
-    let mut at = 0;
-    for few in row.chunks(FEW) {
-        put_few(output, number, at, few, cores)?;
-        at += few.len();
+    for at in 0..senders.len() {
+        let from = at * 64;
+        let end = row.len().min(from + 64);
+        put_word(output, number, from, &row[from..end], senders[at], cores)?;
     }
     Ok(())
 }

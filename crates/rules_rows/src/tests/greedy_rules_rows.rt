@@ -88,3 +88,28 @@ fn two_cores_carry_two_packets(rt: HostRuntime) -> Result<(), Fail> {
     }
     Ok(())
 }
+
+// Endpoints 3 and 69 send in two slots of three: bits 3 of the first word and 5 of the second.
+#[test]
+fn a_bit_tells_of_each_endpoint_that_sends(rt: HostRuntime) -> Result<(), Fail> {
+    let alloc = rt.alloc();
+    let mut list = DemandList::open(alloc, 2)?;
+    let mut out = SlotTable::open(alloc, 3, 70)?;
+    let mut batch = Batch::with_limits(
+        alloc,
+        Limits {
+            hosts: 64,
+            cores: 64,
+        },
+    );
+    batch.push(opening(3, 5, 2))?;
+    batch.push(opening(69, 1, 2))?;
+    plain_batch(alloc, &mut list, &batch, 1, 3, &mut out)?;
+    for (slot, words) in [[8, 32], [8, 32], [0, 0]].iter().enumerate() {
+        for (word, bits) in words.iter().enumerate() {
+            assert_eq!(rt; out.senders(slot as u16).get(word).copied(), Some(*bits));
+        }
+    }
+    assert_eq!(rt; (out.are_equal(0, 1), out.are_equal(1, 2)), (true, false));
+    Ok(())
+}
