@@ -1,5 +1,5 @@
 -- What contracts see of a ring, and what a call of it asks and does (this project's own profile).
-use Rattle.std.specs.Prelude.{◌≡◌, ◌≤◌, ◌<◌, ℕ, ◌+◌, ◌-◌, ◌*◌, ◌^◌, List, [], ◌∷◌, ◌++◌, length, replicate}
+use Rattle.std.specs.Prelude.{◌≡◌, ◌≤◌, ◌<◌, ℕ, ◌+◌, ◌-◌, ◌*◌, ◌^◌, List, [], ◌∷◌, ◌++◌, length, take, replicate}
 use Rattle.greedy_rules.specs.Batches.{DemandBatch}
 use Rattle.greedy_rules.specs.Demands.{Demands}
 use Rattle.greedy_rules.specs.Recorded.{MayBeApplied}
@@ -67,5 +67,16 @@ pub record Allocates (ring_old ring_new : RingWork) (first_batch : ℕ) (list_ol
   pub slots : out_new.slots ≡ schedule_from ring_old.b first_batch list_old.items batches ++ replicate (length out_old.slots - length batches * ring_old.b) []
   pub endpoints : out_new.endpoints ≡ out_old.endpoints
   -- each edge has brought its worker every piece of the lists before that worker's stages
+  pub moved : ring_new.moved ≡ moved_by (window_of list_old.items batches first_batch ring_old.b ring_old.workers) 0 ring_old.moved
+  pub same : IsSameRingWork ring_old ring_new
+
+-- it has, with their slots behind those of so many batches that came before; the other fields are as above
+pub record AllocatesBehind (passed : ℕ) (ring_old ring_new : RingWork) (first_batch : ℕ) (list_old list_new : Demands) (batches : List DemandBatch) (out_old out_new : Slots) : Type 0 where
+  pub list : list_new.items ≡ rest_from ring_old.b first_batch list_old.items batches
+  pub spare : length list_new.items + list_new.spare ≡ length list_old.items + list_old.spare
+  pub next : IsListBefore (first_slot ring_old.b (first_batch + length batches)) list_new.items
+  -- the table holds the slots that stay and behind them theirs, and no others
+  pub slots : out_new.slots ≡ (take (passed * ring_old.b) out_old.slots ++ schedule_from ring_old.b first_batch list_old.items batches) ++ replicate (length out_old.slots - (passed + length batches) * ring_old.b) []
+  pub endpoints : out_new.endpoints ≡ out_old.endpoints
   pub moved : ring_new.moved ≡ moved_by (window_of list_old.items batches first_batch ring_old.b ring_old.workers) 0 ring_old.moved
   pub same : IsSameRingWork ring_old ring_new

@@ -1,4 +1,4 @@
-ghost use Rattle.std.specs.Prelude.{◌≡◌, ◌≤◌, ◌+◌, ◌-◌, ◌*◌, ◌<◌, ◌^◌, ℕ, [], ◌++◌, length, map, replicate, All, IfOk, vec_capacity};
+ghost use Rattle.std.specs.Prelude.{◌≡◌, ◌≤◌, ◌+◌, ◌-◌, ◌*◌, ◌<◌, ◌^◌, ℕ, [], ◌++◌, length, map, take, drop, replicate, All, IfOk, vec_capacity};
 ghost use Rattle.crossbeam_queue.specs.Passes.{ruled_capacity};
 ghost use Rattle.greedy_rules.specs.Schedule.{schedule_from, rest_from};
 ghost use Rattle.ring_core.specs.Windows.{Window, window_of};
@@ -190,22 +190,22 @@ fn name_batches(window: &mut Vec<Snapshot<Batch>>, batches: &[Batch])
     }
 }
 
-/// Copies the slots of every stage of a window that was played: slot i of stage s to place `s * b + i` of the table, whose other
-/// places are emptied.
-pub(crate) fn copy_slots(workers: &[Worker], b: u8, stages: usize, out: &mut SlotTable)
+/// Copies the slots of every stage of a window that was played behind those of so many batches, into places that are empty: slot i
+/// of stage s to place `(passed + s) * b + i` of the table.
+pub(crate) fn copy_slots(workers: &[Worker], b: u8, stages: usize, passed: u16, out: &mut SlotTable)
     requires played { (endpoints most : ℕ) × (window : Window) × HavePlayedOut endpoints most b stages window workers.now × (endpoints ≤ out.old.endpoints) }
-    requires places { stages * b ≤ length out.old.slots }
+    requires places { (passed + stages) * b ≤ length out.old.slots }
+    requires empty { drop (passed * b) out.old.slots ≡ replicate (length out.old.slots - passed * b) [] }
     requires few { stages < 2 ^ 16 }
     ensures slots { (endpoints most : ℕ) → (window : Window) →
         HavePlayedOut endpoints most b stages window workers.now →
-        out.new.slots ≡ schedule_from b window.first_batch window.list window.batches ++ replicate (length out.old.slots - stages * b) [] }
+        out.new.slots ≡ (take (passed * b) out.old.slots ++ schedule_from b window.first_batch window.list window.batches) ++ replicate (length out.old.slots - (passed + stages) * b) [] }
     ensures endpoints { out.new.endpoints ≡ out.old.endpoints }
 {
-    out.clear();
     let _places = out.slots();
     for stage in 0..stages {
         let worker = &workers[stage % workers.len()];
-        let place = stage * b as usize;
+        let place = (passed as usize + stage) * b as usize;
         out.copy(worker.slots(stage as u32), place as u16);
     }
 }

@@ -1,6 +1,6 @@
-ghost use Rattle.std.specs.Prelude.{◌≡◌, IfOk, replicate};
+ghost use Rattle.std.specs.Prelude.{◌≡◌, ◌≤◌, ◌+◌, ◌-◌, ◌*◌, [], IfOk, length, drop, replicate};
 ghost use Rattle.ring_core.specs.Cores.{pairs_of};
-ghost use Rattle.alloc_pipeline.specs.Ring.{IsRingSize as MayBeOpened, MayAllocate, Allocates};
+ghost use Rattle.alloc_pipeline.specs.Ring.{IsRingSize as MayBeOpened, MayAllocate, Allocates, AllocatesBehind};
 
 use crate::crew::{Crew, copy_slots};
 use fp_edge::Gate;
@@ -63,8 +63,35 @@ impl Ring {
         requires may { MayAllocate self.old first_batch list.old batches.now out.old }
         ensures allocates { Allocates self.old self.new first_batch list.old list.new batches.now out.old out.new }
     {
+        out.clear();
+        self.allocate_behind(rt, gate, list, first_batch, batches, 0, out);
+    }
+
+    /// Gives the batches their slots as `allocate` does, behind those of so many batches: slot i of the batch at place s stands
+    /// at place `(passed + s) * b + i` of `out`, whose places from `passed * b` on are empty; those before stay as they are.
+    pub fn allocate_behind<R: Threads + Wait + Sync, G: Gate + Sync>(
+        &mut self,
+        rt: &R,
+        gate: &G,
+        list: &mut DemandList,
+        first_batch: u32,
+        batches: &[Batch],
+        passed: u16,
+        out: &mut SlotTable,
+    )
+        requires may { MayAllocate self.old first_batch list.old batches.now out.old }
+        requires places { (passed + length batches.now) * self.old.b ≤ length out.old.slots }
+        requires empty { drop (passed * self.old.b) out.old.slots ≡ replicate (length out.old.slots - passed * self.old.b) [] }
+        ensures allocates { AllocatesBehind passed self.old self.new first_batch list.old list.new batches.now out.old out.new }
+    {
         every_batch_leaves_a_list();
         self.crew.play(rt, gate, list, first_batch, batches);
-        copy_slots(&self.crew.resting.workers, self.crew.b, batches.len(), out);
+        copy_slots(
+            &self.crew.resting.workers,
+            self.crew.b,
+            batches.len(),
+            passed,
+            out,
+        );
     }
 }

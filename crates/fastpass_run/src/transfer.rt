@@ -12,8 +12,8 @@ pub(crate) const LIMIT: usize = 67_108_864;
 
 const _: () = prove!(LIMIT == 67_108_864);
 
-/// The most bytes that are asked for at once.
-const PIECE: usize = 65_536;
+/// The most bytes that are asked for at once: so few that their copies stay near the processor.
+const PIECE: usize = 16_384;
 
 /// Why an input was not read to its end.
 #[derive(Clone, Copy, Debug, PartialEq, Eq)]

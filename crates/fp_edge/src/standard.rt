@@ -7,7 +7,8 @@ ghost use Rattle.fp_edge.specs.Transfers.{AtMostAll, TakesSome, WritesFrontOnly,
 use crate::{Failed, Sink, Source};
 use std::io::{Read, Write};
 
-const PIECE: usize = 65_536;
+// The most bytes that are read at once: so few that their copies stay near the processor.
+const PIECE: usize = 16_384;
 
 /// A source over any reader of std. Each error of the reader is a fault.
 #[derive(Drop)]

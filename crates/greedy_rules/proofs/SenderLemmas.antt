@@ -10,6 +10,7 @@ use Rattle.std.proofs.lemmas.Nat.{same_from_place}
 use Rattle.std.proofs.lemmas.Nat.Bits.{bit_at_above}
 use Rattle.list_facts.specs.Bits.{TellsHeld}
 use Rattle.std.proofs.Math.Bool.{or-false}
+use Rattle.list_facts.proofs.Bools.{eqb_turned}
 use Rattle.list_facts.proofs.Bits.{bit_of_word, bit_set_in_word}
 use Rattle.greedy_rules.specs.declared.flows.Flow.{Flow}
 use Rattle.greedy_rules.specs.Slot.{slot_with}
@@ -170,19 +171,13 @@ one_sender_more flow slot src =
     sends_any (slot_with flow slot) src
     ∙ (any-slot_with (λ (f : Flow). f.src == src) flow slot
     ∙ (ap (λ (b : Bool). (flow.src == src) || b) (sym (sends_any slot src))
-    ∙ (turned (flow.src == src) (is_some (destination_of slot src)) ∙ ap (λ (b : Bool). is_some (destination_of slot src) || b) (same_way flow.src src))))
+    ∙ (turned (flow.src == src) (is_some (destination_of slot src)) ∙ ap (λ (b : Bool). is_some (destination_of slot src) || b) (eqb_turned flow.src src))))
   where
     turned : (a b : Bool) → (a || b) ≡ (b || a)
     turned true true = refl
     turned true false = refl
     turned false true = refl
     turned false false = refl
-
-    same_way : (a b : ℕ) → (a == b) ≡ (b == a)
-    same_way a b = elim (cases_eq a b) [
-      | inl same ↦ eq-eqb a b same ∙ sym (eq-eqb b a (sym same))
-      | inr other ↦ ne_eqb a b other ∙ sym (ne_eqb b a (λ e. other (sym e)))
-    ]
 
 -- where one slot is another, it has its own senders, and the others have theirs
 pub senders_of_set : (slots : List (List Flow)) (slot : ℕ) (flows : List Flow) (at src : ℕ) → slot < length slots

@@ -12,7 +12,7 @@ use Rattle.greedy_rules.specs.declared.flows.Flow.{Flow}
 use Rattle.greedy_rules.specs.Slot.{slot_with}
 use Rattle.greedy_rules.specs.Schedule.{slot_in}
 use Rattle.greedy_rules.specs.SlotTable.{flows_from, row_of, flows_at, table_slots, place_at, destination_of, IsSlotOf, AreCells, AreRows}
-use Rattle.greedy_rules.proofs.RowLemmas.{destination-at, flows_from-set, flows_from-replicate, slot_of_row}
+use Rattle.greedy_rules.proofs.RowLemmas.{destination-at, flows_from-set, flows_from-idle, slot_of_row}
 
 abbrev pub IsCell : ℕ → Option ℕ → Type 0
 IsCell endpoints cell = IfSome cell (λ dst. dst < endpoints)
@@ -111,47 +111,65 @@ place-set endpoints cells src dst new other s d sized in_src in_dst in_d = elim 
     apart : ((src == s) && (dst == d)) ≡ false → (s ≡ src) × (d ≡ dst) → ⊥
     apart elsewhere same = false≢true (sym elsewhere ∙ and_from (src == s) (dst == d) (eq-eqb src s (sym same.0)) (eq-eqb dst d (sym same.1)))
 
--- a slot without a row is given one in which nobody sends
-module _ (endpoints count slot : ℕ) (cells places : List (Option ℕ)) (are : AreRows endpoints count cells places) (below : slot < length places) (none : place_at places slot ≡ None) where
-  abbrev empty_row : List (Option ℕ)
-  empty_row = replicate endpoints None
+-- a row as long as the table's: nobody sends in the places behind it
+abbrev pub filled : ℕ → List (Option ℕ) → List (Option ℕ)
+filled endpoints row = row ++ replicate (endpoints - length row) None
 
+pub filled_long : (endpoints : ℕ) (row : List (Option ℕ)) → length row ≤ endpoints → length (filled endpoints row) ≡ endpoints
+filled_long endpoints row whole = omega (arith, length-append row (replicate (endpoints - length row) nobody), length-replicate (endpoints - length row) nobody, whole)
+
+pub filled_cells : (endpoints : ℕ) (row : List (Option ℕ)) → AreCells endpoints row → AreCells endpoints (filled endpoints row)
+filled_cells endpoints row cells =
+    All-append (IsCell endpoints) row (replicate (endpoints - length row) None) cells (All-replicate (IsCell endpoints) (endpoints - length row) None tt)
+
+pub filled_flows : (endpoints : ℕ) (row : List (Option ℕ)) → flows_from 0 (filled endpoints row) ≡ flows_from 0 row
+filled_flows endpoints row = flows_from-idle 0 (endpoints - length row) row
+
+-- a slot without a row is given one
+module _ (endpoints count slot : ℕ) (cells places row_new : List (Option ℕ)) (are : AreRows endpoints count cells places) (below : slot < length places) (none : place_at places slot ≡ None) (whole : length row_new ≡ endpoints) where
   given_place : (at : ℕ) → at ≢ slot → place_at (set places slot (Some count)) at ≡ place_at places at
   given_place at other = get_or-set_other places slot at (Some count) None other
 
   new_place : place_at (set places slot (Some count)) slot ≡ Some count
   new_place = get_or-set_same places slot (Some count) None below
 
-  old_row : (place : Option ℕ) → ((row : ℕ) → place ≡ Some row → row < count) → flows_at endpoints (cells ++ empty_row) place ≡ flows_at endpoints cells place
+  old_row : (place : Option ℕ) → ((row : ℕ) → place ≡ Some row → row < count) → flows_at endpoints (cells ++ row_new) place ≡ flows_at endpoints cells place
   old_row None within = refl
   old_row (Some row) within =
-      let whole : row * endpoints + endpoints ≤ length cells = omega (arith, fits endpoints count row (within row refl), are.whole) in
-      ap (λ (xs : List (Option ℕ)). flows_from 0 (take endpoints xs)) (drop-append-le (row * endpoints) cells empty_row (omega (arith, whole)))
-      ∙ ap (flows_from 0) (take-append-le endpoints (drop (row * endpoints) cells) empty_row (omega (arith, whole, length-drop (row * endpoints) cells)))
+      let inside : row * endpoints + endpoints ≤ length cells = omega (arith, fits endpoints count row (within row refl), are.whole) in
+      ap (λ (xs : List (Option ℕ)). flows_from 0 (take endpoints xs)) (drop-append-le (row * endpoints) cells row_new (omega (arith, inside)))
+      ∙ ap (flows_from 0) (take-append-le endpoints (drop (row * endpoints) cells) row_new (omega (arith, inside, length-drop (row * endpoints) cells)))
 
-  new_row : flows_at endpoints (cells ++ empty_row) (Some count) ≡ []
-  new_row =
-      ap (λ (xs : List (Option ℕ)). flows_from 0 (take endpoints xs)) (drop_at cells empty_row (count * endpoints) are.whole)
-      ∙ (ap (flows_from 0) (take_all endpoints empty_row (omega (arith, length-replicate endpoints nobody))) ∙ flows_from-replicate 0 endpoints)
+  new_flows : flows_at endpoints (cells ++ row_new) (Some count) ≡ flows_from 0 row_new
+  new_flows =
+      ap (λ (xs : List (Option ℕ)). flows_from 0 (take endpoints xs)) (drop_at cells row_new (count * endpoints) are.whole)
+      ∙ ap (flows_from 0) (take_all endpoints row_new (omega (arith, whole)))
 
-  pub given_slots : table_slots endpoints (cells ++ empty_row) (set places slot (Some count)) ≡ table_slots endpoints cells places
+  pub given_slots : table_slots endpoints (cells ++ row_new) (set places slot (Some count)) ≡ set (table_slots endpoints cells places) slot (flows_from 0 row_new)
   given_slots =
-      let new : List (List Flow) = table_slots endpoints (cells ++ empty_row) (set places slot (Some count)) in
+      let new : List (List Flow) = table_slots endpoints (cells ++ row_new) (set places slot (Some count)) in
+      let old : List (List Flow) = table_slots endpoints cells places in
+      let flows : List Flow = flows_from 0 row_new in
       let long : length (set places slot (Some count)) ≡ length places = length-set places slot (Some count) in
-      let many : length new ≡ length places = length-map (set places slot (Some count)) (flows_at endpoints (cells ++ empty_row)) ∙ long in
-      same_lists new (table_slots endpoints cells places) (many ∙ sym (length-map places (flows_at endpoints cells))) (λ at d inside.
+      let counts : length old ≡ length places = length-map places (flows_at endpoints cells) in
+      let many : length new ≡ length places = length-map (set places slot (Some count)) (flows_at endpoints (cells ++ row_new)) ∙ long in
+      same_lists new (set old slot flows) (omega (arith, many, counts, length-set old slot flows)) (λ at d inside.
       let within : at < length places = omega (arith, inside, many) in
-      slot_at endpoints (cells ++ empty_row) (set places slot (Some count)) at d (omega (arith, within, long))
-      ∙ (elim (cases_eq at slot) [
+      slot_at endpoints (cells ++ row_new) (set places slot (Some count)) at d (omega (arith, within, long))
+      ∙ elim (cases_eq at slot) [
         | inl same ↦
-            ap (flows_at endpoints (cells ++ empty_row)) (ap (place_at (set places slot (Some count))) same ∙ new_place)
-            ∙ (new_row ∙ sym (ap (flows_at endpoints cells) (ap (place_at places) same ∙ none)))
-        | inr other ↦ ap (flows_at endpoints (cells ++ empty_row)) (given_place at other) ∙ old_row (place_at places at) (are.below at)
-      ] ∙ sym (slot_at endpoints cells places at d within)))
+            ap (flows_at endpoints (cells ++ row_new)) (ap (place_at (set places slot (Some count))) same ∙ new_place)
+            ∙ (new_flows
+            ∙ sym (ap (λ (n : ℕ). get_or (set old slot flows) n d) same ∙ get_or-set_same old slot flows d (omega (arith, counts, below))))
+        | inr other ↦
+            ap (flows_at endpoints (cells ++ row_new)) (given_place at other)
+            ∙ (old_row (place_at places at) (are.below at)
+            ∙ sym (get_or-set_other old slot at flows d other ∙ slot_at endpoints cells places at d within))
+      ])
 
-  pub given_rows : AreRows endpoints (count + 1) (cells ++ empty_row) (set places slot (Some count))
-  given_rows = record {
-    whole = omega (arith, length-append cells empty_row, length-replicate endpoints nobody, are.whole, next_row count endpoints);
+  pub given_rows : AreCells endpoints row_new → AreRows endpoints (count + 1) (cells ++ row_new) (set places slot (Some count))
+  given_rows new_cells = record {
+    whole = omega (arith, length-append cells row_new, whole, are.whole, next_row count endpoints);
     counted = omega (arith, counted_more places slot count below none, are.counted);
     below = λ at row is. elim (cases_eq at slot) [
       | inl same ↦ let it : Some row ≡ Some count = sym is ∙ (ap (place_at (set places slot (Some count))) same ∙ new_place) in let newest : row ≡ count = cc in omega (arith, newest)
@@ -173,7 +191,7 @@ module _ (endpoints count slot : ℕ) (cells places : List (Option ℕ)) (are : 
         | inr too ↦ are.apart at other row (sym (given_place at differs) ∙ first) (sym (given_place other too) ∙ second)
       ]
     ];
-    cells_are = All-append (IsCell endpoints) cells empty_row are.cells_are (All-replicate (IsCell endpoints) endpoints None tt);
+    cells_are = All-append (IsCell endpoints) cells row_new are.cells_are new_cells;
   }
 
 -- a row that is written: it holds what was written, and the others what they had

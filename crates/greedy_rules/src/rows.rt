@@ -104,10 +104,27 @@ impl Rows {
         ensures row { (row : ℕ) × (place_at self.new.places.items slot ≡ Some row) × (result ≡ row * self.new.endpoints) }
     {
         let from = self.cells.len();
-        let _ = self.cells.extend_from_slice(&self.idle);
+        self.give_row(slot, &[]);
+        from
+    }
+
+    /// Gives a slot that has none a row, which holds what this one holds; who has no place in it sends nothing.
+    fn give_row(&mut self, slot: u16, row: &[Option<u16>])
+        requires table { IsTable self.old }
+        requires slot { slot < vec_len self.old.places }
+        requires none { place_at self.old.places.items slot ≡ None }
+        requires whole { length row.now ≤ self.old.endpoints }
+        requires cells { AreCells self.old.endpoints row.now }
+        ensures table { IsTable self.new }
+        ensures slots { slots_of_rows self.new ≡ slice_set (slots_of_rows self.old) slot (flows_from 0 row.now) }
+        ensures count { vec_len self.new.places ≡ vec_len self.old.places }
+        ensures endpoints { self.new.endpoints ≡ self.old.endpoints }
+        ensures place { place_at self.new.places.items slot ≡ Some self.old.count }
+    {
+        let _ = self.cells.extend_from_slice(row);
+        let _ = self.cells.extend_from_slice(&self.idle[row.len()..]);
         self.places[slot as usize] = Some(self.count);
         self.count += 1;
-        from
     }
 
     /// Lets the slot hold what this row holds; who has no place in it sends nothing.
@@ -121,8 +138,13 @@ impl Rows {
         ensures count { vec_len self.new.places ≡ vec_len self.old.places }
         ensures endpoints { self.new.endpoints ≡ self.old.endpoints }
     {
-        let from = self.reach(slot);
-        write_row(&mut self.cells[from..from + self.endpoints as usize], row);
+        match self.places[slot as usize] {
+            Some(number) => {
+                let from = number as usize * self.endpoints as usize;
+                write_row(&mut self.cells[from..from + self.endpoints as usize], row);
+            }
+            None => self.give_row(slot, row),
+        }
     }
 
     /// Lets the source, which sends nothing in the slot, send to this destination.

@@ -118,20 +118,9 @@ impl SlotTable {
         ensures slots { self.new.slots ≡ take to self.old.slots ++ from.now.slots ++ drop (to + length from.now.slots) self.old.slots }
         ensures endpoints { self.new.endpoints ≡ self.old.endpoints }
     {
-        self.copy_front(from, from.slots(), to);
-    }
-
-    /// Makes the slots from place `to` on the first `count` of a table for as many endpoints or fewer.
-    pub fn copy_front(&mut self, from: &SlotTable, count: u16, to: u16)
-        requires endpoints { from.now.endpoints ≤ self.old.endpoints }
-        requires count { count ≤ length from.now.slots }
-        requires places { to + count ≤ length self.old.slots }
-        ensures slots { self.new.slots ≡ take to self.old.slots ++ take count from.now.slots ++ drop (to + count) self.old.slots }
-        ensures endpoints { self.new.endpoints ≡ self.old.endpoints }
-    {
         // A table has no more slots than 16 bits count.
         let _slots = self.slots();
-        for slot in 0..count {
+        for slot in 0..from.slots() {
             self.copy_slot(from, slot, to + slot);
         }
     }

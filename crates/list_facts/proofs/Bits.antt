@@ -1,9 +1,10 @@
--- Bits of words: one is set, the lowest is left out, and what a row holds at the places of a word's bits.
-use Rattle.std.proofs.Common.{◌≡◌, ◌≢◌, ◌<◌, ◌≤◌, ◌+◌, ◌-◌, ◌*◌, ◌/◌, ◌%◌, ◌^◌, ◌==◌, ◌&&◌, ◌||◌, ℕ, zero, suc, List, [], ◌∷◌, ◌++◌, length, get_or, drop, replicate, Option, Some, None, Bool, true, false, not, cond, min, bit_and, bit_or, w64, refl, sym, ap, ◌∙◌, arith, inl, inr}
+-- Bits of words: one is set or cleared, the lowest is left out, and what a row holds at the places of a word's bits.
+use Rattle.std.proofs.Common.{◌≡◌, ◌≢◌, ◌<◌, ◌≤◌, ◌+◌, ◌-◌, ◌*◌, ◌/◌, ◌%◌, ◌^◌, ◌==◌, ◌&&◌, ◌||◌, ℕ, zero, suc, List, [], ◌∷◌, ◌++◌, length, get_or, set, drop, replicate, Option, Some, None, Bool, true, false, not, cond, min, bit_and, bit_or, w64, refl, sym, ap, ◌∙◌, arith, inl, inr}
 use Rattle.std.specs.Prelude.{is_some}
 use Rattle.std.specs.Int.{bit_at, trailing_zeros}
 use Rattle.std.proofs.lemmas.Bool.{cases_eq, cond-true, cond-false, and_parts, and_right, or_right, eq-eqb, ne_eqb}
-use Rattle.std.proofs.lemmas.Nat.Bits.{bit_at_and, bit_at-zero, bit_at_lowest, bit_at-suc, bit_at_set_same, bit_at_set_other, bit_at-trailing_zeros}
+use Rattle.std.proofs.lemmas.List.{get_or-set_same, get_or-set_other}
+use Rattle.std.proofs.lemmas.Nat.Bits.{bit_at_and, bit_at-zero, bit_at_lowest, bit_at-suc, bit_at_set_same, bit_at_set_other, bit_at_clear_same, bit_at_clear_other, bit_at-trailing_zeros}
 use Rattle.std.proofs.Math.Bool.{or-false, and-true}
 use Rattle.list_facts.specs.Bits.{names_place, TellsHeld}
 
@@ -28,6 +29,59 @@ bit_of_word words word bit below =
     let in_word : place / 64 ≡ word = omega (arith, below) in
     let at_bit : place % 64 ≡ bit = omega (arith, below) in
     ap (λ (n : ℕ). bit_at (get_or words n 0) (place % 64) == 1) in_word ∙ ap (λ (n : ℕ). bit_at (get_or words word 0) n == 1) at_bit
+
+-- ---- one place of words
+
+module _ (words : List ℕ) (at : ℕ) (within : at / 64 < length words) where
+  -- with another word in the place of its word
+  abbrev pub with_word : ℕ → List ℕ
+  with_word word = set words (at / 64) word
+
+  in_place : (word : ℕ) → get_or (with_word word) (at / 64) 0 ≡ word
+  in_place word = get_or-set_same words (at / 64) word 0 within
+
+  -- a place whose bit stays
+  same_place : (word place : ℕ) → place ≢ at → ((bit : ℕ) → bit < 64 → bit ≢ at % 64 → bit_at word bit ≡ bit_at (get_or words (at / 64) 0) bit) → names_place (with_word word) place ≡ names_place words place
+  same_place word place apart same = elim (cases_eq (place / 64) (at / 64)) [
+    | inl beside ↦
+        ap (λ (n : ℕ). bit_at (get_or (with_word word) n 0) (place % 64) == 1) beside
+        ∙ (ap (λ (n : ℕ). bit_at n (place % 64) == 1) (in_place word)
+        ∙ (ap (λ (n : ℕ). n == 1) (same (place % 64) (omega arith) (λ e. apart (omega (arith, e, beside))))
+        ∙ ap (λ (n : ℕ). bit_at (get_or words n 0) (place % 64) == 1) (sym beside)))
+    | inr away ↦ ap (λ (n : ℕ). bit_at n (place % 64) == 1) (get_or-set_other words (at / 64) (place / 64) word 0 away)
+  ]
+
+  pub place_is_set : (place : ℕ) → names_place (with_word (bit_or (get_or words (at / 64) 0) (1 * 2 ^ (at % 64) % 2 ^ 64))) place ≡ (names_place words place || place == at)
+  place_is_set place =
+      let old : ℕ = get_or words (at / 64) 0 in
+      let bit : at % 64 < 64 = omega arith in
+      let new : ℕ = bit_or old (1 * 2 ^ (at % 64) % 2 ^ 64) in
+      elim (cases_eq place at) [
+        | inl same ↦
+            ap (names_place (with_word new)) same
+            ∙ (ap (λ (n : ℕ). bit_at n (at % 64) == 1) (in_place new)
+            ∙ (ap (λ (n : ℕ). n == 1) (bit_at_set_same w64 old (at % 64) bit)
+            ∙ sym (or_right (names_place words place) (place == at) (eq-eqb place at same))))
+        | inr apart ↦
+            same_place new place apart (λ k below other. bit_at_set_other w64 old (at % 64) bit k other)
+            ∙ (sym (or-false (names_place words place)) ∙ ap (λ (b : Bool). names_place words place || b) (sym (ne_eqb place at apart)))
+      ]
+
+  pub place_is_cleared : (place : ℕ) → names_place (with_word (bit_and (get_or words (at / 64) 0) (2 ^ 64 - 1 - 1 * 2 ^ (at % 64) % 2 ^ 64))) place ≡ (names_place words place && not (place == at))
+  place_is_cleared place =
+      let old : ℕ = get_or words (at / 64) 0 in
+      let bit : at % 64 < 64 = omega arith in
+      let new : ℕ = bit_and old (2 ^ 64 - 1 - 1 * 2 ^ (at % 64) % 2 ^ 64) in
+      elim (cases_eq place at) [
+        | inl same ↦
+            ap (names_place (with_word new)) same
+            ∙ (ap (λ (n : ℕ). bit_at n (at % 64) == 1) (in_place new)
+            ∙ (ap (λ (n : ℕ). n == 1) (bit_at_clear_same w64 old (at % 64) bit)
+            ∙ sym (and_right (names_place words place) (not (place == at)) (ap not (eq-eqb place at same)))))
+        | inr apart ↦
+            same_place new place apart (λ k below other. bit_at_clear_other w64 old (at % 64) bit k below other)
+            ∙ (sym (and-true (names_place words place)) ∙ ap (λ (b : Bool). names_place words place && not b) (sym (ne_eqb place at apart)))
+      ]
 
 -- ---- `n & (n - 1)` is n without its lowest 1, whose place is t
 

@@ -1,5 +1,6 @@
 -- Truth values.
-use Rattle.std.proofs.Common.{◌≡◌, ◌≤◌, ℕ, Bool, true, false, ◌==◌, cond, refl, arith, not, ◌&&◌, ◌||◌}
+use Rattle.std.proofs.Common.{◌≡◌, ◌≤◌, ℕ, Bool, true, false, ◌==◌, cond, refl, sym, ◌∙◌, inl, inr, arith, not, ◌&&◌, ◌||◌}
+use Rattle.std.proofs.lemmas.Bool.{cases_eq, eq-eqb, ne_eqb}
 
 pub bit_test : (b : Bool) → (cond b 1 0 == 1) ≡ b
 bit_test true = refl
@@ -27,3 +28,10 @@ pub not_without : (b c : Bool) → (b && not c) ≡ false → b ≡ true → c �
 not_without true true without is = refl
 not_without true false without is = absurd cc
 not_without false c without is = absurd cc
+
+-- two numbers are compared the same way round either way
+pub eqb_turned : (a b : ℕ) → (a == b) ≡ (b == a)
+eqb_turned a b = elim (cases_eq a b) [
+  | inl same ↦ eq-eqb a b same ∙ sym (eq-eqb b a (sym same))
+  | inr other ↦ ne_eqb a b other ∙ sym (ne_eqb b a (λ e. other (sym e)))
+]

@@ -1,5 +1,5 @@
 -- What is asked for, flow by flow: the sums of the tallies, and the entries of a batch.
-use Rattle.std.proofs.Common.{◌≡◌, ◌<◌, ◌+◌, ℕ, zero, suc, List, [], ◌∷◌, length, get_or, take, not, ◌==◌, ◌&&◌, cond, Some, IsTrue, All, slice_get, refl, sym, ap, ◌∙◌, arith, inl, inr}
+use Rattle.std.proofs.Common.{◌≡◌, ◌<◌, ◌+◌, ℕ, zero, suc, List, [], ◌∷◌, get_or, take, not, ◌==◌, ◌&&◌, cond, IsTrue, All, refl, sym, ap, ◌∙◌, arith, inl, inr}
 use Rattle.std.specs.List.{list_any}
 use Rattle.std.proofs.lemmas.Bool.{cond-true, cond-false, cases_Bool, ne_eqb}
 use Rattle.std.proofs.lemmas.Bool.Decides.{nat_tests}
@@ -62,14 +62,9 @@ above_last [] flow all = tt
 above_last (e ∷ []) flow all = All-head (λ (x : Entry). IsTrue (flow_below x.flow flow)) e [] all
 above_last (e ∷ (next ∷ batch)) flow all = above_last (next ∷ batch) flow (All-tail (λ (x : Entry). IsTrue (flow_below x.flow flow)) e (next ∷ batch) all)
 
-pub read_at : {X : Type 0} (xs : List X) (at : ℕ) (x d : X) → at < length xs → slice_get xs at ≡ Some x → get_or xs at d ≡ x
-read_at [] at x d below is = absurd (omega arith)
-read_at (y ∷ ys) zero x d below is = cc
-read_at (y ∷ ys) (suc at) x d below is = read_at ys at x d (omega arith) is
-
 -- a table's 0 tells that the flow opens
-pub opens_is : (trace : TraceContent) (round src dst : ℕ) (table : List ℕ) (d : ℕ) → IsTrace trace → src < endpoints_of trace.net → dst < endpoints_of trace.net → Tallies (endpoints_of trace.net) (take round trace.asked) table
+pub opens_is : (trace : TraceContent) (round src dst : ℕ) (table : List ℕ) → IsTrace trace → src < endpoints_of trace.net → dst < endpoints_of trace.net → Tallies (endpoints_of trace.net) (take round trace.asked) table
     → (get_or table (place_of (endpoints_of trace.net) src dst) 0 == 0) ≡ not (is_asked_for (take round trace.asked) src dst)
-opens_is trace round src dst table d sound s t tallies =
+opens_is trace round src dst table sound s t tallies =
     ap (λ (n : ℕ). n == 0) (tallies.at src dst s t)
     ∙ total_asked-zero (endpoints_of trace.net) (take round trace.asked) src dst (All-take (All (IsAskList (endpoints_of trace.net))) round trace.asked sound.asks)

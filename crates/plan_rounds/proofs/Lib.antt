@@ -1,4 +1,3 @@
-pub mod BatchCopies
 pub mod AskLemmas
 pub mod RoundAsks
 pub mod EntryLemmas

@@ -64,11 +64,6 @@ among endpoints before round wide lists =
     let src : 0 + n < endpoints = omega arith in
     (src, list.in_range i d inside))
 
-pub batch_among : (trace : TraceContent) (k : ℕ) → IsTrace trace → k < trace.rounds → AreAmong (endpoints_of trace.net) (batch_of trace k).entries
-batch_among trace k sound below =
-    let within = long trace k sound below in
-    among (endpoints_of trace.net) (take k trace.asked) (round_of trace k) (sound.sources k [] within) (sound.asks k [] within)
-
 by_destination : (before : List AskedRound) (src : ℕ) (p q : ℕ × ℕ) → p.0 < q.0 → Below (asked_entry before src p) (asked_entry before src q)
 by_destination before src p q lt = grind (arith, nat_tests)
 

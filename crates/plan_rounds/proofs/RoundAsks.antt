@@ -1,10 +1,10 @@
 -- The asks of a round, and the entries of its batch.
-use Rattle.std.proofs.Common.{◌≡◌, ◌<◌, ◌+◌, ℕ, suc, List, [], ◌∷◌, ◌++◌, length, get_or, map, take, Some, slice_get, refl, sym, ap, ◌∙◌, subst, arith}
+use Rattle.std.proofs.Common.{◌≡◌, ◌<◌, ◌+◌, ℕ, suc, List, [], ◌∷◌, ◌++◌, length, get_or, map, take, IsTrue, refl, sym, ap, ◌∙◌, subst, arith}
 use Rattle.std.specs.List.{flat_map, range_with_len}
-use Rattle.std.proofs.lemmas.List.{map-append, length-map, get_or-map, take-map}
-use Rattle.std.proofs.lemmas.Option.{slice_get-get_or}
+use Rattle.std.proofs.lemmas.List.{map-append, length-map, length-take, get_or-map, get_or-take, get_or_default}
 use Rattle.greedy_rules.specs.declared.flows.Entry.{Entry}
-use Rattle.greedy_rules.specs.Batches.{IsAboveLast, IsBatch}
+use Rattle.greedy_rules.specs.Flows.{flow_below}
+use Rattle.greedy_rules.specs.Batches.{IsBatch}
 use Rattle.greedy_rules.specs.Matching.{AreAmong}
 use Rattle.clos_topology.specs.Network.{endpoints_of}
 use Rattle.trace_text.specs.Asks.{ask_for, asks_in}
@@ -12,7 +12,7 @@ use Rattle.trace_text.specs.Trace.{TraceContent, asked_at}
 use Rattle.trace_text.specs.Valid.{IsTrace}
 use Rattle.trace_text.specs.declared.ask.Ask.{Ask}
 use Rattle.plan_rounds.specs.Batches.{AskedRound, asked_entry, asked_entries_from}
-use Rattle.plan_rounds.proofs.BatchCopies.{above_first}
+use Rattle.plan_rounds.proofs.TallyLemmas.{IsEntryAt}
 use Rattle.plan_rounds.proofs.PlanBatches.{among, long, rise_from, round_of}
 
 -- the entry of an ask
@@ -45,27 +45,28 @@ asks_entries trace round before asks sound below is =
     ap (λ (n : ℕ). map (entry_by before) (flat_map (λ s. map (ask_for round s) (asked_at trace round s)) (range_with_len 0 n))) (sym wide)
     ∙ entries_by before round 0 rows (asked_at trace round) (λ n within. ap (λ (m : ℕ). get_or rows m []) (omega arith))
 
--- an ask is between endpoints of the trace
-pub ask_in_range : (trace : TraceContent) (round : ℕ) (asks : List Ask) (i : ℕ) (d : Ask) → IsTrace trace → round < trace.rounds → asks ≡ asks_in trace round → i < length asks
-    → ((get_or asks i d).src < endpoints_of trace.net) × ((get_or asks i d).dst < endpoints_of trace.net)
-ask_in_range trace round asks i d sound below is within =
+-- the entry of an ask of the round, among those of all
+pub entry_at_ask : (trace : TraceContent) (round : ℕ) (asks : List Ask) (i : ℕ) (d : Ask) → IsTrace trace → round < trace.rounds → asks ≡ asks_in trace round → i < length asks
+    → IsEntryAt (endpoints_of trace.net) (map (entry_by (take round trace.asked)) asks) i (entry_by (take round trace.asked) (get_or asks i d))
+entry_at_ask trace round asks i d sound below is within =
     let endpoints = endpoints_of trace.net in
-    let before : List AskedRound = take round trace.asked in
-    let there = long trace round sound below in
-    let all : AreAmong endpoints (map (entry_by before) asks) =
-    subst (AreAmong endpoints) (sym (asks_entries trace round before asks sound below is)) (among endpoints before (round_of trace round) (sound.sources round [] there) (sound.asks round [] there)) in
-    subst (λ (e : Entry). (e.flow.src < endpoints) × (e.flow.dst < endpoints)) (get_or-map (entry_by before) asks i d (entry_by before d) within)
-    (all i (entry_by before d) (omega (arith, within, length-map asks (entry_by before))))
-
--- and above those before it
-pub ask_above : (trace : TraceContent) (round : ℕ) (asks : List Ask) (i : ℕ) (d : Ask) → IsTrace trace → round < trace.rounds → asks ≡ asks_in trace round → i < length asks
-    → IsAboveLast (map (entry_by (take round trace.asked)) (take i asks)) (record { src = (get_or asks i d).src; dst = (get_or asks i d).dst })
-ask_above trace round asks i d sound below is within =
     let before : List AskedRound = take round trace.asked in
     let there = long trace round sound below in
     let entries : List Entry = map (entry_by before) asks in
     let entry : Entry = entry_by before (get_or asks i d) in
+    let whole : asked_entries_from before 0 (round_of trace round) ≡ entries = sym (asks_entries trace round before asks sound below is) in
     let inside : i < length entries = omega (arith, within, length-map asks (entry_by before)) in
-    let rising : IsBatch entries = subst IsBatch (sym (asks_entries trace round before asks sound below is)) (rise_from (endpoints_of trace.net) before 0 (round_of trace round) (sound.asks round [] there)) in
-    let here : slice_get entries i ≡ Some entry = slice_get-get_or entries i (entry_by before d) inside ∙ ap Some (get_or-map (entry_by before) asks i d (entry_by before d) within) in
-    subst (λ (es : List Entry). IsAboveLast es entry.flow) (take-map (entry_by before) i asks) (above_first entries i entry rising inside here)
+    let here : get_or entries i entry ≡ entry = get_or_default entries i entry (entry_by before d) inside ∙ get_or-map (entry_by before) asks i d (entry_by before d) within in
+    let all : AreAmong endpoints entries = subst (AreAmong endpoints) whole (among endpoints before (round_of trace round) (sound.sources round [] there) (sound.asks round [] there)) in
+    let range : (entry.flow.src < endpoints) × (entry.flow.dst < endpoints) = subst (λ (e : Entry). (e.flow.src < endpoints) × (e.flow.dst < endpoints)) here (all i entry inside) in
+    let rising : IsBatch entries = subst IsBatch whole (rise_from endpoints before 0 (round_of trace round) (sound.asks round [] there)) in
+    record {
+      inside = inside;
+      is = here;
+      src = range.0;
+      dst = range.1;
+      lower = λ k e under.
+          let first : k < i = omega (arith, under, length-take i entries) in
+          subst (λ (x : Entry). IsTrue (flow_below x.flow entry.flow)) (sym (get_or-take i entries k e first))
+          (subst (λ (x : Entry). IsTrue (flow_below (get_or entries k e).flow x.flow)) (get_or_default entries i e entry inside ∙ here) (rising k i e first inside));
+    }

@@ -1,5 +1,5 @@
 -- What the batches of a plan add to each flow (this project's own profile).
-use Rattle.std.specs.Prelude.{◌≡◌, ℕ, ◌==◌, not}
+use Rattle.std.specs.Prelude.{◌≡◌, ◌==◌, not}
 use Rattle.greedy_rules.specs.declared.flows.Flow.{Flow}
 use Rattle.greedy_rules.specs.Balance.{is_recorded, added_of, NoneClears}
 use Rattle.trace_text.specs.Trace.{TraceContent}

@@ -1,12 +1,11 @@
-ghost use Rattle.std.specs.Prelude.{◌≡◌, ◌<◌, ◌≤◌, ◌+◌, ◌*◌, ◌^◌, ℕ, [], length, take, drop, slice_index, IfOk, OnOk};
+ghost use Rattle.std.specs.Prelude.{◌≡◌, ◌<◌, ◌≤◌, ◌+◌, ◌*◌, [], length, take, drop, slice_index, IfOk, OnOk};
 ghost use Rattle.std.specs.List.{slice_index_or};
-ghost use Rattle.greedy_rules.specs.Matching.{AreAmong};
 ghost use Rattle.clos_topology.specs.Network.{endpoints_of};
 ghost use Rattle.clos_topology.specs.NetSlots.{limits_of};
 ghost use Rattle.window_allocation.specs.Needs.{place_of};
 ghost use Rattle.plan_rounds.specs.Batches.{batch_after, plan_batches};
 ghost use Rattle.plan_rounds.specs.Standing.{HasCollected};
-ghost use Rattle.plan_rounds.specs.Tallies.{Tallies, added_in, Adds};
+ghost use Rattle.plan_rounds.specs.Tallies.{Tallies};
 
 use clos_topology::Net;
 use greedy_rules::{Batch, Entry, Flow, Limits};
@@ -95,11 +94,18 @@ fn limits(net: &Net) -> Limits
     }
 }
 
-/// The batch of a round: an entry for each flow that is asked for, which opens where no slot was asked for before.
-fn batch_of(alloc: Global, trace: &Trace, round: u32, asked: &[u32]) -> Result<Batch, NoMemory>
+/// The batch of a round, whose slots come into the table: an entry for each flow that is asked for, which opens where no slot
+/// was asked for before. A flow has one entry at most, so the table still shows what was asked for before the round.
+fn collect_round(
+    alloc: Global,
+    trace: &Trace,
+    round: u32,
+    asked: &mut [u32],
+) -> Result<Batch, NoMemory>
     requires round { round < trace.now.rounds }
-    requires tallies { Tallies (endpoints_of trace.now.net) (take round trace.now.asked) asked.now }
-    ensures { IfOk result (λ batch. batch ≡ batch_after (limits_of trace.now.net) (take round trace.now.asked) (slice_index_or trace.now.asked round [])) }
+    requires tallies { Tallies (endpoints_of trace.now.net) (take round trace.now.asked) asked.old }
+    ensures batch { IfOk result (λ batch. batch ≡ batch_after (limits_of trace.now.net) (take round trace.now.asked) (slice_index_or trace.now.asked round [])) }
+    ensures tallies { OnOk result (Tallies (endpoints_of trace.now.net) (take (round + 1) trace.now.asked) asked.new) }
 {
     let mut batch = Batch::with_limits(alloc, limits(trace.net()));
     let endpoints = trace.endpoints();
@@ -108,27 +114,17 @@ fn batch_of(alloc: Global, trace: &Trace, round: u32, asked: &[u32]) -> Result<B
             src: ask.src,
             dst: ask.dst,
         };
+        let at = place(endpoints, flow);
+        let before = asked[at];
         batch.push(Entry {
             flow,
-            opens: asked[place(endpoints, flow)] == 0,
+            opens: before == 0,
             clear: false,
             add: ask.slots,
         })?;
+        asked[at] = before + ask.slots;
     }
     Ok(batch)
-}
-
-/// Adds the slots of the batch's entries to the table.
-fn tally(asked: &mut [u32], endpoints: u16, batch: &Batch)
-    requires long { length asked.old ≡ endpoints * endpoints }
-    requires among { AreAmong endpoints batch.now.entries }
-    requires fits { (src dst : ℕ) → src < endpoints → dst < endpoints → slice_index asked.old (place_of endpoints src dst) + added_in src dst batch.now.entries < 2 ^ 32 }
-    ensures { Adds endpoints batch.now.entries asked.old asked.new }
-{
-    for at in 0..batch.len() {
-        let entry = batch.entry(at);
-        asked[place(endpoints, entry.flow)] += entry.add;
-    }
 }
 
 /// The batches of so many rounds from this one on, whose slots come into the table.
@@ -144,11 +140,10 @@ fn collect(
     ensures batches { IfOk result (λ batches. batches.items ≡ take count (drop first (plan_batches trace.now))) }
     ensures tallies { OnOk result (Tallies (endpoints_of trace.now.net) (take (first + count) trace.now.asked) asked.new) }
 {
-    let endpoints = trace.endpoints();
+    let _rounds = trace.rounds();
     let mut batches = Vec::with_capacity(alloc, count as usize)?;
     for round in first..first + count {
-        let batch = batch_of(alloc, trace, round, asked)?;
-        tally(asked, endpoints, &batch);
+        let batch = collect_round(alloc, trace, round, asked)?;
         batches.push(batch)?;
     }
     Ok(batches)

@@ -6,7 +6,7 @@ use Rattle.std.proofs.lemmas.Bool.{eq-eqb, eqb-true, or_parts, leb-false, and_pa
 use Rattle.std.proofs.lemmas.List.Elements.{All-head, All-tail}
 use Rattle.std.proofs.lemmas.Nat.{same_from_place}
 use Rattle.std.proofs.Math.Bool.{or-false, and_comm}
-use Rattle.list_facts.proofs.Bools.{neither}
+use Rattle.list_facts.proofs.Bools.{neither, eqb_turned}
 use Rattle.greedy_rules.specs.Limits.{rack_of}
 use Rattle.greedy_rules.proofs.WalkLemmas.{or_both}
 use Rattle.clos_topology.specs.Network.{Network}
@@ -18,9 +18,6 @@ use Rattle.schedule_audit.specs.Marks.{up_link, down_link, rise_of, fall_of, is_
 use Rattle.schedule_audit.proofs.FirstWrong.{same-truth}
 
 -- ---- truth values
-
-eq-sym : (a b : ℕ) → (a == b) ≡ (b == a)
-eq-sym a b = same-truth (a == b) (b == a) (λ is. eq-eqb b a (sym (eqb-true a b is))) (λ is. eq-eqb a b (sym (eqb-true b a is)))
 
 spread : (x a b : Bool) → (x && (a || b)) ≡ ((x && a) || (x && b))
 spread true a b = refl
@@ -69,10 +66,10 @@ module _ (net : Network) where
   -- ---- one path against another that has its right core
 
   up-meets : (p q : Path) → meets q (up p.place.flow.src) ≡ is_place (up_link q) p.place.flow.src
-  up-meets p q = up-in (stays q) p.place.flow.src q.place.flow.src q.place.flow.dst _ _ (unwrap_or q.core 0) ∙ eq-sym p.place.flow.src q.place.flow.src
+  up-meets p q = up-in (stays q) p.place.flow.src q.place.flow.src q.place.flow.dst _ _ (unwrap_or q.core 0) ∙ eqb_turned p.place.flow.src q.place.flow.src
 
   down-meets : (p q : Path) → meets q (down p.place.flow.dst) ≡ is_place (down_link q) p.place.flow.dst
-  down-meets p q = down-in (stays q) p.place.flow.dst q.place.flow.src q.place.flow.dst _ _ (unwrap_or q.core 0) ∙ eq-sym p.place.flow.dst q.place.flow.dst
+  down-meets p q = down-in (stays q) p.place.flow.dst q.place.flow.src q.place.flow.dst _ _ (unwrap_or q.core 0) ∙ eqb_turned p.place.flow.dst q.place.flow.dst
 
   place-same : (r x c n : ℕ) → c < net.cores → n < net.cores → (r * net.cores + c == x * net.cores + n) ≡ ((x == r) && (n == c))
   place-same r x c n c_in n_in = same-truth (r * net.cores + c == x * net.cores + n) ((x == r) && (n == c))
@@ -139,7 +136,7 @@ module _ (net : Network) where
   stay-shares : (p q : Path) → stays p ≡ true → share_a_link net p q ≡ (up_taken p q || down_taken p q)
   stay-shares p q stay =
       ap (λ (b : Bool). (p.place.slot == q.place.slot) && list_any (meets q) (links_when b p.place.flow.src p.place.flow.dst (rack_of net.hosts p.place.flow.src) (rack_of net.hosts p.place.flow.dst) (unwrap_or p.core 0))) stay
-      ∙ (ap (λ (b : Bool). b && (meets q (up p.place.flow.src) || (meets q (down p.place.flow.dst) || false))) (eq-sym p.place.slot q.place.slot)
+      ∙ (ap (λ (b : Bool). b && (meets q (up p.place.flow.src) || (meets q (down p.place.flow.dst) || false))) (eqb_turned p.place.slot q.place.slot)
       ∙ (ap (λ (b : Bool). (q.place.slot == p.place.slot) && (meets q (up p.place.flow.src) || b)) (or-false (meets q (down p.place.flow.dst)))
       ∙ (ap (λ (b : Bool). (q.place.slot == p.place.slot) && (b || meets q (down p.place.flow.dst))) (up-meets p q)
       ∙ (ap (λ (b : Bool). (q.place.slot == p.place.slot) && (is_place (up_link q) p.place.flow.src || b)) (down-meets p q)
@@ -157,7 +154,7 @@ module _ (net : Network) where
       let upper = rack_of net.hosts p.place.flow.dst in
       ap (λ (b : Bool). (p.place.slot == q.place.slot) && list_any (meets q) (links_when b p.place.flow.src p.place.flow.dst lower upper (unwrap_or p.core 0))) leave
       ∙ (ap (λ (o : Option ℕ). (p.place.slot == q.place.slot) && list_any (meets q) (links_when false p.place.flow.src p.place.flow.dst lower upper (unwrap_or o 0))) some
-      ∙ (ap (λ (b : Bool). b && (meets q (up p.place.flow.src) || (meets q (rise lower core) || (meets q (fall core upper) || (meets q (down p.place.flow.dst) || false))))) (eq-sym p.place.slot q.place.slot)
+      ∙ (ap (λ (b : Bool). b && (meets q (up p.place.flow.src) || (meets q (rise lower core) || (meets q (fall core upper) || (meets q (down p.place.flow.dst) || false))))) (eqb_turned p.place.slot q.place.slot)
       ∙ (ap (λ (b : Bool). x && (meets q (up p.place.flow.src) || (meets q (rise lower core) || (meets q (fall core upper) || b)))) (or-false (meets q (down p.place.flow.dst)))
       ∙ (ap (λ (b : Bool). x && (b || (meets q (rise lower core) || (meets q (fall core upper) || meets q (down p.place.flow.dst))))) (up-meets p q)
       ∙ (ap (λ (b : Bool). x && (a || (b || (meets q (fall core upper) || meets q (down p.place.flow.dst))))) (rise-meets p q core within right)

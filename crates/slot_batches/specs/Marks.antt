@@ -28,9 +28,10 @@ is_flow_marked words flow = has_bit words (source_place flow) (mark_bit flow) &&
 abbrev pub AreMarked : List Entry → List ℕ → Type 0
 AreMarked entries words = All (λ entry. is_flow_marked words entry.flow ≡ true) entries
 
--- in the marks of a window each flow has a bit of its own, in one of four words of its source
+-- in the 1,024 words of a window's marks each flow between 256 endpoints has a bit of its own, in one of four words of its source;
+-- past them flows share bits: a flow may be marked without an entry, never the other way round
 abbrev pub own_place : Flow → ℕ
-own_place flow = flow.src * 4 + flow.dst / 64
+own_place flow = (flow.src * 4 + flow.dst / 64) % 1024
 
 abbrev pub own_bit : Flow → ℕ
 own_bit flow = flow.dst % 64

@@ -27,7 +27,7 @@ fn bit(flow: Flow) -> u32
 }
 
 /// Whether the word at this place has the bit, or there is no such word.
-pub(crate) fn has_bit(words: &[u64], at: usize, bit: u32) -> bool
+fn has_bit(words: &[u64], at: usize, bit: u32) -> bool
     requires { bit < 64 }
     ensures { result ≡ has_bit_in words.now at bit }
 {
@@ -54,7 +54,7 @@ pub(crate) fn common_marks(words: &[u64], flow: &Flow) -> u64
 }
 
 /// Sets the bit of the word at this place, if there is such a word.
-pub(crate) fn set_bit(words: &mut [u64], at: usize, bit: u32)
+fn set_bit(words: &mut [u64], at: usize, bit: u32)
     requires { bit < 64 }
     ensures set { has_bit_in words.new at bit ≡ true }
     ensures others { (place other : ℕ) → has_bit_in words.old place other ≡ true → has_bit_in words.new place other ≡ true }

@@ -1,14 +1,15 @@
 -- A log of items with gaps: the bits of its places, and what is picked by them.
-use Rattle.std.proofs.Common.{◌≡◌, ◌≢◌, ◌<◌, ◌≤◌, ◌+◌, ◌-◌, ◌*◌, ◌/◌, ◌%◌, ◌^◌, ℕ, zero, suc, List, [], ◌∷◌, ◌++◌, length, get_or, set, map, Bool, true, false, not, ◌==◌, ◌&&◌, ◌||◌, cond, filter, All, bit_and, bit_or, w64, Some, None, refl, sym, ap, ◌∙◌, subst, arith, inl, inr}
+use Rattle.std.proofs.Common.{◌≡◌, ◌≢◌, ◌<◌, ◌≤◌, ◌+◌, ◌-◌, ◌*◌, ◌/◌, ◌%◌, ◌^◌, ℕ, zero, suc, List, [], ◌∷◌, ◌++◌, length, get_or, set, map, Bool, true, false, not, ◌==◌, ◌&&◌, ◌||◌, cond, filter, All, bit_and, w64, Some, None, refl, sym, ap, ◌∙◌, subst, arith, inl, inr}
 use Rattle.std.specs.Prelude.{find}
 use Rattle.std.specs.List.{range_with_len}
-use Rattle.std.specs.Int.{bit_at, trailing_zeros}
+use Rattle.std.specs.Int.{trailing_zeros}
 use Rattle.std.proofs.lemmas.Bool.{cond-true, cond-false, cases_Bool, cases_eq, cases_lt, and_left, and_right, or_right, eq-eqb, ne_eqb, both_ways, false_from_ne_true}
 use Rattle.std.proofs.Math.Bool.{and-true}
-use Rattle.std.proofs.lemmas.List.{get_or-set_same, get_or-set_other, get_or_past}
+use Rattle.std.proofs.lemmas.List.{get_or_past}
 use Rattle.std.proofs.lemmas.List.Elements.{All-nil, All-cons, All-head, All-tail, All-weaker, All-get_or, All-from_get_or, filter-append, filter_agree, filter_passes}
-use Rattle.std.proofs.lemmas.Nat.Bits.{bit_at_set_same, bit_at_set_other, bit_at_clear_other, bit_at-trailing_zeros}
+use Rattle.std.proofs.lemmas.Nat.Bits.{bit_at-trailing_zeros}
 use Rattle.list_facts.proofs.Lists.{range_both}
+use Rattle.list_facts.specs.Bits.{names_place}
 use Rattle.greedy_rules.specs.declared.flows.Flow.{Flow}
 use Rattle.greedy_rules.specs.declared.flows.Item.{Item}
 use Rattle.greedy_rules.specs.declared.flows.Entry.{Entry}
@@ -21,48 +22,8 @@ use Rattle.endpoint_bitmaps.proofs.Facts.{lowest_is, without_lowest, has_slot-no
 use Rattle.endpoint_bitmaps.proofs.WordLemmas.{has_slot-above}
 use Rattle.slot_batches.specs.Woven.{picked, places_from, HaveNoEntry, NeedNothing}
 use Rattle.window_allocation.specs.Needs.{place_of}
-use Rattle.window_allocation.specs.Logged.{gap, is_gap, is_left, is_passed, standing, item_at, items_at, ArePlaced, has_place, NeedsHaveBits, HasBit, HaveBits, bits_of, standing_at, places_of_bits, busy_places}
+use Rattle.window_allocation.specs.Logged.{gap, is_gap, is_left, is_passed, standing, item_at, items_at, ArePlaced, NeedsHaveBits, HasBit, HaveBits, bits_of, standing_at, places_of_bits, busy_places}
 use Rattle.window_allocation.proofs.Places.{no_place, picked_at}
-
--- ---- the bit of a place
-
-module _ (words : List ℕ) (at : ℕ) (within : at / 64 < length words) where
-  -- with another word in the place of its word
-  abbrev with_word : ℕ → List ℕ
-  with_word word = set words (at / 64) word
-
-  in_place : (word : ℕ) → get_or (with_word word) (at / 64) 0 ≡ word
-  in_place word = get_or-set_same words (at / 64) word 0 within
-
-  others_stay : (word place : ℕ) → place ≢ at → ((bit : ℕ) → bit < 64 → bit ≢ at % 64 → bit_at word bit ≡ bit_at (get_or words (at / 64) 0) bit) → has_place (with_word word) place ≡ has_place words place
-  others_stay word place apart same = elim (cases_eq (place / 64) (at / 64)) [
-    | inl beside ↦
-        ap (λ (n : ℕ). has_slot (get_or (with_word word) n 0) (place % 64)) beside
-        ∙ (ap (λ (n : ℕ). has_slot n (place % 64)) (in_place word)
-        ∙ (ap (λ (n : ℕ). n == 1) (same (place % 64) (omega arith) (λ e. apart (omega (arith, e, beside))))
-        ∙ ap (λ (n : ℕ). has_slot (get_or words n 0) (place % 64)) (sym beside)))
-    | inr away ↦ ap (λ (n : ℕ). has_slot n (place % 64)) (get_or-set_other words (at / 64) (place / 64) word 0 away)
-  ]
-
-  pub bit_set : has_place (with_word (bit_or (get_or words (at / 64) 0) (1 * 2 ^ (at % 64) % 2 ^ 64))) at ≡ true
-  bit_set =
-      let old : ℕ = get_or words (at / 64) 0 in
-      ap (λ (n : ℕ). has_slot n (at % 64)) (in_place (bit_or old (1 * 2 ^ (at % 64) % 2 ^ 64))) ∙ ap (λ (n : ℕ). n == 1) (bit_at_set_same w64 old (at % 64) (omega arith))
-
-  pub others_set : (place : ℕ) → has_place words place ≡ true → has_place (with_word (bit_or (get_or words (at / 64) 0) (1 * 2 ^ (at % 64) % 2 ^ 64))) place ≡ true
-  others_set place was =
-      let old : ℕ = get_or words (at / 64) 0 in
-      let new : ℕ = bit_or old (1 * 2 ^ (at % 64) % 2 ^ 64) in
-      elim (cases_eq place at) [
-        | inl same ↦ ap (has_place (with_word new)) same ∙ bit_set
-        | inr apart ↦ others_stay new place apart (λ k below other. bit_at_set_other w64 old (at % 64) (omega arith) k other) ∙ was
-      ]
-
-  pub others_kept : (place : ℕ) → place ≢ at → has_place words place ≡ true → has_place (with_word (bit_and (get_or words (at / 64) 0) (2 ^ 64 - 1 - 1 * 2 ^ (at % 64) % 2 ^ 64))) place ≡ true
-  others_kept place apart was =
-      let old : ℕ = get_or words (at / 64) 0 in
-      let new : ℕ = bit_and old (2 ^ 64 - 1 - 1 * 2 ^ (at % 64) % 2 ^ 64) in
-      others_stay new place apart (λ k below other. bit_at_clear_other w64 old (at % 64) (omega arith) k below other) ∙ was
 
 -- ---- numbers that pass a test
 
@@ -158,7 +119,7 @@ pub no_bits : (items : List Item) (from word : ℕ) → word ≡ 0 → places_of
 no_bits items from word none =
     ap (places_of_bits items from) none ∙ ap (λ (bits : List ℕ). standing_at items (map (λ (bit : ℕ). from + bit) bits)) (no_numbers (has_slot 0) 0 64 (λ k above. has_slot-none k))
 
-place_in_word : (words : List ℕ) (at i : ℕ) → i < 64 → has_place words (at * 64 + i) ≡ has_slot (get_or words at 0) i
+place_in_word : (words : List ℕ) (at i : ℕ) → i < 64 → names_place words (at * 64 + i) ≡ has_slot (get_or words at 0) i
 place_in_word words at i below =
     let word : (at * 64 + i) / 64 ≡ at = omega (arith, below) in
     let bit : (at * 64 + i) % 64 ≡ i = omega (arith, below) in
@@ -169,7 +130,7 @@ busy_step items words at =
     let from : ℕ = at * 64 in
     let ahead : (at + 1) * 64 ≡ from + 64 = omega arith in
     let there : 0 + from ≡ from + 0 = omega arith in
-    let busy : ℕ → Bool = has_place words in
+    let busy : ℕ → Bool = names_place words in
     let stands : ℕ → Bool = λ place. not (is_gap (item_at items place)) in
     let first : List ℕ = range_with_len 0 from in
     let then : List ℕ = range_with_len (0 + from) 64 in
@@ -207,23 +168,23 @@ each_standing Q (item ∷ items) all (suc place) there =
 
 -- as the bits say
 abbrev pub is_quiet : ℕ → List ℕ → List ℕ → Flow → Bool
-is_quiet endpoints table words flow = (flow.src == 65535) || not (has_place words (get_or table (place_of endpoints flow.src flow.dst) 0))
+is_quiet endpoints table words flow = (flow.src == 65535) || not (names_place words (get_or table (place_of endpoints flow.src flow.dst) 0))
 
 quiet_item : (b c : Bool) → c ≡ false → (b && not c) ≡ not (c || not b)
 quiet_item true c not_it = ap not not_it ∙ ap (λ (d : Bool). not (d || false)) (sym not_it)
 quiet_item false c not_it = ap (λ (d : Bool). not (d || true)) (sym not_it)
 
 pub quiet_at : (endpoints : ℕ) (table words : List ℕ) (items : List Item) (place : ℕ) → ArePlaced endpoints table items
-    → (has_place words place && not (is_gap (item_at items place))) ≡ not (is_quiet endpoints table words (item_at items place).flow)
+    → (names_place words place && not (is_gap (item_at items place))) ≡ not (is_quiet endpoints table words (item_at items place).flow)
 quiet_at endpoints table words items place placed =
     let item : Item = item_at items place in
     let there : ℕ = get_or table (place_of endpoints item.flow.src item.flow.dst) 0 in
     elim (cases_Bool (is_gap item)) [
       | inl is ↦
-          and_right (has_place words place) (not (is_gap item)) (ap not is) ∙ ap (λ (d : Bool). not (d || not (has_place words there))) (sym is)
+          and_right (names_place words place) (not (is_gap item)) (ap not is) ∙ ap (λ (d : Bool). not (d || not (names_place words there))) (sym is)
       | inr not_it ↦
           let at : there ≡ place = (placed place not_it).there in
-          quiet_item (has_place words place) (is_gap item) not_it ∙ ap (λ (n : ℕ). not (is_gap item || not (has_place words n))) (sym at)
+          quiet_item (names_place words place) (is_gap item) not_it ∙ ap (λ (n : ℕ). not (is_gap item || not (names_place words n))) (sym at)
     ]
 
 -- places that pass a test are those of the items that are not set aside
@@ -324,29 +285,29 @@ bits_picked endpoints table words items places n placed long noted =
     let quiet : Flow → Bool = is_quiet endpoints table words in
     let aside : Item → Bool = λ x. quiet x.flow in
     let chosen : List Item = items_at items places in
-    let test : ℕ → Bool = λ place. has_place words place && not (is_gap (item_at items place)) in
+    let test : ℕ → Bool = λ place. names_place words place && not (is_gap (item_at items place)) in
     let are : places ≡ places_from aside 0 items =
     noted
-    ∙ (filter_both (has_place words) (λ place. not (is_gap (item_at items place))) (range_with_len 0 n)
+    ∙ (filter_both (names_place words) (λ place. not (is_gap (item_at items place))) (range_with_len 0 n)
     ∙ places_passed aside test 0 items n long refl (λ i. let same : 0 + i ≡ i = omega arith in ap test same ∙ quiet_at endpoints table words items i placed)) in
     let chosen_are : chosen ≡ picked aside items = ap (items_at items) are ∙ picked_at aside items gap 0 items refl in
     let all : All (λ x. is_passed chosen x ≡ quiet x.flow) items =
     All-weaker (λ x. is_left (picked aside items) x ≡ quiet x.flow) (λ x. is_passed chosen x ≡ quiet x.flow)
     (λ x left.
     ap (λ (xs : List Item). is_passed xs x) chosen_are
-    ∙ (ap (λ (b : Bool). is_gap x || b) left ∙ or_again (is_gap x) (not (has_place words (get_or table (place_of endpoints x.flow.src x.flow.dst) 0)))))
+    ∙ (ap (λ (b : Bool). is_gap x || b) left ∙ or_again (is_gap x) (not (names_place words (get_or table (place_of endpoints x.flow.src x.flow.dst) 0)))))
     items (left_as_quiet quiet items) in
     record { places_are = are ∙ sym (places_agree (is_passed chosen) aside 0 items all); quiet = all }
 
 -- an item without a bit has no entry
-no_entry : (words : List ℕ) (items : List Item) (place : ℕ) (entries : List Entry) → is_gap (item_at items place) ≡ false → has_place words place ≡ false → HaveBits words items entries
+no_entry : (words : List ℕ) (items : List Item) (place : ℕ) (entries : List Entry) → is_gap (item_at items place) ≡ false → names_place words place ≡ false → HaveBits words items entries
     → entry_of entries (item_at items place).flow ≡ None
 no_entry words items place [] there silent marked = refl
 no_entry words items place (entry ∷ entries) there silent marked =
     let Marked : Entry → Type 0 = λ e. HasBit words items e.flow in
     let flow : Flow = (item_at items place).flow in
     let differs : same_flow entry.flow flow ≡ false =
-    false_from_ne_true _ (λ same. both_ways (has_place words place) silent (All-head Marked entry entries marked place there (sym (same_flow-true entry.flow flow same)))) in
+    false_from_ne_true _ (λ same. both_ways (names_place words place) silent (All-head Marked entry entries marked place there (sym (same_flow-true entry.flow flow same)))) in
     cond-false (same_flow entry.flow flow) (Some entry) (find (λ e. same_flow e.flow flow) entries) differs ∙ no_entry words items place entries there silent (All-tail Marked entry entries marked)
 
 silent_bit : (b c : Bool) → c ≡ false → (b && not c) ≡ false → b ≡ false
@@ -361,7 +322,7 @@ nothing_needed endpoints table words items places batches placed bits marked say
       | inl below ↦
           let x : Item = item_at items place in
           let passes : is_quiet endpoints table words x.flow ≡ true = sym (All-get_or (λ y. is_passed chosen y ≡ is_quiet endpoints table words y.flow) items place gap below say.quiet) ∙ or_right (is_gap x) (is_left chosen x) left in
-          let silent : has_place words place ≡ false = silent_bit (has_place words place) (is_gap x) there (quiet_at endpoints table words items place placed ∙ ap not passes) in (
+          let silent : names_place words place ≡ false = silent_bit (names_place words place) (is_gap x) there (quiet_at endpoints table words items place placed ∙ ap not passes) in (
             bits place silent,
             All-weaker (λ b. HaveBits words items b.entries) (λ b. entry_of b.entries x.flow ≡ None) (λ b has. no_entry words items place b.entries there silent has) batches marked,
           )

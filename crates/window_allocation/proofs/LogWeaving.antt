@@ -6,14 +6,14 @@ use Rattle.std.proofs.lemmas.List.{append_assoc, drop-drop, take_at, take-append
 use Rattle.std.proofs.lemmas.List.Elements.{All-nil, All-cons, All-head, All-tail, All-weaker, All-get_or, All-from_get_or, All-drop, filter-append, filter_passes}
 use Rattle.list_facts.proofs.Lists.{filter_all, take_on, All-front, all_back}
 use Rattle.list_facts.proofs.Pairs.{AllPairs-nil, AllPairs-head, AllPairs-tail, AllPairs-cons}
-use Rattle.greedy_rules.specs.declared.flows.Flow.{Flow}
+use Rattle.list_facts.specs.Bits.{names_place}
 use Rattle.greedy_rules.specs.declared.flows.Item.{Item}
 use Rattle.greedy_rules.specs.Demands.{HasEachFlowOnce, AreBelow}
 use Rattle.greedy_rules.proofs.RoomLemmas.{same_ends}
 use Rattle.slot_batches.specs.Woven.{picked, stays, weave, places_from}
 use Rattle.window_allocation.specs.Needs.{place_of}
 use Rattle.window_allocation.specs.Picked.{staying}
-use Rattle.window_allocation.specs.Logged.{gap, is_gap, is_left, is_passed, standing, item_at, items_at, ArePlaced, IsPlaced, AreNew, has_place, IsLog}
+use Rattle.window_allocation.specs.Logged.{gap, is_gap, is_left, is_passed, standing, item_at, items_at, ArePlaced, IsPlaced, AreNew, IsLog}
 use Rattle.slot_batches.proofs.WeaveLemmas.{is_set_aside}
 use Rattle.window_allocation.proofs.Down.{further}
 use Rattle.window_allocation.proofs.LogLemmas.{nothing_picked, each_standing}
@@ -334,7 +334,7 @@ is_woven endpoints chosen old now rest at few once below put =
 
 -- a log of which more places have their bits, and others are picked
 pub with_bits : (endpoints count : ℕ) (items : List Item) (table busy places words then : List ℕ) → IsLog endpoints count items table busy places → length words ≡ length busy
-    → ((place : ℕ) → has_place busy place ≡ true → has_place words place ≡ true) → then ≡ places_from (is_passed (items_at items then)) 0 items → IsLog endpoints count items table words then
+    → ((place : ℕ) → names_place busy place ≡ true → names_place words place ≡ true) → then ≡ places_from (is_passed (items_at items then)) 0 items → IsLog endpoints count items table words then
 with_bits endpoints count items table busy places words then log same more picked = record {
   few = log.few;
   long = log.long;
@@ -342,7 +342,7 @@ with_bits endpoints count items table busy places words then log same more picke
   room = log.room;
   number = log.number;
   placed = log.placed;
-  bits = λ place silent. log.bits place (false_from_ne_true (has_place busy place) (λ had. both_ways (has_place words place) silent (more place had)));
+  bits = λ place silent. log.bits place (false_from_ne_true (names_place busy place) (λ had. both_ways (names_place words place) silent (more place had)));
   picked = picked;
 }
 

@@ -4,7 +4,7 @@ use Rattle.std.specs.List.{list_any}
 use Rattle.std.proofs.lemmas.Bool.{cases_lt, cases_order, cases_Bool, cond_both, cond-true, cond-false, eq-eqb, eqb-true, and_from, and_parts, or_cases, or_left, or_right, lt-ltb, ltb-true, both_ways, not_from_false}
 use Rattle.std.proofs.lemmas.Nat.{mul-le}
 use Rattle.std.proofs.lemmas.List.{drop_more, drop_all, get_or_default, get_or-take, get_or-drop, length-take, length-drop, drop-drop}
-use Rattle.std.proofs.lemmas.List.Elements.{filter_passes}
+use Rattle.std.proofs.lemmas.List.Elements.{All-take, All-drop, filter_passes}
 use Rattle.std.proofs.lemmas.List.Folds.{list_any_none}
 use Rattle.list_facts.proofs.Lists.{take_on}
 use Rattle.greedy_rules.specs.declared.flows.Flow.{Flow}
@@ -14,7 +14,7 @@ use Rattle.greedy_rules.specs.Slot.{has_flow, is_taken}
 use Rattle.greedy_rules.specs.Limits.{is_barred}
 use Rattle.greedy_rules.specs.declared.limits.Limits.{Limits}
 use Rattle.greedy_rules.specs.Batches.{DemandBatch}
-use Rattle.greedy_rules.specs.Demands.{is_listed}
+use Rattle.greedy_rules.specs.Demands.{AreBelow, is_listed}
 use Rattle.greedy_rules.specs.Schedule.{slot_in}
 use Rattle.greedy_rules.proofs.Facts.{same_flow-true, same_flow-refl}
 use Rattle.greedy_rules.proofs.TableLemmas.{next_row}
@@ -235,6 +235,12 @@ each_of_part P at m list d all within other from below =
     let there : at + k ≡ other = omega (arith, from) in
     subst P (get_or-take m (drop at list) k d under ∙ (get_or-drop at list k d ∙ ap (λ (n : ℕ). get_or list n d) there))
     (all k d (omega (arith, under, within, length-take m (drop at list), length-drop at list)))
+
+-- the flows of a part of a list are between the endpoints where those of the list are
+pub part_below : (endpoints at m : ℕ) (list : List Item) → AreBelow endpoints list → AreBelow endpoints (take m (drop at list))
+part_below endpoints at m list below =
+    let P : Item → Type 0 = λ item. (item.flow.src < endpoints) × (item.flow.dst < endpoints) in
+    All-take P m (drop at list) (All-drop P at list below)
 
 -- ---- the same, slot by slot
 

@@ -2,10 +2,12 @@
 use Rattle.std.proofs.Common.{◌≡◌, ◌<◌, ◌≤◌, ◌+◌, ◌-◌, ◌*◌, ◌^◌, ℕ, List, [], ◌∷◌, ◌++◌, length, take, drop, replicate, refl, sym, ap, ◌∙◌, subst, arith}
 use Rattle.std.proofs.lemmas.Nat.{mul-le}
 use Rattle.std.proofs.lemmas.List.{length-append, length-drop, length-replicate, length-take-le, take_all, take_at, drop_at, take-append-drop}
+use Rattle.std.proofs.lemmas.List.Elements.{All-take}
 use Rattle.list_facts.proofs.Lists.{take_on}
 use Rattle.greedy_rules.specs.declared.flows.Flow.{Flow}
 use Rattle.greedy_rules.specs.declared.flows.Item.{Item}
 use Rattle.greedy_rules.specs.Batches.{DemandBatch}
+use Rattle.greedy_rules.specs.Demands.{AreBelow, opened}
 use Rattle.greedy_rules.specs.Limits.{is_barred}
 use Rattle.greedy_rules.specs.Schedule.{first_slot, list_then, schedule_from, rest_from}
 use Rattle.greedy_rules.specs.Fronts.{SchedulesGoOn, EveryBatchHasItsSlots}
@@ -22,6 +24,13 @@ few_items endpoints b k list (batch ∷ batches) pairs some may =
     let applies = may.0 in
     let fit = pairs endpoints batch.entries list applies.rises applies.opens applies.once applies.below applies.apart in
     omega (arith, fit)
+
+-- and its flows are between the endpoints
+pub below_endpoints : (endpoints b k : ℕ) (list : List Item) (batches : List DemandBatch) → 0 < length batches → MayBeApplied endpoints b k list batches → AreBelow endpoints list
+below_endpoints endpoints b k list [] some may = absurd (omega arith)
+below_endpoints endpoints b k list (batch ∷ batches) some may =
+    subst (AreBelow endpoints) (take_at list (opened batch.entries) (length list) refl)
+    (All-take (λ (item : Item). (item.flow.src < endpoints) × (item.flow.dst < endpoints)) (length list) (list ++ opened batch.entries) may.0.below)
 
 -- lists only grow
 lists_grow : (b k : ℕ) (list : List Item) (batches : List DemandBatch) → EveryBatchKeepsItsFlows → length list ≤ length (rest_from b k list batches)

@@ -220,11 +220,3 @@ found_first slots first batch b at none first_is is =
         none = none;
       },
     )
-
--- and where none was found there either
-pub none_found : (slots first batch b : ℕ) → ((k : ℕ) → has_slot first k ≡ nat_lt k ((batch + 1) * b)) → bit_and slots first ≡ 0
-    → (earlier : ℕ) → earlier < (batch + 1) * b → has_slot slots earlier ≡ false
-none_found slots first batch b first_is none earlier below =
-    and_true (has_slot slots earlier)
-    ∙ (ap (λ (t : Bool). has_slot slots earlier && t) (sym (first_is earlier ∙ lt-ltb earlier ((batch + 1) * b) below))
-    ∙ (sym (has_slot-both slots first earlier) ∙ (ap (λ (n : ℕ). has_slot n earlier) none ∙ has_slot-none earlier)))

@@ -1,6 +1,7 @@
 -- A window's demand list kept in logs, in which an item that is taken out leaves a gap (this project's own profile).
-use Rattle.std.specs.Prelude.{◌≡◌, ◌≢◌, ◌<◌, ◌≤◌, ℕ, ◌+◌, ◌*◌, ◌/◌, ◌%◌, List, ◌++◌, length, map, filter, Bool, true, false, not, ◌==◌, ◌||◌, All}
+use Rattle.std.specs.Prelude.{◌≡◌, ◌≢◌, ◌<◌, ◌≤◌, ℕ, ◌+◌, ◌*◌, ◌/◌, List, ◌++◌, length, map, filter, Bool, true, false, not, ◌==◌, ◌||◌, All}
 use Rattle.std.specs.List.{range_with_len, slice_index_or}
+use Rattle.list_facts.specs.Bits.{names_place}
 use Rattle.greedy_rules.specs.declared.flows.Flow.{Flow}
 use Rattle.greedy_rules.specs.declared.flows.Item.{Item}
 use Rattle.greedy_rules.specs.declared.flows.Entry.{Entry}
@@ -58,17 +59,13 @@ pub record IsPlaced (endpoints : ℕ) (table : List ℕ) (flow : Flow) (place : 
 abbrev pub ArePlaced : ℕ → List ℕ → List Item → Type 0
 ArePlaced endpoints table items = (place : ℕ) → is_gap (item_at items place) ≡ false → IsPlaced endpoints table (item_at items place).flow place
 
--- the words have the bit of this place
-abbrev pub has_place : List ℕ → ℕ → Bool
-has_place words place = has_slot (slice_index_or words (place / 64) 0) (place % 64)
-
 -- each item that needs something has its bit
 abbrev pub NeedsHaveBits : List ℕ → List Item → Type 0
-NeedsHaveBits words items = (place : ℕ) → has_place words place ≡ false → (item_at items place).need ≡ 0
+NeedsHaveBits words items = (place : ℕ) → names_place words place ≡ false → (item_at items place).need ≡ 0
 
 -- an item of the flow has its bit
 abbrev pub HasBit : List ℕ → List Item → Flow → Type 0
-HasBit words items flow = (place : ℕ) → is_gap (item_at items place) ≡ false → (item_at items place).flow ≡ flow → has_place words place ≡ true
+HasBit words items flow = (place : ℕ) → is_gap (item_at items place) ≡ false → (item_at items place).flow ≡ flow → names_place words place ≡ true
 
 abbrev pub HaveBits : List ℕ → List Item → List Entry → Type 0
 HaveBits words items entries = All (λ entry. HasBit words items entry.flow) entries
@@ -85,7 +82,7 @@ places_of_bits items from word = standing_at items (map (λ bit. from + bit) (bi
 
 -- the places that have their bit, of the first so many
 abbrev pub busy_places : List Item → List ℕ → ℕ → List ℕ
-busy_places items words count = standing_at items (filter (has_place words) (range_with_len 0 count))
+busy_places items words count = standing_at items (filter (names_place words) (range_with_len 0 count))
 
 -- no item of the list has the flow of an item that stands
 abbrev pub AreNew : List Item → List Item → Type 0

@@ -11,12 +11,14 @@ staying [] rest = []
 staying (item ∷ list) [] = []
 staying (item ∷ list) (next ∷ rest) = if stays item next then next ∷ [] else []
 
--- there is room for an item of each pair of endpoints, twice, and for the places of as many, and words for the flows between them
+-- there is room for an item of each pair of endpoints, twice, and for the places of as many, words for the flows between them, and
+-- words for each endpoint
 pub record HasRoomForPairs (endpoints : ℕ) (picked : Picked) : Type 0 where
   pub items : endpoints * endpoints ≤ length picked.items.items + picked.items.spare
   pub places : endpoints * endpoints ≤ vec_capacity picked.places
   pub whole : endpoints * endpoints ≤ vec_capacity picked.whole
   pub slots : picked.slots.endpoints ≡ endpoints
+  pub words : picked.guess.words.endpoints ≡ endpoints
 
 -- items of the list, and their places, where all that may have an entry are among them
 pub record IsReached (marks : WindowMarks) (list found : List Item) (places : List ℕ) : Type 0 where

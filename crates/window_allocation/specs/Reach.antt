@@ -29,6 +29,10 @@ pub record IsFirstBatch (b : ℕ) (slots at : ℕ) : Type 0 where
   pub before : at < batch * b + b
   pub none : (earlier : ℕ) → earlier < batch * b → has_slot slots earlier ≡ false
 
+-- there are words for both ends of the flow
+abbrev pub HasWords : EndWords → Flow → Type 0
+HasWords words flow = (flow.src < words.endpoints) × (flow.dst < words.endpoints)
+
 -- the words name this slot at the source, and at the destination
 abbrev pub names_source : EndWords → ℕ → ℕ → Bool
 names_source words src at = has_slot (slice_index_or words.sources.items src 0) at

@@ -10,13 +10,11 @@ use Rattle.alloc_pipeline.specs.Ring.{RingWork, IsSameRingWork}
 use Rattle.window_allocation.specs.declared.runs.Runs.{Runs}
 use Rattle.window_allocation.specs.Handed.{HandedPart, IsPassedEmpty, slots_of_part, moved_by_part, batches_of, slots_over, moved_over}
 
--- its table is for the slots of a whole window of the ring's, which has at most 16 batches of at most 64 slots
-pub record HasRunTable (runs : Runs) : Type 0 where
+-- its batches have as many slots as the ring's, at most 64, and a window has at most 16 of them
+pub record IsRingOfRuns (runs : Runs) : Type 0 where
   pub b : runs.b ≡ runs.ring.b
   pub some_slots : (0 < runs.b) × (runs.b ≤ 64)
   pub few_batches : runs.ring.batches ≤ 16
-  pub endpoints : runs.slots.endpoints ≡ runs.ring.endpoints
-  pub places : length runs.slots.slots ≡ runs.ring.batches * runs.ring.b
 
 -- the batches got their slots, whatever of the list was handed to the ring and in however many runs
 pub record GivesSlots (ring_old ring_new : RingWork) (first_batch : ℕ) (list_old list_new : Demands) (batches : List DemandBatch) (out_old out_new : Slots) : Type 0 where

@@ -115,14 +115,12 @@ pub(crate) fn of_first_batch(slots: u64, batches: u16, b: u16) -> u64
     requires { batches * b ≤ 64 }
     ensures { (at : ℕ) → has_slot result at ≡ true → (has_slot slots at ≡ true) × IsFirstBatch b slots at }
 {
-    if slots == 0 {
+    if slots == 0 || b == 0 {
         return 0;
     }
-    for batch in 0..batches {
-        let here = slots & first_slots((batch + 1) * b);
-        if here > 0 {
-            return here;
-        }
+    let batch = slots.trailing_zeros() / u32::from(b);
+    if batch >= u32::from(batches) {
+        return 0;
     }
-    0
+    slots & first_slots((batch as u16 + 1) * b)
 }

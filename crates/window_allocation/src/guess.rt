@@ -1,10 +1,11 @@
 //! A guess of the items of a window's list that its batches can choose. Nothing rests on it but speed: all items are picked that
 //! may have an entry in the window, and any of the others may be.
-ghost use Rattle.std.specs.Prelude.{◌≡◌, ◌<◌, ◌≤◌, ◌+◌, ◌*◌, ◌^◌, List, [], ◌∷◌, ◌++◌, length, take, true, false, if◌then◌else◌, vec_len, vec_capacity, All};
-ghost use Rattle.greedy_rules.specs.Demands.{HasEachFlowOnce};
+ghost use Rattle.std.specs.Prelude.{◌≡◌, ◌<◌, ◌≤◌, ◌+◌, ◌*◌, ◌^◌, List, [], ◌∷◌, ◌++◌, length, take, true, false, if◌then◌else◌, vec_len, vec_capacity, All, IfOk};
+ghost use Rattle.greedy_rules.specs.Demands.{HasEachFlowOnce, AreBelow};
 ghost use Rattle.slot_batches.specs.Feeding.{IsInOrder};
 ghost use Rattle.slot_batches.specs.Marks.{has_mark as has_mark_in};
 ghost use Rattle.window_allocation.specs.Picked.{IsReached};
+ghost use Rattle.window_allocation.specs.Reach.{HasWords};
 
 use crate::end_words::EndWords;
 use crate::flow_slots::first_slots;
@@ -100,7 +101,9 @@ fn lowest(slots: u64, need: u32) -> u64 {
 }
 
 /// Those of the slots that are named at neither end of the flow.
-fn free_of(words: &EndWords, flow: Flow, slots: u64) -> u64 {
+fn free_of(words: &EndWords, flow: Flow, slots: u64) -> u64
+    requires { HasWords words.now flow }
+{
     slots & !words.either(flow)
 }
 
@@ -114,12 +117,16 @@ fn of_its_batch(slots: u64, b: u16) -> u64 {
 /// Takes of these slots those of the first batch that has one, as many as the flow needs. Most items take none: it stays out of
 /// their loop.
 #[inline(never)]
-fn take_some(words: &mut EndWords, flow: Flow, need: u32, free: u64, b: u16) {
+fn take_some(words: &mut EndWords, flow: Flow, need: u32, free: u64, b: u16)
+    ensures { words.new.endpoints ≡ words.old.endpoints }
+{
     words.add(flow, lowest(of_its_batch(free, b), need));
 }
 
 /// Takes of these slots for the flow, and answers whether it took one.
-fn take(words: &mut EndWords, flow: Flow, need: u32, free: u64, b: u16) -> bool {
+fn take(words: &mut EndWords, flow: Flow, need: u32, free: u64, b: u16) -> bool
+    ensures { words.new.endpoints ≡ words.old.endpoints }
+{
     if free == 0 || need == 0 {
         return false;
     }
@@ -148,7 +155,10 @@ fn take_changed(
     batches: &[Batch],
     b: u16,
     slots: u64,
-) {
+)
+    requires { HasWords words.old flow }
+    ensures { words.new.endpoints ≡ words.old.endpoints }
+{
     let free = free_of(words, flow, slots);
     if free == 0 {
         return;
@@ -168,7 +178,8 @@ fn take_changed(
     }
 }
 
-/// Takes slots for the flows that the batch opens.
+/// Takes slots for the flows that the batch opens, but for those without words: nothing rests on the guess, so nothing is asked of
+/// the entries.
 fn take_opened(
     words: &mut EndWords,
     entries: &EntryBits,
@@ -176,10 +187,12 @@ fn take_opened(
     batches: &[Batch],
     b: u16,
     slots: u64,
-) {
+)
+    ensures { words.new.endpoints ≡ words.old.endpoints }
+{
     for at in 0..batch.len() {
         let entry = batch.entry(at);
-        if entry.opens {
+        if entry.opens && words.has_words(entry.flow) {
             take_changed(
                 words,
                 entries.of(entry.flow),
@@ -195,13 +208,9 @@ fn take_opened(
 
 /// Takes slots for the flows that the batches open.
 #[inline(never)]
-fn take_all_opened(
-    words: &mut EndWords,
-    entries: &EntryBits,
-    batches: &[Batch],
-    b: u16,
-    slots: u64,
-) {
+fn take_all_opened(words: &mut EndWords, entries: &EntryBits, batches: &[Batch], b: u16, slots: u64)
+    ensures { words.new.endpoints ≡ words.old.endpoints }
+{
     for batch in batches {
         take_opened(words, entries, batch, batches, b, slots);
     }
@@ -210,14 +219,16 @@ fn take_all_opened(
 /// Whether the item may have an entry, or needs a slot and has one of these free at both ends. Whether it has is hard to foresee,
 /// so there is one branch on all of it.
 fn may_reach(words: &EndWords, marks: &FlowMarks, item: &Item, slots: u64) -> bool
+    requires { HasWords words.now item.now.flow }
     ensures { result ≡ false → has_mark_in marks.now item.now.flow ≡ false }
 {
-    let takes = free_of(words, item.flow, slots).min(u64::from(item.need)) > 0;
+    let takes = (free_of(words, item.flow, slots) != 0) & (item.need != 0);
     has_mark(marks, item.flow) | takes
 }
 
 /// How many items at the front the batches don't reach. Most items are passed here: the loop does nothing else.
 fn count_beyond(words: &EndWords, marks: &FlowMarks, items: &[Item], slots: u64) -> usize
+    requires { AreBelow words.now.endpoints items.now }
     ensures within { result ≤ length items.now }
     ensures unmarked { All (λ item. has_mark_in marks.now item.flow ≡ false) (take result items.now) }
 {
@@ -281,7 +292,9 @@ fn choose(
 
 impl Guess {
     /// For so many endpoints. No later call takes memory.
-    pub(crate) fn open(alloc: Global, endpoints: u16) -> Result<Guess, NoMemory> {
+    pub(crate) fn open(alloc: Global, endpoints: u16) -> Result<Guess, NoMemory>
+        ensures { IfOk result (λ guess. guess.words.endpoints ≡ endpoints) }
+    {
         Ok(Guess {
             words: EndWords::open(alloc, endpoints)?,
             entries: EntryBits::open(alloc, endpoints)?,
@@ -289,7 +302,9 @@ impl Guess {
     }
 
     /// Takes slots for the flows that the batches open, where this is so.
-    fn take_opened_if(&mut self, here: bool, batches: &[Batch], b: u16, slots: u64) {
+    fn take_opened_if(&mut self, here: bool, batches: &[Batch], b: u16, slots: u64)
+        ensures { self.new.words.endpoints ≡ self.old.words.endpoints }
+    {
         if here {
             take_all_opened(&mut self.words, &self.entries, batches, b, slots);
         }
@@ -304,7 +319,9 @@ impl Guess {
         b: u16,
         slots: u64,
     ) -> bool
-        ensures { result ≡ false → has_mark_in marks.now item.now.flow ≡ false }
+        requires { HasWords self.old.words item.now.flow }
+        ensures unmarked { result ≡ false → has_mark_in marks.now item.now.flow ≡ false }
+        ensures endpoints { self.new.words.endpoints ≡ self.old.words.endpoints }
     {
         let words = &mut self.words;
         if has_mark(marks, item.flow) {
@@ -330,11 +347,13 @@ impl Guess {
     ) -> bool
         requires order { IsInOrder list.now }
         requires once { HasEachFlowOnce list.now }
+        requires below { AreBelow self.old.words.endpoints list.now }
         requires count { length batches.now ≤ 16 }
         requires few { length batches.now * b ≤ 64 }
         requires room { length list.now ≤ length found.old.items + found.old.spare }
         requires places_room { length list.now ≤ vec_capacity places.old }
         ensures reached { result ≡ true → IsReached marks.now list.now found.new.items places.new.items }
+        ensures endpoints { self.new.words.endpoints ≡ self.old.words.endpoints }
         ensures room { length found.new.items + found.new.spare ≡ length found.old.items + found.old.spare }
         ensures capacity { vec_capacity places.new ≡ vec_capacity places.old }
     {

@@ -1,9 +1,10 @@
 //! Items with gaps between them: one that is taken out leaves its place empty, and one that is new comes behind all.
 ghost use Rattle.std.specs.Prelude.{◌≡◌, ◌≢◌, ◌<◌, ◌≤◌, ◌+◌, ◌*◌, ◌/◌, ◌^◌, ℕ, Bool, List, [], ◌∷◌, ◌++◌, length, take, drop, true, false, All, None, Some, IfOk, vec_len, vec_capacity, if◌then◌else◌};
+ghost use Rattle.list_facts.specs.Bits.{names_place};
 ghost use Rattle.greedy_rules.specs.declared.flows.Item.{Item};
 ghost use Rattle.greedy_rules.specs.Demands.{HasEachFlowOnce, AreBelow};
 ghost use Rattle.slot_batches.specs.Woven.{picked as picked_of, weave, places_from, NeedNothing};
-ghost use Rattle.window_allocation.specs.Logged.{gap, is_gap as is_gap_in, is_left, is_passed, standing, item_at, items_at, ArePlaced, has_place, NeedsHaveBits, HasBit, HaveBits, places_of_bits, busy_places, AreNew};
+ghost use Rattle.window_allocation.specs.Logged.{gap, is_gap as is_gap_in, is_left, is_passed, standing, item_at, items_at, ArePlaced, NeedsHaveBits, HasBit, HaveBits, places_of_bits, busy_places, AreNew};
 ghost use Rattle.window_allocation.specs.Picked.{staying};
 
 use crate::needs::place;
@@ -33,8 +34,8 @@ fn is_gap(item: &Item) -> bool
 /// Sets the bit of this place.
 fn set_bit(words: &mut [u64], at: usize)
     requires { at / 64 < length words.old }
-    ensures set { has_place words.new at ≡ true }
-    ensures others { (other : ℕ) → has_place words.old other ≡ true → has_place words.new other ≡ true }
+    ensures set { names_place words.new at ≡ true }
+    ensures others { (other : ℕ) → names_place words.old other ≡ true → names_place words.new other ≡ true }
     ensures count { length words.new ≡ length words.old }
 {
     words[at / 64] |= 1 << (at % 64);
@@ -43,7 +44,7 @@ fn set_bit(words: &mut [u64], at: usize)
 /// Clears the bit of this place.
 fn clear_bit(words: &mut [u64], at: usize)
     requires { at / 64 < length words.old }
-    ensures others { (other : ℕ) → other ≢ at → has_place words.old other ≡ true → has_place words.new other ≡ true }
+    ensures others { (other : ℕ) → other ≢ at → names_place words.old other ≡ true → names_place words.new other ≡ true }
     ensures count { length words.new ≡ length words.old }
 {
     words[at / 64] &= !(1 << (at % 64));
@@ -52,8 +53,8 @@ fn clear_bit(words: &mut [u64], at: usize)
 /// Sets the bit of this place where something is needed there, and clears it where not.
 fn note_need(words: &mut [u64], at: usize, need: u32)
     requires { at / 64 < length words.old }
-    ensures set { has_place words.new at ≡ false → need ≡ 0 }
-    ensures others { (other : ℕ) → other ≢ at → has_place words.old other ≡ true → has_place words.new other ≡ true }
+    ensures set { names_place words.new at ≡ false → need ≡ 0 }
+    ensures others { (other : ℕ) → other ≢ at → names_place words.old other ≡ true → names_place words.new other ≡ true }
     ensures count { length words.new ≡ length words.old }
 {
     if need > 0 {
@@ -86,7 +87,7 @@ fn mark_flow(endpoints: u16, items: &[Item], at: &[u32], words: &mut [u64], flow
     requires placed { ArePlaced endpoints at.now items.now }
     requires long { length items.now ≤ length words.old * 64 }
     ensures marked { HasBit words.new items.now flow }
-    ensures others { (other : ℕ) → has_place words.old other ≡ true → has_place words.new other ≡ true }
+    ensures others { (other : ℕ) → names_place words.old other ≡ true → names_place words.new other ≡ true }
     ensures count { length words.new ≡ length words.old }
 {
     if let Some(found) = find(endpoints, items, at, flow) {
@@ -100,7 +101,7 @@ fn mark_batch(endpoints: u16, items: &[Item], at: &[u32], words: &mut [u64], bat
     requires placed { ArePlaced endpoints at.now items.now }
     requires long { length items.now ≤ length words.old * 64 }
     ensures marked { HaveBits words.new items.now batch.now.entries }
-    ensures others { (other : ℕ) → has_place words.old other ≡ true → has_place words.new other ≡ true }
+    ensures others { (other : ℕ) → names_place words.old other ≡ true → names_place words.new other ≡ true }
     ensures count { length words.new ≡ length words.old }
 {
     for number in 0..batch.len() {
@@ -114,7 +115,7 @@ fn mark_all(endpoints: u16, items: &[Item], at: &[u32], words: &mut [u64], batch
     requires placed { ArePlaced endpoints at.now items.now }
     requires long { length items.now ≤ length words.old * 64 }
     ensures marked { All (λ batch. HaveBits words.new items.now batch.entries) batches.now }
-    ensures others { (other : ℕ) → has_place words.old other ≡ true → has_place words.new other ≡ true }
+    ensures others { (other : ℕ) → names_place words.old other ≡ true → names_place words.new other ≡ true }
     ensures count { length words.new ≡ length words.old }
 {
     for batch in batches {
@@ -521,6 +522,11 @@ impl ItemLog {
         ensures nothing { result ≡ true → NeedNothing (is_left self.new.picked) batches.now self.old.items }
         ensures room { length found.new.items + found.new.spare ≡ length found.old.items + found.old.spare }
     {
+        // Where no item stands, none is picked: nothing is marked, and no words are looked at.
+        if self.count == 0 {
+            self.places.clear();
+            return true;
+        }
         mark_all(
             self.endpoints,
             &self.items,

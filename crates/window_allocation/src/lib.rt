@@ -13,9 +13,8 @@
 //! out that none of the others would be chosen: `end_words.rt` has the slots of each endpoint as words, `flow_slots.rt` those of
 //! each flow (`proofs/ReachLemmas.antt`, `proofs/Choice.antt`, `proofs/PartLemmas.antt`); where one would, they run over the whole
 //! list. `weave.rt` puts the list together again from place to place, the items that were set aside between two of them at once
-//! (`proofs/Places.antt` says why that is the list). A run that comes behind other batches is played into a table of its own,
-//! whose slots `table.rt` puts behind theirs. `needs.rt` writes down the demand that is left. `proofs/Crossing.antt`: all of it may
-//! go to a thread.
+//! (`proofs/Places.antt` says why that is the list). The slots of a run stand behind those of the batches before it. `needs.rt`
+//! writes down the demand that is left. `proofs/Crossing.antt`: all of it may go to a thread.
 #![tactic(auto)]
 
 mod allocation;
@@ -32,7 +31,6 @@ mod needs;
 mod picked;
 mod reach;
 mod runs;
-mod table;
 mod weave;
 mod window;
 mod window_list;

@@ -5,7 +5,7 @@ ghost use Rattle.greedy_rules.specs.declared.flows.Item.{Item};
 ghost use Rattle.slot_batches.specs.Feeding.{IsInOrder};
 ghost use Rattle.slot_batches.specs.Marks.{has_mark};
 ghost use Rattle.slot_batches.specs.Woven.{woven, OnlyOpen, places_from};
-ghost use Rattle.greedy_rules.specs.Demands.{HasEachFlowOnce};
+ghost use Rattle.greedy_rules.specs.Demands.{HasEachFlowOnce, AreBelow};
 ghost use Rattle.window_allocation.specs.Picked.{HasRoomForPairs, IsReached};
 ghost use Rattle.window_allocation.specs.Reach.{OpenNew, AreOut};
 
@@ -79,6 +79,7 @@ impl Picked {
         requires count { length batches.now ≤ 16 }
         requires order { IsInOrder list.now }
         requires once { HasEachFlowOnce list.now }
+        requires below { AreBelow self.old.guess.words.endpoints list.now }
         requires room { length list.now ≤ length self.old.items.items + self.old.items.spare }
         requires places_room { length list.now ≤ vec_capacity self.old.places }
         ensures reached { result ≡ true → IsReached self.new.marks list.now self.new.items.items self.new.places.items }
@@ -88,6 +89,7 @@ impl Picked {
         ensures places_room { vec_capacity self.new.places ≡ vec_capacity self.old.places }
         ensures whole { self.new.whole ≡ self.old.whole }
         ensures slots { self.new.slots ≡ self.old.slots }
+        ensures words { self.new.guess.words.endpoints ≡ self.old.guess.words.endpoints }
     {
         if self.wait > 0 {
             self.wait -= 1;
@@ -120,6 +122,7 @@ impl Picked {
         out: &SlotTable,
     ) -> bool
         requires order { IsInOrder list.now }
+        requires below { AreBelow self.old.guess.words.endpoints list.now }
         requires count { length batches.now ≤ 16 }
         requires few { length batches.now * b ≤ 64 }
         requires slots { length batches.now * b ≤ length out.now.slots }
@@ -129,6 +132,7 @@ impl Picked {
         ensures places { self.new.places ≡ self.old.places }
         ensures whole { self.new.whole ≡ self.old.whole }
         ensures endpoints { self.new.slots.endpoints ≡ self.old.slots.endpoints }
+        ensures words { self.new.guess.words.endpoints ≡ self.old.guess.words.endpoints }
     {
         let b = u16::from(b);
         self.slots.note(out, batches.len() as u16 * b);
@@ -153,6 +157,7 @@ impl Picked {
         ensures places { self.new.places ≡ self.old.places }
         ensures whole { vec_capacity self.old.whole ≤ vec_capacity self.new.whole }
         ensures slots { self.new.slots ≡ self.old.slots }
+        ensures words { self.new.guess.words.endpoints ≡ self.old.guess.words.endpoints }
     {
         weave_lists(
             list.items(),
@@ -176,6 +181,7 @@ impl Picked {
         ensures places { vec_capacity self.new.places ≡ vec_capacity self.old.places }
         ensures whole { vec_capacity self.old.whole ≤ vec_capacity self.new.whole }
         ensures slots { self.new.slots ≡ self.old.slots }
+        ensures words { self.new.guess.words.endpoints ≡ self.old.guess.words.endpoints }
     {
         if self.places.is_empty() && first_served(self.items.items()) == 0 {
             list.append(self.items.items());

@@ -4,10 +4,11 @@ ghost use Rattle.std.specs.Prelude.{◌≡◌, ◌<◌, ◌≤◌, ◌*◌, ◌&
 ghost use Rattle.std.specs.List.{slice_index_or};
 ghost use Rattle.greedy_rules.specs.declared.flows.Flow.{Flow};
 ghost use Rattle.greedy_rules.specs.declared.flows.Item.{Item};
+ghost use Rattle.greedy_rules.specs.Demands.{AreBelow};
 ghost use Rattle.endpoint_bitmaps.specs.Slots.{has_slot};
 ghost use Rattle.slot_batches.specs.Feeding.{IsInOrder};
 ghost use Rattle.slot_batches.specs.Woven.{places_from};
-ghost use Rattle.window_allocation.specs.Reach.{names_source, names_destination, AreAhead, ShowSlots, OpenAhead, IsNamed, OpenNew, AreOut};
+ghost use Rattle.window_allocation.specs.Reach.{HasWords, names_source, names_destination, AreAhead, ShowSlots, OpenAhead, IsNamed, OpenNew, AreOut};
 
 use crate::end_words::EndWords;
 use crate::flow_slots::{FlowSlots, first_slots};
@@ -17,7 +18,8 @@ use greedy_rules::{Batch, Entry, Item};
 /// Lets the words name where the entry's flow is served first, if it is opened.
 fn note_entry(words: &mut EndWords, slots: &FlowSlots, entry: Entry, count: u16, b: u16)
     requires few { count * b ≤ 64 }
-    ensures { (all : List (List Flow)) (ahead : Flow → Bool) → ShowSlots slots.now.endpoints (count * b) all slots.now.words.items → AreAhead b all ahead words.old → (entry.opens ≡ true → ahead entry.flow ≡ true) → AreAhead b all ahead words.new }
+    ensures ahead { (all : List (List Flow)) (ahead : Flow → Bool) → ShowSlots slots.now.endpoints (count * b) all slots.now.words.items → AreAhead b all ahead words.old → (entry.opens ≡ true → ahead entry.flow ≡ true) → AreAhead b all ahead words.new }
+    ensures endpoints { words.new.endpoints ≡ words.old.endpoints }
 {
     if entry.opens {
         words.add(entry.flow, slots.earliest(entry.flow, count, b));
@@ -27,7 +29,8 @@ fn note_entry(words: &mut EndWords, slots: &FlowSlots, entry: Entry, count: u16,
 /// Lets the words name where the flows that the batch opens are served first.
 fn note_batch(words: &mut EndWords, slots: &FlowSlots, batch: &Batch, count: u16, b: u16)
     requires few { count * b ≤ 64 }
-    ensures { (all : List (List Flow)) (ahead : Flow → Bool) → ShowSlots slots.now.endpoints (count * b) all slots.now.words.items → AreAhead b all ahead words.old → All (λ entry. entry.opens ≡ true → ahead entry.flow ≡ true) batch.now.entries → AreAhead b all ahead words.new }
+    ensures ahead { (all : List (List Flow)) (ahead : Flow → Bool) → ShowSlots slots.now.endpoints (count * b) all slots.now.words.items → AreAhead b all ahead words.old → All (λ entry. entry.opens ≡ true → ahead entry.flow ≡ true) batch.now.entries → AreAhead b all ahead words.new }
+    ensures endpoints { words.new.endpoints ≡ words.old.endpoints }
 {
     for at in 0..batch.len() {
         note_entry(words, slots, batch.entry(at), count, b);
@@ -38,7 +41,8 @@ fn note_batch(words: &mut EndWords, slots: &FlowSlots, batch: &Batch, count: u16
 #[inline(never)]
 fn note_opened(words: &mut EndWords, slots: &FlowSlots, batches: &[Batch], count: u16, b: u16)
     requires few { count * b ≤ 64 }
-    ensures { (all : List (List Flow)) (ahead : Flow → Bool) → ShowSlots slots.now.endpoints (count * b) all slots.now.words.items → AreAhead b all ahead words.old → OpenAhead ahead batches.now → AreAhead b all ahead words.new }
+    ensures ahead { (all : List (List Flow)) (ahead : Flow → Bool) → ShowSlots slots.now.endpoints (count * b) all slots.now.words.items → AreAhead b all ahead words.old → OpenAhead ahead batches.now → AreAhead b all ahead words.new }
+    ensures endpoints { words.new.endpoints ≡ words.old.endpoints }
 {
     for batch in batches {
         note_batch(words, slots, batch, count, b);
@@ -55,25 +59,28 @@ fn note_opened_if(
     b: u16,
 )
     requires few { count * b ≤ 64 }
-    ensures { (all : List (List Flow)) (ahead : Flow → Bool) → ShowSlots slots.now.endpoints (count * b) all slots.now.words.items → AreAhead b all ahead words.old → (here ≡ true → OpenAhead ahead batches.now) → AreAhead b all ahead words.new }
+    ensures ahead { (all : List (List Flow)) (ahead : Flow → Bool) → ShowSlots slots.now.endpoints (count * b) all slots.now.words.items → AreAhead b all ahead words.old → (here ≡ true → OpenAhead ahead batches.now) → AreAhead b all ahead words.new }
+    ensures endpoints { words.new.endpoints ≡ words.old.endpoints }
 {
     if here {
         note_opened(words, slots, batches, count, b);
     }
 }
 
-/// Whether the item needs nothing, or its ends are named in each of these slots. Which of the two is hard to foresee, so there is
-/// no branch on it.
+/// Whether the item needs nothing, or its ends are named in each of these slots. Which of the two is hard to foresee, so both are
+/// looked at.
 fn is_out(words: &EndWords, item: &Item, all: u64) -> bool
+    requires { HasWords words.now item.now.flow }
     ensures { result ≡ true → (count : ℕ) → ((at : ℕ) → at < count → has_slot all at ≡ true) → IsNamed words.now count item.now }
 {
     let open = all & !words.either(item.flow);
-    open.min(u64::from(item.need)) == 0
+    (open == 0) | (item.need == 0)
 }
 
 /// Whether each of the items is out.
 fn all_out(words: &EndWords, items: &[Item], count: u16, b: u16, all: u64) -> bool
-    requires { (at : ℕ) → at < count * b → has_slot all at ≡ true }
+    requires below { AreBelow words.now.endpoints items.now }
+    requires all { (at : ℕ) → at < count * b → has_slot all at ≡ true }
     ensures { result ≡ true → All (IsNamed words.now (count * b)) items.now }
 {
     for item in items {
@@ -126,7 +133,8 @@ fn gap_from(places: &[usize], next: usize, at: usize, stop: usize) -> Gap
 #[inline(never)]
 fn note_picked(words: &mut EndWords, slots: &FlowSlots, item: &Item, count: u16, b: u16)
     requires few { count * b ≤ 64 }
-    ensures { (all : List (List Flow)) (ahead : Flow → Bool) → ShowSlots slots.now.endpoints (count * b) all slots.now.words.items → AreAhead b all ahead words.old → ahead item.now.flow ≡ true → AreAhead b all ahead words.new }
+    ensures ahead { (all : List (List Flow)) (ahead : Flow → Bool) → ShowSlots slots.now.endpoints (count * b) all slots.now.words.items → AreAhead b all ahead words.old → ahead item.now.flow ≡ true → AreAhead b all ahead words.new }
+    ensures endpoints { words.new.endpoints ≡ words.old.endpoints }
 {
     words.add(item.flow, slots.earliest(item.flow, count, b));
 }
@@ -145,6 +153,7 @@ fn note_picked_if(
     requires within { here ≡ true → at < length list.now }
     ensures noted { here ≡ true → (none : Item) (all : List (List Flow)) (ahead : Flow → Bool) → ShowSlots slots.now.endpoints (count * b) all slots.now.words.items → AreAhead b all ahead words.old → ahead (slice_index_or list.now at none).flow ≡ true → AreAhead b all ahead words.new }
     ensures same { here ≡ false → words.new ≡ words.old }
+    ensures endpoints { words.new.endpoints ≡ words.old.endpoints }
 {
     if here {
         note_picked(words, slots, &list[at], count, b);
@@ -163,9 +172,11 @@ pub(crate) fn are_out(
     b: u16,
 ) -> bool
     requires order { IsInOrder list.now }
+    requires below { AreBelow words.old.endpoints list.now }
     requires count { length batches.now ≤ 16 }
     requires few { length batches.now * b ≤ 64 }
-    ensures { result ≡ true → (aside : Item → Bool) (all : List (List Flow)) → places.now ≡ places_from aside 0 list.now → ShowSlots slots.now.endpoints (length batches.now * b) all slots.now.words.items → OpenNew list.now batches.now → AreOut b (length batches.now * b) all list.now aside (λ flow. false) list.now }
+    ensures endpoints { words.new.endpoints ≡ words.old.endpoints }
+    ensures out { result ≡ true → (aside : Item → Bool) (all : List (List Flow)) → places.now ≡ places_from aside 0 list.now → ShowSlots slots.now.endpoints (length batches.now * b) all slots.now.words.items → OpenNew list.now batches.now → AreOut b (length batches.now * b) all list.now aside (λ flow. false) list.now }
 {
     words.clear();
     let count = batches.len() as u16;

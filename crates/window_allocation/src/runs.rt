@@ -1,17 +1,15 @@
 //! The ring, which is handed what of a window may change.
 ghost use Rattle.std.specs.Prelude.{◌≡◌, ◌<◌, ◌≤◌, ◌+◌, ◌-◌, ◌*◌, [], ◌++◌, length, take, drop, replicate, IfOk};
 ghost use Rattle.greedy_rules.specs.Schedule.{schedule_from, rest_from};
-ghost use Rattle.alloc_pipeline.specs.Ring.{IsRingSize as MayBeOpened, IsSameRingWork, MayAllocate, moved_by, pairs_of};
+ghost use Rattle.alloc_pipeline.specs.Ring.{IsRingSize as MayBeOpened, IsSameRingWork, MayAllocate, pairs_of};
 ghost use Rattle.window_allocation.specs.Picked.{HasRoomForPairs, IsReached};
 ghost use Rattle.window_allocation.specs.Ready.{AnyPartMayBeApplied, MaySetAside};
-ghost use Rattle.ring_core.specs.Windows.{window_of};
 ghost use Rattle.window_allocation.specs.Handed.{ComeOfRing};
-ghost use Rattle.window_allocation.specs.Runs.{HasRunTable, GivesSlots, IsPlayed, ArePlayed};
+ghost use Rattle.window_allocation.specs.Runs.{IsRingOfRuns, GivesSlots, IsPlayed, ArePlayed};
 ghost use Rattle.window_allocation.specs.WindowLists.{demands_of, IsWindowList};
 
 use crate::batches::{count_idle, count_run};
 use crate::picked::Picked;
-use crate::table::put_slots;
 use crate::window_list::{WindowList, most_picked};
 use alloc_pipeline::Ring;
 use fp_edge::Gate;
@@ -38,13 +36,13 @@ impl Model for WindowRing {
     ghost use Rattle.std.specs.Prelude.{◌≡◌, ◌<◌, ◌≤◌};
     ghost use Rattle.alloc_pipeline.specs.Ring.{RingWork};
     ghost use Rattle.window_allocation.specs.Picked.{HasRoomForPairs};
-    ghost use Rattle.window_allocation.specs.Runs.{HasRunTable};
+    ghost use Rattle.window_allocation.specs.Runs.{IsRingOfRuns};
 
     ghost Value = { RingWork };
 
     ghost view = { λ r. r.parts.runs.ring };
 
-    ghost invariant = { λ r. HasRunTable r.parts.runs × HasRoomForPairs r.parts.runs.ring.endpoints r.parts.picked };
+    ghost invariant = { λ r. IsRingOfRuns r.parts.runs × HasRoomForPairs r.parts.runs.ring.endpoints r.parts.picked };
 }
 
 impl WindowRing {
@@ -64,7 +62,6 @@ impl WindowRing {
                 runs: Runs {
                     b,
                     ring: Ring::open(alloc, workers, endpoints, batches, b)?,
-                    slots: SlotTable::open(alloc, batches * u16::from(b), endpoints)?,
                 },
                 picked: Picked::open(alloc, endpoints)?,
             },
@@ -112,12 +109,12 @@ impl Parts {
         batches: &[Batch],
         out: &mut SlotTable,
     )
-        requires table { HasRunTable self.old.runs }
+        requires runs { IsRingOfRuns self.old.runs }
         requires memory { HasRoomForPairs self.old.runs.ring.endpoints self.old.picked }
         requires is { IsWindowList self.old.runs.ring.endpoints list.old }
         requires may { MayAllocate self.old.runs.ring first_batch (demands_of list.old) batches.now out.old }
         requires parts { AnyPartMayBeApplied self.old.runs.ring.endpoints self.old.runs.ring.b first_batch (demands_of list.old).items batches.now }
-        ensures table { HasRunTable self.new.runs }
+        ensures runs { IsRingOfRuns self.new.runs }
         ensures memory { HasRoomForPairs self.old.runs.ring.endpoints self.new.picked }
         ensures is { IsWindowList self.old.runs.ring.endpoints list.new }
         ensures allocates { GivesSlots self.old.runs.ring self.new.runs.ring first_batch (demands_of list.old) (demands_of list.new) batches.now out.old out.new }
@@ -151,12 +148,12 @@ impl Parts {
         batches: &[Batch],
         out: &mut SlotTable,
     )
-        requires table { HasRunTable self.old.runs }
+        requires runs { IsRingOfRuns self.old.runs }
         requires memory { HasRoomForPairs self.old.runs.ring.endpoints self.old.picked }
         requires may { MayAllocate self.old.runs.ring first_batch list.old batches.now out.old }
         requires some { 0 < length batches.now }
         requires parts { AnyPartMayBeApplied self.old.runs.ring.endpoints self.old.runs.ring.b first_batch list.old.items batches.now }
-        ensures table { HasRunTable self.new.runs }
+        ensures runs { IsRingOfRuns self.new.runs }
         ensures memory { HasRoomForPairs self.old.runs.ring.endpoints self.new.picked }
         ensures allocates { GivesSlots self.old.runs.ring self.new.runs.ring first_batch list.old list.new batches.now out.old out.new }
         ensures handed { ComeOfRing self.old.runs.ring.b first_batch self.old.runs.ring.workers list.old.items batches.now (schedule_from self.old.runs.ring.b first_batch list.old.items batches.now) self.old.runs.ring.moved self.new.runs.ring.moved }
@@ -182,13 +179,13 @@ impl Parts {
         batches: &[Batch],
         out: &mut SlotTable,
     )
-        requires table { HasRunTable self.old.runs }
+        requires runs { IsRingOfRuns self.old.runs }
         requires memory { HasRoomForPairs self.old.runs.ring.endpoints self.old.picked }
         requires few { length batches.now * self.old.runs.b ≤ 64 }
         requires may { MayAllocate self.old.runs.ring first_batch list.old batches.now out.old }
         requires aside { MaySetAside self.old.runs.ring.endpoints self.old.runs.ring.b first_batch self.old.picked.marks list.old.items batches.now }
         requires reached { IsReached self.old.picked.marks list.old.items self.old.picked.items.items self.old.picked.places.items }
-        ensures table { HasRunTable self.new.runs }
+        ensures runs { IsRingOfRuns self.new.runs }
         ensures memory { HasRoomForPairs self.old.runs.ring.endpoints self.new.picked }
         ensures allocates { GivesSlots self.old.runs.ring self.new.runs.ring first_batch list.old list.new batches.now out.old out.new }
         ensures handed { ComeOfRing self.old.runs.ring.b first_batch self.old.runs.ring.workers list.old.items batches.now (schedule_from self.old.runs.ring.b first_batch list.old.items batches.now) self.old.runs.ring.moved self.new.runs.ring.moved }
@@ -212,12 +209,11 @@ impl Parts {
     }
 }
 
-/// A ring that plays the batches of a window run by run, and a table for the slots of a run that comes behind other batches.
+/// A ring that plays the batches of a window run by run, and how many slots each batch has.
 #[derive(Drop)]
 pub(crate) struct Runs {
     pub(crate) b: u8,
     pub(crate) ring: Ring,
-    pub(crate) slots: SlotTable,
 }
 
 impl Runs {
@@ -231,9 +227,9 @@ impl Runs {
         batches: &[Batch],
         out: &mut SlotTable,
     )
-        requires table { HasRunTable self.old }
+        requires runs { IsRingOfRuns self.old }
         requires may { MayAllocate self.old.ring first_batch list.old batches.now out.old }
-        ensures table { HasRunTable self.new }
+        ensures runs { IsRingOfRuns self.new }
         ensures allocates { GivesSlots self.old.ring self.new.ring first_batch list.old list.new batches.now out.old out.new }
         ensures played { ArePlayed self.old.ring.b first_batch self.old.ring.workers list.old.items batches.now self.old.ring.moved self.new.ring.moved }
     {
@@ -267,13 +263,13 @@ impl Runs {
         batches: &[Batch],
         out: &mut SlotTable,
     ) -> usize
-        requires table { HasRunTable self.old }
+        requires runs { IsRingOfRuns self.old }
         requires some { 0 < length batches.now }
         requires may { MayAllocate self.old.ring first_batch list.old batches.now out.old }
         requires count { passed + length batches.now ≤ self.old.ring.batches }
         requires places { (passed + length batches.now) * self.old.ring.b ≤ length out.old.slots }
         requires empty { drop (passed * self.old.ring.b) out.old.slots ≡ replicate (length out.old.slots - passed * self.old.ring.b) [] }
-        ensures table { HasRunTable self.new }
+        ensures runs { IsRingOfRuns self.new }
         ensures same { IsSameRingWork self.old.ring self.new.ring }
         ensures some { 0 < result }
         ensures count { result ≤ length batches.now }
@@ -291,43 +287,8 @@ impl Runs {
             return idle;
         }
         let run = count_run(list.items(), batches, self.b);
-        self.play_behind(rt, gate, passed, list, first_batch, &batches[..run], out);
-        run
-    }
-
-    /// Plays these batches by the ring; their slots stand behind those of so many batches that came before.
-    fn play_behind<R: Threads + Wait + Sync, G: Gate + Sync>(
-        &mut self,
-        rt: &R,
-        gate: &G,
-        passed: u16,
-        list: &mut DemandList,
-        first_batch: u32,
-        batches: &[Batch],
-        out: &mut SlotTable,
-    )
-        requires table { HasRunTable self.old }
-        requires may { MayAllocate self.old.ring first_batch list.old batches.now out.old }
-        requires count { passed + length batches.now ≤ self.old.ring.batches }
-        requires places { (passed + length batches.now) * self.old.ring.b ≤ length out.old.slots }
-        requires empty { drop (passed * self.old.ring.b) out.old.slots ≡ replicate (length out.old.slots - passed * self.old.ring.b) [] }
-        ensures table { HasRunTable self.new }
-        ensures same { IsSameRingWork self.old.ring self.new.ring }
-        ensures list { list.new.items ≡ rest_from self.old.ring.b first_batch list.old.items batches.now }
-        ensures spare { length list.new.items + list.new.spare ≡ length list.old.items + list.old.spare }
-        ensures slots { out.new.slots ≡ (take (passed * self.old.ring.b) out.old.slots ++ schedule_from self.old.ring.b first_batch list.old.items batches.now) ++ replicate (length out.old.slots - (passed + length batches.now) * self.old.ring.b) [] }
-        ensures endpoints { out.new.endpoints ≡ out.old.endpoints }
-        ensures moved { self.new.ring.moved ≡ moved_by (window_of list.old.items batches.now first_batch self.old.ring.b self.old.ring.workers) 0 self.old.ring.moved }
-    {
-        if passed == 0 {
-            self.ring
-                .allocate(rt, gate, list, first_batch, batches, out);
-            return;
-        }
-        schedules_go_on();
         self.ring
-            .allocate(rt, gate, list, first_batch, batches, &mut self.slots);
-        let b = u16::from(self.b);
-        put_slots(&self.slots, batches.len() as u16 * b, out, passed * b);
+            .allocate_behind(rt, gate, list, first_batch, &batches[..run], passed, out);
+        run
     }
 }

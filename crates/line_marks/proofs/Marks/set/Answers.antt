@@ -1,6 +1,6 @@
 use Rattle.std.proofs.Common.{rules}
-use Rattle.line_marks.proofs.BitLemmas.{bit_is_set}
+use Rattle.list_facts.proofs.Bits.{place_is_set}
 use Rattle.line_marks.proofs.Marks.set.Goals as goal
 
 pub returns : goal.returns
-returns c = rw (← c.self.view_is) (bit_is_set c.self.inside.words c.args.at (search rules))
+returns c = rw (← c.self.view_is) (place_is_set c.self.inside.words c.args.at (search rules))

@@ -1,4 +1,4 @@
-use Rattle.std.proofs.Common.{◌≡◌, true, take, subst}
+use Rattle.std.proofs.Common.{◌≡◌, true, take, ◌∙◌, subst}
 use Rattle.std.proofs.lemmas.List.Elements.{All-more, All-weaker}
 use Rattle.greedy_rules.specs.declared.flows.Entry.{Entry}
 use Rattle.greedy_rules.specs.Batches.{DemandBatch}
@@ -15,4 +15,7 @@ loop-batch-preserved c =
     let Marked : DemandBatch → Type 0 = λ b. HaveOwnBits b.entries words in
     let kept : (b : DemandBatch) → Was b → Marked b =
     λ b was. All-weaker (λ (e : Entry). has_own_bit c.loop-batch.words e.flow ≡ true) (λ e. has_own_bit words e.flow ≡ true) (λ e is. c.mark_batch.ensures.others e.flow is) b.entries was in
-    All-more Marked batches at batch c.loop-batch-test.true (All-weaker Was Marked kept (take at batches) c.loop-batch.invariant) (subst Marked c.batch-item.is c.mark_batch.ensures.marked)
+    record {
+      marked = All-more Marked batches at batch c.loop-batch-test.true (All-weaker Was Marked kept (take at batches) c.loop-batch.invariant.marked) (subst Marked c.batch-item.is c.mark_batch.ensures.marked);
+      count = c.mark_batch.ensures.count ∙ c.loop-batch.invariant.count;
+    }

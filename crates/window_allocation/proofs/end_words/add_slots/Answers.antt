@@ -4,8 +4,8 @@ use Rattle.endpoint_bitmaps.specs.Slots.{has_slot}
 use Rattle.window_allocation.proofs.SlotWords.{more_slots}
 use Rattle.window_allocation.proofs.end_words.add_slots.Goals as goal
 
-pub returns-then-endpoint-len : goal.returns-then-endpoint-len
-returns-then-endpoint-len c = λ other at is.
+pub returns-then-endpoint-len-clause-named : goal.returns-then-endpoint-len-clause-named
+returns-then-endpoint-len-clause-named c = λ other at is.
     let words : List ℕ = c.args.words.now.items in
     let within : c.args.endpoint < length words = omega (arith, c.if-endpoint-len.true, c.args.words.now.ok.0) in
     let word : c.index_mut.result.now ≡ get_or words c.args.endpoint 0 = get_or_read words c.args.endpoint c.index_mut.result.now within c.index_mut.ensures.value 0 in

@@ -1,14 +1,17 @@
-use Rattle.std.proofs.Common.{◌+◌, ◌*◌, ◌≤◌, arith}
+use Rattle.std.proofs.Common.{◌≡◌, ◌<◌, ◌≤◌, ◌+◌, ◌*◌, ◌/◌, ◌==◌, ℕ, false, w64, ap, arith}
+use Rattle.std.specs.Int.{trailing_zeros}
+use Rattle.std.proofs.Math.Nat.{div-mul-le_self}
 use Rattle.std.proofs.lemmas.Nat.{mul-le}
-use Rattle.window_allocation.proofs.SlotWords.{found_first, none_found}
+use Rattle.std.proofs.lemmas.Nat.Bits.{bit_at-trailing_zeros}
+use Rattle.endpoint_bitmaps.specs.Slots.{has_slot}
+use Rattle.window_allocation.proofs.SlotWords.{found_first}
 use Rattle.window_allocation.proofs.flow_slots.of_first_batch.Goals as goal
 
-pub returns-then-here-gt0 : goal.returns-then-here-gt0
-returns-then-here-gt0 c = λ at is.
-    let few : (c.loop-batch.batch + 1) * c.args.b ≤ 64 = omega (arith, mul-le (c.loop-batch.batch + 1) c.args.b c.args.batches c.args.b (omega arith) (omega arith), c.requires) in
-    found_first c.args.slots c.first_slots.result c.loop-batch.batch c.args.b at c.loop-batch.invariant (c.first_slots.ensures few) is
-
-pub loop-batch-preserved : goal.loop-batch-preserved
-loop-batch-preserved c =
-    let few : (c.loop-batch.batch + 1) * c.args.b ≤ 64 = omega (arith, mul-le (c.loop-batch.batch + 1) c.args.b c.args.batches c.args.b (omega arith) (omega arith), c.requires) in
-    none_found c.args.slots c.first_slots.result c.loop-batch.batch c.args.b (c.first_slots.ensures few) (omega (arith, c.if-here-gt0.false))
+pub returns : goal.returns
+returns c = λ at is.
+    let lowest : ℕ = trailing_zeros w64 c.args.slots in
+    let batch : ℕ = lowest / c.from.result in
+    let zeros = bit_at-trailing_zeros w64 c.args.slots (omega (arith, c.if-slots-eq0.false)) c.ranges.slots.fits in
+    let few : (batch + 1) * c.args.b ≤ 64 = omega (arith, mul-le (batch + 1) c.args.b c.args.batches c.args.b (omega (arith, c.if-batch-from.false, c.from-2.ensures)) (omega arith), c.requires) in
+    let none : (earlier : ℕ) → earlier < batch * c.args.b → has_slot c.args.slots earlier ≡ false = λ earlier below. ap (λ (n : ℕ). n == 1) (zeros.2 earlier (omega (arith, below, ap (λ (n : ℕ). batch * n) c.from.ensures, div-mul-le_self lowest c.from.result))) in
+    found_first c.args.slots c.first_slots.result batch c.args.b at none (c.first_slots.ensures few) is

@@ -8,4 +8,4 @@ nothing = record { flow = record { src = 0; dst = 0 }; need = 0; last = 0 }
 
 pub returns-then-here-clause-noted : goal.returns-then-here-clause-noted
 returns-then-here-clause-noted c = λ is none all ahead show was goes.
-    c.note_picked.ensures all ahead show was (ap (λ (item : Item). ahead item.flow) (get_or_default c.args.list.now c.args.at nothing none (c.requires.within is)) ∙ goes)
+    c.note_picked.ensures.ahead all ahead show was (ap (λ (item : Item). ahead item.flow) (get_or_default c.args.list.now c.args.at nothing none (c.requires.within is)) ∙ goes)

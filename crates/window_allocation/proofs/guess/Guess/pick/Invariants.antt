@@ -5,6 +5,7 @@ use Rattle.window_allocation.proofs.guess.Guess.pick.Given as goal
 
 abbrev pub invariant-loop-at : goal.invariant-loop-at
 invariant-loop-at l = record {
+  endpoints : l.self.words.endpoints ≡ l.fn.self.words.endpoints;
   within : l.at ≤ length l.list;
   chosen : AreChosen l.marks l.list l.at l.found.items l.places.items;
   same : length l.found.items ≡ length l.places.items;

@@ -1,14 +1,14 @@
 use Rattle.std.proofs.Common.{◌≡◌, ◌+◌, ◌-◌, ◌*◌, ◌++◌, ℕ, List, [], length, replicate, sym, ap, ◌∙◌, subst, arith}
 use Rattle.std.specs.Prelude.{vec_capacity}
 use Rattle.std.specs.Global.{Vec}
-use Rattle.greedy_rules.specs.Demands.{Demands}
+use Rattle.greedy_rules.specs.Demands.{Demands, AreBelow}
 use Rattle.greedy_rules.specs.declared.flows.Flow.{Flow}
 use Rattle.greedy_rules.specs.declared.flows.Item.{Item}
 use Rattle.greedy_rules.specs.Schedule.{first_slot, rest_from, schedule_from}
 use Rattle.slot_batches.specs.Woven.{woven}
 use Rattle.slot_batches.specs.NextList.{IsListBefore}
 use Rattle.alloc_pipeline.proofs.RingLemmas.{left_before}
-use Rattle.window_allocation.proofs.RunLemmas.{few_items}
+use Rattle.window_allocation.proofs.RunLemmas.{few_items, below_endpoints}
 use Rattle.window_allocation.proofs.HandedLemmas.{come_of_ring}
 use Rattle.window_allocation.proofs.ReachedLemmas.{may_run, tested_window, as_long, may_again, gives_again, come_after}
 use Rattle.window_allocation.proofs.runs.Parts.allocate_reached.Goals as goal
@@ -32,6 +32,12 @@ allocate_runs-requires-clause-may g c κs within =
       places = c.requires.may.places;
     }
 
+pub keeps_out-requires-clause-below : goal.keeps_out-requires-clause-below
+keeps_out-requires-clause-below g c =
+    let ring = c.args.self.now.runs.ring in
+    subst (λ (n : ℕ). AreBelow n c.items.result.now) (sym c.requires.memory.words)
+    (subst (AreBelow ring.endpoints) (sym c.items.ensures) (below_endpoints ring.endpoints ring.b c.args.first_batch c.args.list.now.items c.args.batches.now c.requires.aside.some c.requires.may.may))
+
 pub keeps_out-requires-clause-slots : goal.keeps_out-requires-clause-slots
 keeps_out-requires-clause-slots g c =
     let batches = c.args.batches.now in
@@ -41,7 +47,7 @@ keeps_out-requires-clause-slots g c =
     let long : length c.allocate_runs.new.out.slots ≡ length c.args.out.now.slots =
     as_long b (length batches) (length c.args.out.now.slots) (schedule_from b first c.args.self.now.picked.items.items batches) c.allocate_runs.new.out.slots (c.schedules_go_on.ensures.count b first c.args.self.now.picked.items.items batches)
     c.requires.may.places done.slots in
-    let same : c.allocate_runs.new.self.b ≡ b = c.allocate_runs.ensures.table.b ∙ done.same.b in
+    let same : c.allocate_runs.new.self.b ≡ b = c.allocate_runs.ensures.runs.b ∙ done.same.b in
     omega (arith, long, c.requires.may.places, ap (λ (m : ℕ). length batches * m) same)
 
 pub weave_into-requires-clause-room : goal.weave_into-requires-clause-room
@@ -58,7 +64,7 @@ weave_into-requires-clause-room g c =
     let window =
     tested_window ring.endpoints b c.allocate_runs.new.self.b first picked.marks list c.items.result.now picked.items.items picked.places.items batches c.allocate_runs.new.out.slots
     (replicate (length c.args.out.now.slots - length batches * b) none) c.flows_fit_pairs.ensures c.every_batch_leaves_a_list.ensures.flows c.schedules_go_on.ensures.count c.items_may_be_set_aside.ensures.listed
-    c.items_beyond_reach_may_be_set_aside.ensures.in_slots c.requires.aside.some c.requires.may.may c.requires.may.before c.requires.aside.unmarked reached c.items.ensures (c.allocate_runs.ensures.table.b ∙ done.same.b) done.slots
+    c.items_beyond_reach_may_be_set_aside.ensures.in_slots c.requires.aside.some c.requires.may.may c.requires.may.before c.requires.aside.unmarked reached c.items.ensures (c.allocate_runs.ensures.runs.b ∙ done.same.b) done.slots
     (c.keeps_out.ensures.out c.if-keeps_out.true) in
     let items = ap (λ (demands : Demands). demands.items) c.keeps_out.ensures.items in
     let whole : length (woven reached.aside list c.keeps_out.new.self.items.items) ≡ length (rest_from b first list batches) =
@@ -83,7 +89,7 @@ returns-then-keeps_out-clause-allocates g c =
     let window =
     tested_window ring.endpoints b c.allocate_runs.new.self.b first picked.marks list c.items.result.now picked.items.items picked.places.items batches c.allocate_runs.new.out.slots
     (replicate (length c.args.out.now.slots - length batches * b) none) c.flows_fit_pairs.ensures c.every_batch_leaves_a_list.ensures.flows c.schedules_go_on.ensures.count c.items_may_be_set_aside.ensures.listed
-    c.items_beyond_reach_may_be_set_aside.ensures.in_slots c.requires.aside.some c.requires.may.may c.requires.may.before c.requires.aside.unmarked reached c.items.ensures (c.allocate_runs.ensures.table.b ∙ done.same.b) done.slots
+    c.items_beyond_reach_may_be_set_aside.ensures.in_slots c.requires.aside.some c.requires.may.may c.requires.may.before c.requires.aside.unmarked reached c.items.ensures (c.allocate_runs.ensures.runs.b ∙ done.same.b) done.slots
     (c.keeps_out.ensures.out c.if-keeps_out.true) in
     let items = ap (λ (demands : Demands). demands.items) c.keeps_out.ensures.items in
     let left : c.weave_into.new.list.items ≡ rest_from b first list batches =
@@ -112,7 +118,7 @@ returns-then-keeps_out-clause-handed g c =
     let window =
     tested_window ring.endpoints b c.allocate_runs.new.self.b first picked.marks list c.items.result.now picked.items.items picked.places.items batches c.allocate_runs.new.out.slots
     (replicate (length c.args.out.now.slots - length batches * b) none) c.flows_fit_pairs.ensures c.every_batch_leaves_a_list.ensures.flows c.schedules_go_on.ensures.count c.items_may_be_set_aside.ensures.listed
-    c.items_beyond_reach_may_be_set_aside.ensures.in_slots c.requires.aside.some c.requires.may.may c.requires.may.before c.requires.aside.unmarked reached c.items.ensures (c.allocate_runs.ensures.table.b ∙ done.same.b) done.slots
+    c.items_beyond_reach_may_be_set_aside.ensures.in_slots c.requires.aside.some c.requires.may.may c.requires.may.before c.requires.aside.unmarked reached c.items.ensures (c.allocate_runs.ensures.runs.b ∙ done.same.b) done.slots
     (c.keeps_out.ensures.out c.if-keeps_out.true) in
     come_of_ring b first ring.workers reached.aside list picked.items.items batches _ ring.moved c.allocate_runs.new.self.ring.moved c.allocate_runs.ensures.played window.is window.slots
     (window.named c.every_batch_balances.ensures)

@@ -30,8 +30,8 @@ returns-then-idle-gt0-clause-slots g c =
     places_stay c.args.passed count b c.args.out.now.slots (schedule_from b c.args.first_batch list front) fits c.requires.empty
     ((idle_stay b c.args.first_batch list front c.idle_lists_stay.ensures c.requires.may.before.in_order idle).0 ∙ ap (λ (n : ℕ). replicate (n * b) none) long)
 
-pub play_behind-requires-clause-may : goal.play_behind-requires-clause-may
-play_behind-requires-clause-may g c κs within =
+pub allocate_behind-requires-clause-may : goal.allocate_behind-requires-clause-may
+allocate_behind-requires-clause-may g c κs within =
     let ring = c.args.self.now.ring in
     let list : List Item = c.args.list.now.items in
     let batches = c.args.batches.now in
@@ -70,5 +70,5 @@ returns-clause-played g c = record {
   are = refl;
   passed = λ not. absurd (both_ways _ not refl);
   given = refl;
-  moved = c.play_behind.ensures.moved;
+  moved = c.allocate_behind.ensures.allocates.moved;
 }

@@ -16,7 +16,7 @@ pub loop-served-init : goal.loop-served-init
 loop-served-init g c =
     let may = c.requires.may in
     record {
-      table = c.requires.table;
+      runs = c.requires.runs;
       same = record { workers = refl; endpoints = refl; batches = refl; b = refl; spare = refl };
       window = record { may = may.may; before = may.before; numbers = may.numbers; list_fits = may.room; places = may.places };
       are = none_served c.args.self.now.ring.b c.args.first_batch c.args.list.now.items c.args.batches.now (length c.args.out.now.slots) c.clear.new.self.slots c.clear.ensures.slots;
@@ -120,7 +120,7 @@ loop-served-preserved g c =
     let window : IsWindow now.endpoints ring.b first found batches total room = subst (λ (n : ℕ). IsWindow n ring.b first found batches total room) (sym same.endpoints) was.window in
     let are = run_served ring.b first found batches total served count c.loop-served.list.items c.allocate_run-served.new.list.items c.loop-served.out.slots c.allocate_run-served.new.out.slots c.schedules_go_on.ensures.more c.schedules_go_on.ensures.count was.window.places was.are told.count told.list told.slots in
     record {
-      table = told.table;
+      runs = told.runs;
       same = record {
         workers = same.workers ∙ was.same.workers;
         endpoints = same.endpoints ∙ was.same.endpoints;

@@ -1,12 +1,12 @@
 use Rattle.std.proofs.Common.{◌≡◌, ◌+◌, ◌-◌, length, take}
 use Rattle.alloc_pipeline.specs.Ring.{IsSameRingWork}
-use Rattle.window_allocation.specs.Runs.{HasRunTable, ArePlayed}
+use Rattle.window_allocation.specs.Runs.{IsRingOfRuns, ArePlayed}
 use Rattle.window_allocation.proofs.RunLemmas.{IsWindow, AreServed}
 use Rattle.window_allocation.proofs.runs.Runs.allocate_runs.Given as goal
 
 abbrev pub invariant-loop-served : goal.invariant-loop-served
 invariant-loop-served g l = record {
-  table : HasRunTable l.self;
+  runs : IsRingOfRuns l.self;
   same : IsSameRingWork l.initial.self.ring l.self.ring;
   window : IsWindow l.self.ring.endpoints l.self.ring.b l.first_batch l.fn.list.items l.batches (length l.fn.out.slots) (length l.fn.list.items + l.fn.list.spare);
   are : AreServed l.self.ring.b l.first_batch l.fn.list.items l.batches (length l.fn.out.slots) l.served l.list.items l.out.slots;

@@ -2,7 +2,7 @@ use Rattle.std.proofs.Common.{◌≡◌, ◌<◌, ◌+◌, ℕ, List, [], ◌∷
 use Rattle.greedy_rules.specs.declared.flows.Flow.{Flow}
 use Rattle.greedy_rules.specs.Schedule.{slot_in}
 use Rattle.std.proofs.lemmas.List.{append_assoc, length-append, length-take, set_at, take_more, drop_more}
-use Rattle.greedy_rules.proofs.slots.SlotTable.copy_front.Goals as goal
+use Rattle.greedy_rules.proofs.slots.SlotTable.copy.Goals as goal
 
 -- a slot more is copied
 one_more : (to slot : ℕ) (old from : List (List Flow)) → slot < length from → to + slot < length old
@@ -23,12 +23,12 @@ one_more to slot old from below within =
     ∙ ap (λ (n : ℕ). take to old ++ (take (slot + 1) from ++ drop n old)) next)))))
 
 pub overflow_add-to : goal.overflow_add-to
-overflow_add-to c = omega (arith, c.requires.places, c.loop-slot-test.true, c.slots-slots.ensures.count)
+overflow_add-to c = omega (arith, c.requires.places, c.loop-slot-test.true, c.slots-slots.ensures.count, c.slots-slot-end.ensures.count)
 
 pub loop-slot-preserved : goal.loop-slot-preserved
 loop-slot-preserved c = record {
   slots = c.copy_slot.ensures.slots
       ∙ (ap (λ (xs : List (List Flow)). set xs (c.args.to + c.loop-slot.slot) (slot_in c.args.from.now.slots c.loop-slot.slot)) c.loop-slot.invariant.slots
-      ∙ one_more c.args.to c.loop-slot.slot c.args.self.now.slots c.args.from.now.slots (omega (arith, c.loop-slot-test.true, c.requires.count)) (omega (arith, c.loop-slot-test.true, c.requires.places)));
+      ∙ one_more c.args.to c.loop-slot.slot c.args.self.now.slots c.args.from.now.slots (omega (arith, c.loop-slot-test.true, c.slots-slot-end.ensures.count)) (omega (arith, c.loop-slot-test.true, c.slots-slot-end.ensures.count, c.requires.places)));
   endpoints = c.copy_slot.ensures.endpoints ∙ c.loop-slot.invariant.endpoints;
 }

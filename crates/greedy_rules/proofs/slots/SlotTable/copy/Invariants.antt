@@ -1,5 +1,5 @@
 use Rattle.std.proofs.Common.{◌≡◌, ◌+◌, ◌++◌, take, drop}
-use Rattle.greedy_rules.proofs.slots.SlotTable.copy_front.Given as goal
+use Rattle.greedy_rules.proofs.slots.SlotTable.copy.Given as goal
 
 abbrev pub invariant-loop-slot : goal.invariant-loop-slot
 invariant-loop-slot l = record {
