@@ -75,16 +75,17 @@ impl PutRows {
 /// The packets of each endpoint, those of one in the order of rows.
 #[derive(Drop)]
 pub struct Puts {
+    endpoints: u16,
     // By endpoint.
     packets: Vec<KeptPacket>,
-    // Where those of each endpoint begin, and where the last end.
+    // Where those of each endpoint begin, and where the last end; empty where there are none.
     starts: Vec<usize>,
     // The bytes of all.
     bytes: Vec<u8>,
 }
 
 impl Model for Puts {
-    ghost use Rattle.std.specs.Prelude.{◌≡◌, ◌+◌, ◌-◌, ◌≤◌, ℕ, List, length, All};
+    ghost use Rattle.std.specs.Prelude.{◌≡◌, ◌+◌, ◌≤◌, ℕ, List, length, All};
     ghost use Rattle.std.specs.List.Sorted.{IsNonDecreasingBy};
     ghost use Rattle.trace_text.specs.Events.{IsWithin, packet_rank};
     ghost use Rattle.trace_text.specs.Puts.{puts_kept};
@@ -93,11 +94,11 @@ impl Model for Puts {
 
     ghost Value = { List (List (List ℕ)) };
 
-    ghost view = { λ p. each_below (length p.starts.items - 1) (puts_kept p.packets.items p.bytes.items) };
+    ghost view = { λ p. each_below p.endpoints (puts_kept p.packets.items p.bytes.items) };
 
     ghost invariant = { λ p.
         IsNonDecreasingBy packet_rank p.packets.items
-        × AreStarts packet_rank 1 (length p.starts.items - 1) p.packets.items p.starts.items
+        × AreStarts packet_rank 1 p.endpoints p.packets.items p.starts.items
         × All (IsWithin (length p.bytes.items)) p.packets.items };
 }
 
@@ -115,6 +116,7 @@ impl Puts {
         sort(&mut packets)?;
         let starts = starts_of(alloc, u32::from(endpoints), 1, &packets)?;
         Ok(Puts {
+            endpoints,
             packets,
             starts,
             bytes,

@@ -60,7 +60,7 @@ pub struct Trace {
     rounds: u32,
     // One a round and flow, by round, then source, then destination.
     asks: Vec<Ask>,
-    // Where those of each round begin, and where the last end.
+    // Where those of each round begin, and where the last end; empty where there are none.
     ask_starts: Vec<usize>,
     // By round, then endpoint, then way.
     fates: Vec<GivenFate>,

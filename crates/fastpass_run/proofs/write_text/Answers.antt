@@ -1,6 +1,6 @@
 use Rattle.std.proofs.Common.{ℕ, List, None, inl, inr, refl, sym, ap, ◌∙◌}
 use Rattle.trace_text.specs.declared.command.Command.{Command}
-use Rattle.trace_text.specs.declared.command.Command.TheVariants.{Plan, Replay}
+use Rattle.trace_text.specs.declared.command.Command.TheVariants.{Plan, Replay, Receive}
 use Rattle.trace_text.specs.Trace.{trace_of}
 use Rattle.fastpass_run.specs.Outside.{Outside, outside}
 use Rattle.fastpass_run.specs.Words.{asked_by_input}
@@ -145,3 +145,27 @@ returns-in-Plan-clause-ends g c = λ words accepted.
       ledger = plan.ledger;
       balanced = plan.balanced cores;
     })
+
+pub returns-in_err-write_receive-in-Receive-clause-ends : goal.returns-in_err-write_receive-in-Receive-clause-ends
+returns-in_err-write_receive-in-Receive-clause-ends g c = λ words accepted.
+    let bytes : List ℕ = c.in_ok-text.text.items in
+    let (long, took, ended) = c.in_ok-text.ensures.read in
+    let written = c.in_err-write_receive-in-Receive.ensures in
+    stopped words (outside g.S.Source g.O.Sink c.args.src.now c.args.out.now) (outside g.S.Source g.O.Sink c.read_all.new.source c.write_receive.new.sink) c.in_err-write_receive-in-Receive.field-0.0
+    c.from_residual-in_err-write_receive-in-Receive.result c.from_residual-in_err-write_receive-in-Receive.ensures.1
+    (inr (inr (inr (inr (inr (inl (record {
+      asked = asked_by_input c.args.input c.args.sizes;
+      accepted = accepted;
+      command = c.in-Read.is ∙ ap Read c.in-Receive.is;
+      trace = c.in_ok-trace.trace;
+      read = (
+        bytes,
+        took,
+        ended,
+        long,
+        ap (λ (bs : List ℕ). trace_of Receive bs) (sym c.deref.ensures.value)
+            ∙ (ap (λ (command : Command). trace_of command c.deref.result.now) (sym c.in-Receive.is) ∙ c.in_ok-trace.ensures.accepted),
+      );
+      written = written.front;
+    })))))))
+    (writes (asked_by_input c.args.input c.args.sizes), accepted) (bytes, took, long) written.cause

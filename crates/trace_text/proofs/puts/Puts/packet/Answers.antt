@@ -1,4 +1,4 @@
-use Rattle.std.proofs.Common.{◌<◌, ◌-◌, [], length, ap, ◌∙◌, arith}
+use Rattle.std.proofs.Common.{◌<◌, [], length, ap, ◌∙◌, arith}
 use Rattle.std.specs.Prelude.{filter, slice_get}
 use Rattle.std.proofs.lemmas.List.{length-map}
 use Rattle.std.proofs.lemmas.List.Elements.{All-filter}
@@ -12,14 +12,14 @@ use Rattle.trace_text.proofs.puts.Puts.packet.Goals as goal
 pub packets_of-requires-clause-starts : goal.packets_of-requires-clause-starts
 packets_of-requires-clause-starts c =
     let p = c.self.inside in
-    let n = length p.starts.items - 1 in
+    let n = p.endpoints in
     let low : c.args.endpoint < n = rw (← c.self.view_is, length-map-range_with_len (puts_kept p.packets.items p.bytes.items) 0 n) at c.requires.endpoint in
     rw (c.deref-2.ensures.value, c.deref-3.ensures.value, c.from.ensures) (n, c.self.invariant.1, low)
 
 pub bounds-packets_of-at : goal.bounds-packets_of-at
 bounds-packets_of-at c =
     let p = c.self.inside in
-    let n = length p.starts.items - 1 in
+    let n = p.endpoints in
     let low : c.args.endpoint < n = rw (← c.self.view_is, length-map-range_with_len (puts_kept p.packets.items p.bytes.items) 0 n) at c.requires.endpoint in
     let below = rw (
       ← c.self.view_is,
@@ -41,7 +41,7 @@ packet_of-requires c =
 pub returns : goal.returns
 returns c =
     let p = c.self.inside in
-    let n = length p.starts.items - 1 in
+    let n = p.endpoints in
     let low : c.args.endpoint < n = rw (← c.self.view_is, length-map-range_with_len (puts_kept p.packets.items p.bytes.items) 0 n) at c.requires.endpoint in
     let below = rw (
       ← c.self.view_is,
