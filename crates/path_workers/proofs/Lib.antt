@@ -4,4 +4,5 @@ pub mod PlayLemmas
 pub mod CrewLemmas
 pub mod NamedCores
 pub mod RowLemmas
+pub mod FirstCores
 pub mod TableLemmas

@@ -4,9 +4,8 @@ use borrow.Rule.Slice.PartMut.{put_mid, same_len_mid}
 use Rattle.std.specs.Vec.{with_items}
 use Rattle.std.proofs.Math.Nat.{mul-le-mul_left}
 use Rattle.std.proofs.Math.Path.{fun_ext}
-use Rattle.std.proofs.lemmas.Bool.{cases_eq}
+use Rattle.std.proofs.lemmas.Bool.{cases_eq, cases_lt}
 use Rattle.std.proofs.lemmas.List.{get_or_past, get_or_default, get_or-set_same, get_or-set_other, length-take, length-drop, with_items_is}
-use Rattle.std.proofs.lemmas.Nat.{row_fits}
 use Rattle.greedy_rules.specs.declared.flows.Flow.{Flow}
 use Rattle.greedy_rules.specs.Schedule.{slot_in}
 use Rattle.clos_topology.specs.Network.{Network, endpoints_of}
@@ -17,8 +16,8 @@ use Rattle.edge_colouring.specs.Cores.{core_in}
 use Rattle.path_workers.specs.declared.painter.Painter.{Painter}
 use Rattle.path_workers.specs.CoreTable.{NamesNone}
 use Rattle.path_workers.specs.Coloured.{HasItsCores}
-use Rattle.path_workers.proofs.RowLemmas.{row_same, row_other}
-use Rattle.path_workers.specs.Painters.{AreColourable, cores_place, cores_row, row_at, IsPainter, HasRow, HasPainted, MayPaint}
+use Rattle.path_workers.proofs.RowLemmas.{cores_below, cores_from, row_same, row_other}
+use Rattle.path_workers.specs.Painters.{AreColourable, cores_place, cores_row, cores_at, row_at, IsPainter, HasRow, HasPainted, MayPaint}
 
 -- a part of the rows that is a row
 pub slice_is_row : (endpoints count place k : ℕ) (cores part : List (Option ℕ)) → count ≡ endpoints → k ≡ count → part ≡ cores → take k (drop (place * count) part) ≡ cores_row endpoints cores place
@@ -29,25 +28,27 @@ row_behind : (endpoints place : ℕ) (cores : List (Option ℕ)) → length core
 row_behind endpoints place cores behind source = get_or_past (cores_row endpoints cores place) source None (omega (arith, behind, length-take endpoints (drop (place * endpoints) cores), length-drop (place * endpoints) cores))
 
 -- a worker's place past the rows
-pub idle_none : (net : Network) (room : ℕ) (painter : Painter) (place : ℕ) → room ≤ place → IsPainter net room painter → NamesNone (row_at painter place)
-idle_none net room painter place past sized =
+pub idle_none : (net : Network) (room : ℕ) (painter : Painter) (place : ℕ) → room ≤ place → place < 1025 → IsPainter net room painter → NamesNone (row_at painter place)
+idle_none net room painter place past low sized source =
     let rows : vec_len painter.rows ≡ room * endpoints_of painter.net = sized.rows ∙ ap (λ (n : Network). room * endpoints_of n) (sym sized.same_net) in
-    row_behind (endpoints_of painter.net) place painter.rows.items (omega (arith, rows, painter.rows.ok.0, mul-le-mul_left (endpoints_of painter.net) past))
+    ap (λ (named : CoreOf). named source) (cores_below (endpoints_of painter.net) place painter.rows.items low)
+    ∙ row_behind (endpoints_of painter.net) place painter.rows.items (omega (arith, rows, painter.rows.ok.0, mul-le-mul_left (endpoints_of painter.net) past)) source
 
 -- a slot without packets between racks needs no core
-pub idle_row : (net : Network) (room : ℕ) (slots : List (List Flow)) (painter : Painter) (slot place : ℕ) → room ≤ place → EveryColouringMakesAMatchingClean → IsPainter net room painter → AreColourable net room slots
-    → slot < length slots → rack_edges net.hosts (slot_in slots slot) ≡ [] → HasRow net room slots painter slot place
-idle_row net room slots painter slot place past clean sized colourable below idle =
-    let nothing : NamesNone (row_at painter place) = idle_none net room painter place past sized in
-    let none : IsColouring net.cores [] (row_at painter place) = record {
+pub idle_row : (net : Network) (room : ℕ) (slots : List (List Flow)) (painter : Painter) (slot : ℕ) → EveryColouringMakesAMatchingClean → IsPainter net room painter → AreColourable net room slots
+    → slot < length slots → rack_edges net.hosts (slot_in slots slot) ≡ [] → HasRow net room slots painter slot 1024
+idle_row net room slots painter slot clean sized colourable below idle =
+    let nothing : NamesNone (row_at painter 1024) = idle_none net room painter 1024 sized.few (omega arith) sized in
+    let none : IsColouring net.cores [] (row_at painter 1024) = record {
       named = λ k d under. absurd (omega (arith, under));
       proper = λ i j d lt under. absurd (omega (arith, under));
       others = λ source apart. nothing source;
     } in
     record {
-      same = λ lt. absurd (omega (arith, lt, past));
+      same = λ lt. absurd (omega (arith, lt, sized.few));
+      within = omega arith;
       cores = record {
-        clean = clean net.hosts net.cores [] (row_at painter place) none (slot_in slots slot) (colourable.matchings slot [] below) (sym idle);
+        clean = clean net.hosts net.cores [] (row_at painter 1024) none (slot_in slots slot) (colourable.matchings slot [] below) (sym idle);
         others = λ source apart. nothing source;
       };
     }
@@ -61,18 +62,19 @@ length_put : (from k : ℕ) (cores row : List (Option ℕ)) → length row ≡ k
 length_put from k cores row size fits = same_len_mid from k cores row (omega (arith, size, fits, length-take k (drop from cores), length-drop from cores))
 
 -- a row that is written into a table, and the others
-pub written_row : {Z : Type 0} (endpoints count slot k : ℕ) (rows : Vec (Option ℕ) Z) (old row : List (Option ℕ)) → count ≡ endpoints → old ≡ rows.items → k ≡ count → length row ≡ count → slot * count + count ≤ length old
-    → core_in (cores_row endpoints (with_items rows (put_mid (slot * count) k old row)).items slot) ≡ core_in row
-written_row endpoints count slot k rows old row same from size whole fits =
+pub written_row : {Z : Type 0} (endpoints count slot k : ℕ) (rows : Vec (Option ℕ) Z) (old row : List (Option ℕ)) → count ≡ endpoints → old ≡ rows.items → k ≡ count → length row ≡ count → slot * count + count ≤ length old → slot < 1025
+    → cores_at endpoints (with_items rows (put_mid (slot * count) k old row)).items slot ≡ core_in row
+written_row endpoints count slot k rows old row same from size whole fits low =
     let put : List (Option ℕ) = put_mid (slot * count) k old row in
     let len : length put ≡ rows.len = omega (arith, length_put (slot * count) k old row (omega (arith, whole, size)) (omega (arith, fits, size)), ap (λ (xs : List (Option ℕ)). length xs) from, rows.ok.0) in
-    ap (λ (xs : List (Option ℕ)). core_in (cores_row endpoints xs slot)) (with_items_is rows put len)
+    cores_below endpoints slot (with_items rows put).items low
+    ∙ (ap (λ (xs : List (Option ℕ)). core_in (cores_row endpoints xs slot)) (with_items_is rows put len)
     ∙ (ap (λ (n : ℕ). core_in (cores_row n put slot)) (sym same)
-    ∙ ap core_in (row_same count slot k old row size whole (omega (arith, fits))))
+    ∙ ap core_in (row_same count slot k old row size whole (omega (arith, fits)))))
 
-pub other_row : {Z : Type 0} (endpoints count slot k place : ℕ) (rows : Vec (Option ℕ) Z) (old row : List (Option ℕ)) → count ≡ endpoints → old ≡ rows.items → k ≡ count → length row ≡ count → slot * count + count ≤ length old → place ≢ slot
+other_cells : {Z : Type 0} (endpoints count slot k place : ℕ) (rows : Vec (Option ℕ) Z) (old row : List (Option ℕ)) → count ≡ endpoints → old ≡ rows.items → k ≡ count → length row ≡ count → slot * count + count ≤ length old → place ≢ slot
     → core_in (cores_row endpoints rows.items place) ≡ core_in (cores_row endpoints (with_items rows (put_mid (slot * count) k old row)).items place)
-other_row endpoints count slot k place rows old row same from size whole fits other =
+other_cells endpoints count slot k place rows old row same from size whole fits other =
     let put : List (Option ℕ) = put_mid (slot * count) k old row in
     let len : length put ≡ rows.len = omega (arith, length_put (slot * count) k old row (omega (arith, whole, size)) (omega (arith, fits, size)), ap (λ (xs : List (Option ℕ)). length xs) from, rows.ok.0) in
     ap (λ (xs : List (Option ℕ)). core_in (cores_row endpoints xs place)) (sym from)
@@ -81,10 +83,19 @@ other_row endpoints count slot k place rows old row same from size whole fits ot
     ∙ (ap (λ (n : ℕ). core_in (cores_row n put place)) same
     ∙ ap (λ (xs : List (Option ℕ)). core_in (cores_row endpoints xs place)) (sym (with_items_is rows put len)))))
 
+pub other_row : {Z : Type 0} (endpoints count slot k place : ℕ) (rows : Vec (Option ℕ) Z) (old row : List (Option ℕ)) → count ≡ endpoints → old ≡ rows.items → k ≡ count → length row ≡ count → slot * count + count ≤ length old → place ≢ slot
+    → cores_at endpoints rows.items place ≡ cores_at endpoints (with_items rows (put_mid (slot * count) k old row)).items place
+other_row endpoints count slot k place rows old row same from size whole fits other =
+    let new : List (Option ℕ) = (with_items rows (put_mid (slot * count) k old row)).items in
+    elim (cases_lt place 1025) [
+      | inl low ↦ cores_below endpoints place rows.items low ∙ (other_cells endpoints count slot k place rows old row same from size whole fits other ∙ sym (cores_below endpoints place new low))
+      | inr high ↦ cores_from endpoints place rows.items high ∙ sym (cores_from endpoints place new high)
+    ]
+
 -- where nothing but the graph changed
 pub regraphed : (net : Network) (room : ℕ) (slots : List (List Flow)) (p q : Painter) → HasPainted net room slots p → q.net ≡ p.net → q.table ≡ p.table → q.graph.room ≡ p.graph.room → q.places ≡ p.places → q.rows ≡ p.rows → HasPainted net room slots q
 regraphed net room slots p q painted same_net same_table same_room same_places same_rows =
-    let rows_same : (place : ℕ) → row_at p place ≡ row_at q place = λ place. ap (λ (n : ℕ). core_in (cores_row n p.rows.items place)) (ap endpoints_of (sym same_net)) ∙ ap (λ (v : _). core_in (cores_row (endpoints_of q.net) v.items place)) (sym same_rows) in
+    let rows_same : (place : ℕ) → row_at p place ≡ row_at q place = λ place. ap (λ (n : ℕ). cores_at n p.rows.items place) (ap endpoints_of (sym same_net)) ∙ ap (λ (v : _). cores_at (endpoints_of q.net) v.items place) (sym same_rows) in
     let s = painted.sized in
     record {
       sized = record {
@@ -97,7 +108,7 @@ regraphed net room slots p q painted same_net same_table same_room same_places s
       };
       rows = λ slot place below is.
           let old = painted.rows slot place below (ap (λ (v : _). get_or v.items slot None) (sym same_places) ∙ is) in
-          record { same = old.same; cores = subst (HasItsCores net (slot_in slots slot)) (rows_same place) old.cores };
+          record { same = old.same; within = old.within; cores = subst (HasItsCores net (slot_in slots slot)) (rows_same place) old.cores };
     }
 
 -- where a slot's own row was written, with its cores
@@ -118,6 +129,7 @@ repainted net room slots p q slot painted within same_net table graph same_place
           let old = painted.rows other place below (ap (λ (v : _). get_or v.items other None) (sym same_places) ∙ is) in
           record {
             same = old.same;
+            within = old.within;
             cores = elim (cases_eq place slot) [
               | inl here ↦
                   let same : slot_in slots slot ≡ slot_in slots other = ap (slot_in slots) (sym here) ∙ old.same (omega (arith, here, within)) in
@@ -131,9 +143,9 @@ repainted net room slots p q slot painted within same_net table graph same_place
 pub placed : (net : Network) (room : ℕ) (slots : List (List Flow)) (p q : Painter) (slot place : ℕ) → HasPainted net room slots p → slot < length slots → length slots ≤ room → HasRow net room slots p slot place
     → q.net ≡ p.net → q.table ≡ p.table → q.graph ≡ p.graph → q.rows ≡ p.rows → vec_len q.places ≡ vec_len p.places → q.places.items ≡ set p.places.items slot (Some place) → HasPainted net room slots q
 placed net room slots p q slot place painted below fits row same_net same_table same_graph same_rows len places =
-    let rows_same : (at : ℕ) → row_at p at ≡ row_at q at = λ at. ap (λ (n : ℕ). core_in (cores_row n p.rows.items at)) (ap endpoints_of (sym same_net)) ∙ ap (λ (v : _). core_in (cores_row (endpoints_of q.net) v.items at)) (sym same_rows) in
+    let rows_same : (at : ℕ) → row_at p at ≡ row_at q at = λ at. ap (λ (n : ℕ). cores_at n p.rows.items at) (ap endpoints_of (sym same_net)) ∙ ap (λ (v : _). cores_at (endpoints_of q.net) v.items at) (sym same_rows) in
     let s = painted.sized in
-    let moved : (other at : ℕ) → HasRow net room slots p other at → HasRow net room slots q other at = λ other at old. record { same = old.same; cores = subst (HasItsCores net (slot_in slots other)) (rows_same at) old.cores } in
+    let moved : (other at : ℕ) → HasRow net room slots p other at → HasRow net room slots q other at = λ other at old. record { same = old.same; within = old.within; cores = subst (HasItsCores net (slot_in slots other)) (rows_same at) old.cores } in
     record {
       sized = record {
         few = s.few;
@@ -159,7 +171,7 @@ placed net room slots p q slot place painted below fits row same_net same_table 
 pub forgotten : (net : Network) (room : ℕ) (slots : List (List Flow)) (p q : Painter) → IsPainter net room p → q.net ≡ p.net → q.table ≡ p.table → q.graph ≡ p.graph → q.rows ≡ p.rows → vec_len q.places ≡ vec_len p.places
     → ((slot : ℕ) → cores_place q slot ≡ None) → HasPainted net room slots q
 forgotten net room slots p q s same_net same_table same_graph same_rows len none =
-    let rows_same : (at : ℕ) → row_at p at ≡ row_at q at = λ at. ap (λ (n : ℕ). core_in (cores_row n p.rows.items at)) (ap endpoints_of (sym same_net)) ∙ ap (λ (v : _). core_in (cores_row (endpoints_of q.net) v.items at)) (sym same_rows) in
+    let rows_same : (at : ℕ) → row_at p at ≡ row_at q at = λ at. ap (λ (n : ℕ). cores_at n p.rows.items at) (ap endpoints_of (sym same_net)) ∙ ap (λ (v : _). cores_at (endpoints_of q.net) v.items at) (sym same_rows) in
     record {
       sized = record {
         few = s.few;
@@ -173,15 +185,12 @@ forgotten net room slots p q s same_net same_table same_graph same_rows len none
     }
 
 -- what stands at a slot's place
-pub named_place : (slots : List (List Flow)) (p : Painter) (slot place : ℕ) (found : Option ℕ) → MayPaint slots p → slot < length slots → found ≡ get_or p.places.items slot found → found ≡ Some place → cores_place p slot ≡ Some place
+named_place : (slots : List (List Flow)) (p : Painter) (slot place : ℕ) (found : Option ℕ) → MayPaint slots p → slot < length slots → found ≡ get_or p.places.items slot found → found ≡ Some place → cores_place p slot ≡ Some place
 named_place slots p slot place found may below at is =
     get_or_default p.places.items slot None found (omega (arith, below, may.colourable.count, p.places.ok.0)) ∙ (sym at ∙ is)
 
--- a row that is noted and is not past the rows stands within them
-pub place_fits : (slots : List (List Flow)) (p : Painter) (place : ℕ) → MayPaint slots p → place < vec_len p.places → place * endpoints_of p.net + endpoints_of p.net ≤ vec_len p.rows
-place_fits slots p place may below =
-    let rows : vec_len p.rows ≡ vec_len p.places * endpoints_of p.net = may.painted.sized.rows in
-    omega (arith, rows, row_fits place (endpoints_of p.net) (vec_len p.places) (endpoints_of p.net) below (omega arith))
+pub found_row : (slots : List (List Flow)) (p : Painter) (slot place : ℕ) (found : Option ℕ) → MayPaint slots p → slot < length slots → found ≡ get_or p.places.items slot found → found ≡ Some place → HasRow p.net (vec_len p.places) slots p slot place
+found_row slots p slot place found may below at is = may.painted.rows slot place below (named_place slots p slot place found may below at is)
 
 -- what a worker has painted, where its sizes are those of another
 pub resized : (net : Network) (room : ℕ) (slots : List (List Flow)) (p q : Painter) → IsPainter net room p → HasPainted p.net (vec_len p.places) slots q → HasPainted net room slots q

@@ -1,7 +1,7 @@
 -- From the table of one slot to its row, and from rows to the whole table.
-use Rattle.std.proofs.Common.{◌≡◌, ◌≢◌, ◌≤◌, ◌+◌, ◌-◌, ◌*◌, ℕ, List, length, take, drop, true, false, Option, All, Result, Ok, Err, IfErr, OnOk, sym, ap, ◌∙◌, subst, arith, inl, inr}
+use Rattle.std.proofs.Common.{◌≡◌, ◌≢◌, ◌<◌, ◌≤◌, ◌+◌, ◌-◌, ◌*◌, ℕ, nat_lt, List, length, take, drop, true, false, Option, All, Result, Ok, Err, IfErr, OnOk, sym, ap, ◌∙◌, subst, arith, inl, inr}
 use Rattle.std.specs.Result.{is_ok}
-use Rattle.std.proofs.lemmas.Bool.{cases_order}
+use Rattle.std.proofs.lemmas.Bool.{cases_order, cond-true, cond-false, lt-ltb, le-ltb}
 use Rattle.std.proofs.lemmas.List.{drop-take, length-take, length-drop}
 use Rattle.std.proofs.lemmas.Nat.{row_fits}
 use Rattle.std.proofs.lemmas.Slice.{take-put_mid_below, drop-put_mid, between-put_mid}
@@ -15,8 +15,10 @@ use Rattle.clos_topology.specs.RackGraph.{rack_edges}
 use Rattle.edge_colouring.specs.declared.degrees.Degree.{Degree}
 use Rattle.edge_colouring.specs.Degrees.{degree_on, HasDegreesWithin, IsFirstExcess}
 use Rattle.edge_colouring.specs.Colouring.{IsColouring, MakesClean}
+use Rattle.edge_colouring.specs.Cores.{core_in}
+use Rattle.path_workers.specs.CoreRows.{first_core}
 use Rattle.path_workers.specs.Coloured.{HasItsCores}
-use Rattle.path_workers.specs.Painters.{cores_row}
+use Rattle.path_workers.specs.Painters.{cores_row, cores_at}
 
 -- degrees within the bound are never refused
 pub no_excess : {X : Type 0} (result : Result X Degree) (most : ℕ) (edges : List Edge) → is_ok result ≡ false → HasDegreesWithin most edges → IfErr result (IsFirstExcess most edges) → ⊥
@@ -35,6 +37,13 @@ row_coloured net slot edges table row matching is colouring clean same = subst (
   clean = clean slot matching is;
   others = λ source apart. colouring.others source (subst (All (λ edge. edge.source ≢ source)) (sym is) apart);
 })
+
+-- what a place stands for: its row, or from 1025 on the first core for one source
+pub cores_below : (endpoints place : ℕ) (cores : List (Option ℕ)) → place < 1025 → cores_at endpoints cores place ≡ core_in (cores_row endpoints cores place)
+cores_below endpoints place cores lt = cond-true (nat_lt place 1025) (core_in (cores_row endpoints cores place)) (first_core (place - 1025)) (lt-ltb place 1025 lt)
+
+pub cores_from : (endpoints place : ℕ) (cores : List (Option ℕ)) → 1025 ≤ place → cores_at endpoints cores place ≡ first_core (place - 1025)
+cores_from endpoints place cores le = cond-false (nat_lt place 1025) (core_in (cores_row endpoints cores place)) (first_core (place - 1025)) (le-ltb place 1025 le)
 
 -- as many places as a row has
 pub length-row : (endpoints k from : ℕ) (cores : List (Option ℕ)) → k ≡ endpoints → from + endpoints ≤ length cores → length (take k (drop from cores)) ≡ endpoints

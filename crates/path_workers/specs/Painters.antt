@@ -1,5 +1,5 @@
 -- A path worker's rows of cores: for each slot that it has coloured, the row that has its cores (this project's own profile).
-use Rattle.std.specs.Prelude.{◌≡◌, ◌<◌, ◌≤◌, ℕ, ◌*◌, List, map, length, Bool, true, Option, Some, None, All, IsTrue, is_some, take, drop, vec_len}
+use Rattle.std.specs.Prelude.{◌≡◌, ◌<◌, ◌≤◌, ℕ, ◌+◌, ◌-◌, ◌*◌, nat_lt, List, map, length, Bool, true, Option, Some, None, All, IsTrue, is_some, take, drop, vec_len, if◌then◌else◌}
 use Rattle.std.specs.List.{slice_index_or, list_any}
 use Rattle.greedy_rules.specs.declared.flows.Flow.{Flow}
 use Rattle.greedy_rules.specs.Matching.{IsMatching}
@@ -9,6 +9,7 @@ use Rattle.clos_topology.specs.Links.{CoreOf}
 use Rattle.edge_colouring.specs.Cores.{core_in}
 use Rattle.path_workers.specs.declared.jobs.Job.{Job}
 use Rattle.path_workers.specs.declared.painter.Painter.{Painter}
+use Rattle.path_workers.specs.CoreRows.{first_core}
 use Rattle.path_workers.specs.Coloured.{IsFlowOf, IsWithinCores, HasItsCores}
 use Rattle.path_workers.specs.Jobs.{weigh, is_slot}
 
@@ -34,8 +35,13 @@ has_row slot painter = is_some (cores_place painter slot)
 abbrev pub cores_row : ℕ → List (Option ℕ) → ℕ → List (Option ℕ)
 cores_row endpoints cores place = take endpoints (drop (place * endpoints) cores)
 
+-- the cores that a place stands for: those of its row, or from 1025 on the first core for one source alone
+abbrev pub cores_at : ℕ → List (Option ℕ) → ℕ → CoreOf
+cores_at endpoints cores place =
+    if nat_lt place 1025 then core_in (cores_row endpoints cores place) else first_core (place - 1025)
+
 abbrev pub row_at : Painter → ℕ → CoreOf
-row_at painter place = core_in (cores_row (endpoints_of painter.net) painter.rows.items place)
+row_at painter place = cores_at (endpoints_of painter.net) painter.rows.items place
 
 -- a row for each slot
 pub record IsPainter (net : Network) (room : ℕ) (painter : Painter) : Type 0 where
@@ -46,9 +52,10 @@ pub record IsPainter (net : Network) (room : ℕ) (painter : Painter) : Type 0 w
   pub places : vec_len painter.places ≡ room
   pub rows : vec_len painter.rows ≡ room * endpoints_of net
 
--- a slot's row has its cores; it is the row of a slot with the same packets, or an empty one past the rows
+-- a slot's row has its cores; it is the row of a slot with the same packets, an empty one past the rows, or that of one source
 pub record HasRow (net : Network) (room : ℕ) (slots : List (List Flow)) (painter : Painter) (slot place : ℕ) : Type 0 where
   pub same : place < room → slot_in slots place ≡ slot_in slots slot
+  pub within : place < 1025 + endpoints_of net
   pub cores : HasItsCores net (slot_in slots slot) (row_at painter place)
 
 pub record HasPainted (net : Network) (room : ℕ) (slots : List (List Flow)) (painter : Painter) : Type 0 where

@@ -1,6 +1,7 @@
-ghost use Rattle.std.specs.Prelude.{◌≡◌, ◌<◌, ◌≤◌, ◌+◌, ℕ, [], ◌∷◌, ◌++◌, length, IfOk, vec_len, vec_capacity};
+ghost use Rattle.std.specs.Prelude.{◌≡◌, ◌<◌, ◌≤◌, ◌+◌, ℕ, [], ◌∷◌, ◌++◌, length, replicate, None, IfOk, vec_len, vec_capacity};
 ghost use Rattle.std.specs.List.{slice_index_or};
 ghost use Rattle.path_workers.specs.CoreTable.{core_of, NamesNone};
+ghost use Rattle.path_workers.specs.CoreRows.{first_row, run_len, first_run};
 
 use no_memory::NoMemory;
 use std::alloc::Global;
@@ -14,7 +15,7 @@ pub struct CoreTable {
     endpoints: u16,
     // By slot, as far as rows were added: where its row stands.
     places: Vec<Place>,
-    // Row after row.
+    // First the run of which each row that names the first core for one source alone is a part, then row after row.
     cores: Vec<Option<u16>>,
 }
 
@@ -43,11 +44,16 @@ impl CoreTable {
         ensures endpoints { IfOk result (λ table. table.endpoints ≡ endpoints) }
         ensures none { IfOk result (λ table. (slot : ℕ) → NamesNone (core_of table slot)) }
     {
+        let mut cores = Vec::with_capacity(
+            alloc,
+            run_len(endpoints) + slots as usize * endpoints as usize,
+        )?;
+        add_run(&mut cores, endpoints);
         Ok(CoreTable {
             slots,
             endpoints,
             places: Vec::with_capacity(alloc, slots as usize)?,
-            cores: Vec::with_capacity(alloc, slots as usize * endpoints as usize)?,
+            cores,
         })
     }
 
@@ -56,7 +62,7 @@ impl CoreTable {
         ensures { self.new ≡ record self.old { rows = [] } }
     {
         self.places.clear();
-        self.cores.clear();
+        self.cores.truncate(run_len(self.endpoints));
     }
 
     /// Adds the row of the next slot, which may be shorter than there are endpoints: it names no core for the others.
@@ -65,10 +71,6 @@ impl CoreTable {
         requires endpoint_room { length row.now ≤ self.old.endpoints }
         ensures { self.new ≡ record self.old { rows = self.old.rows ++ row.now ∷ [] } }
     {
-        if row.is_empty() {
-            self.push_empty();
-            return;
-        }
         self.places.push_reserved(Place {
             from: self.cores.len() as u32,
             len: row.len() as u16,
@@ -76,9 +78,22 @@ impl CoreTable {
         add_row(&mut self.cores, row);
     }
 
+    /// Adds the row of the next slot that names the first core for this source alone. No core is written.
+    #[inline(always)]
+    pub(crate) fn push_first(&mut self, src: u16)
+        requires slot_room { length self.old.rows < self.old.slots }
+        requires src_in_range { src < self.old.endpoints }
+        ensures { self.new ≡ record self.old { rows = self.old.rows ++ first_row self.old.endpoints src ∷ [] } }
+    {
+        self.places.push_reserved(Place {
+            from: u32::from(self.endpoints - 1 - src),
+            len: self.endpoints,
+        });
+    }
+
     /// Adds an empty row for the next slot.
     #[inline(always)]
-    fn push_empty(&mut self)
+    pub(crate) fn push_empty(&mut self)
         requires { length self.old.rows < self.old.slots }
         ensures { self.new ≡ record self.old { rows = self.old.rows ++ [] ∷ [] } }
     {
@@ -123,6 +138,36 @@ impl CoreTable {
             Some(core) => *core,
             None => None,
         }
+    }
+}
+
+/// How many cells a run has of which each row that names the first core for one source alone is a part.
+fn run_len(endpoints: u16) -> usize
+    ensures { result ≡ run_len endpoints }
+{
+    2 * (endpoints as usize).saturating_sub(1) + 1
+}
+
+/// Puts this run behind the cores, which have room for it.
+fn add_run(cores: &mut Vec<Option<u16>>, endpoints: u16)
+    requires room { vec_len cores.old + run_len endpoints ≤ vec_capacity cores.old }
+    ensures items { cores.new.items ≡ cores.old.items ++ first_run endpoints }
+    ensures capacity { vec_capacity cores.new ≡ vec_capacity cores.old }
+{
+    let others = (endpoints as usize).saturating_sub(1);
+    add_none(cores, others);
+    cores.push_reserved(Some(0));
+    add_none(cores, others);
+}
+
+/// Puts so many cells without a core behind the cores, which have room for them.
+fn add_none(cores: &mut Vec<Option<u16>>, count: usize)
+    requires room { vec_len cores.old + count ≤ vec_capacity cores.old }
+    ensures items { cores.new.items ≡ cores.old.items ++ replicate count None }
+    ensures capacity { vec_capacity cores.new ≡ vec_capacity cores.old }
+{
+    for _at in 0..count {
+        cores.push_reserved(None);
     }
 }
 

@@ -1,13 +1,14 @@
 //! One path worker's colouring.
-ghost use Rattle.std.specs.Prelude.{◌≡◌, ◌<◌, ◌≤◌, ◌+◌, ◌*◌, ℕ, List, length, IsTrue, IfOk, IfSome, is_some, vec_len};
+ghost use Rattle.std.specs.Prelude.{◌≡◌, ◌<◌, ◌≤◌, ◌+◌, ◌*◌, ℕ, List, length, false, IsTrue, IfOk, IfSome, vec_len};
 ghost use Rattle.greedy_rules.specs.declared.flows.Flow.{Flow};
 ghost use Rattle.greedy_rules.specs.Schedule.{slot_in};
 ghost use Rattle.clos_topology.specs.Network.{Network, endpoints_of};
-ghost use Rattle.edge_colouring.specs.Cores.{core_in};
+ghost use Rattle.path_workers.specs.CoreRows.{HasOneMore};
 ghost use Rattle.path_workers.specs.Coloured.{HasItsCores};
 ghost use Rattle.path_workers.specs.Jobs.{is_slot};
 ghost use Rattle.path_workers.specs.Painters.{IsPainter, HasPainted, HasRow, MayPaint, has_row};
 
+use crate::core_table::CoreTable;
 use crate::jobs::Job;
 use clos_topology::{Net, RackGraph};
 use edge_colouring::{Table, colour, every_colouring_makes_a_matching_clean, limits_are_degrees};
@@ -21,6 +22,10 @@ const FEW: usize = 16;
 
 /// The place of a slot whose packets have no core: past the rows of every worker.
 const IDLE: u16 = 1_024;
+
+/// The place of a slot with one packet between racks, whose source is 0: it needs no row, since it takes the first core. The
+/// places behind it are those of the other sources.
+const FIRST: u16 = 1_025;
 
 /// What a path worker colours slots with, and the rows of cores that it has made.
 #[derive(Drop)]
@@ -128,7 +133,8 @@ impl Painter {
         }
     }
 
-    /// Where the cores of the slot's packets stand: in its own row, which is written, or in one that has them already.
+    /// Where the cores of the slot's packets stand: in its own row, which is written, in one that has them already, or, where at
+    /// most one packet goes between racks, in none.
     #[inline(never)]
     fn make_row(&mut self, slots: &SlotTable, slot: u16) -> u16
         requires slot { slot < length slots.now.slots }
@@ -145,31 +151,45 @@ impl Painter {
         }
         self.last = slot;
         self.graph.load(&self.net, slots, slot);
+        let endpoints = self.net.endpoints();
         if self.graph.is_empty() {
             return IDLE;
         }
+        let is_alone = self.graph.len() == 1;
+        if is_alone {
+            return FIRST + self.graph.edge(0).0;
+        }
         let coloured = colour(&self.graph, self.net.cores(), &mut self.table).is_ok();
         prove!(coloured);
-        let endpoints = self.net.endpoints();
         let from = slot as usize * endpoints as usize;
         let row = &mut self.rows[from..from + endpoints as usize];
         row.copy_from_slice(self.table.cores());
         slot
     }
 
-    /// The slot's cores by source, where this worker has coloured it: an empty row where its packets have none.
-    pub(crate) fn row(&self, slot: u16) -> Option<&[Option<u16>]>
-        requires { (slots : List (List Flow)) × MayPaint slots self.now × (slot < length slots) }
-        ensures has { is_some result ≡ has_row slot self.now }
-        ensures cores { IfSome result (λ row. (slots : List (List Flow)) → MayPaint slots self.now → slot < length slots → HasItsCores self.now.net (slot_in slots slot) (core_in row.now)) }
-        ensures len { IfSome result (λ row. length row.now ≤ endpoints_of self.now.net) }
+    /// Adds the slot's row of cores to the table, where this worker has coloured it. Answers whether it has.
+    pub(crate) fn put_row(&self, slot: u16, out: &mut CoreTable) -> bool
+        requires may { (slots : List (List Flow)) × MayPaint slots self.now × (slot < length slots) }
+        requires slot_room { length out.old.rows < out.old.slots }
+        requires endpoint_room { endpoints_of self.now.net ≤ out.old.endpoints }
+        ensures has { result ≡ has_row slot self.now }
+        ensures row { IsTrue result → HasOneMore (λ cores. (slots : List (List Flow)) → MayPaint slots self.now → slot < length slots → HasItsCores self.now.net (slot_in slots slot) cores) out.old out.new }
+        ensures none { result ≡ false → out.new ≡ out.old }
     {
-        let place = self.places[slot as usize]?;
+        let Some(place) = self.places[slot as usize] else {
+            return false;
+        };
+        if place >= FIRST {
+            out.push_first(place - FIRST);
+            return true;
+        }
         if place as usize >= self.places.len() {
-            return Some(&[]);
+            out.push_empty();
+            return true;
         }
         let endpoints = self.net.endpoints() as usize;
         let from = place as usize * endpoints;
-        Some(&self.rows[from..from + endpoints])
+        out.push(&self.rows[from..from + endpoints]);
+        true
     }
 }

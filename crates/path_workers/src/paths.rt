@@ -4,9 +4,9 @@ ghost use Rattle.greedy_rules.specs.declared.flows.Flow.{Flow};
 ghost use Rattle.greedy_rules.specs.Matching.{IsMatching};
 ghost use Rattle.greedy_rules.specs.Schedule.{slot_in};
 ghost use Rattle.clos_topology.specs.Network.{Network, endpoints_of};
-ghost use Rattle.edge_colouring.specs.Cores.{core_in};
 ghost use Rattle.path_workers.specs.PathWork.{HaveWorked};
 ghost use Rattle.path_workers.specs.CoreTable.{core_of, HasRoomOf, NamesNone};
+ghost use Rattle.path_workers.specs.CoreRows.{HasOneMore};
 ghost use Rattle.path_workers.specs.Coloured.{IsFlowOf, IsWithinCores, HasItsCores, HaveTheirCores};
 ghost use Rattle.path_workers.specs.Painters.{numbers_of, IsPainter, HasPainted, MayPaint, HaveRows, has_row};
 
@@ -173,21 +173,21 @@ fn gather(painters: &[Painter], slots: u16, out: &mut CoreTable)
 {
     out.clear();
     for slot in 0..slots {
-        out.push(row_for(painters, slot));
+        put_row(painters, slot, out);
     }
 }
 
-/// The slot's row, from the first worker that has it.
-fn row_for(painters: &[Painter], slot: u16) -> &[Option<u16>]
+/// Adds the slot's row to the table, from the first worker that has it.
+fn put_row(painters: &[Painter], slot: u16, out: &mut CoreTable)
     requires painted { (table : List (List Flow)) × (slot < length table) × All (MayPaint table) painters.now }
     requires has { list_any (has_row slot) painters.now ≡ true }
-    ensures cores { (net : Network) (table : List (List Flow)) → All (MayPaint table) painters.now → All (λ painter. painter.net ≡ net) painters.now → slot < length table → HasItsCores net (slot_in table slot) (core_in result.now) }
-    ensures len { (room : ℕ) → All (λ painter. endpoints_of painter.net ≤ room) painters.now → length result.now ≤ room }
+    requires slot_room { length out.old.rows < out.old.slots }
+    requires endpoint_room { All (λ painter. endpoints_of painter.net ≤ out.old.endpoints) painters.now }
+    ensures { HasOneMore (λ cores. (net : Network) (table : List (List Flow)) → All (MayPaint table) painters.now → All (λ painter. painter.net ≡ net) painters.now → slot < length table → HasItsCores net (slot_in table slot) cores) out.old out.new }
 {
     for painter in painters {
-        if let Some(row) = painter.row(slot) {
-            return row;
+        if painter.put_row(slot, out) {
+            return;
         }
     }
-    &[]
 }

@@ -23,6 +23,7 @@ invariant_of-self c =
       within = subst (All (IsWithin (vec_len t.cores))) (sym {A = List Place} c.push_reserved.ensures.items)
           (All-push (IsWithin (vec_len t.cores)) t.places.items place c.self.invariant.within (omega arith));
       count = omega (arith, slot_left, c.push_reserved.ensures.len);
+      front = c.self.invariant.front;
       few = omega (arith, c.self.invariant.few, ap (λ (n : ℕ). n * t.endpoints) c.push_reserved.ensures.len);
       slot_room = omega (arith, c.push_reserved.ensures.capacity, c.self.invariant.slot_room);
       core_room = c.self.invariant.core_room;

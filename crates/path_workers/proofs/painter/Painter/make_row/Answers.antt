@@ -9,9 +9,10 @@ use Rattle.clos_topology.specs.RackGraph.{rack_edges}
 use Rattle.edge_colouring.specs.Degrees.{HasDegreesWithin}
 use Rattle.edge_colouring.specs.Colouring.{IsColouring, MakesClean}
 use Rattle.edge_colouring.specs.Cores.{core_in}
-use Rattle.path_workers.specs.Painters.{cores_row}
+use Rattle.path_workers.specs.Painters.{cores_at}
 use Rattle.path_workers.specs.Coloured.{HasItsCores}
 use Rattle.path_workers.proofs.RowLemmas.{no_excess, at_ok, row_coloured, length-row}
+use Rattle.path_workers.proofs.FirstCores.{first_place}
 use Rattle.path_workers.proofs.PainterLemmas.{idle_row, regraphed, repainted, written_row, other_row}
 use Rattle.path_workers.proofs.painter.Painter.make_row.Goals as goal
 
@@ -42,7 +43,16 @@ returns-then-is_empty-clause-painted c = regraphed _ _ c.args.slots.now.slots c.
 pub returns-then-is_empty-clause-row : goal.returns-then-is_empty-clause-row
 returns-then-is_empty-clause-row c =
     let idle : rack_edges c.args.self.now.net.hosts (slot_in c.args.slots.now.slots c.args.slot) ≡ [] = sym c.load.ensures.edges ∙ c.is_empty.ensures.0 c.if-is_empty.true in
-    idle_row _ (vec_len c.args.self.now.places) _ _ c.args.slot 1024 c.requires.may.painted.sized.few c.every_colouring_makes_a_matching_clean.ensures (returns-then-is_empty-clause-painted c).sized c.requires.may.colourable c.requires.slot idle
+    idle_row _ (vec_len c.args.self.now.places) _ _ c.args.slot c.every_colouring_makes_a_matching_clean.ensures (returns-then-is_empty-clause-painted c).sized c.requires.may.colourable c.requires.slot idle
+
+pub returns-then-is_alone-clause-painted : goal.returns-then-is_alone-clause-painted
+returns-then-is_alone-clause-painted c = regraphed _ _ c.args.slots.now.slots c.args.self.now _ c.requires.may.painted refl refl c.load.ensures.room refl refl
+
+pub returns-then-is_alone-clause-row : goal.returns-then-is_alone-clause-row
+returns-then-is_alone-clause-row c =
+    let edge : Edge = record { source = c.edge.result.0; left = c.edge.result.1; right = c.edge.result.2 } in
+    first_place _ (vec_len c.args.self.now.places) c.args.slots.now.slots _ c.args.slot c.load.new.self.edges edge c.requires.may.painted.sized.few c.every_colouring_makes_a_matching_clean.ensures c.endpoints-endpoints.ensures.limits c.requires.may.colourable c.requires.slot
+    c.load.ensures.edges c.load.ensures.graph (omega (arith, c.len-is_alone.ensures.edges, c.if-is_alone.true)) c.edge.ensures
 
 pub prove-unreachable-requires : goal.prove-unreachable-requires
 prove-unreachable-requires c =
@@ -92,12 +102,12 @@ row_cores c =
     (ap core_in (sym (c.copy_from_slice.ensures.after ∙ c.cores-2.ensures.cores)))
 
 -- where they stand
-row_stands : (c : goal.After-self-2-1) → HasItsCores c.args.self.now.net (slot_in c.args.slots.now.slots c.args.slot) (core_in (cores_row (endpoints_of c.args.self.now.net) (with_items c.args.self.now.rows (put_mid (c.args.slot * c.endpoints-endpoints.result) (c.args.slot * c.endpoints-endpoints.result + c.endpoints-endpoints.result - c.args.slot * c.endpoints-endpoints.result) c.deref_mut.result.now c.copy_from_slice.new.self)).items c.args.slot))
+row_stands : (c : goal.After-self-2-1) → HasItsCores c.args.self.now.net (slot_in c.args.slots.now.slots c.args.slot) (cores_at (endpoints_of c.args.self.now.net) (with_items c.args.self.now.rows (put_mid (c.args.slot * c.endpoints-endpoints.result) (c.args.slot * c.endpoints-endpoints.result + c.endpoints-endpoints.result - c.args.slot * c.endpoints-endpoints.result) c.deref_mut.result.now c.copy_from_slice.new.self)).items c.args.slot)
 row_stands c =
     let count : ℕ = c.endpoints-endpoints.result in
     let from : ℕ = c.args.slot * count in
     subst (HasItsCores c.args.self.now.net (slot_in c.args.slots.now.slots c.args.slot))
-    (sym (written_row (endpoints_of c.args.self.now.net) count c.args.slot (from + count - from) c.args.self.now.rows c.deref_mut.result.now c.copy_from_slice.new.self c.endpoints-endpoints.ensures.number c.deref_mut.ensures.value (omega arith) (row_size c) (row_within c)))
+    (sym (written_row (endpoints_of c.args.self.now.net) count c.args.slot (from + count - from) c.args.self.now.rows c.deref_mut.result.now c.copy_from_slice.new.self c.endpoints-endpoints.ensures.number c.deref_mut.ensures.value (omega arith) (row_size c) (row_within c) (omega (arith, c.requires.slot, c.requires.may.colourable.count, c.requires.may.painted.sized.few))))
     (row_cores c)
 
 pub returns-clause-painted : goal.returns-clause-painted
@@ -112,5 +122,6 @@ returns-clause-painted c =
 pub returns-clause-row : goal.returns-clause-row
 returns-clause-row c = record {
   same = λ lt. refl;
+  within = omega (arith, c.requires.slot, c.requires.may.colourable.count, c.requires.may.painted.sized.few);
   cores = row_stands c;
 }

@@ -12,7 +12,7 @@ returns-then-not-has_row-clause-painted c =
     let may = c.requires.may in
     let idle : rack_edges painter.net.hosts (slot_in slots c.args.slot) ≡ [] = ap (rack_edges painter.net.hosts) (c.has_row.ensures c.if-not-has_row.true) in
     let row : HasRow painter.net (vec_len painter.places) slots painter c.args.slot 1024 =
-    idle_row painter.net (vec_len painter.places) slots painter c.args.slot 1024 may.painted.sized.few c.every_colouring_makes_a_matching_clean.ensures may.painted.sized may.colourable c.requires.slot idle in
+    idle_row painter.net (vec_len painter.places) slots painter c.args.slot c.every_colouring_makes_a_matching_clean.ensures may.painted.sized may.colourable c.requires.slot idle in
     placed _ _ slots painter _ c.args.slot 1024 may.painted c.requires.slot may.colourable.count row refl refl refl refl refl refl
 
 pub returns-clause-painted : goal.returns-clause-painted
