@@ -83,13 +83,17 @@ impl Allocation {
         self.endpoints
     }
 
-    /// A window for the next batches, whose slots and cores `fill` gives. Giving them takes no memory but this.
-    pub fn open_window(&self, batches: &[Batch]) -> Result<Window, NoMemory>
+    /// A window for the next batches, whose slots and cores `fill` gives: a past one that is no longer needed, where its tables are
+    /// for just their slots, else a new one. Giving them takes no memory but this.
+    pub fn open_window(&self, past: Option<Window>, batches: &[Batch]) -> Result<Window, NoMemory>
         requires { MayGive self.now batches.now }
         ensures { IfOk result (IsOpenForBatches self.now batches.now) }
     {
         let slots = batches.len() as u16 * u16::from(self.b);
-        Window::open(self.alloc, slots, self.endpoints)
+        match past {
+            Some(window) if window.has_tables(slots, self.endpoints) => Ok(window),
+            _ => Window::open(self.alloc, slots, self.endpoints),
+        }
     }
 
     /// Gives the next batches their slots and cores, in a window that was opened for them. Where there are none, nothing is started,

@@ -1,4 +1,4 @@
-ghost use Rattle.std.specs.Prelude.{◌≡◌, IfOk};
+ghost use Rattle.std.specs.Prelude.{◌≡◌, ◌↔◌, IsTrue, IfOk};
 ghost use Rattle.window_allocation.specs.Windows.{HasTables};
 
 use greedy_rules::SlotTable;
@@ -40,6 +40,16 @@ impl Window {
             slots: SlotTable::open(alloc, slots, endpoints)?,
             cores: CoreTable::open(alloc, slots, endpoints)?,
         })
+    }
+
+    /// Whether its tables are for just so many slots of so many endpoints.
+    pub(crate) fn has_tables(&self, slots: u16, endpoints: u16) -> bool
+        ensures { IsTrue result ↔ HasTables slots endpoints self.now }
+    {
+        self.slots.slots() == slots
+            && self.slots.endpoints() == endpoints
+            && self.cores.slots() == slots
+            && self.cores.endpoints() == endpoints
     }
 
     /// Which batches these are.

@@ -3,7 +3,8 @@
 //! `engine.rt` is the one engine: it plays a trace for its plan or for its replay, a window of rounds at each step. `step.rt` is what a
 //! step gives: two ranges of rounds, what the rounds of the one give, and the tables of the other. `plan.rt` is the engine's plan, by
 //! two halves that share nothing: `plan_rounds` makes the batch of each round, with the limits of the trace's net, and tallies what was
-//! asked for; `window_allocation` gives batches their slots and cores. `replay.rt` is its replay: in each step `window_allocation`
+//! asked for; `window_allocation` gives batches their slots and cores. A window is shared by the step that gives it and by the plan:
+//! once the step is dropped, the window's tables serve the next one. `replay.rt` is its replay: in each step `window_allocation`
 //! gives the batches of the window before their slots in a thread of its own, beside it the caller's own work is done and
 //! `replay_rounds` plays a window, and then the slots are published. What was played is shared by the step that gives it and by the
 //! replay, whose next step allocates its batches.

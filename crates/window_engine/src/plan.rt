@@ -1,4 +1,5 @@
-ghost use Rattle.std.specs.Prelude.{◌≡◌, ◌≢◌, ◌<◌, ◌≤◌, ◌+◌, ◌*◌, ◌↔◌, ℕ, List, length, IsTrue, IfOk, OnOk};
+ghost use Rattle.std.specs.Prelude.{◌≡◌, ◌≢◌, ◌<◌, ◌≤◌, ◌+◌, ◌*◌, ◌↔◌, ℕ, List, length, Some, IsTrue, IfOk, OnOk, IfSome, option_map};
+ghost use Rattle.std.specs.Rc.{rc_value};
 ghost use Rattle.greedy_rules.specs.Batches.{DemandBatch};
 ghost use Rattle.clos_topology.specs.Network.{Network};
 ghost use Rattle.trace_text.specs.Trace.{TraceContent};
@@ -23,10 +24,11 @@ use no_memory::NoMemory;
 use plan_rounds::{Collection, every_plan_adds_what_is_asked, every_plan_is_recorded};
 use std::alloc::Global;
 use std::marker::Model;
+use std::rc::Rc;
 use std::sync::Wait;
 use std::thread::Threads;
 use trace_text::Trace;
-use window_allocation::{Allocation, Span, place};
+use window_allocation::{Allocation, Span, Window, place};
 
 /// Plans a trace, window after window of rounds.
 #[derive(Drop)]
@@ -37,6 +39,8 @@ pub(crate) struct Plan {
     rounds: u32,
     collection: Collection,
     allocation: Allocation,
+    // The window that was given last, shared with the step that gave it.
+    last: Option<Rc<Window>>,
     // By source and then destination, once every round is done.
     pending: Vec<u32>,
 }
@@ -54,6 +58,13 @@ impl Model for Plan {
       allocation = p.allocation;
       pending = p.pending.items;
     } };
+}
+
+/// Takes out the window that was given last; None where there is none, or the step that gave it still holds it.
+fn past_window(last: &mut Option<Rc<Window>>) -> Option<Window>
+    ensures { IfSome result (λ window. option_map rc_value last.old ≡ Some window) }
+{
+    Rc::into_inner(last.take()?)
 }
 
 impl Plan {
@@ -83,6 +94,7 @@ impl Plan {
                 setting.b,
                 setting.g,
             )?,
+            last: None,
             pending: vec![in alloc; 0; flows]?,
         })
     }
@@ -117,13 +129,16 @@ impl Plan {
         let first = self.collection.rounds();
         let count = u32::from(self.g).min(self.rounds - first);
         let batches = self.collection.window(self.alloc, trace, count)?;
-        let mut window = self.allocation.open_window(&batches)?;
+        let past = past_window(&mut self.last);
+        let mut window = self.allocation.open_window(past, &batches)?;
         self.allocation.fill(rt, gate, &batches, &mut window);
+        let shared = Rc::new(self.alloc, window)?;
+        self.last = Some(shared.clone()?);
         self.end();
         Ok(Step {
             collected: Span { first, count },
             rounds: StepRounds::Plan(batches),
-            window,
+            window: shared,
         })
     }
 

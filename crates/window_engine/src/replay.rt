@@ -158,7 +158,7 @@ impl Replay {
         let lanes = &mut self.lanes;
         let allocation = &mut self.allocation;
         let batches = batches_of(&self.last);
-        let mut opened = match allocation.open_window(batches) {
+        let mut opened = match allocation.open_window(None, batches) {
             Ok(opened) => opened,
             Err(none) => {
                 meanwhile();
@@ -242,7 +242,7 @@ impl Replay {
         Ok(Step {
             collected: Span { first, count },
             rounds: StepRounds::Replay(shared),
-            window,
+            window: Rc::new(self.alloc, window)?,
         })
     }
 

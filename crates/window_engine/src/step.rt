@@ -13,7 +13,8 @@ use window_allocation::{Span, Window};
 pub struct Step {
     pub(crate) collected: Span,
     pub(crate) rounds: StepRounds,
-    pub(crate) window: Window,
+    // A plan's is shared with the plan, whose next step fills it again if this one is dropped by then.
+    pub(crate) window: Rc<Window>,
 }
 
 /// What the rounds of a step give.
@@ -25,12 +26,13 @@ pub(crate) enum StepRounds {
 }
 
 impl Model for Step {
+    ghost use Rattle.std.specs.Rc.{rc_value};
     ghost use Rattle.window_engine.specs.Step.{StepContent};
     ghost use Rattle.window_engine.specs.StepRounds.{played_in};
 
     ghost Value = { StepContent };
 
-    ghost view = { λ s. record { collected = s.collected; played = played_in s.rounds; window = s.window } };
+    ghost view = { λ s. record { collected = s.collected; played = played_in s.rounds; window = rc_value s.window } };
 }
 
 impl Step {

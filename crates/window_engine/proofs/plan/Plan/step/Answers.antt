@@ -5,7 +5,7 @@ use Rattle.plan_rounds.specs.Batches.{plan_batches}
 use Rattle.window_allocation.specs.Standing.{Allocated, HasAllocated}
 use Rattle.plan_rounds.specs.Standing.{Collected, HasCollected}
 use Rattle.window_engine.specs.Plan.{PlanState}
-use Rattle.window_allocation.specs.Windows.{IsWindowOf}
+use Rattle.window_allocation.specs.Windows.{WindowContent, IsWindowOf}
 use Rattle.window_allocation.specs.Giving.{HandsOn}
 use Rattle.window_engine.proofs.PlanLemmas.{stands_too, may_give, next_allocated, pending_room, stands_next, jobs_raised, planned}
 use Rattle.window_engine.proofs.plan.Plan.step.Goals as goal
@@ -55,16 +55,19 @@ returns-clause-stands g c =
 
 pub returns-clause-jobs : goal.returns-clause-jobs
 returns-clause-jobs g c =
-    jobs_raised _ _ c.deref-2.result.now c.end.new.self.allocation.paths.jobs c.fill.new.window.span c.self.view_is c.fill.ensures.span
+    jobs_raised _ _ c.deref-2.result.now c.end.new.self.allocation.paths.jobs c.in_ok-shared.shared.value.span c.self.view_is (ap (λ (w : WindowContent). w.span) c.in_ok-shared.ensures.ok ∙ c.fill.ensures.span)
     (ap (λ (half : Allocated). half.paths.jobs) c.end.ensures.allocation ∙ c.fill.ensures.jobs)
 
 pub returns-clause-planned : goal.returns-clause-planned
 returns-clause-planned g c =
     let trace = c.args.trace.now in
-    planned trace _ _ c.in_ok-batches.batches.items c.min-count.result c.rounds-first.result c.fill.new.window c.self.view_is c.rounds-rounds.ensures.sound (stands_too trace _ _ c.self.view_is c.requires.stands) c.every_plan_is_recorded.ensures
+    let half : Allocated = c.self.inside.allocation in
+    let given = c.in_ok-shared.ensures.ok in
+    let Shown : List DemandBatch → WindowContent → Type 0 = λ bs w. IsWindowOf half.paths.net half.b (schedule_from half.b half.batches half.list.items bs) w in
+    planned trace _ _ c.in_ok-batches.batches.items c.min-count.result c.rounds-first.result c.in_ok-shared.shared.value c.self.view_is c.rounds-rounds.ensures.sound (stands_too trace _ _ c.self.view_is c.requires.stands) c.every_plan_is_recorded.ensures
     c.schedules_go_on.ensures.more c.schedules_go_on.ensures.front c.schedules_go_on.ensures.count c.rounds-first.ensures (omega (arith, c.min-count.ensures, c.from.ensures, c.rounds-first.ensures)) c.in_ok-batches.ensures.batches
-    (subst (λ (bs : List DemandBatch). c.fill.new.window.span ≡ record { first = c.self.inside.allocation.batches; count = length bs }) c.deref-2.ensures.value c.fill.ensures.span)
-    (subst (λ (bs : List DemandBatch). IsWindowOf c.self.inside.allocation.paths.net c.self.inside.allocation.b (schedule_from c.self.inside.allocation.b c.self.inside.allocation.batches c.self.inside.allocation.list.items bs) c.fill.new.window) c.deref-2.ensures.value c.fill.ensures.window)
+    (ap (λ (w : WindowContent). w.span) given ∙ subst (λ (bs : List DemandBatch). c.fill.new.window.span ≡ record { first = half.batches; count = length bs }) c.deref-2.ensures.value c.fill.ensures.span)
+    (subst (Shown c.in_ok-batches.batches.items) (sym given) (subst (λ (bs : List DemandBatch). Shown bs c.fill.new.window) c.deref-2.ensures.value c.fill.ensures.window))
 
 pub returns-clause-workers : goal.returns-clause-workers
 returns-clause-workers g c =
@@ -78,6 +81,7 @@ pub returns-clause-handed : goal.returns-clause-handed
 returns-clause-handed g c =
     let batches : List DemandBatch = c.in_ok-batches.batches.items in
     let window = c.fill.new.window in
-    subst (λ (e : PlanState). HandsOn e.allocation batches c.end.new.self.allocation window) c.self.view_is
+    subst (λ (e : PlanState). HandsOn e.allocation batches c.end.new.self.allocation c.in_ok-shared.shared.value) c.self.view_is
+    (subst (HandsOn c.self.inside.allocation batches c.end.new.self.allocation) (sym c.in_ok-shared.ensures.ok)
     (subst (λ (half : Allocated). HandsOn c.self.inside.allocation batches half window) (sym c.end.ensures.allocation)
-    (subst (λ (bs : List DemandBatch). HandsOn c.self.inside.allocation bs c.fill.new.self window) c.deref-2.ensures.value c.fill.ensures.handed))
+    (subst (λ (bs : List DemandBatch). HandsOn c.self.inside.allocation bs c.fill.new.self window) c.deref-2.ensures.value c.fill.ensures.handed)))

@@ -2,14 +2,14 @@ use Rattle.std.proofs.Common.{◌≤◌, ◌+◌, ◌-◌, ◌*◌, ℕ, length,
 use Rattle.trace_run.specs.Run.{replayed}
 use Rattle.replay_rounds.specs.Setting.{setting_of}
 use Rattle.replay_rounds.specs.Played.{Played, rounds_played}
-use Rattle.replay_rounds.specs.Standing.{RoundsContent}
+use Rattle.replay_rounds.specs.Standing.{RoundsContent, slots_between}
 use Rattle.window_engine.specs.Replay.{ReplayState, replay_run}
 use Rattle.window_allocation.specs.Standing.{Allocated, HasAllocated}
-use Rattle.window_allocation.specs.Windows.{WindowContent, jobs_for}
+use Rattle.window_allocation.specs.Windows.{WindowContent, IsWindowOf, jobs_for}
 use Rattle.window_allocation.specs.Giving.{HandsOn}
 use Rattle.window_allocation.proofs.WindowLemmas.{ring_endpoints}
 use Rattle.window_engine.proofs.ReplaySteps.{are_next, replay_allocated}
-use Rattle.window_engine.proofs.ReplayPublish.{MayPublish, seen_as, publishes_with, publish_next, publish_fits, lanes_after, stands_next}
+use Rattle.window_engine.proofs.ReplayPublish.{MayPublish, HasCores, seen_as, publishes_with, publish_next, publish_fits, lanes_after, stands_next}
 use Rattle.window_engine.proofs.ReplayBeside.{may_allocate, collects_beside, next_beside}
 use Rattle.window_engine.proofs.replay.Replay.step_beside.Goals as goal
 
@@ -108,10 +108,15 @@ returns-clause-played g c cores stands =
 pub returns-clause-span : goal.returns-clause-span
 returns-clause-span g c =
     let (cores, stands) = c.requires.stands in
-    (next_beside c.replays_hold.ensures c.args.trace.now cores c.args.self.now _ _ c.rounds-rounds.ensures.sound stands c.in_ok-played.ensures.given).span
+    let next = next_beside c.replays_hold.ensures c.args.trace.now cores c.args.self.now _ _ c.rounds-rounds.ensures.sound stands c.in_ok-played.ensures.given in
+    ap (λ (w : WindowContent). w.span) c.in_ok-new.ensures.ok ∙ next.span
 
 pub returns-clause-window : goal.returns-clause-window
-returns-clause-window g c cores stands = (next_beside c.replays_hold.ensures c.args.trace.now cores c.args.self.now _ _ c.rounds-rounds.ensures.sound stands c.in_ok-played.ensures.given).shows
+returns-clause-window g c cores stands =
+    let trace = c.args.trace.now in
+    let old = c.args.self.now in
+    let next = next_beside c.replays_hold.ensures trace cores old _ _ c.rounds-rounds.ensures.sound stands c.in_ok-played.ensures.given in
+    subst (IsWindowOf trace.net old.lanes.b (slots_between (replay_run trace cores old) old.lanes.published old.lanes.collected)) (sym c.in_ok-new.ensures.ok) next.shows
 
 pub returns-clause-jobs : goal.returns-clause-jobs
 returns-clause-jobs g c =
@@ -145,7 +150,8 @@ returns-clause-stands g c cores stands named =
     let has = replay_allocated laws trace cores old _ sound stands c.in_ok-played.ensures.given.stands in
     let pending = ap (λ (e : ReplayState). length e.pending) c.self-2.view_is ∙ ap (λ (e : ReplayState). length e.pending) c.in_ok-played.ensures.others in
     let rounds = ap (λ (e : ReplayState). e.rounds) c.self-2.view_is ∙ ap (λ (e : ReplayState). e.rounds) c.in_ok-played.ensures.others in
-    stands_next laws trace cores old c.self-2.inside.lanes c.publish.new.self c.in_ok-played.window c.end.new.self sound stands collects next publishes named c.end.ensures.lanes (c.end.ensures.stands trace cores)
+    let has_cores = subst (λ (w : WindowContent). HasCores old w cores) c.in_ok-new.ensures.ok named in
+    stands_next laws trace cores old c.self-2.inside.lanes c.publish.new.self c.in_ok-played.window c.end.new.self sound stands collects next publishes has_cores c.end.ensures.lanes (c.end.ensures.stands trace cores)
     (c.end.ensures.rounds ∙ rounds) (c.end.ensures.waiting ∙ ap (λ (p : Played). p.batches) (c.in_ok-clone.ensures.cases ∙ (c.in_ok-shared.ensures.ok ∙ c.in_ok-played.ensures.rounds.played cores stands.lanes)))
     (subst (HasAllocated trace.net old.lanes.g batches) (sym half) has) (ap (λ (a : Allocated). a.b) half ∙ c.in_ok-played.ensures.given.b) (c.end.ensures.pending ∙ pending) c.end.ensures.ended c.end.ensures.counted
 
@@ -161,4 +167,5 @@ pub returns-clause-handed : goal.returns-clause-handed
 returns-clause-handed g c =
     let old = c.args.self.now in
     let half = c.end.ensures.allocation ∙ ap (λ (e : ReplayState). e.allocation) c.self-2.view_is in
-    subst (λ (a : Allocated). HandsOn old.allocation old.waiting a c.in_ok-played.window) (sym half) c.in_ok-played.ensures.given.handed
+    subst (HandsOn old.allocation old.waiting c.end.new.self.allocation) (sym c.in_ok-new.ensures.ok)
+    (subst (λ (a : Allocated). HandsOn old.allocation old.waiting a c.in_ok-played.window) (sym half) c.in_ok-played.ensures.given.handed)
