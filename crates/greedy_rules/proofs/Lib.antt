@@ -7,6 +7,7 @@ mod KeptLemmas
 pub mod ScheduleLemmas
 pub mod RowLemmas
 mod SenderLemmas
+mod NamedCells
 mod SlotRows
 pub mod TableLemmas
 pub mod WalkLemmas

@@ -1,5 +1,5 @@
 -- The bits of a slot table's senders: a word is written, and what a slot's words tell of who sends in it.
-use Rattle.std.proofs.Common.{◌≡◌, ◌<◌, ◌+◌, ◌*◌, ◌/◌, ◌%◌, ◌^◌, ◌==◌, ◌&&◌, ◌||◌, ℕ, zero, suc, List, [], ◌∷◌, length, get_or, set, take, drop, replicate, Option, Some, None, Bool, true, false, find, cond, bit_or, refl, sym, ap, ◌∙◌, arith, inl, inr}
+use Rattle.std.proofs.Common.{◌≡◌, ◌<◌, ◌+◌, ◌*◌, ◌/◌, ◌%◌, ◌^◌, ◌==◌, ◌&&◌, ◌||◌, ℕ, List, [], ◌∷◌, length, get_or, set, take, drop, Option, Some, None, Bool, true, false, find, cond, bit_or, refl, sym, ap, ◌∙◌, arith, inl, inr}
 use Rattle.std.specs.Prelude.{is_some, nat_lt}
 use Rattle.std.specs.List.{list_any}
 use Rattle.std.specs.Option.{option_map}
@@ -144,15 +144,6 @@ idle_passed row true was src other idle = elim (cases_order other src) [
   | inr (inr after) ↦ ap (λ (b : Bool). b && is_some (get_or row other None)) (le-ltb other src (omega (arith, after)) ∙ sym (le-ltb other (src + 1) (omega (arith, after))))
 ]
 
--- once the whole row is passed
-pub all_noted : (row : List (Option ℕ)) (here was : Bool) (src other : ℕ) → src ≡ length row → cond here (noted_below row src other) was ≡ cond here (is_some (get_or row other None)) was
-all_noted row here was src other all = elim (cases_lt other src) [
-  | inl within ↦ ap (λ (b : Bool). cond here (b && is_some (get_or row other None)) was) (lt-ltb other src within)
-  | inr past ↦
-      let none : is_some (get_or row other None) ≡ false = ap is_some (get_or_past row other None (omega (arith, past, all))) in
-      ap (λ (b : Bool). cond here b was) (and_left (nat_lt other src) _ (le-ltb other src past) ∙ sym none)
-]
-
 -- a source sends where some flow of the slot has it
 sends_any : (slot : List Flow) (src : ℕ) → is_some (destination_of slot src) ≡ list_any (λ flow. flow.src == src) slot
 sends_any [] src = refl
@@ -208,11 +199,6 @@ senders_of_put slots slot flow at src below =
           ∙ (sym (or-false (is_some (destination_of (slot_in slots at) src)))
           ∙ ap (λ (b : Bool). is_some (destination_of (slot_in slots at) src) || (b && (src == flow.src))) (sym there))
     ]
-
-pub nobody_sends : (count at src : ℕ) → is_some (destination_of (slot_in (replicate count []) at) src) ≡ false
-nobody_sends zero at src = refl
-nobody_sends (suc count) zero src = refl
-nobody_sends (suc count) (suc at) src = nobody_sends count at src
 
 -- where the words tell who sends in a slot, each of them tells which of its 64 places of the row hold a destination
 pub word_of_senders : (words : List ℕ) (row : List (Option ℕ)) (word : ℕ) → AreSendersOf (flows_from 0 row) words → get_or words word 0 < 2 ^ 64 → TellsHeld (take 64 (drop (word * 64) row)) (get_or words word 0)

@@ -1,6 +1,6 @@
 -- What contracts see of a slot table: its slots, each the list of its flows rising by source, and how many endpoints it serves.
 use Rattle.std.specs.Prelude.{◌≡◌, ◌<◌, ◌≤◌, ℕ, ◌+◌, ◌*◌, List, [], ◌∷◌, length, take, drop, map, filter, replicate, Option, Some, None, is_some, All, AllPairs, IfSome, find, option_map, ◌==◌, vec_len, vec_capacity}
-use Rattle.std.specs.List.{slice_index_or}
+use Rattle.std.specs.List.{slice_get, slice_index_or}
 use Rattle.greedy_rules.specs.declared.flows.Flow.{Flow}
 use Rattle.greedy_rules.specs.declared.rows.Rows.{Rows}
 
@@ -43,19 +43,20 @@ pub record IsSlotOf (endpoints : ℕ) (slot : List Flow) : Type 0 where
 abbrev pub AreCells : ℕ → List (Option ℕ) → Type 0
 AreCells endpoints cells = All (λ cell. IfSome cell (λ dst. dst < endpoints)) cells
 
--- there are so many rows, and each is one slot's
-pub record AreRows (endpoints count : ℕ) (cells places : List (Option ℕ)) : Type 0 where
-  pub whole : length cells ≡ count * endpoints
-  pub counted : length (filter is_some places) ≡ count
-  pub below : (slot row : ℕ) → place_at places slot ≡ Some row → row < count
-  pub apart : (slot other row : ℕ) → place_at places slot ≡ Some row → place_at places other ≡ Some row → slot ≡ other
+-- there are as many rows as slots; the first ones have owners, each the slot whose place says so, and in the rows behind them nobody sends
+pub record AreRows (endpoints : ℕ) (cells places : List (Option ℕ)) (owners : List ℕ) : Type 0 where
+  pub whole : length cells ≡ length places * endpoints
+  pub counted : length (filter is_some places) ≡ length owners
+  pub owned : (slot row : ℕ) → place_at places slot ≡ Some row → slice_get owners row ≡ Some slot
+  pub placed : (slot row : ℕ) → slice_get owners row ≡ Some slot → place_at places slot ≡ Some row
+  pub clean : (at : ℕ) → length owners * endpoints ≤ at → slice_index_or cells at None ≡ None
   pub cells_are : AreCells endpoints cells
 
--- there is room for a row of each slot, and one in which nobody sends
+-- there is room for the owner of each row, and a row in which nobody sends
 pub record IsTable (rows : Rows) : Type 0 where
-  pub rows_are : AreRows rows.endpoints rows.count rows.cells.items rows.places.items
+  pub rows_are : AreRows rows.endpoints rows.cells.items rows.places.items rows.owners.items
   pub few : vec_len rows.places < 65536
-  pub room : vec_len rows.places * rows.endpoints ≤ vec_capacity rows.cells
+  pub room : vec_len rows.places ≤ vec_capacity rows.owners
   pub idle : rows.idle.items ≡ replicate rows.endpoints None
 
 -- what contracts see of these rows

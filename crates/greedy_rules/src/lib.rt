@@ -2,7 +2,7 @@
 //!
 //! `greedy_rules` allocates. `flows.rt` has flows, items and entries, `batches.rt` a batch that rises by flow and carries the
 //! limits of the racks (`limits.rt`), `demands.rt` the demand list, `slots.rt` the table of slots. Its rows, a place for each
-//! endpoint, stand in `rows.rt`: one for each slot that was written, in the order of their first writing. `senders.rt` has a bit
+//! endpoint, stand in `rows.rt`: one for each slot that was written, in the order in which they were given. `senders.rt` has a bit
 //! for each endpoint and slot, so that who sends is found without a look at the others. `plain.rt` is greedy allocation of one
 //! batch on one thread. `marks.rt` is what a slot's flows keep taken beside their sources: destinations, and a count for each rack
 //! and side; it is opened once a batch and cleared for each slot. That body stays beside the faster one: it is the definition's

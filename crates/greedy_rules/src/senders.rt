@@ -28,14 +28,6 @@ impl Senders {
         })
     }
 
-    /// From now on nobody sends in any slot.
-    pub(crate) fn clear(&mut self)
-        ensures words { (slots endpoints : ℕ) → HasSenderWords slots endpoints self.old → HasSenderWords slots endpoints self.new }
-        ensures none { (slot src : ℕ) → is_sender self.new slot src ≡ false }
-    {
-        self.words.fill(0);
-    }
-
     /// The words of a slot.
     pub(crate) fn of(&self, slot: u16) -> &[u64]
         requires { (slots endpoints : ℕ) × HasSenderWords slots endpoints self.now × (slot < slots) }
@@ -75,6 +67,15 @@ impl Senders {
         for word in 0..self.each {
             self.set_word(slot, word, word_at(words, word));
         }
+    }
+
+    /// From now on nobody sends in the slot.
+    pub(crate) fn clear(&mut self, slot: u16)
+        requires { (slots endpoints : ℕ) × HasSenderWords slots endpoints self.old × (slot < slots) }
+        ensures words { (slots endpoints : ℕ) → HasSenderWords slots endpoints self.old → HasSenderWords slots endpoints self.new }
+        ensures cleared { (at src : ℕ) → is_sender self.new at src ≡ (if at == slot then false else is_sender self.old at src) }
+    {
+        self.set_words(slot, &[]);
     }
 
     /// From now on those send in the slot that send in this slot of others, for as many endpoints or fewer.

@@ -107,8 +107,7 @@ impl SlotTable {
         ensures slots { self.new.slots ≡ replicate (length self.old.slots) [] }
         ensures endpoints { self.new.endpoints ≡ self.old.endpoints }
     {
-        self.rows.clear();
-        self.senders.clear();
+        self.rows.clear(&mut self.senders);
     }
 
     /// Makes the slots from place `to` on those of a table for as many endpoints or fewer.
@@ -134,7 +133,8 @@ impl SlotTable {
         ensures endpoints { self.new.endpoints ≡ self.old.endpoints }
     {
         if from.rows.has_row(slot) || self.rows.has_row(to) {
-            self.rows.write(to, from.rows.row(slot));
+            self.rows
+                .copy(to, from.rows.row(slot), from.senders.of(slot));
             self.senders.copy(to, &from.senders, slot);
         }
     }

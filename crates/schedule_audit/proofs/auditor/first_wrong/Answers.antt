@@ -18,6 +18,20 @@ use Rattle.schedule_audit.proofs.SendOrder.{number}
 use Rattle.schedule_audit.proofs.Finished.{next-batch, numbers-fit, all-played, told, figures-are, found-is, short-is}
 use Rattle.schedule_audit.proofs.auditor.first_wrong.Goals as goal
 
+pub loop-round-init : goal.loop-round-init
+loop-round-init c =
+    let net = c.args.net in
+    record {
+      played = λ lines collects off. record {
+        net_is = c.in_ok-judges.ensures.net;
+        played = c.in_ok-played.ensures off.batches off.are (collects.records ∙ sym off.is);
+        judged = c.in_ok-judges.ensures.stands;
+      };
+      net = c.in_ok-judges.ensures.net;
+      paths = c.in_ok-judges.ensures.paths;
+      sends = c.in_ok-judges.ensures.sends;
+    }
+
 pub play-requires-clause-numbers : goal.play-requires-clause-numbers
 play-requires-clause-numbers c =
     let x = c.requires.collected in

@@ -1,7 +1,7 @@
 use Rattle.std.proofs.Common.{◌≡◌, ◌<◌, [], length, Some, None, sym, ap, ◌∙◌, arith}
 use Rattle.greedy_rules.specs.SlotTable.{flows_from, flows_at, place_at}
 use Rattle.greedy_rules.proofs.RowLemmas.{flows_from-replicate}
-use Rattle.greedy_rules.proofs.TableLemmas.{fits, place_read, slot_at}
+use Rattle.greedy_rules.proofs.TableLemmas.{place_read, row_ends, slot_at}
 use Rattle.greedy_rules.proofs.rows.Rows.row.Goals as goal
 
 pub slice_bounds-result-end : goal.slice_bounds-result-end
@@ -9,7 +9,7 @@ slice_bounds-result-end c =
     let rows = c.args.self.now in
     let below : c.args.slot < length rows.places.items = omega (arith, rows.places.ok.0, c.requires.slot) in
     let here : place_at rows.places.items c.args.slot ≡ Some c.in-Some.row = place_read rows.places.items c.args.slot c.index.result.now below c.index.ensures ∙ c.in-Some.is in
-    omega (arith, fits rows.endpoints rows.count c.in-Some.row (c.requires.table.rows_are.below c.args.slot c.in-Some.row here), c.requires.table.rows_are.whole, c.deref.ensures.len)
+    omega (arith, row_ends rows c.args.slot c.in-Some.row c.requires.table here, c.deref.ensures.len)
 
 pub returns-in-None-clause-flows : goal.returns-in-None-clause-flows
 returns-in-None-clause-flows c =

@@ -18,7 +18,7 @@ use Rattle.window_engine.specs.contracts.replay.Replay.play_beside as this
 use Rattle.window_engine.proofs.replay.Replay.play_beside.Goals as goal
 
 half_send : (g : given.Over) → IsSync (this.R-row g.row.R g.row.G g.row.F) → IsSync (this.G-row g.row.R g.row.G g.row.F) → (κs : contract.Lifetimes.Lfts 18)
-    → IsSend (lts.arg-11-1 g.row.R g.row.G g.row.F g.R.laws g.G.laws g.F.laws g.R.Threads-dict g.R.Wait-dict g.G.Gate-dict g.F.FnMut-dict g.F.FnOnce-dict g.F.Destruct-dict κs)
+    → IsSend (lts.arg-12-1 g.row.R g.row.G g.row.F g.R.laws g.G.laws g.F.laws g.R.Threads-dict g.R.Wait-dict g.G.Gate-dict g.F.FnMut-dict g.F.FnOnce-dict g.F.Destruct-dict κs)
 half_send g r q κs =
     let r0 : IsSync g.row.R = given_sync 0 g.row.R r in
     let q0 : IsSync g.row.G = given_sync 1 g.row.G q in
@@ -46,7 +46,7 @@ half_send g r q κs =
     }
 
 pub join_mut-played-requires-send-F : goal.join_mut-played-requires-send-F
-join_mut-played-requires-send-F g c κs within = param_send 1 (lts.arg-11-1 g.row.R g.row.G g.row.F g.R.laws g.G.laws g.F.laws g.R.Threads-dict g.R.Wait-dict g.G.Gate-dict g.F.FnMut-dict g.F.FnOnce-dict g.F.Destruct-dict κs) (half_send g c.type_bounds.sync-R c.type_bounds.sync-G κs)
+join_mut-played-requires-send-F g c κs within = param_send 1 (lts.arg-12-1 g.row.R g.row.G g.row.F g.R.laws g.G.laws g.F.laws g.R.Threads-dict g.R.Wait-dict g.G.Gate-dict g.F.FnMut-dict g.F.FnOnce-dict g.F.Destruct-dict κs) (half_send g c.type_bounds.sync-R c.type_bounds.sync-G κs)
 
 pub returns-then-not-have_many-clause-rounds : goal.returns-then-not-have_many-clause-rounds
 returns-then-not-have_many-clause-rounds g c =
