@@ -1,6 +1,7 @@
 mod CountLemmas
 pub mod WordLemmas
 mod LowestLemmas
+mod NotedLemmas
 mod NamingLemmas
 mod MapLemmas
 mod LinkLemmas

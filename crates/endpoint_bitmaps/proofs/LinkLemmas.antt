@@ -1,28 +1,64 @@
 -- The links of racks, as lists of counts and words.
-use Rattle.std.proofs.Common.{◌≡◌, ◌≢◌, ◌<◌, ◌≤◌, ◌+◌, ◌-◌, ◌*◌, ◌^◌, ℕ, List, length, get_or, set, replicate, Bool, true, false, not, ◌==◌, ◌&&◌, nat_lt, cond, bit_and, w64, refl, sym, ap, ◌∙◌, arith, inl, inr}
+use Rattle.std.proofs.Common.{◌≡◌, ◌≢◌, ◌<◌, ◌≤◌, ◌+◌, ◌-◌, ◌*◌, ◌^◌, ◌++◌, ℕ, List, length, get_or, set, replicate, drop, Bool, true, false, not, ◌==◌, ◌&&◌, nat_lt, cond, bit_and, w64, refl, sym, ap, ◌∙◌, arith, inl, inr}
 use Rattle.std.specs.Int.{trailing_zeros}
-use Rattle.std.proofs.lemmas.Bool.{cases_eq, and_right, and_parts, eq-eqb, ne_eqb, lt-ltb, le-ltb, both_ways, eqb-true}
-use Rattle.std.proofs.lemmas.List.{get_or-set_same, get_or-set_other, get_or_read, length-set, length-replicate, get_or-replicate}
+use Rattle.std.proofs.lemmas.Bool.{cases_eq, cases_lt, and_right, and_parts, eq-eqb, ne_eqb, lt-ltb, le-ltb, both_ways, eqb-true}
+use Rattle.std.proofs.lemmas.List.{get_or-set_same, get_or-set_other, get_or_read, length-set, length-append, length-drop, length-replicate, get_or-replicate, get_or-drop, get_or_append_left, get_or-append_right}
 use Rattle.std.proofs.lemmas.Nat.Bits.{bit_at-pow_same, bit_at-pow_other}
 use Rattle.std.proofs.Math.Bool.{and-true, and-not_self}
 use Rattle.endpoint_bitmaps.specs.Slots.{has_slot}
-use Rattle.endpoint_bitmaps.specs.Links.{taken_in, HasTakenLinks, ShowsLeft}
+use Rattle.endpoint_bitmaps.specs.Links.{taken_in, HasTakenLinks, ShowsLeft, IsUsed}
 use Rattle.endpoint_bitmaps.proofs.WordLemmas.{has_slot-without, has_slot-first, lowest_is, without_lowest}
 
-pub shows_cleared : (cores before : ℕ) (counts words counts' words' : List ℕ) → 1 ≤ cores → ShowsLeft before counts words → counts' ≡ replicate (length counts) 0
-    → words' ≡ replicate (length words) (2 ^ 64 - 1) → ShowsLeft cores counts' words'
-shows_cleared cores before counts words counts' words' some shows counts_are words_are = record {
-  count = ap length counts_are ∙ (length-replicate (length counts) 0 ∙ (shows.count ∙ ap (λ (n : ℕ). n * 64) (sym (ap length words_are ∙ length-replicate (length words) (2 ^ 64 - 1)))));
-  each = λ rack slot below within.
-      let n : ℕ = length words in
-      let racks : length words' ≡ n = ap length words_are ∙ length-replicate n (2 ^ 64 - 1) in
-      ap (λ (xs : List ℕ). has_slot (get_or xs rack 0) slot) words_are
-      ∙ (ap (λ (m : ℕ). has_slot m slot) (get_or-replicate n rack (2 ^ 64 - 1) 0 (omega (arith, racks, below)))
-      ∙ (has_slot-first 64 slot ∙ (lt-ltb slot 64 within
-      ∙ sym (ap (λ (xs : List ℕ). nat_lt (taken_in xs rack slot) cores) counts_are
-      ∙ (ap (λ (m : ℕ). nat_lt m cores) (get_or-replicate (length counts) (rack * 64 + slot) 0 0 (omega (arith, racks, below, within, shows.count)))
-      ∙ lt-ltb 0 cores some)))));
-}
+-- a rack that has taken no link has one left in every slot of its word
+none_taken : (cores rack slot : ℕ) (counts words : List ℕ) → 1 ≤ cores → slot < 64 → taken_in counts rack slot ≡ 0 → get_or words rack 0 ≡ 2 ^ 64 - 1
+    → has_slot (get_or words rack 0) slot ≡ nat_lt (taken_in counts rack slot) cores
+none_taken cores rack slot counts words some within none all =
+    ap (λ (n : ℕ). has_slot n slot) all
+    ∙ (has_slot-first 64 slot ∙ (lt-ltb slot 64 within ∙ sym (ap (λ (n : ℕ). nat_lt n cores) none ∙ lt-ltb 0 cores some)))
+
+-- links that nobody has taken yet
+pub shows_none : (cores : ℕ) (counts words : List ℕ) (racks : ℕ) → 1 ≤ cores → counts ≡ replicate (racks * 64) 0 → words ≡ replicate racks (2 ^ 64 - 1) → ShowsLeft cores counts words
+shows_none cores counts words racks some counts_are words_are =
+    let long : length words ≡ racks = ap length words_are ∙ length-replicate racks (2 ^ 64 - 1) in
+    record {
+      count = ap length counts_are ∙ (length-replicate (racks * 64) 0 ∙ ap (λ (n : ℕ). n * 64) (sym long));
+      each = λ rack slot below within.
+          none_taken cores rack slot counts words some within
+          (ap (λ (xs : List ℕ). taken_in xs rack slot) counts_are ∙ get_or-replicate (racks * 64) (rack * 64 + slot) 0 0 (omega (arith, long, below, within)))
+          (ap (λ (xs : List ℕ). get_or xs rack 0) words_are ∙ get_or-replicate racks rack (2 ^ 64 - 1) 0 (omega (arith, long, below)));
+    }
+
+-- the links of all racks are given back, of which those below `used` alone have taken any
+pub shows_cleared : (cores before used : ℕ) (counts words counts' words' : List ℕ) → 1 ≤ cores → 1 ≤ before → ShowsLeft before counts words → IsUsed used counts
+    → counts' ≡ replicate (length counts) 0 → words' ≡ replicate used (2 ^ 64 - 1) ++ drop used words → ShowsLeft cores counts' words'
+shows_cleared cores before used counts words counts' words' some had shows is_used counts_are words_are =
+    let n : ℕ = length words in
+    let all : ℕ = 2 ^ 64 - 1 in
+    let ones : List ℕ = replicate used all in
+    let within_used : used ≤ n = omega (arith, is_used.within, shows.count) in
+    let ones_long : length ones ≡ used = length-replicate used all in
+    let racks : length words' ≡ n = ap length words_are ∙ (length-append ones (drop used words) ∙ omega (arith, ones_long, length-drop used words, within_used)) in
+    record {
+      count = ap length counts_are ∙ (length-replicate (length counts) 0 ∙ (shows.count ∙ ap (λ (m : ℕ). m * 64) (sym racks)));
+      each = λ rack slot below within.
+          let none : taken_in counts' rack slot ≡ 0 =
+          ap (λ (xs : List ℕ). taken_in xs rack slot) counts_are ∙ get_or-replicate (length counts) (rack * 64 + slot) 0 0 (omega (arith, racks, below, within, shows.count)) in
+          elim (cases_lt rack used) [
+            | inl taken ↦
+                none_taken cores rack slot counts' words' some within none
+                (ap (λ (xs : List ℕ). get_or xs rack 0) words_are
+                ∙ (get_or_append_left ones (drop used words) 0 rack (omega (arith, taken, ones_long)) ∙ get_or-replicate used rack all 0 taken))
+            | inr rest ↦
+                let kept : get_or words' rack 0 ≡ get_or words rack 0 =
+                ap (λ (xs : List ℕ). get_or xs rack 0) words_are
+                ∙ (get_or-append_right ones (drop used words) used rack 0 ones_long rest
+                ∙ (get_or-drop used words (rack - used) 0 ∙ ap (λ (m : ℕ). get_or words m 0) (omega (arith, rest)))) in
+                ap (λ (m : ℕ). has_slot m slot) kept
+                ∙ (shows.each rack slot (omega (arith, racks, below)) within
+                ∙ (ap (λ (m : ℕ). nat_lt m before) (is_used.rest (rack * 64 + slot) (omega (arith, rest)))
+                ∙ (lt-ltb 0 before had ∙ sym (ap (λ (m : ℕ). nat_lt m cores) none ∙ lt-ltb 0 cores some))))
+          ];
+    }
 
 has_only : (slot k : ℕ) → has_slot (2 ^ slot) k ≡ (k == slot)
 has_only slot k = elim (cases_eq k slot) [

@@ -20,6 +20,7 @@ pub record Fit (limits : Limits) (senders receivers racks leaving leaving_left e
   pub leaving_count : length leaving_left ≡ length senders
   pub entering_count : length entering_left ≡ length senders
   pub hosts : 1 ≤ limits.hosts
+  pub some_core : 1 ≤ limits.cores
   pub cores : limits.cores ≤ 64
   pub racks_are : AreRacks limits.hosts racks
   pub leaving_shown : ShowsLeft limits.cores leaving leaving_left

@@ -1,4 +1,5 @@
 pub mod Slots
 pub mod Links
+pub mod Noted
 pub mod Fit
 pub mod FreeSlots

@@ -6,37 +6,41 @@ ghost use Rattle.endpoint_bitmaps.specs.Links.{HasTakenLinks, ShowsLeft, IsUsed}
 ghost use Rattle.endpoint_bitmaps.specs.Fit.{AreRacks, naming};
 ghost use Rattle.endpoint_bitmaps.specs.FreeSlots.{is_free_to_send, may_receive, IsFreeBelow, HasNoneBetween, needs_links, is_common, NoneMaySend, HasTaken};
 
+use crate::noted_flows::NotedFlows;
 use crate::rack_links::RackLinks;
-use greedy_rules::Limits;
+use greedy_rules::{Flow, Limits};
 use no_memory::NoMemory;
 use std::alloc::Global;
 use std::marker::Model;
 
 /// Which endpoints are free in which slots of a batch of at most 64: for each endpoint a map of the slots in which it may
 /// still send, and one of those in which it may still receive. Bit i of a map is the batch's slot i, counted from 0. How
-/// many endpoints may still send in some slot is counted.
+/// many endpoints may still send in some slot is counted. The flows that took slots are noted, so that only the
+/// maps of their ends are written where few did.
 #[derive(Debug, Drop)]
 pub struct FreeMaps {
     limits: Limits,
     senders: Vec<u64>,
     receivers: Vec<u64>,
     sending: usize,
+    noted: NotedFlows,
     racks: Vec<u16>,
     leaving: RackLinks,
     entering: RackLinks,
 }
 
 impl Model for FreeMaps {
-    ghost use Rattle.std.specs.Prelude.{◌≡◌, vec_len};
+    ghost use Rattle.std.specs.Prelude.{◌≡◌, vec_len, vec_capacity};
     ghost use Rattle.endpoint_bitmaps.specs.Fit.{Fit, naming};
     ghost use Rattle.endpoint_bitmaps.specs.Links.{IsUsed};
+    ghost use Rattle.endpoint_bitmaps.specs.Noted.{NotesTaken};
     ghost use Rattle.endpoint_bitmaps.specs.FreeSlots.{FreeSlots};
 
     ghost Value = { FreeSlots };
 
     ghost view = { λ m. record { endpoints = vec_len m.senders; limits = m.limits; to_send = m.senders.items; to_receive = m.receivers.items; leaving = m.leaving.taken.items; entering = m.entering.taken.items } };
 
-    ghost invariant = { λ m. Fit m.limits m.senders.items m.receivers.items m.racks.items m.leaving.taken.items m.leaving.left.items m.entering.taken.items m.entering.left.items × (m.sending ≡ naming m.senders.items) × IsUsed m.leaving.used m.leaving.taken.items × IsUsed m.entering.used m.entering.taken.items };
+    ghost invariant = { λ m. Fit m.limits m.senders.items m.receivers.items m.racks.items m.leaving.taken.items m.leaving.left.items m.entering.taken.items m.entering.left.items × (m.sending ≡ naming m.senders.items) × IsUsed m.leaving.used m.leaving.taken.items × IsUsed m.entering.used m.entering.taken.items × NotesTaken (vec_capacity m.noted.flows) m.noted.free m.noted.flows.items m.senders.items m.receivers.items };
 }
 
 impl FreeMaps {
@@ -48,11 +52,12 @@ impl FreeMaps {
         Ok(FreeMaps {
             limits: Limits {
                 hosts: u16::MAX,
-                cores: 0,
+                cores: 64,
             },
             senders: vec![in alloc; 0; endpoints as usize]?,
             receivers: vec![in alloc; 0; endpoints as usize]?,
             sending: 0,
+            noted: NotedFlows::open(alloc)?,
             racks: vec![in alloc; 0; endpoints as usize]?,
             leaving: RackLinks::open(alloc, endpoints)?,
             entering: RackLinks::open(alloc, endpoints)?,
@@ -74,8 +79,8 @@ impl FreeMaps {
         self.leaving.clear(limits.cores);
         self.entering.clear(limits.cores);
         let free = first_slots(b);
-        self.senders.fill(free);
-        self.receivers.fill(free);
+        self.noted
+            .free_all(&mut self.senders, &mut self.receivers, free);
         self.sending = self.senders.len() * usize::from(free != 0);
     }
 
@@ -157,6 +162,7 @@ impl FreeMaps {
             need,
             self.limits.cores,
         );
+        self.noted.note(Flow { src, dst });
         take_slots(&mut self.senders, &mut self.sending, src, taken);
         self.receivers[dst as usize] &= !taken;
         taken
@@ -169,6 +175,7 @@ fn take_slots(words: &mut [u64], count: &mut usize, endpoint: u16, slots: u64)
     requires some { slice_index_or words.old endpoint 0 ≢ 0 }
     requires count { count.old ≡ naming words.old }
     ensures length { length words.new ≡ length words.old }
+    ensures others { (at : ℕ) → at ≢ endpoint → slice_index_or words.new at 0 ≡ slice_index_or words.old at 0 }
     ensures words { (at slot : ℕ) → has_slot (slice_index_or words.new at 0) slot ≡ (has_slot (slice_index_or words.old at 0) slot && not ((at == endpoint) && has_slot slots slot)) }
     ensures count { count.new ≡ naming words.new }
 {

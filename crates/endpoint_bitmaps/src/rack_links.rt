@@ -1,4 +1,4 @@
-ghost use Rattle.std.specs.Prelude.{◌≡◌, ◌<◌, ◌≤◌, ◌*◌, ◌==◌, ℕ, IfOk, vec_len, true, length, replicate};
+ghost use Rattle.std.specs.Prelude.{◌≡◌, ◌<◌, ◌≤◌, ◌-◌, ◌*◌, ◌^◌, ◌==◌, ◌++◌, ℕ, IfOk, vec_len, true, length, drop, replicate};
 ghost use Rattle.std.specs.List.{slice_index_or};
 ghost use Rattle.endpoint_bitmaps.specs.Slots.{has_slot};
 ghost use Rattle.endpoint_bitmaps.specs.Links.{taken_in, HasTakenLinks, ShowsLeft, IsUsed};
@@ -16,15 +16,15 @@ pub(crate) struct RackLinks {
 }
 
 impl RackLinks {
-    /// Links of so many racks, none of which has one left in any slot.
+    /// Links of so many racks, each of which has 64 in each slot, with none taken.
     pub(crate) fn open(alloc: Global, racks: u16) -> Result<RackLinks, NoMemory>
         ensures racks { IfOk result (λ links. vec_len links.left ≡ racks) }
-        ensures left { IfOk result (λ links. ShowsLeft 0 links.taken.items links.left.items) }
+        ensures left { IfOk result (λ links. ShowsLeft 64 links.taken.items links.left.items) }
         ensures used { IfOk result (λ links. IsUsed links.used links.taken.items) }
     {
         Ok(RackLinks {
             taken: vec![in alloc; 0; racks as usize * 64]?,
-            left: vec![in alloc; 0; racks as usize]?,
+            left: vec![in alloc; u64::MAX; racks as usize]?,
             used: 0,
         })
     }
@@ -32,7 +32,7 @@ impl RackLinks {
     /// Lets every rack have this many links in each slot, with none taken.
     pub(crate) fn clear(&mut self, cores: u16)
         requires some { 1 ≤ cores }
-        requires count { (before : ℕ) × ShowsLeft before self.old.taken.items self.old.left.items }
+        requires count { (before : ℕ) × (1 ≤ before) × ShowsLeft before self.old.taken.items self.old.left.items }
         requires used { IsUsed self.old.used self.old.taken.items }
         ensures racks { vec_len self.new.left ≡ vec_len self.old.left }
         ensures none { (rack slot : ℕ) → taken_in self.new.taken.items rack slot ≡ 0 }
@@ -40,8 +40,8 @@ impl RackLinks {
         ensures used { IsUsed self.new.used self.new.taken.items }
     {
         clear_used(&mut self.taken, self.used);
+        free_used(&mut self.left, self.used);
         self.used = 0;
-        self.left.fill(u64::MAX);
     }
 
     /// Lets the rack be one of those that have taken links.
@@ -84,4 +84,12 @@ fn clear_used(counts: &mut [u8], used: usize)
     ensures { counts.new ≡ replicate (length counts.old) 0 }
 {
     counts[..used * 64].fill(0);
+}
+
+/// Lets the racks below `used` have a link left in every slot.
+fn free_used(words: &mut [u64], used: usize)
+    requires { used ≤ length words.old }
+    ensures { words.new ≡ replicate used (2 ^ 64 - 1) ++ drop used words.old }
+{
+    words[..used].fill(u64::MAX);
 }

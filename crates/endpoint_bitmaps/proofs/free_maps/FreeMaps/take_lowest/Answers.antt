@@ -1,11 +1,14 @@
-use Rattle.std.proofs.Common.{◌≡◌, ◌<◌, ◌^◌, ◌+◌, ℕ, List, cond, length, get_or, take, drop, ◌++◌, true, ap, sym, ◌∙◌, arith, rules, not, nat_lt, ◌&&◌, ◌||◌, ◌==◌, false, w64}
+use Rattle.std.proofs.Common.{◌≡◌, ◌<◌, ◌^◌, ◌+◌, ◌-◌, ℕ, List, cond, length, get_or, set, take, drop, bit_and, subst, ◌++◌, true, ap, sym, ◌∙◌, arith, rules, not, nat_lt, ◌&&◌, ◌||◌, ◌==◌, false, w64}
 use Rattle.std.specs.Int.{trailing_zeros}
 use Rattle.std.proofs.lemmas.Bool.{and_left, and_parts}
-use Rattle.std.proofs.lemmas.List.{take_at}
-use Rattle.std.specs.Prelude.{vec_len}
+use Rattle.std.proofs.lemmas.List.{take_at, length-set, get_or-set_other}
+use Rattle.std.specs.Prelude.{vec_len, vec_capacity}
 use Rattle.greedy_rules.specs.Limits.{rack_of}
 use Rattle.endpoint_bitmaps.specs.Slots.{has_slot, count_below}
 use Rattle.endpoint_bitmaps.specs.FreeSlots.{FreeSlots, is_common, is_free_to_send, may_receive, has_links, leaving_in, entering_in, rack_in, needs_links}
+use Rattle.endpoint_bitmaps.specs.Fit.{naming}
+use Rattle.endpoint_bitmaps.specs.Noted.{NotesTaken}
+use Rattle.endpoint_bitmaps.proofs.NotedLemmas.{one_more_noted}
 use Rattle.endpoint_bitmaps.proofs.CountLemmas.{is_among_lowest-same}
 use Rattle.endpoint_bitmaps.proofs.WordLemmas.{has_slot-above, has_slot-none, lowest_is}
 use Rattle.endpoint_bitmaps.proofs.NamingLemmas.{names_some}
@@ -111,3 +114,42 @@ returns-then-common-eq0-clause-count c = λ b none.
     let common = is_common c.args.self.now c.args.src c.args.dst in
     let is_none : (slot : ℕ) → common slot ≡ false = λ slot. sym (c.common-common.ensures slot) ∙ ap (λ (n : ℕ). has_slot n slot) c.if-common-eq0.true ∙ has_slot-none slot in
     count_is 64 0 c.args.need b common (search rules) (λ slot. has_slot-none slot ∙ sym (and_left (common slot) (nat_lt (count_below common slot) c.args.need) (is_none slot))) (λ slot from. is_none slot) none
+
+pub invariant_of-self : goal.invariant_of-self
+invariant_of-self c =
+    let m = c.self.inside in
+    let fit = c.self.invariant.0 in
+    let noted = c.self.invariant.4 in
+    let left = c.take_slots.new.words in
+    let left_count : length left ≡ length m.senders.items = c.take_slots.ensures.length ∙ ap length c.deref_mut.ensures.value in
+    let all_left : take m.senders.len (left ++ drop (length left) m.senders.items) ≡ left =
+    take_at left (drop (length left) m.senders.items) m.senders.len (omega (arith, m.senders.ok, left_count)) in
+    let took = c.take_links-taken.ensures in
+    let word : ℕ = bit_and c.index_mut.result.now (2 ^ 64 - 1 - c.take_links-taken.result) in
+    let receivers : List ℕ = set m.receivers.items c.args.dst word in
+    let below : (endpoint : ℕ) → endpoint < c.args.self.now.endpoints → endpoint < length m.senders.items = λ endpoint within. omega (arith, ap (λ (v : FreeSlots). v.endpoints) c.self.view_is, m.senders.ok, within) in (
+      record {
+        few = omega (arith, ap length all_left, left_count, fit.few);
+        receivers_count = omega (arith, ap length all_left, left_count, length-set m.receivers.items c.args.dst word, fit.receivers_count);
+        racks_count = omega (arith, ap length all_left, left_count, fit.racks_count);
+        leaving_count = omega (arith, ap length all_left, left_count, took.leaving_racks, m.leaving.left.ok, c.take_links-taken.new.leaving.left.ok, fit.leaving_count);
+        entering_count = omega (arith, ap length all_left, left_count, took.entering_racks, m.entering.left.ok, c.take_links-taken.new.entering.left.ok, fit.entering_count);
+        hosts = fit.hosts;
+        some_core = fit.some_core;
+        cores = fit.cores;
+        racks_are = fit.racks_are;
+        leaving_shown = took.leaving_shown;
+        entering_shown = took.entering_shown;
+      },
+      c.take_slots.ensures.count ∙ ap naming (sym all_left),
+      took.leaving_used,
+      took.entering_used,
+      subst (λ (words : List ℕ). NotesTaken (vec_capacity c.note.new.self.flows) c.note.new.self.free c.note.new.self.flows.items words receivers) (sym all_left)
+          (subst (λ (room : ℕ). NotesTaken room c.note.new.self.free c.note.new.self.flows.items left receivers) (sym c.note.ensures.room)
+          (subst (λ (free : ℕ). NotesTaken (vec_capacity m.noted.flows) free c.note.new.self.flows.items left receivers) (sym c.note.ensures.free)
+          (one_more_noted (vec_capacity m.noted.flows) m.noted.free (record { src = c.args.src; dst = c.args.dst }) m.noted.flows.items c.note.new.self.flows.items
+          m.senders.items m.receivers.items left receivers noted c.note.ensures.flows left_count (length-set m.receivers.items c.args.dst word)
+          (below c.args.src c.requires.src_in_range) (omega (arith, below c.args.dst c.requires.dst_in_range, fit.receivers_count))
+          (λ at other. c.take_slots.ensures.others at other ∙ ap (λ (words : List ℕ). get_or words at 0) c.deref_mut.ensures.value)
+          (λ at other. get_or-set_other m.receivers.items c.args.dst at word 0 other)))),
+    )
