@@ -1,5 +1,6 @@
 pub mod QueueLemmas
 pub mod PainterLemmas
+pub mod GatherLemmas
 pub mod PlayLemmas
 pub mod CrewLemmas
 pub mod NamedCores

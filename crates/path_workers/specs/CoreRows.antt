@@ -1,9 +1,7 @@
--- How rows of cores stand in one list: first a run of which each row that names the first core for one source alone is a part,
+-- How rows of cores stand in one list: first a band of which each row that names the first core for one source alone is a part,
 -- then the other rows one after the other.
-use Rattle.std.specs.Prelude.{◌≡◌, ◌≤◌, ℕ, ◌+◌, ◌-◌, ◌*◌, ◌==◌, List, [], ◌∷◌, ◌++◌, map, replicate, Option, Some, None, All, take, drop, vec_len, vec_capacity, if◌then◌else◌}
+use Rattle.std.specs.Prelude.{◌≡◌, ◌≤◌, ℕ, ◌+◌, ◌-◌, ◌*◌, ◌==◌, List, ◌∷◌, ◌++◌, map, replicate, Bool, not, Option, Some, None, All, take, drop, count_by, vec_len, vec_capacity, if◌then◌else◌}
 use Rattle.clos_topology.specs.Links.{CoreOf}
-use Rattle.edge_colouring.specs.Cores.{core_in}
-use Rattle.path_workers.specs.CoreTable.{CoreSlots}
 use Rattle.path_workers.specs.declared.core_table.Place.{Place}
 use Rattle.path_workers.specs.declared.core_table.CoreTable.TheInside.{Inside}
 
@@ -22,25 +20,22 @@ row_there cores place = take place.len (drop place.from cores)
 abbrev pub rows_at_places : List (Option ℕ) → List Place → List (List (Option ℕ))
 rows_at_places cores places = map (row_there cores) places
 
--- the run for so many endpoints: the row of a source is the part of so many cells that begins at `endpoints - 1 - source`
-abbrev pub first_run : ℕ → List (Option ℕ)
-first_run endpoints = replicate (endpoints - 1) None ++ Some 0 ∷ replicate (endpoints - 1) None
+-- the places at which a row stands that is not empty
+abbrev pub is_filled : Place → Bool
+is_filled place = not (place.len == 0)
 
-abbrev pub run_len : ℕ → ℕ
-run_len endpoints = 2 * (endpoints - 1) + 1
+-- the band for so many endpoints: the row of a source is the part of so many cells that begins at `endpoints - 1 - source`
+abbrev pub band : ℕ → List (Option ℕ)
+band endpoints = replicate (endpoints - 1) None ++ Some 0 ∷ replicate (endpoints - 1) None
 
--- the run stands in front, each place stands within the cores, no row is longer than there are endpoints, and there is room for
--- a row of each slot
+abbrev pub band_len : ℕ → ℕ
+band_len endpoints = 2 * (endpoints - 1) + 1
+
+-- each slot has a place, the band stands in front, each place stands within the cores, which are at most as many as the slots
+-- with a row need, and there is room for a row of each slot
 pub record AreCoreRows (table : Inside) : Type 0 where
+  pub places : vec_len table.places ≡ table.slots
   pub within : All (λ place. place.from + place.len ≤ vec_len table.cores) table.places.items
-  pub count : vec_len table.places ≤ table.slots
-  pub front : take (run_len table.endpoints) table.cores.items ≡ first_run table.endpoints
-  pub few : vec_len table.cores ≤ run_len table.endpoints + vec_len table.places * table.endpoints
-  pub slot_room : table.slots ≤ vec_capacity table.places
-  pub core_room : run_len table.endpoints + table.slots * table.endpoints ≤ vec_capacity table.cores
-
--- a table with one more row than before, by which the next slot has cores of this kind
-pub record HasOneMore (Kind : CoreOf → Type 0) (old new : CoreSlots) : Type 0 where
-  pub row : List (Option ℕ)
-  pub added : new ≡ record old { rows = old.rows ++ row ∷ [] }
-  pub cores : Kind (core_in row)
+  pub front : take (band_len table.endpoints) table.cores.items ≡ band table.endpoints
+  pub few : vec_len table.cores ≤ band_len table.endpoints + count_by is_filled table.places.items * table.endpoints
+  pub core_room : band_len table.endpoints + table.slots * table.endpoints ≤ vec_capacity table.cores

@@ -1,6 +1,6 @@
 -- What contracts see of a core table: how many slots and endpoints it has room for, and the row of each slot, which has its
 -- cores by source. No core is named past the end of a row, nor past the last row.
-use Rattle.std.specs.Prelude.{◌≡◌, ℕ, List, [], Option, None}
+use Rattle.std.specs.Prelude.{◌≡◌, ◌≢◌, ℕ, List, [], Option, None}
 use Rattle.std.specs.List.{slice_index_or}
 use Rattle.clos_topology.specs.Links.{CoreOf}
 use Rattle.edge_colouring.specs.Cores.{core_in}
@@ -20,6 +20,16 @@ pub record HasRoomOf (old new : CoreSlots) : Type 0 where
 -- the core that a slot names for each source
 abbrev pub core_of : CoreSlots → ℕ → CoreOf
 core_of table slot = core_in (slice_index_or table.rows slot [])
+
+-- the row of a slot
+abbrev pub row_of : CoreSlots → ℕ → List (Option ℕ)
+row_of table slot = slice_index_or table.rows slot []
+
+-- one slot has got a row, and the others have theirs
+pub record HasSet (slot : ℕ) (row : List (Option ℕ)) (old new : CoreSlots) : Type 0 where
+  pub room : HasRoomOf old new
+  pub own : row_of new slot ≡ row
+  pub others : (other : ℕ) → other ≢ slot → row_of new other ≡ row_of old other
 
 -- no source has a core
 abbrev pub NamesNone : CoreOf → Type 0

@@ -1,6 +1,6 @@
 -- A path worker's rows of cores: for each slot that it has coloured, the row that has its cores (this project's own profile).
-use Rattle.std.specs.Prelude.{◌≡◌, ◌<◌, ◌≤◌, ℕ, ◌+◌, ◌-◌, ◌*◌, nat_lt, List, map, length, Bool, true, Option, Some, None, All, IsTrue, is_some, take, drop, vec_len, if◌then◌else◌}
-use Rattle.std.specs.List.{slice_index_or, list_any}
+use Rattle.std.specs.Prelude.{◌≡◌, ◌≢◌, ◌<◌, ◌≤◌, ◌⊎◌, ℕ, ◌+◌, ◌-◌, ◌*◌, nat_lt, List, [], map, length, Bool, true, Option, Some, None, All, IsTrue, is_some, take, drop, count_by, vec_len, vec_capacity, if◌then◌else◌}
+use Rattle.std.specs.List.{slice_index_or, list_any, Contains}
 use Rattle.greedy_rules.specs.declared.flows.Flow.{Flow}
 use Rattle.greedy_rules.specs.Matching.{IsMatching}
 use Rattle.greedy_rules.specs.Schedule.{slot_in}
@@ -9,6 +9,7 @@ use Rattle.clos_topology.specs.Links.{CoreOf}
 use Rattle.edge_colouring.specs.Cores.{core_in}
 use Rattle.path_workers.specs.declared.jobs.Job.{Job}
 use Rattle.path_workers.specs.declared.painter.Painter.{Painter}
+use Rattle.path_workers.specs.CoreTable.{CoreSlots, core_of, row_of}
 use Rattle.path_workers.specs.CoreRows.{first_core}
 use Rattle.path_workers.specs.Coloured.{IsFlowOf, IsWithinCores, HasItsCores}
 use Rattle.path_workers.specs.Jobs.{weigh, is_slot}
@@ -43,13 +44,14 @@ cores_at endpoints cores place =
 abbrev pub row_at : Painter → ℕ → CoreOf
 row_at painter place = cores_at (endpoints_of painter.net) painter.rows.items place
 
--- a row for each slot
+-- room for a row of each slot, and for each slot in the list
 pub record IsPainter (net : Network) (room : ℕ) (painter : Painter) : Type 0 where
   pub few : room ≤ 1024
   pub same_net : painter.net ≡ net
   pub table : painter.table.net ≡ net
   pub graph : endpoints_of net ≤ painter.graph.room
   pub places : vec_len painter.places ≡ room
+  pub made : room ≤ vec_capacity painter.made
   pub rows : vec_len painter.rows ≡ room * endpoints_of net
 
 -- a slot's row has its cores; it is the row of a slot with the same packets, an empty one past the rows, or that of one source
@@ -58,9 +60,16 @@ pub record HasRow (net : Network) (room : ℕ) (slots : List (List Flow)) (paint
   pub within : place < 1025 + endpoints_of net
   pub cores : HasItsCores net (slot_in slots slot) (row_at painter place)
 
+-- the slots that a worker lists: some that it has coloured, no more of them than that, and at least those that need a row
+pub record AreListed (count : ℕ) (places : List (Option ℕ)) (made : List ℕ) : Type 0 where
+  pub few : length made ≤ count_by is_some places
+  pub coloured : All (λ slot. (slot < count) × IsTrue (is_some (slice_index_or places slot None))) made
+  pub all : (slot place : ℕ) → slice_index_or places slot None ≡ Some place → place ≢ 1024 → Contains made slot
+
 pub record HasPainted (net : Network) (room : ℕ) (slots : List (List Flow)) (painter : Painter) : Type 0 where
   pub sized : IsPainter net room painter
   pub rows : (slot place : ℕ) → slot < length slots → cores_place painter slot ≡ Some place → HasRow net room slots painter slot place
+  pub listed : AreListed (length slots) painter.places.items painter.made.items
 
 -- each slot of these whose job was taken more often than before has a row
 abbrev pub HasRowsOf : ℕ → List Job → List Job → Painter → Type 0
@@ -81,3 +90,14 @@ pub record MayPaint (slots : List (List Flow)) (painter : Painter) : Type 0 wher
 -- all of them are of one network and size, whose slots may be coloured
 abbrev pub MayAllPaint : List (List Flow) → List Painter → Type 0
 MayAllPaint slots painters = (net : Network) × (room : ℕ) × AreColourable net room slots × All (HasPainted net room slots) painters
+
+-- each row of a table that is not empty has the cores of its slot
+pub record AreRowsOf (net : Network) (slots : List (List Flow)) (table : CoreSlots) : Type 0 where
+  pub each : (at : ℕ) → at < length slots → HasItsCores net (slot_in slots at) (core_of table at) ⊎ (row_of table at ≡ [])
+  pub past : (at : ℕ) → length slots ≤ at → row_of table at ≡ []
+
+-- each slot that a worker has coloured has its cores in the table, as have those that had them before
+pub record HasGiven (slots : List (List Flow)) (painter : Painter) (old new : CoreSlots) : Type 0 where
+  pub rows : AreRowsOf painter.net slots new
+  pub keeps : (at : ℕ) → HasItsCores painter.net (slot_in slots at) (core_of old at) → HasItsCores painter.net (slot_in slots at) (core_of new at)
+  pub given : (at : ℕ) → at < length slots → IsTrue (has_row at painter) → HasItsCores painter.net (slot_in slots at) (core_of new at)

@@ -1,26 +1,26 @@
-ghost use Rattle.std.specs.Prelude.{◌≡◌, ◌<◌, ◌≤◌, ◌+◌, ℕ, [], ◌∷◌, ◌++◌, length, replicate, None, IfOk, vec_len, vec_capacity};
+ghost use Rattle.std.specs.Prelude.{◌≡◌, ◌<◌, ◌≤◌, ◌+◌, ℕ, [], ◌++◌, length, replicate, None, IfOk, vec_len, vec_capacity};
 ghost use Rattle.std.specs.List.{slice_index_or};
-ghost use Rattle.path_workers.specs.CoreTable.{core_of, NamesNone};
-ghost use Rattle.path_workers.specs.CoreRows.{first_row, run_len, first_run};
+ghost use Rattle.path_workers.specs.CoreTable.{HasRoomOf, HasSet, core_of, row_of, NamesNone};
+ghost use Rattle.path_workers.specs.CoreRows.{first_row, band, band_len};
 
 use no_memory::NoMemory;
 use std::alloc::Global;
 use std::marker::Model;
 
-/// The cores of the packets of many slots: of each slot, counted from 0, a row of cores by source. Rows are added slot after
-/// slot.
+/// The cores of the packets of many slots: of each slot, counted from 0, a row of cores by source, which is empty until it is
+/// set.
 #[derive(Debug, Drop)]
 pub struct CoreTable {
     slots: u16,
     endpoints: u16,
-    // By slot, as far as rows were added: where its row stands.
+    // By slot: where its row stands.
     places: Vec<Place>,
-    // First the run of which each row that names the first core for one source alone is a part, then row after row.
+    // First the band of which each row that names the first core for one source alone is a part, then row after row.
     cores: Vec<Option<u16>>,
 }
 
-/// Where the row of a slot stands.
-#[derive(Debug, Clone, Copy)]
+/// Where the row of a slot stands: by default nowhere, since it is empty.
+#[derive(Debug, Clone, Copy, Default)]
 pub(crate) struct Place {
     from: u32,
     len: u16,
@@ -46,58 +46,52 @@ impl CoreTable {
     {
         let mut cores = Vec::with_capacity(
             alloc,
-            run_len(endpoints) + slots as usize * endpoints as usize,
+            band_len(endpoints) + slots as usize * endpoints as usize,
         )?;
-        add_run(&mut cores, endpoints);
+        add_band(&mut cores, endpoints);
         Ok(CoreTable {
             slots,
             endpoints,
-            places: Vec::with_capacity(alloc, slots as usize)?,
+            places: vec![in alloc; Place::default(); slots as usize]?,
             cores,
         })
     }
 
     /// Names no core any more.
     pub(crate) fn clear(&mut self)
-        ensures { self.new ≡ record self.old { rows = [] } }
+        ensures empty { (slot : ℕ) → row_of self.new slot ≡ [] }
+        ensures room { HasRoomOf self.old self.new }
     {
-        self.places.clear();
-        self.cores.truncate(run_len(self.endpoints));
+        self.places.fill(Place::default());
+        self.cores.truncate(band_len(self.endpoints));
     }
 
-    /// Adds the row of the next slot, which may be shorter than there are endpoints: it names no core for the others.
-    pub(crate) fn push(&mut self, row: &[Option<u16>])
-        requires slot_room { length self.old.rows < self.old.slots }
+    /// Gives the slot, which has none yet, this row. It may be shorter than there are endpoints, and names no core for the others.
+    pub(crate) fn set(&mut self, slot: u16, row: &[Option<u16>])
+        requires slot_in_range { slot < self.old.slots }
+        requires empty { row_of self.old slot ≡ [] }
         requires endpoint_room { length row.now ≤ self.old.endpoints }
-        ensures { self.new ≡ record self.old { rows = self.old.rows ++ row.now ∷ [] } }
+        ensures { HasSet slot row.now self.old self.new }
     {
-        self.places.push_reserved(Place {
+        self.places[slot as usize] = Place {
             from: self.cores.len() as u32,
             len: row.len() as u16,
-        });
+        };
         add_row(&mut self.cores, row);
     }
 
-    /// Adds the row of the next slot that names the first core for this source alone. No core is written.
+    /// Gives the slot the row that names the first core for this source alone. No core is written.
     #[inline(always)]
-    pub(crate) fn push_first(&mut self, src: u16)
-        requires slot_room { length self.old.rows < self.old.slots }
+    pub(crate) fn set_first(&mut self, slot: u16, src: u16)
+        requires slot_in_range { slot < self.old.slots }
+        requires empty { row_of self.old slot ≡ [] }
         requires src_in_range { src < self.old.endpoints }
-        ensures { self.new ≡ record self.old { rows = self.old.rows ++ first_row self.old.endpoints src ∷ [] } }
+        ensures { HasSet slot (first_row self.old.endpoints src) self.old self.new }
     {
-        self.places.push_reserved(Place {
+        self.places[slot as usize] = Place {
             from: u32::from(self.endpoints - 1 - src),
             len: self.endpoints,
-        });
-    }
-
-    /// Adds an empty row for the next slot.
-    #[inline(always)]
-    pub(crate) fn push_empty(&mut self)
-        requires { length self.old.rows < self.old.slots }
-        ensures { self.new ≡ record self.old { rows = self.old.rows ++ [] ∷ [] } }
-    {
-        self.places.push_reserved(Place { from: 0, len: 0 });
+        };
     }
 
     /// How many slots there is room for.
@@ -119,13 +113,9 @@ impl CoreTable {
         requires { slot < self.now.slots }
         ensures { result.now ≡ slice_index_or self.now.rows slot [] }
     {
-        match self.places.get(slot as usize) {
-            Some(place) => {
-                let from = place.from as usize;
-                &self.cores[from..from + place.len as usize]
-            }
-            None => &[],
-        }
+        let place = self.places[slot as usize];
+        let from = place.from as usize;
+        &self.cores[from..from + place.len as usize]
     }
 
     /// The core of the source's packet in the slot; None where it sends nothing, or within its rack.
@@ -141,17 +131,17 @@ impl CoreTable {
     }
 }
 
-/// How many cells a run has of which each row that names the first core for one source alone is a part.
-fn run_len(endpoints: u16) -> usize
-    ensures { result ≡ run_len endpoints }
+/// How many cells the band has of which each row that names the first core for one source alone is a part.
+fn band_len(endpoints: u16) -> usize
+    ensures { result ≡ band_len endpoints }
 {
     2 * (endpoints as usize).saturating_sub(1) + 1
 }
 
-/// Puts this run behind the cores, which have room for it.
-fn add_run(cores: &mut Vec<Option<u16>>, endpoints: u16)
-    requires room { vec_len cores.old + run_len endpoints ≤ vec_capacity cores.old }
-    ensures items { cores.new.items ≡ cores.old.items ++ first_run endpoints }
+/// Puts this band behind the cores, which have room for it.
+fn add_band(cores: &mut Vec<Option<u16>>, endpoints: u16)
+    requires room { vec_len cores.old + band_len endpoints ≤ vec_capacity cores.old }
+    ensures items { cores.new.items ≡ cores.old.items ++ band endpoints }
     ensures capacity { vec_capacity cores.new ≡ vec_capacity cores.old }
 {
     let others = (endpoints as usize).saturating_sub(1);

@@ -1,5 +1,5 @@
 //! The job queue of the path workers: the slots of a table, and an end for each worker.
-ghost use Rattle.std.specs.Prelude.{◌≡◌, ◌<◌, ◌+◌, ◌-◌, ℕ, [], ◌∷◌, ◌++◌, MatchOption, MatchResult, IfOk};
+ghost use Rattle.std.specs.Prelude.{◌≡◌, ◌<◌, ◌+◌, ◌-◌, ℕ, [], ◌∷◌, ◌++◌, MatchOption, IfOk};
 ghost use Rattle.crossbeam_queue.specs.Passes.{view, IsPassOf};
 ghost use Rattle.path_workers.specs.declared.jobs.Job.{Job as AnyJob};
 ghost use Rattle.path_workers.specs.Jobs.{hand, weigh, slot_jobs, end_jobs};

@@ -1,12 +1,12 @@
 //! One path worker's colouring.
-ghost use Rattle.std.specs.Prelude.{◌≡◌, ◌<◌, ◌≤◌, ◌+◌, ◌*◌, ℕ, List, length, false, IsTrue, IfOk, IfSome, vec_len};
+ghost use Rattle.std.specs.Prelude.{◌≡◌, ◌≢◌, ◌<◌, ◌≤◌, ℕ, List, length, None, IsTrue, IfOk, IfSome, vec_len, vec_capacity};
 ghost use Rattle.greedy_rules.specs.declared.flows.Flow.{Flow};
 ghost use Rattle.greedy_rules.specs.Schedule.{slot_in};
 ghost use Rattle.clos_topology.specs.Network.{Network, endpoints_of};
-ghost use Rattle.path_workers.specs.CoreRows.{HasOneMore};
+ghost use Rattle.path_workers.specs.CoreTable.{core_of, row_of, HasRoomOf};
 ghost use Rattle.path_workers.specs.Coloured.{HasItsCores};
 ghost use Rattle.path_workers.specs.Jobs.{is_slot};
-ghost use Rattle.path_workers.specs.Painters.{IsPainter, HasPainted, HasRow, MayPaint, has_row};
+ghost use Rattle.path_workers.specs.Painters.{IsPainter, HasPainted, HasRow, MayPaint, AreRowsOf, HasGiven, cores_place, has_row};
 
 use crate::core_table::CoreTable;
 use crate::jobs::Job;
@@ -36,6 +36,8 @@ pub(crate) struct Painter {
     table: Table,
     // By slot: where its cores stand, if this worker has coloured it.
     places: Vec<Option<u16>>,
+    // The slots that it has coloured whose packets have cores.
+    made: Vec<u16>,
     // The slot that it coloured last.
     last: u16,
     // A row for each slot, which has a core or None for each endpoint.
@@ -61,6 +63,7 @@ impl Painter {
             graph: RackGraph::open(alloc, endpoints)?,
             table: Table::open(alloc, net)?,
             places: vec![in alloc; None; slots as usize]?,
+            made: Vec::with_capacity(alloc, slots as usize)?,
             last: 0,
             rows: vec![in alloc; None; slots as usize * endpoints as usize]?,
         })
@@ -72,6 +75,7 @@ impl Painter {
         ensures number { self.new.number ≡ self.old.number }
     {
         self.places.fill(None);
+        self.made.clear();
     }
 
     /// Colours the slot that the job names, once the gate has let the worker pass. Answers whether it names one.
@@ -93,7 +97,7 @@ impl Painter {
         }
     }
 
-    /// Gives the slot's packets their cores.
+    /// Gives the slot's packets their cores. A slot that this worker has coloured stays as it is.
     #[inline(always)]
     fn paint(&mut self, slots: &SlotTable, slot: u16)
         requires slot { slot < length slots.now.slots }
@@ -104,12 +108,33 @@ impl Painter {
         ensures number { self.new.number ≡ self.old.number }
     {
         every_colouring_makes_a_matching_clean();
+        if self.places[slot as usize].is_some() {
+            return;
+        }
         if !slots.has_row(slot) {
-            self.places[slot as usize] = Some(IDLE);
+            self.note(slot, IDLE);
             return;
         }
         let place = self.make_row(slots, slot);
+        self.note(slot, place);
+    }
+
+    /// Notes where the cores of the slot's packets stand, and lists the slot where they have some.
+    #[inline(always)]
+    fn note(&mut self, slot: u16, place: u16)
+        requires slot { slot < vec_len self.old.places }
+        requires new { cores_place self.old slot ≡ None }
+        requires room { vec_len self.old.made < vec_capacity self.old.made }
+        ensures painted { (net : Network) (room : ℕ) (slots : List (List Flow)) → slot < length slots → HasPainted net room slots self.old → HasRow net room slots self.old slot place → HasPainted net room slots self.new }
+        ensures row { IsTrue (has_row slot self.new) }
+        ensures keeps { (other : ℕ) → IsTrue (has_row other self.old) → IsTrue (has_row other self.new) }
+        ensures number { self.new.number ≡ self.old.number }
+    {
         self.places[slot as usize] = Some(place);
+        if place == IDLE {
+            return;
+        }
+        self.made.push_reserved(slot);
     }
 
     /// The row of the slot coloured last, where that one has the same packets. It isn't looked at where few packets were coloured
@@ -142,6 +167,7 @@ impl Painter {
         ensures painted { HasPainted self.old.net (vec_len self.old.places) slots.now.slots self.new }
         ensures row { HasRow self.old.net (vec_len self.old.places) slots.now.slots self.new slot result }
         ensures places { self.new.places ≡ self.old.places }
+        ensures made { self.new.made ≡ self.old.made }
         ensures number { self.new.number ≡ self.old.number }
     {
         every_colouring_makes_a_matching_clean();
@@ -167,29 +193,42 @@ impl Painter {
         slot
     }
 
-    /// Adds the slot's row of cores to the table, where this worker has coloured it. Answers whether it has.
-    pub(crate) fn put_row(&self, slot: u16, out: &mut CoreTable) -> bool
-        requires may { (slots : List (List Flow)) × MayPaint slots self.now × (slot < length slots) }
-        requires slot_room { length out.old.rows < out.old.slots }
+    /// Gives each slot that this worker has listed its row of cores in the table.
+    pub(crate) fn give_rows(&self, out: &mut CoreTable)
+        requires may { (slots : List (List Flow)) × MayPaint slots self.now × (length slots ≤ out.old.slots) }
         requires endpoint_room { endpoints_of self.now.net ≤ out.old.endpoints }
-        ensures has { result ≡ has_row slot self.now }
-        ensures row { IsTrue result → HasOneMore (λ cores. (slots : List (List Flow)) → MayPaint slots self.now → slot < length slots → HasItsCores self.now.net (slot_in slots slot) cores) out.old out.new }
-        ensures none { result ≡ false → out.new ≡ out.old }
+        ensures given { (slots : List (List Flow)) → MayPaint slots self.now → AreRowsOf self.now.net slots out.old → HasGiven slots self.now out.old out.new }
+        ensures room { HasRoomOf out.old out.new }
     {
+        for slot in &self.made {
+            self.give_row(*slot, out);
+        }
+    }
+
+    /// Gives the slot, which this worker has coloured, its row of cores in the table, if it has none there.
+    fn give_row(&self, slot: u16, out: &mut CoreTable)
+        requires may { (slots : List (List Flow)) × MayPaint slots self.now × (slot < length slots) }
+        requires slot_in_range { slot < out.old.slots }
+        requires endpoint_room { endpoints_of self.now.net ≤ out.old.endpoints }
+        ensures row { (slots : List (List Flow)) → MayPaint slots self.now → AreRowsOf self.now.net slots out.old → slot < length slots → IsTrue (has_row slot self.now) → HasItsCores self.now.net (slot_in slots slot) (core_of out.new slot) }
+        ensures others { (other : ℕ) → other ≢ slot → row_of out.new other ≡ row_of out.old other }
+        ensures room { HasRoomOf out.old out.new }
+    {
+        if !out.row(slot).is_empty() {
+            return;
+        }
         let Some(place) = self.places[slot as usize] else {
-            return false;
+            return;
         };
         if place >= FIRST {
-            out.push_first(place - FIRST);
-            return true;
+            out.set_first(slot, place - FIRST);
+            return;
         }
         if place as usize >= self.places.len() {
-            out.push_empty();
-            return true;
+            return;
         }
         let endpoints = self.net.endpoints() as usize;
         let from = place as usize * endpoints;
-        out.push(&self.rows[from..from + endpoints]);
-        true
+        out.set(slot, &self.rows[from..from + endpoints]);
     }
 }

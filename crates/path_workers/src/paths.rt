@@ -1,14 +1,13 @@
-ghost use Rattle.std.specs.Prelude.{◌≡◌, ◌<◌, ◌≤◌, ◌+◌, ℕ, List, [], true, length, All, IfOk};
-ghost use Rattle.std.specs.List.{list_any, range_with_len};
+ghost use Rattle.std.specs.Prelude.{◌≡◌, ◌<◌, ◌≤◌, ◌+◌, ℕ, List, [], length, All, IfOk};
+ghost use Rattle.std.specs.List.{range_with_len};
 ghost use Rattle.greedy_rules.specs.declared.flows.Flow.{Flow};
 ghost use Rattle.greedy_rules.specs.Matching.{IsMatching};
 ghost use Rattle.greedy_rules.specs.Schedule.{slot_in};
 ghost use Rattle.clos_topology.specs.Network.{Network, endpoints_of};
 ghost use Rattle.path_workers.specs.PathWork.{HaveWorked};
 ghost use Rattle.path_workers.specs.CoreTable.{core_of, HasRoomOf, NamesNone};
-ghost use Rattle.path_workers.specs.CoreRows.{HasOneMore};
 ghost use Rattle.path_workers.specs.Coloured.{IsFlowOf, IsWithinCores, HasItsCores, HaveTheirCores};
-ghost use Rattle.path_workers.specs.Painters.{numbers_of, IsPainter, HasPainted, MayPaint, HaveRows, has_row};
+ghost use Rattle.path_workers.specs.Painters.{numbers_of, IsPainter, HasPainted, MayPaint, HaveRows};
 
 use crate::core_table::CoreTable;
 use crate::jobs;
@@ -119,7 +118,7 @@ impl Paths {
         );
         jobs::join(&self.queue, &mut self.pass, pass);
         self.painters = painters;
-        gather(&self.painters, slots.slots(), out);
+        gather(&self.painters, out);
     }
 }
 
@@ -161,33 +160,16 @@ fn forget(painters: &mut [Painter])
     }
 }
 
-/// Fills the table with the row of every slot, each from a worker that has it.
-fn gather(painters: &[Painter], slots: u16, out: &mut CoreTable)
-    requires painted { (table : List (List Flow)) × (length table ≡ slots) × All (MayPaint table) painters.now × HaveRows slots painters.now }
-    requires slot_room { slots ≤ out.old.slots }
+/// Fills the table with the row of every slot, each from a worker that made it. A slot that needs no cores has an empty one.
+fn gather(painters: &[Painter], out: &mut CoreTable)
+    requires painted { (table : List (List Flow)) × (length table ≤ out.old.slots) × All (MayPaint table) painters.now × HaveRows (length table) painters.now }
     requires endpoint_room { All (λ painter. endpoints_of painter.net ≤ out.old.endpoints) painters.now }
-    ensures coloured { (net : Network) (table : List (List Flow)) → All (MayPaint table) painters.now → All (λ painter. painter.net ≡ net) painters.now → length table ≡ slots → (at : ℕ) → at < slots → HasItsCores net (slot_in table at) (core_of out.new at) }
-    ensures past { (at : ℕ) → slots ≤ at → NamesNone (core_of out.new at) }
-    ensures slots { out.new.slots ≡ out.old.slots }
-    ensures endpoints { out.new.endpoints ≡ out.old.endpoints }
+    ensures coloured { (net : Network) (table : List (List Flow)) → All (MayPaint table) painters.now → All (λ painter. painter.net ≡ net) painters.now → HaveRows (length table) painters.now → (at : ℕ) → at < length table → HasItsCores net (slot_in table at) (core_of out.new at) }
+    ensures past { (net : Network) (table : List (List Flow)) → All (MayPaint table) painters.now → All (λ painter. painter.net ≡ net) painters.now → (at : ℕ) → length table ≤ at → NamesNone (core_of out.new at) }
+    ensures room { HasRoomOf out.old out.new }
 {
     out.clear();
-    for slot in 0..slots {
-        put_row(painters, slot, out);
-    }
-}
-
-/// Adds the slot's row to the table, from the first worker that has it.
-fn put_row(painters: &[Painter], slot: u16, out: &mut CoreTable)
-    requires painted { (table : List (List Flow)) × (slot < length table) × All (MayPaint table) painters.now }
-    requires has { list_any (has_row slot) painters.now ≡ true }
-    requires slot_room { length out.old.rows < out.old.slots }
-    requires endpoint_room { All (λ painter. endpoints_of painter.net ≤ out.old.endpoints) painters.now }
-    ensures { HasOneMore (λ cores. (net : Network) (table : List (List Flow)) → All (MayPaint table) painters.now → All (λ painter. painter.net ≡ net) painters.now → slot < length table → HasItsCores net (slot_in table slot) cores) out.old out.new }
-{
     for painter in painters {
-        if painter.put_row(slot, out) {
-            return;
-        }
+        painter.give_rows(out);
     }
 }

@@ -1,39 +1,48 @@
-use Rattle.std.proofs.Common.{◌≡◌, ◌+◌, ℕ, List, [], ◌∷◌, ◌++◌, Option, length, get_or, sym, ap, ◌∙◌, subst, arith, inl, inr}
-use Rattle.std.proofs.lemmas.Bool.{cases_eq}
-use Rattle.std.proofs.lemmas.List.{get_or_push, get_or_past, get_or_append_left, length_push}
-use Rattle.greedy_rules.specs.Schedule.{slot_in}
+use Rattle.std.proofs.Common.{ℕ, List, Option, length, sym, ap, ◌∙◌, subst, arith}
+use Rattle.clos_topology.specs.Network.{endpoints_of}
 use Rattle.edge_colouring.specs.Cores.{core_in}
-use Rattle.path_workers.specs.CoreTable.{CoreSlots, core_of}
-use Rattle.path_workers.specs.Coloured.{HasItsCores}
+use Rattle.path_workers.specs.declared.painter.Painter.{Painter}
+use Rattle.path_workers.specs.Painters.{MayPaint}
+use Rattle.path_workers.proofs.GatherLemmas.{HaveGiven, begin_given, one_given, all_given, still_room}
 use Rattle.path_workers.proofs.paths.gather.Goals as goal
 
-pub loop-slot-preserved : goal.loop-slot-preserved
-loop-slot-preserved c =
-    let slot = c.loop-slot.slot in
-    let rows : List (List (Option ℕ)) = c.loop-slot.out.rows in
-    let row : List (Option ℕ) = c.put_row.ensures.row in
-    let pushed : c.put_row.new.out.rows ≡ rows ++ row ∷ [] = ap (λ (t : CoreSlots). t.rows) c.put_row.ensures.added in
-    let place : (at : ℕ) → core_of c.put_row.new.out at ≡ core_in (get_or (rows ++ row ∷ []) at []) = λ at. ap (λ (xs : List (List (Option ℕ))). core_in (get_or xs at [])) pushed in
+pub loop-painter-init : goal.loop-painter-init
+loop-painter-init c = record {
+  given = λ net table may nets. begin_given net table c.args.painters.now c.clear.new.self c.clear.ensures.empty;
+  room = c.clear.ensures.room;
+}
+
+pub give_rows-requires-clause-may : goal.give_rows-requires-clause-may
+give_rows-requires-clause-may c =
+    let painted = c.requires.painted in
+    (painted.0, subst (MayPaint painted.0) (sym c.painter-item.is) (painted.2 c.loop-painter.painter-index c.painter-item.result c.loop-painter-test.true), omega (arith, painted.1, c.loop-painter.invariant.room.slots))
+
+pub give_rows-requires-clause-endpoint_room : goal.give_rows-requires-clause-endpoint_room
+give_rows-requires-clause-endpoint_room c =
+    omega (
+      arith,
+      c.requires.endpoint_room c.loop-painter.painter-index c.painter-item.result c.loop-painter-test.true,
+      ap (λ (painter : Painter). endpoints_of painter.net) c.painter-item.is,
+      c.loop-painter.invariant.room.endpoints,
+    )
+
+pub loop-painter-preserved : goal.loop-painter-preserved
+loop-painter-preserved c =
+    let painters : List Painter = c.args.painters.now in
+    let painter : Painter = c.painter-item.result in
+    let at : ℕ = c.loop-painter.painter-index in
     record {
-      coloured = λ net table may nets len at below. elim (cases_eq at slot) [
-        | inl same ↦
-            subst (HasItsCores net (slot_in table at)) (sym (place at ∙ ap core_in (get_or_push rows row [] at (omega (arith, same, c.loop-slot.invariant.count)))))
-            (subst (λ (n : ℕ). HasItsCores net (slot_in table n) (core_in row)) (sym same) (c.put_row.ensures.cores net table may nets (omega (arith, len, c.loop-slot-test.true))))
-        | inr other ↦
-            subst (HasItsCores net (slot_in table at)) (sym (place at ∙ ap core_in (get_or_append_left rows (row ∷ []) [] at (omega (arith, below, other, c.loop-slot.invariant.count)))))
-            (c.loop-slot.invariant.coloured net table may nets len at (omega (arith, below, other)))
-      ];
-      count = ap (λ (xs : List (List (Option ℕ))). length xs) pushed ∙ (length_push rows row ∙ ap (λ (n : ℕ). n + 1) c.loop-slot.invariant.count);
-      slots = ap (λ (t : CoreSlots). t.slots) c.put_row.ensures.added ∙ c.loop-slot.invariant.slots;
-      endpoints = ap (λ (t : CoreSlots). t.endpoints) c.put_row.ensures.added ∙ c.loop-slot.invariant.endpoints;
+      given = λ net table may nets.
+          one_given net table painters at painter c.loop-painter.out c.give_rows.new.out (c.loop-painter.invariant.given net table may nets) c.loop-painter-test.true (sym c.painter-item.is) (ap (λ (p : Painter). p.net) c.painter-item.is ∙ nets at painter c.loop-painter-test.true)
+          (c.give_rows.ensures.given table (subst (MayPaint table) (sym c.painter-item.is) (may at painter c.loop-painter-test.true)));
+      room = still_room c.args.out.now c.loop-painter.out c.give_rows.new.out c.loop-painter.invariant.room c.give_rows.ensures.room;
     }
 
 pub returns-clause-coloured : goal.returns-clause-coloured
-returns-clause-coloured c net table may nets len at below = c.loop-slot.invariant.coloured net table may nets len at (omega (arith, below, c.loop-slot-test.false))
+returns-clause-coloured c net table may nets have at below =
+    let painters : List Painter = c.args.painters.now in
+    let all : HaveGiven net table painters (length painters) c.loop-painter.out = subst (λ (n : ℕ). HaveGiven net table painters n c.loop-painter.out) (omega (arith, c.loop-painter-test.false, c.loop-painter.auto.painter-index-end)) (c.loop-painter.invariant.given net table may nets) in
+    all_given net table painters c.loop-painter.out at all below (have at below)
 
 pub returns-clause-past : goal.returns-clause-past
-returns-clause-past c at above source =
-    ap (λ (row : List (Option ℕ)). core_in row source) (get_or_past c.loop-slot.out.rows at [] (omega (arith, above, c.loop-slot.invariant.count, c.loop-slot-test.false)))
-
-pub put_row-requires-clause-endpoint_room : goal.put_row-requires-clause-endpoint_room
-put_row-requires-clause-endpoint_room c k d below = omega (arith, c.requires.endpoint_room k d below, c.loop-slot.invariant.endpoints)
+returns-clause-past c net table may nets at above source = ap (λ (row : List (Option ℕ)). core_in row source) ((c.loop-painter.invariant.given net table may nets).rows.past at above)

@@ -38,7 +38,7 @@ copy_from_slice-requires c =
     )
 
 pub returns-then-is_empty-clause-painted : goal.returns-then-is_empty-clause-painted
-returns-then-is_empty-clause-painted c = regraphed _ _ c.args.slots.now.slots c.args.self.now _ c.requires.may.painted refl refl c.load.ensures.room refl refl
+returns-then-is_empty-clause-painted c = regraphed _ _ c.args.slots.now.slots c.args.self.now _ c.requires.may.painted refl refl c.load.ensures.room refl refl refl
 
 pub returns-then-is_empty-clause-row : goal.returns-then-is_empty-clause-row
 returns-then-is_empty-clause-row c =
@@ -46,7 +46,7 @@ returns-then-is_empty-clause-row c =
     idle_row _ (vec_len c.args.self.now.places) _ _ c.args.slot c.every_colouring_makes_a_matching_clean.ensures (returns-then-is_empty-clause-painted c).sized c.requires.may.colourable c.requires.slot idle
 
 pub returns-then-is_alone-clause-painted : goal.returns-then-is_alone-clause-painted
-returns-then-is_alone-clause-painted c = regraphed _ _ c.args.slots.now.slots c.args.self.now _ c.requires.may.painted refl refl c.load.ensures.room refl refl
+returns-then-is_alone-clause-painted c = regraphed _ _ c.args.slots.now.slots c.args.self.now _ c.requires.may.painted refl refl c.load.ensures.room refl refl refl
 
 pub returns-then-is_alone-clause-row : goal.returns-then-is_alone-clause-row
 returns-then-is_alone-clause-row c =
@@ -116,7 +116,7 @@ returns-clause-painted c =
     let from : ℕ = c.args.slot * count in
     let s = c.requires.may.painted.sized in
     repainted _ _ c.args.slots.now.slots c.args.self.now _ c.args.slot c.requires.may.painted (omega (arith, c.requires.slot, c.requires.may.colourable.count)) refl (c.colour.ensures.net ∙ s.table)
-    (omega (arith, c.load.ensures.room, s.graph)) refl refl (row_stands c)
+    (omega (arith, c.load.ensures.room, s.graph)) refl refl refl (row_stands c)
     (λ place other. other_row (endpoints_of c.args.self.now.net) count c.args.slot (from + count - from) place c.args.self.now.rows c.deref_mut.result.now c.copy_from_slice.new.self c.endpoints-endpoints.ensures.number c.deref_mut.ensures.value (omega arith) (row_size c) (row_within c) other)
 
 pub returns-clause-row : goal.returns-clause-row

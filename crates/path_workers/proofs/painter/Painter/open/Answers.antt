@@ -8,5 +8,6 @@ returns-clause-sized c = record {
   table = c.in_ok-open-2.ensures.net;
   graph = omega (arith, c.in_ok-open.ensures.room, c.endpoints-endpoints.ensures.number);
   places = omega (arith, c.in_ok-vec.ensures.len);
+  made = omega (arith, c.in_ok-with_capacity.ensures.exact);
   rows = c.in_ok-vec-2.ensures.len ∙ ap (λ (n : ℕ). c.args.slots * n) c.endpoints-endpoints.ensures.number;
 }

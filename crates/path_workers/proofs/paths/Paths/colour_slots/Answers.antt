@@ -47,9 +47,9 @@ gather-requires-clause-painted g c =
     let can = colourable c.args.self.now _ slots c.self.view_is c.requires.count c.requires.endpoints c.requires.matchings c.requires.degrees in
     let shown : c.deref.result.now ≡ c.play-painters.result.0.items = c.deref.ensures.value in (
       slots,
-      sym c.slots.ensures.count,
+      c.requires.slot_room,
       subst (All (MayPaint slots)) (sym shown) (all_may _ _ slots c.play-painters.result.0.items can (painted g c)),
-      λ slot below. ap (list_any (has_row slot)) shown ∙ c.play-painters.ensures.rows slot (omega (arith, below, c.slots.ensures.count)),
+      λ slot below. ap (list_any (has_row slot)) shown ∙ c.play-painters.ensures.rows slot below,
     )
 
 pub gather-requires-clause-endpoint_room : goal.gather-requires-clause-endpoint_room
@@ -83,17 +83,22 @@ invariant_of-self g c =
       rest = again.0;
     }
 
+-- the workers may paint, and are of the same network
+may_paint_then : (g : Over) (c : After-gather g) → All (MayPaint c.args.slots.now.slots) c.deref.result.now
+may_paint_then g c =
+    let slots : List (List Flow) = c.args.slots.now.slots in
+    let can = colourable c.args.self.now _ slots c.self.view_is c.requires.count c.requires.endpoints c.requires.matchings c.requires.degrees in
+    subst (All (MayPaint slots)) (sym {A = List Painter} c.deref.ensures.value) (all_may _ _ slots c.play-painters.result.0.items can (painted_then g c))
+
+same_nets : (g : Over) (c : After-gather g) → All (λ (p : Painter). p.net ≡ c.args.self.now.net) c.deref.result.now
+same_nets g c =
+    subst (All (λ (p : Painter). p.net ≡ c.args.self.now.net)) (sym {A = List Painter} c.deref.ensures.value) (λ k d under. (painted_then g c k d under).sized.same_net ∙ ap (λ (w : PathWork). w.net) c.self.view_is)
+
 -- a slot of the table has its cores
 coloured : (g : Over) (c : After-gather g) (at : ℕ) → at < length c.args.slots.now.slots → HasItsCores c.args.self.now.net (slot_in c.args.slots.now.slots at) (core_of c.gather.new.out at)
 coloured g c at below =
-    let slots : List (List Flow) = c.args.slots.now.slots in
-    let net : Network = c.args.self.now.net in
-    let can = colourable c.args.self.now _ slots c.self.view_is c.requires.count c.requires.endpoints c.requires.matchings c.requires.degrees in
     let shown : c.deref.result.now ≡ c.play-painters.result.0.items = c.deref.ensures.value in
-    let may : All (MayPaint slots) c.deref.result.now = subst (All (MayPaint slots)) (sym shown) (all_may _ _ slots c.play-painters.result.0.items can (painted_then g c)) in
-    let nets : All (λ (p : Painter). p.net ≡ net) c.deref.result.now =
-    subst (All (λ (p : Painter). p.net ≡ net)) (sym shown) (λ k d under. (painted_then g c k d under).sized.same_net ∙ ap (λ (w : PathWork). w.net) c.self.view_is) in
-    c.gather.ensures.coloured net slots may nets (sym c.slots.ensures.count) at (omega (arith, below, c.slots.ensures.count))
+    c.gather.ensures.coloured c.args.self.now.net c.args.slots.now.slots (may_paint_then g c) (same_nets g c) (λ slot under. ap (list_any (has_row slot)) shown ∙ c.play-painters.ensures.rows slot under) at below
 
 pub returns-clause-coloured : goal.returns-clause-coloured
 returns-clause-coloured g c =
@@ -105,7 +110,7 @@ returns-clause-coloured g c =
       clean = λ at below. (coloured g c at below).clean;
       others = λ at below. (coloured g c at below).others;
       below = named;
-      past = λ at above. c.gather.ensures.past at (omega (arith, above, c.slots.ensures.count));
+      past = c.gather.ensures.past net c.args.slots.now.slots (may_paint_then g c) (same_nets g c);
     }
 
 jobs : (g : Over) (c : After-gather g) → jobs_put c.join.new.pass ≡ c.args.self.now.jobs + length c.args.slots.now.slots + c.args.self.now.paths
