@@ -1,5 +1,5 @@
 -- A log of items with gaps: the bits of its places, and what is picked by them.
-use Rattle.std.proofs.Common.{◌≡◌, ◌≢◌, ◌<◌, ◌≤◌, ◌+◌, ◌-◌, ◌*◌, ◌/◌, ◌%◌, ◌^◌, ℕ, zero, suc, List, [], ◌∷◌, ◌++◌, length, get_or, set, map, Bool, true, false, not, ◌==◌, ◌&&◌, ◌||◌, cond, filter, All, bit_and, w64, Some, None, refl, sym, ap, ◌∙◌, subst, arith, inl, inr}
+use Rattle.std.proofs.Common.{◌≡◌, ◌≢◌, ◌<◌, ◌≤◌, ◌+◌, ◌-◌, ◌*◌, ◌/◌, ◌%◌, ◌^◌, ℕ, zero, suc, List, [], ◌∷◌, ◌++◌, length, get_or, map, Bool, true, false, not, ◌==◌, ◌&&◌, ◌||◌, cond, filter, All, bit_and, w64, Some, None, refl, sym, ap, ◌∙◌, subst, arith, inl, inr}
 use Rattle.std.specs.Prelude.{find}
 use Rattle.std.specs.List.{range_with_len}
 use Rattle.std.specs.Int.{trailing_zeros}
@@ -17,8 +17,9 @@ use Rattle.greedy_rules.specs.Flows.{same_flow}
 use Rattle.greedy_rules.specs.Batches.{DemandBatch, entry_of}
 use Rattle.greedy_rules.specs.Demands.{is_listed}
 use Rattle.greedy_rules.proofs.Facts.{same_flow-true, same_flow-refl}
+use Rattle.greedy_rules.proofs.OnceLemmas.{not_listed}
 use Rattle.endpoint_bitmaps.specs.Slots.{has_slot}
-use Rattle.endpoint_bitmaps.proofs.Facts.{lowest_is, without_lowest, has_slot-none}
+use Rattle.endpoint_bitmaps.proofs.Facts.{lowest_is, without_lowest}
 use Rattle.endpoint_bitmaps.proofs.WordLemmas.{has_slot-above}
 use Rattle.slot_batches.specs.Woven.{picked, places_from, HaveNoEntry, NeedNothing}
 use Rattle.window_allocation.specs.Needs.{place_of}
@@ -114,11 +115,6 @@ word_step items from word fits some =
     ap (λ (bits : List ℕ). standing_at items (map later bits)) (bits_from_lowest word fits some)
     ∙ one_or_gap (is_gap (item_at items (from + t))) (from + t) (places_of_bits items from (bit_and word (word - 1)))
 
--- a word without bits has none
-pub no_bits : (items : List Item) (from word : ℕ) → word ≡ 0 → places_of_bits items from word ≡ []
-no_bits items from word none =
-    ap (places_of_bits items from) none ∙ ap (λ (bits : List ℕ). standing_at items (map (λ (bit : ℕ). from + bit) bits)) (no_numbers (has_slot 0) 0 64 (λ k above. has_slot-none k))
-
 place_in_word : (words : List ℕ) (at i : ℕ) → i < 64 → names_place words (at * 64 + i) ≡ has_slot (get_or words at 0) i
 place_in_word words at i below =
     let word : (at * 64 + i) / 64 ≡ at = omega (arith, below) in
@@ -163,6 +159,10 @@ each_standing Q (item ∷ items) all (suc place) there =
       | inr not_it ↦ All-tail Q item rest (subst (All Q) (cond-true (not (is_gap item)) (item ∷ rest) rest (ap not not_it)) all)
     ] in
     each_standing Q items more place there
+
+-- a flow that is new has no item
+pub new_has_bit : (words : List ℕ) (items : List Item) (flow : Flow) → is_listed (standing items) flow ≡ false → HasBit words items flow
+new_has_bit words items flow new = λ place there is. absurd (each_standing (λ item. item.flow ≢ flow) items (not_listed (standing items) flow new) place there is)
 
 -- ---- the items that are picked
 

@@ -4,6 +4,7 @@ use Rattle.std.specs.Prelude.{◌≡◌, ◌<◌, ◌≤◌, ℕ, ◌+◌, ◌*�
 use Rattle.std.specs.List.{slice_index_or}
 use Rattle.greedy_rules.specs.declared.flows.Flow.{Flow}
 use Rattle.greedy_rules.specs.declared.flows.Item.{Item}
+use Rattle.greedy_rules.specs.declared.flows.Entry.{Entry}
 use Rattle.greedy_rules.specs.Slot.{has_flow}
 use Rattle.greedy_rules.specs.Demands.{is_listed}
 use Rattle.greedy_rules.specs.Batches.{DemandBatch}
@@ -78,6 +79,10 @@ IsNamed words count item = (item.need ≡ 0) ⊎ ((at : ℕ) → at < count → 
 abbrev pub OpenAhead : (Flow → Bool) → List DemandBatch → Type 0
 OpenAhead ahead batches = All (λ batch. All (λ entry. entry.opens ≡ true → ahead entry.flow ≡ true) batch.entries) batches
 
+-- a batch opens no flow of the list
+abbrev pub OpensNew : List Item → List Entry → Type 0
+OpensNew list entries = All (λ entry. entry.opens ≡ true → is_listed list entry.flow ≡ false) entries
+
 -- a batch of the window opens no flow of the list
 abbrev pub OpenNew : List Item → List DemandBatch → Type 0
-OpenNew list batches = All (λ batch. All (λ entry. entry.opens ≡ true → is_listed list entry.flow ≡ false) batch.entries) batches
+OpenNew list batches = All (λ batch. OpensNew list batch.entries) batches

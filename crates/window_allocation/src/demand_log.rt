@@ -4,6 +4,7 @@ ghost use Rattle.greedy_rules.specs.declared.flows.Item.{Item};
 ghost use Rattle.slot_batches.specs.Feeding.{IsInOrder};
 ghost use Rattle.slot_batches.specs.Woven.{picked as picked_of, woven, NeedNothing};
 ghost use Rattle.window_allocation.specs.Logged.{is_left, MayBeLogged};
+ghost use Rattle.window_allocation.specs.Reach.{OpenNew};
 
 use crate::item_log::ItemLog;
 use crate::weave::first_served;
@@ -72,6 +73,7 @@ impl DemandLog {
     /// Picks the items that need a slot or have an entry in one of the batches, where they are no more than `most`.
     pub(crate) fn pick(&mut self, batches: &[Batch], most: usize, found: &mut DemandList) -> bool
         requires room { most ≤ length found.old.items + found.old.spare }
+        requires new { OpenNew self.old.items batches.now }
         ensures log { self.new ≡ record self.old { picked = self.new.picked } }
         ensures found { result ≡ true → found.new.items ≡ self.new.picked }
         ensures picked { result ≡ true → self.new.picked ≡ picked_of (is_left self.new.picked) self.old.items }

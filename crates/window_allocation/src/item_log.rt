@@ -2,14 +2,15 @@
 ghost use Rattle.std.specs.Prelude.{◌≡◌, ◌≢◌, ◌<◌, ◌≤◌, ◌+◌, ◌*◌, ◌/◌, ◌^◌, ℕ, Bool, List, [], ◌∷◌, ◌++◌, length, take, drop, true, false, All, None, Some, IfOk, vec_len, vec_capacity, if◌then◌else◌};
 ghost use Rattle.list_facts.specs.Bits.{names_place};
 ghost use Rattle.greedy_rules.specs.declared.flows.Item.{Item};
-ghost use Rattle.greedy_rules.specs.Demands.{HasEachFlowOnce, AreBelow};
+ghost use Rattle.greedy_rules.specs.Demands.{is_listed, HasEachFlowOnce, AreBelow};
 ghost use Rattle.slot_batches.specs.Woven.{picked as picked_of, weave, places_from, NeedNothing};
 ghost use Rattle.window_allocation.specs.Logged.{gap, is_gap as is_gap_in, is_left, is_passed, standing, item_at, items_at, ArePlaced, NeedsHaveBits, HasBit, HaveBits, places_of_bits, busy_places, AreNew};
 ghost use Rattle.window_allocation.specs.Picked.{staying};
+ghost use Rattle.window_allocation.specs.Reach.{OpensNew, OpenNew};
 
 use crate::needs::place;
 use crate::weave::stays_at;
-use greedy_rules::{Batch, DemandList, Flow, Item};
+use greedy_rules::{Batch, DemandList, Entry, Flow, Item};
 use no_memory::NoMemory;
 use slot_batches::clear_words;
 use std::alloc::Global;
@@ -81,16 +82,21 @@ fn find(endpoints: u16, items: &[Item], at: &[u32], flow: Flow) -> Option<usize>
     }
 }
 
-/// Sets the bit of the flow's item, if one stands.
-fn mark_flow(endpoints: u16, items: &[Item], at: &[u32], words: &mut [u64], flow: Flow)
+/// Sets the bit of the entry's item, if one stands. A flow that opens has none, and is not looked up.
+#[tactic(auto, using(crate::proofs::LogLemmas::new_has_bit))]
+fn mark_entry(endpoints: u16, items: &[Item], at: &[u32], words: &mut [u64], entry: Entry)
     requires table { length at.now ≡ endpoints * endpoints }
     requires placed { ArePlaced endpoints at.now items.now }
     requires long { length items.now ≤ length words.old * 64 }
-    ensures marked { HasBit words.new items.now flow }
+    requires new { entry.opens ≡ true → is_listed (standing items.now) entry.flow ≡ false }
+    ensures marked { HasBit words.new items.now entry.flow }
     ensures others { (other : ℕ) → names_place words.old other ≡ true → names_place words.new other ≡ true }
     ensures count { length words.new ≡ length words.old }
 {
-    if let Some(found) = find(endpoints, items, at, flow) {
+    if entry.opens {
+        return;
+    }
+    if let Some(found) = find(endpoints, items, at, entry.flow) {
         set_bit(words, found);
     }
 }
@@ -100,12 +106,13 @@ fn mark_batch(endpoints: u16, items: &[Item], at: &[u32], words: &mut [u64], bat
     requires table { length at.now ≡ endpoints * endpoints }
     requires placed { ArePlaced endpoints at.now items.now }
     requires long { length items.now ≤ length words.old * 64 }
+    requires new { OpensNew (standing items.now) batch.now.entries }
     ensures marked { HaveBits words.new items.now batch.now.entries }
     ensures others { (other : ℕ) → names_place words.old other ≡ true → names_place words.new other ≡ true }
     ensures count { length words.new ≡ length words.old }
 {
     for number in 0..batch.len() {
-        mark_flow(endpoints, items, at, words, batch.entry(number).flow);
+        mark_entry(endpoints, items, at, words, batch.entry(number));
     }
 }
 
@@ -114,6 +121,7 @@ fn mark_all(endpoints: u16, items: &[Item], at: &[u32], words: &mut [u64], batch
     requires table { length at.now ≡ endpoints * endpoints }
     requires placed { ArePlaced endpoints at.now items.now }
     requires long { length items.now ≤ length words.old * 64 }
+    requires new { OpenNew (standing items.now) batches.now }
     ensures marked { All (λ batch. HaveBits words.new items.now batch.entries) batches.now }
     ensures others { (other : ℕ) → names_place words.old other ≡ true → names_place words.new other ≡ true }
     ensures count { length words.new ≡ length words.old }
@@ -516,6 +524,7 @@ impl ItemLog {
     /// `most` then.
     pub(crate) fn pick(&mut self, batches: &[Batch], most: usize, found: &mut DemandList) -> bool
         requires room { most ≤ length found.old.items + found.old.spare }
+        requires new { OpenNew self.old.items batches.now }
         ensures log { self.new ≡ record self.old { picked = self.new.picked } }
         ensures found { result ≡ true → found.new.items ≡ found.old.items ++ self.new.picked }
         ensures picked { self.new.picked ≡ picked_of (is_left self.new.picked) self.old.items }

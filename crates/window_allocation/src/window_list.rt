@@ -4,6 +4,7 @@ ghost use Rattle.greedy_rules.specs.declared.flows.Item.{Item};
 ghost use Rattle.slot_batches.specs.Feeding.{IsInOrder};
 ghost use Rattle.slot_batches.specs.Woven.{picked as picked_of, woven, NeedNothing};
 ghost use Rattle.window_allocation.specs.Logged.{is_left, MayBeLogged};
+ghost use Rattle.window_allocation.specs.Reach.{OpenNew};
 ghost use Rattle.window_allocation.specs.WindowLists.{demands_of, IsWindowList};
 
 use crate::demand_log::DemandLog;
@@ -123,6 +124,7 @@ impl WindowList {
         requires is { IsWindowList self.old.log.endpoints self.old }
         requires may { MayBeLogged self.old.log.endpoints (demands_of self.old).items }
         requires room { most ≤ length found.old.items + found.old.spare }
+        requires new { OpenNew (demands_of self.old).items batches.now }
         ensures is { IsWindowList self.old.log.endpoints self.new }
         ensures same { demands_of self.new ≡ demands_of self.old }
         ensures logged { self.new.logged ≡ result }

@@ -15,6 +15,7 @@ use Rattle.window_allocation.specs.Ready.{AnyPartMayBeApplied}
 use Rattle.window_allocation.specs.Runs.{GivesSlots}
 use Rattle.window_allocation.specs.WindowLists.{demands_of, IsWindowList}
 use Rattle.window_allocation.proofs.RunLemmas.{few_items}
+use Rattle.window_allocation.proofs.PartLemmas.{opens_new}
 use Rattle.window_allocation.proofs.PickedLemmas.{idle_window, logged_found, logged_rest}
 use Rattle.window_allocation.proofs.ListLemmas.{whole_is, whole_list, own_list, gives_whole}
 use Rattle.window_allocation.proofs.HandedLemmas.{none_played, all_played, come_of_ring, come_of_all}
@@ -29,6 +30,7 @@ pick-requires g c =
     record {
       is = own_list ring.endpoints c.args.list.now c.requires.is;
       may = subst (λ (n : ℕ). MayBeLogged n list) (sym c.requires.is.ends) may;
+      new = opens_new ring.endpoints ring.b c.args.first_batch list c.args.batches.now c.requires.may.may;
       room = omega (arith, c.most_picked-most.ensures, c.len.ensures, may.few, c.requires.memory.items);
     }
 
