@@ -13,7 +13,7 @@ use Rattle.csv.specs.declared.parser.State.TheVariants as st
 use Rattle.csv.specs.declared.parser.Action.{Action}
 use Rattle.csv.specs.declared.parser.Action.TheVariants as act
 use Rattle.trace_text.specs.Fields.{Record, is_number}
-use Rattle.trace_text.specs.Lines.{is_plain, is_unquoted, ends_field, ends_line, records_in, IsFieldBefore, IsNumberBefore, IsLastNumberBefore, IsEndBefore, IsAskHead, head_digits, BeginsWithAsk}
+use Rattle.trace_text.specs.Lines.{BeginsWith, is_plain, is_unquoted, ends_field, ends_line, records_in, IsFieldBefore, IsLineBefore, IsNumberBefore, IsLastNumberBefore, IsEndBefore, IsAskBefore, IsAskHead, ReadAlike, head_digits}
 use Rattle.trace_text.specs.declared.plain_ask.PlainAsk.{PlainAsk}
 use Rattle.trace_text.proofs.CsvFacts.{records_from-next}
 use Rattle.trace_text.proofs.LineFacts.{after, begins-field, one-byte, start-field, more-bytes, field-comma, number-plain, ask-fields, name-field}
@@ -112,15 +112,24 @@ pub shorter : (text field rest : List ℕ) (last : Bool) → IsFieldBefore text 
 shorter text field rest last (inl (e, plain, line, is)) = rw is (omega (arith, length-append field (e ∷ rest)))
 shorter text field rest last (inr (behind, opened, (e, other, line, is))) = rw (opened, is) (omega (arith, length-append field (34 ∷ e ∷ rest)))
 
+-- a text goes on behind a number and the byte that ends it, and behind a field
+abbrev number-on : (text : List ℕ) (e n : ℕ) (rest more : List ℕ) → IsNumberBefore text e n rest → IsNumberBefore (text ++ more) e n (rest ++ more)
+number-on text e n rest more p = (p.0, ap (λ (l : List ℕ). l ++ more) p.1 ∙ append_assoc p.0 (e ∷ rest) more, p.2, p.3)
+
+pub field-on : (text field rest more : List ℕ) (last : Bool) → IsFieldBefore text field last rest → IsFieldBefore (text ++ more) field last (rest ++ more)
+field-on text field rest more last (inl (e, plain, ends, is)) = inl (e, plain, ends, ap (λ (l : List ℕ). l ++ more) is ∙ append_assoc field (e ∷ rest) more)
+field-on text field rest more last (inr (behind, opened, (e, other, ends, is))) =
+    inr (behind ++ more, ap (λ (l : List ℕ). l ++ more) opened, (e, other, ends, ap (λ (l : List ℕ). l ++ more) is ∙ append_assoc field (34 ∷ e ∷ rest) more))
+
+-- the fields of an ask that writes these numbers
+abbrev asked : List ℕ → List ℕ → List ℕ → List ℕ → Record
+asked round src dst slots = (97 ∷ 115 ∷ 107 ∷ []) ∷ round ∷ src ∷ dst ∷ slots ∷ []
+
 -- an ask of four plain numbers
-ask-line : (text numbers second third fourth rest : List ℕ) (ask : PlainAsk) → text ≡ 97 ∷ 115 ∷ 107 ∷ 44 ∷ numbers → IsNumberBefore numbers 44 ask.round second → IsNumberBefore second 44 ask.src third
-    → IsNumberBefore third 44 ask.dst fourth → IsLastNumberBefore fourth ask.slots rest → BeginsWithAsk (records_in text) ask (records_in rest)
-ask-line text numbers second third fourth rest ask named round src dst (e, behind, slots, line, same) = (
-  name ∷ round.0 ∷ src.0 ∷ dst.0 ∷ slots.0 ∷ [],
-  ask-fields ask round.0 src.0 dst.0 slots.0 round.2 src.2 dst.2 slots.2 round.3 src.3 dst.3 slots.3,
-  record-ended text behind _ (subst (Ended (name ∷ round.0 ∷ src.0 ∷ dst.0 ∷ slots.0 ∷ []) behind) (sym path) (plain-last (name ∷ round.0 ∷ src.0 ∷ dst.0 ∷ []) slots.0 behind e (number-plain slots.0 slots.2) line))
-      ∙ ap (λ (l : List Record). (name ∷ round.0 ∷ src.0 ∷ dst.0 ∷ slots.0 ∷ []) ∷ l) (sym same),
-)
+ask-line : (text numbers second third fourth behind : List ℕ) (a b c d e : ℕ) → text ≡ 97 ∷ 115 ∷ 107 ∷ 44 ∷ numbers → (round : IsNumberBefore numbers 44 a second) → (src : IsNumberBefore second 44 b third)
+    → (dst : IsNumberBefore third 44 c fourth) → (slots : IsNumberBefore fourth e d behind) → ends_line e ≡ true → records_in text ≡ asked round.0 src.0 dst.0 slots.0 ∷ records_in behind
+ask-line text numbers second third fourth behind a b c d e named round src dst slots line =
+    record-ended text behind _ (subst (Ended (asked round.0 src.0 dst.0 slots.0) behind) (sym path) (plain-last (name ∷ round.0 ∷ src.0 ∷ dst.0 ∷ []) slots.0 behind e (number-plain slots.0 slots.2) line))
   where
     name : List ℕ
     name = 97 ∷ 115 ∷ 107 ∷ []
@@ -133,14 +142,25 @@ ask-line text numbers second third fourth rest ask named round src dst (e, behin
         ∙ ap (next_record default_config st.StartField (name ∷ round.0 ∷ src.0 ∷ []) []) dst.1 ∙ field-comma (name ∷ round.0 ∷ src.0 ∷ []) dst.0 fourth (number-plain dst.0 dst.2)
         ∙ ap (next_record default_config st.StartField (name ∷ round.0 ∷ src.0 ∷ dst.0 ∷ []) []) slots.1
 
--- the same behind its head
+-- the same behind its head, however the text goes on
 pub headed-ask : (text head second third fourth rest : List ℕ) (ask : PlainAsk) → IsAskHead head ask.round → text ≡ head ++ second → IsNumberBefore second 44 ask.src third
-    → IsNumberBefore third 44 ask.dst fourth → IsLastNumberBefore fourth ask.slots rest → BeginsWithAsk (records_in text) ask (records_in rest)
-headed-ask text head second third fourth rest ask (is, number, value) all src dst slots =
-    let digits = head_digits head in
-    let named : text ≡ 97 ∷ 115 ∷ 107 ∷ 44 ∷ (digits ++ 44 ∷ second) =
-    all ∙ ap (λ (l : List ℕ). l ++ second) is ∙ ap (λ (l : List ℕ). 97 ∷ 115 ∷ 107 ∷ 44 ∷ l) (append_assoc digits (44 ∷ []) second) in
-    ask-line text (digits ++ 44 ∷ second) second third fourth rest ask named (digits, refl, number, value) src dst slots
+    → IsNumberBefore third 44 ask.dst fourth → IsLastNumberBefore fourth ask.slots rest → IsAskBefore text ask rest
+headed-ask text head second third fourth rest ask (is, number, value) all src dst (e, behind, slots, line, alike) = (
+  asked digits src.0 dst.0 slots.0,
+  ask-fields ask digits src.0 dst.0 slots.0 number src.2 dst.2 slots.2 value src.3 dst.3 slots.3,
+  λ more.
+      ask-line (text ++ more) (digits ++ 44 ∷ (second ++ more)) (second ++ more) (third ++ more) (fourth ++ more) (behind ++ more) ask.round ask.src ask.dst ask.slots e (named more) (digits, refl, number, value)
+      (number-on second 44 ask.src third more src) (number-on third 44 ask.dst fourth more dst) (number-on fourth e ask.slots behind more slots) line
+      ∙ ap (λ (l : List Record). asked digits src.0 dst.0 slots.0 ∷ l) (alike more),
+)
+  where
+    digits : List ℕ
+    digits = head_digits head
+
+    named : (more : List ℕ) → text ++ more ≡ 97 ∷ 115 ∷ 107 ∷ 44 ∷ (digits ++ 44 ∷ (second ++ more))
+    named more =
+        ap (λ (l : List ℕ). l ++ more) all ∙ append_assoc head second more ∙ ap (λ (l : List ℕ). l ++ (second ++ more)) is
+        ∙ ap (λ (l : List ℕ). 97 ∷ 115 ∷ 107 ∷ 44 ∷ l) (append_assoc digits (44 ∷ []) (second ++ more))
 
 -- a plain field has no quote
 unquoted-byte : (comma quote feed back : Bool) → not (comma || quote || feed || back) ≡ true → not quote ≡ true
@@ -157,14 +177,11 @@ unquoted (c ∷ field) plain =
     rw (here, rest) refl
 
 -- an ask of four numbers between quotes
-pub quoted-ask : (text first second third fourth end rest : List ℕ) (ask : PlainAsk) → text ≡ 34 ∷ 97 ∷ 115 ∷ 107 ∷ 34 ∷ 44 ∷ 34 ∷ first → IsNumberBefore first 34 ask.round (44 ∷ 34 ∷ second)
-    → IsNumberBefore second 34 ask.src (44 ∷ 34 ∷ third) → IsNumberBefore third 34 ask.dst (44 ∷ 34 ∷ fourth) → IsNumberBefore fourth 34 ask.slots end → IsEndBefore end rest
-    → BeginsWithAsk (records_in text) ask (records_in rest)
-quoted-ask text first second third fourth end rest ask named round src dst slots (e, behind, ends, line, same) = (
-  name ∷ round.0 ∷ src.0 ∷ dst.0 ∷ slots.0 ∷ [],
-  ask-fields ask round.0 src.0 dst.0 slots.0 round.2 src.2 dst.2 slots.2 round.3 src.3 dst.3 slots.3,
-  record-ended text behind _ (subst (Ended (name ∷ round.0 ∷ src.0 ∷ dst.0 ∷ slots.0 ∷ []) behind) (sym path) last) ∙ ap (λ (l : List Record). (name ∷ round.0 ∷ src.0 ∷ dst.0 ∷ slots.0 ∷ []) ∷ l) (sym same),
-)
+quoted-line : (text first second third fourth behind : List ℕ) (a b c d e : ℕ) → text ≡ 34 ∷ 97 ∷ 115 ∷ 107 ∷ 34 ∷ 44 ∷ 34 ∷ first → (round : IsNumberBefore first 34 a (44 ∷ 34 ∷ second))
+    → (src : IsNumberBefore second 34 b (44 ∷ 34 ∷ third)) → (dst : IsNumberBefore third 34 c (44 ∷ 34 ∷ fourth)) → (slots : IsNumberBefore fourth 34 d (e ∷ behind)) → ends_line e ≡ true
+    → records_in text ≡ asked round.0 src.0 dst.0 slots.0 ∷ records_in behind
+quoted-line text first second third fourth behind a b c d e named round src dst slots line =
+    record-ended text behind _ (subst (Ended (asked round.0 src.0 dst.0 slots.0) behind) (sym path) last)
   where
     name : List ℕ
     name = 97 ∷ 115 ∷ 107 ∷ []
@@ -180,8 +197,21 @@ quoted-ask text first second third fourth end rest ask named round src dst slots
         ∙ field-more (name ∷ round.0 ∷ []) (34 ∷ second) src.0 (34 ∷ third) (inr (second, refl, (44, other src.0 src.2, refl, src.1)))
         ∙ field-more (name ∷ round.0 ∷ src.0 ∷ []) (34 ∷ third) dst.0 (34 ∷ fourth) (inr (third, refl, (44, other dst.0 dst.2, refl, dst.1)))
 
-    last : Ended (name ∷ round.0 ∷ src.0 ∷ dst.0 ∷ slots.0 ∷ []) behind (next_record default_config st.StartField (name ∷ round.0 ∷ src.0 ∷ dst.0 ∷ []) [] (34 ∷ fourth))
-    last = field-last (name ∷ round.0 ∷ src.0 ∷ dst.0 ∷ []) (34 ∷ fourth) slots.0 behind (inr (fourth, refl, (e, other slots.0 slots.2, line, slots.1 ∙ ap (λ (l : List ℕ). slots.0 ++ 34 ∷ l) ends)))
+    last : Ended (asked round.0 src.0 dst.0 slots.0) behind (next_record default_config st.StartField (name ∷ round.0 ∷ src.0 ∷ dst.0 ∷ []) [] (34 ∷ fourth))
+    last = field-last (name ∷ round.0 ∷ src.0 ∷ dst.0 ∷ []) (34 ∷ fourth) slots.0 behind (inr (fourth, refl, (e, other slots.0 slots.2, line, slots.1)))
+
+-- the same however the text goes on
+pub quoted-ask : (text first second third fourth end rest : List ℕ) (ask : PlainAsk) → text ≡ 34 ∷ 97 ∷ 115 ∷ 107 ∷ 34 ∷ 44 ∷ 34 ∷ first → IsNumberBefore first 34 ask.round (44 ∷ 34 ∷ second)
+    → IsNumberBefore second 34 ask.src (44 ∷ 34 ∷ third) → IsNumberBefore third 34 ask.dst (44 ∷ 34 ∷ fourth) → IsNumberBefore fourth 34 ask.slots end → IsEndBefore end rest → IsAskBefore text ask rest
+quoted-ask text first second third fourth end rest ask named round src dst slots (e, behind, ends, line, alike) = (
+  asked round.0 src.0 dst.0 slots.0,
+  ask-fields ask round.0 src.0 dst.0 slots.0 round.2 src.2 dst.2 slots.2 round.3 src.3 dst.3 slots.3,
+  λ more.
+      quoted-line (text ++ more) (first ++ more) (second ++ more) (third ++ more) (fourth ++ more) (behind ++ more) ask.round ask.src ask.dst ask.slots e (ap (λ (l : List ℕ). l ++ more) named)
+      (number-on first 34 ask.round (44 ∷ 34 ∷ second) more round) (number-on second 34 ask.src (44 ∷ 34 ∷ third) more src) (number-on third 34 ask.dst (44 ∷ 34 ∷ fourth) more dst)
+      (number-on fourth 34 ask.slots (e ∷ behind) more (slots.0, slots.1 ∙ ap (λ (l : List ℕ). slots.0 ++ 34 ∷ l) ends, slots.2, slots.3)) line
+      ∙ ap (λ (l : List Record). asked round.0 src.0 dst.0 slots.0 ∷ l) (alike more),
+)
 
 -- a byte in a text, and the field that it ends
 pub split-byte : (text : List ℕ) (at : ℕ) → at < length text → text ≡ take at text ++ get_or text at 0 ∷ take (length text - (at + 1)) (drop (at + 1) text)
@@ -190,3 +220,15 @@ split-byte text at lt = sym (take-append-drop at text) ∙ ap (λ (l : List ℕ)
 pub ends-by : (x : ℕ) → (x ≡ 44) ⊎ (ends_line x ≡ true) → ends_field (not (x == 44)) x ≡ true
 ends-by x (inl same) = rw same refl
 ends-by x (inr line) = let other : (x == 44) ≡ false = grind (arith, nat_tests) in rw other line
+
+-- a record that a text shows however it goes on, where it does not go on
+pub record-here : (text rest : List ℕ) (fields : Record) → ((more : List ℕ) → records_in (text ++ more) ≡ fields ∷ records_in (rest ++ more)) → records_in text ≡ fields ∷ records_in rest
+record-here text rest fields all = ap records_in (sym (append-nil text)) ∙ all [] ∙ ap (λ (l : List ℕ). fields ∷ records_in l) (append-nil rest)
+
+-- two texts that read alike, where they do not go on
+pub alike-here : (text other : List ℕ) → ReadAlike text other → records_in text ≡ records_in other
+alike-here text other alike = ap records_in (sym (append-nil text)) ∙ alike [] ∙ ap records_in (append-nil other)
+
+-- the same of a line
+pub line-here : (text : List ℕ) (fields : Record) (rest : List ℕ) → IsLineBefore text fields rest → BeginsWith (records_in text) fields (records_in rest)
+line-here text fields rest (whole, same, all) = (whole, same, record-here text rest whole all)

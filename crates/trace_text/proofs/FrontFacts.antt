@@ -13,7 +13,7 @@ use Rattle.csv.specs.declared.parser.State.TheVariants as st
 use Rattle.csv.specs.declared.parser.Action.{Action}
 use Rattle.csv.specs.declared.parser.Action.TheVariants as act
 use Rattle.trace_text.specs.Fields.{Record, cut}
-use Rattle.trace_text.specs.Lines.{BeginsLong, EndsLine, Finds, IsClosed, begins_blank, ends_line, records_in}
+use Rattle.trace_text.specs.Lines.{BeginsLong, EndsLine, Finds, IsClosed, ReadAlike, begins_blank, ends_line, records_in}
 use Rattle.trace_text.specs.declared.records.Found.{Found}
 use Rattle.trace_text.specs.declared.records.Found.TheVariants as found
 use Rattle.trace_text.proofs.CsvFacts.{next-facts, records_from-next, records_from-none}
@@ -399,10 +399,10 @@ none-closed before others body e line same =
     let many = length-append before ((others ++ (body ++ e ∷ []) ∷ []) ∷ []) in
     omega arith
 
--- the text behind the end of a line with which it begins
-pub behind-end : (text : List ℕ) → begins_blank text ≡ true → 0 < length text → (records_in (drop 1 text) ≡ records_in text)
+-- the text behind the end of a line with which it begins reads alike, however it goes on
+pub behind-end : (text : List ℕ) → begins_blank text ≡ true → 0 < length text → ReadAlike text (drop 1 text)
 behind-end [] blank some = absurd (omega arith)
-behind-end (c ∷ text) blank some = blank-line c text blank
+behind-end (c ∷ text) blank some = λ more. sym (blank-line c (text ++ more) blank)
 
 -- what a reader of a front finds
 pub finds-front : (is_found : Bool) (f : Found) (old new : List Record) (fields : Record) (before after : List Record) → MatchBool is_found (f ≡ found.Fields) (f ≡ found.End)

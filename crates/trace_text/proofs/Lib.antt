@@ -21,6 +21,8 @@ pub mod AskFacts
 mod FlowFacts
 mod ContentFacts
 mod TraceFacts
+mod WholeLineFacts
+mod PieceFacts
 mod ValidFacts
 mod MadeFacts
 mod RoundFacts

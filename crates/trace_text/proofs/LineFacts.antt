@@ -71,6 +71,11 @@ begins-field (c ∷ text) blank =
     by false true x y e = absurd (false≢true (sym e))
     by false false x y e = refl
 
+-- a text that goes on begins as it does
+pub begins-on : (text more : List ℕ) → begins_blank text ≡ false → begins_blank (text ++ more) ≡ false
+begins-on [] more blank = absurd (false≢true (sym blank))
+begins-on (c ∷ text) more blank = blank
+
 -- a record, and then those of the rest
 pub record-more : (text rest : List ℕ) (fields : Record) → next_record default_config st.StartRecord [] [] text ≡ Some (fields, st.StartRecord, rest) → records_in text ≡ fields ∷ records_in rest
 record-more text rest fields e = records_from-next st.StartRecord text (fields, st.StartRecord, rest) refl e

@@ -1,13 +1,12 @@
 -- A text row by row: what is known of the rows that were read is known of the text.
-use Rattle.std.proofs.Common.{◌≡◌, ◌≢◌, ℕ, ◌+◌, List, [], ◌∷◌, ◌++◌, length, Some, Result, Ok, Err, IfOk, IfErr, refl, sym, ap, subst, ◌∙◌}
+use Rattle.std.proofs.Common.{◌≡◌, ◌≢◌, ℕ, ◌+◌, List, [], ◌∷◌, ◌++◌, length, Some, Result, Ok, Err, refl, sym, ap, subst, ◌∙◌}
 use Rattle.std.specs.Prelude.{sum_by, unwrap_or}
 use Rattle.trace_text.specs.Fields.{Record}
 use Rattle.trace_text.specs.Rows.{Row}
 use Rattle.trace_text.specs.Earlier.{net_of, end_of, slots_in_round}
 use Rattle.trace_text.specs.Faults.{read_row}
-use Rattle.trace_text.specs.Trace.{TraceContent, IsFaultOf, content_by, content_or_fault, ended, events_of, puts_of, with_puts, records_of_text, rows_after, trace_of}
-use Rattle.trace_text.specs.Standing.{Finishes, TakesRow, StandsFor}
-use Rattle.trace_text.specs.Valid.{IsTrace}
+use Rattle.trace_text.specs.Trace.{TraceContent, IsFaultOf, content_by, content_or_fault, ended, events_of, puts_of, with_puts, rows_after}
+use Rattle.trace_text.specs.Standing.{Finishes, ReadsRest, TakesRow, StandsFor}
 use Rattle.trace_text.specs.declared.command.Command.{Command}
 use Rattle.trace_text.specs.declared.fault.Fault.{Fault}
 use Rattle.trace_text.specs.declared.fault.TraceRefused.{TraceRefused}
@@ -29,26 +28,24 @@ unfolding rows_after
 rows_after-ok command fields records before row e = rw e refl
 
 -- a row was faulty
-rows_after-err : (command : Command) (fields : Record) (records : List Record) (before : List Row) (fault : Fault) → read_row command before fields ≡ Err fault
+pub rows_after-err : (command : Command) (fields : Record) (records : List Record) (before : List Row) (fault : Fault) → read_row command before fields ≡ Err fault
     → rows_after command (fields ∷ records) before ≡ Err (record { row = length before + 1; fault = fault })
 unfolding rows_after
 rows_after-err command fields records before fault e = rw e refl
-
-pub told : (command : Command) (text : List ℕ) (fields : Record) (records : List Record) (before : List Row) (rows : Rows) (e : TraceRefused)
-    → rows_after command (records_of_text text) [] ≡ rows_after command (fields ∷ records) before → TakesRow command before fields rows (Err e) → IsFaultOf (trace_of command text) e
-unfolding trace_of
-told command text fields records before rows (refused.Row row fault) same takes = rw (same, rows_after-err command fields records before fault takes.0, takes.1) refl
-told command text fields records before rows refused.Memory same takes = tt
 
 -- no row is left
 pub rows_after-none : (command : Command) (before : List Row) → rows_after command [] before ≡ ended before (end_of before)
 unfolding rows_after
 rows_after-none command before = refl
 
+-- the rows of a text so far, and then a faulty one
+pub told : (command : Command) (all : List Record) (start : List Row) (fields : Record) (records : List Record) (before : List Row) (rows : Rows) (e : TraceRefused)
+    → rows_after command all start ≡ rows_after command (fields ∷ records) before → TakesRow command before fields rows (Err e) → IsFaultOf (content_or_fault (rows_after command all start)) e
+told command all start fields records before rows (refused.Row row fault) same takes = rw (same, rows_after-err command fields records before fault takes.0, takes.1) refl
+told command all start fields records before rows refused.Memory same takes = tt
+
 -- all rows were read
-pub finished : (command : Command) (text : List ℕ) (before : List Row) (rows : Rows) (r : Result TraceContent TraceRefused)
-    → rows_after command (records_of_text text) [] ≡ ended before (end_of before) → StandsFor before rows → Finishes rows r
-    → IfOk r (λ trace. trace_of command text ≡ Ok trace) × IfOk r IsTrace × IfErr r (IsFaultOf (trace_of command text))
-unfolding trace_of
-finished command text before rows (Ok trace) all stands finish = let done = finish before stands in (ap content_or_fault all ∙ done.0, done.1, tt)
-finished command text before rows (Err e) all stands finish = (tt, tt, subst (λ t. IsFaultOf t e) (sym (ap content_or_fault all)) (finish before stands))
+pub finished : (command : Command) (all : List Record) (start before : List Row) (rows : Rows) (r : Result TraceContent TraceRefused)
+    → rows_after command all start ≡ ended before (end_of before) → StandsFor before rows → Finishes rows r → ReadsRest command start all r
+finished command all start before rows (Ok trace) same stands finish = let done = finish before stands in (ap content_or_fault same ∙ done.0, done.1)
+finished command all start before rows (Err e) same stands finish = subst (λ t. IsFaultOf t e) (sym (ap content_or_fault same)) (finish before stands)

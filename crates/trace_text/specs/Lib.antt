@@ -12,6 +12,8 @@ pub mod Standing
 pub mod Records
 pub mod Lines
 pub mod Trace
+pub mod Mark
+pub mod Reader
 pub mod Valid
 pub mod Made
 pub mod FaultNumbers

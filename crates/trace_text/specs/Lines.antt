@@ -4,7 +4,9 @@ use Rattle.std.specs.Prelude.{◌≡◌, ◌≢◌, ◌⊎◌, ◌+◌, ◌-◌,
 use Rattle.std.specs.Char.{is_ascii_digit}
 use Rattle.std.specs.List.{list_all}
 use Rattle.std.specs.Str.{bytes_eq}
+use Rattle.csv.specs.Machine.{next_record}
 use Rattle.csv.specs.Reading.{default_config, records}
+use Rattle.csv.specs.declared.parser.State.TheVariants.{StartRecord, StartField}
 use Rattle.trace_text.specs.Fields.{Record, cut, field, is_number, number_of}
 use Rattle.trace_text.specs.Rows.{Ask, kind_of, may_have, is_readable, trace_row_of}
 use Rattle.trace_text.specs.declared.kind.Kind.TheVariants as kind
@@ -49,13 +51,17 @@ IsFieldBefore text field last rest = IsPlainBefore text field last rest ⊎ ((qu
 abbrev pub IsNumberBefore : List ℕ → ℕ → ℕ → List ℕ → Type 0
 IsNumberBefore text end n rest = (digits : List ℕ) × (text ≡ digits ++ end ∷ rest) × (is_number digits ≡ true) × (n ≡ number_of digits)
 
--- the text begins with a number and a byte that ends its line, and the rest has the records of what stands behind
-abbrev pub IsLastNumberBefore : List ℕ → ℕ → List ℕ → Type 0
-IsLastNumberBefore text n rest = (e : ℕ) × (behind : List ℕ) × IsNumberBefore text e n behind × (ends_line e ≡ true) × (records_in rest ≡ records_in behind)
+-- two texts that have the same records, however both go on, as one does with and without blank lines at its front
+abbrev pub ReadAlike : List ℕ → List ℕ → Type 0
+ReadAlike text rest = (more : List ℕ) → records_in (text ++ more) ≡ records_in (rest ++ more)
 
--- the text begins with a byte that ends a line, and the rest has the records of what stands behind
+-- the text begins with a number and a byte that ends its line, and the rest reads as what stands behind
+abbrev pub IsLastNumberBefore : List ℕ → ℕ → List ℕ → Type 0
+IsLastNumberBefore text n rest = (e : ℕ) × (behind : List ℕ) × IsNumberBefore text e n behind × (ends_line e ≡ true) × ReadAlike behind rest
+
+-- the text begins with a byte that ends a line, and the rest reads as what stands behind
 abbrev pub IsEndBefore : List ℕ → List ℕ → Type 0
-IsEndBefore text rest = (e : ℕ) × (behind : List ℕ) × (text ≡ e ∷ behind) × (ends_line e ≡ true) × (records_in rest ≡ records_in behind)
+IsEndBefore text rest = (e : ℕ) × (behind : List ℕ) × (text ≡ e ∷ behind) × (ends_line e ≡ true) × ReadAlike behind rest
 
 -- a number stands at a place of the text, and has at most three digits: what stands at the next place is behind it
 abbrev pub IsNumberAt : List ℕ → ℕ → ℕ → ℕ → Type 0
@@ -80,10 +86,6 @@ pub record IsAskRow (ask : PlainAsk) (fields : Record) : Type 0 where
   pub readable : is_readable kind.Ask fields ≡ true
   pub row : trace_row_of kind.Ask fields ≡ Ask ask.round ask.src ask.dst ask.slots
 
--- the first record is this ask, and the others are these
-abbrev pub BeginsWithAsk : List Record → PlainAsk → List Record → Type 0
-BeginsWithAsk before ask after = (fields : Record) × IsAskRow ask fields × (before ≡ fields ∷ after)
-
 -- the first record begins as these fields do, and the others are these
 abbrev pub BeginsWith : List Record → Record → List Record → Type 0
 BeginsWith before fields after = (whole : Record) × (cut fields ≡ cut whole) × (before ≡ whole ∷ after)
@@ -92,9 +94,23 @@ BeginsWith before fields after = (whole : Record) × (cut fields ≡ cut whole) 
 abbrev pub BeginsLong : List Record → Record → Type 0
 BeginsLong before fields = (6 ≤ length fields) × (after : List Record) × BeginsWith before fields after
 
--- what is found in the records that are left, and what is left then; the fields are the first of a record that is no plain ask
+-- the text begins with the whole line of this ask, and then has the rest: however it goes on, its first record is the ask, and the
+-- others are those of the rest
+abbrev pub IsAskBefore : List ℕ → PlainAsk → List ℕ → Type 0
+IsAskBefore text ask rest = (fields : Record) × IsAskRow ask fields × ((more : List ℕ) → records_in (text ++ more) ≡ fields ∷ records_in (rest ++ more))
+
+-- the same of a line whose record begins as these fields do
+abbrev pub IsLineBefore : List ℕ → Record → List ℕ → Type 0
+IsLineBefore text fields rest = (whole : Record) × (cut fields ≡ cut whole) × ((more : List ℕ) → records_in (text ++ more) ≡ whole ∷ records_in (rest ++ more))
+
+-- the text begins with fields of its first line, each with the byte that ends it, and then has the rest: the line ended there, or it
+-- goes on with a field more. Of the fields the first are these
+abbrev pub AreFieldsBefore : List ℕ → Record → Bool → List ℕ → Type 0
+AreFieldsBefore text fields true rest = IsLineBefore text fields rest
+AreFieldsBefore text fields false rest = (whole : Record) × (fields ≡ cut whole) × ((more : List ℕ) → next_record default_config StartRecord [] [] (text ++ more) ≡ next_record default_config StartField whole [] (rest ++ more))
+
+-- what is found in the records that are left, and what is left then; the fields are the first of a record
 abbrev pub Finds : Found → List Record → Record → List Record → Type 0
-Finds (found.Ask ask) before fields after = BeginsWithAsk before ask after
 Finds found.Fields before fields after = BeginsWith before fields after
 Finds found.TooMany before fields after = BeginsLong before fields
 Finds found.End before fields after = before ≡ []

@@ -15,6 +15,7 @@ use Rattle.trace_text.specs.Asks.{IsAmong, slots_asked}
 use Rattle.trace_text.specs.FlowSums.{held_sum, IsTidy, HoldsAmong}
 use Rattle.trace_text.specs.Events.{EventsAreAmong, AreEventsOf, way_number}
 use Rattle.trace_text.specs.Puts.{ArePutsOf}
+use Rattle.trace_text.specs.Lines.{records_in}
 use Rattle.trace_text.specs.Trace.{TraceContent, IsFaultOf, content_or_fault, ended, rows_after}
 use Rattle.trace_text.specs.Valid.{IsTrace}
 use Rattle.trace_text.specs.declared.command.Command.{Command}
@@ -132,9 +133,28 @@ pub record AwaitsAsks (command : Command) (round : ℕ) (rows : Rows) : Type 0 w
   pub same : rows.round ≡ round
   pub turned : rows.sums.round ≡ round
 
--- asks were taken: what is kept stands for them too, and these records are left
-abbrev pub TakesAsks : Command → List Row → List Record → Rows → List Record → Type 0
-TakesAsks command before records rows left = (after : List Row) × StandsFor after rows × (rows_after command records before ≡ rows_after command left after)
+-- whole lines at the front of a text were taken: what is kept stands for their rows too, and the rest is left, however the text goes on.
+-- Each row that was taken is one record less
+abbrev pub TakesLines : Command → List Row → List ℕ → Rows → List ℕ → Type 0
+TakesLines command before text rows rest =
+    (after : List Row) × StandsFor after rows × ((more : List ℕ) → rows_after command (records_in (text ++ more)) before ≡ rows_after command (records_in (rest ++ more)) after)
+    × ((more : List ℕ) → length after + length (records_in (rest ++ more)) ≡ length before + length (records_in (text ++ more)))
+
+-- the number and the fault of the first faulty row among them are told, which it is however the text goes on; or memory is wanting
+abbrev pub RefusesLines : Command → List Row → List ℕ → TraceRefused → Type 0
+RefusesLines command before text (refused.Row row fault) = (more : List ℕ) → rows_after command (records_in (text ++ more)) before ≡ Err (record { row = row; fault = fault })
+RefusesLines command before text refused.Memory = ⊤
+
+-- the lines were taken, or one was refused
+abbrev pub ReadsLines : Command → List Row → List ℕ → Rows → Result (Bor (List ℕ)) TraceRefused → Type 0
+ReadsLines command before text rows (Ok rest) = TakesLines command before text rows rest.now
+ReadsLines command before text rows (Err refused) = RefusesLines command before text refused
+
+-- lines were taken so, or one was refused; or none was taken, and nothing is changed
+abbrev pub ReadsFirst : Command → List Row → List ℕ → Rows → Rows → Result (Option (Bor (List ℕ))) TraceRefused → Type 0
+ReadsFirst command before text rows new (Ok (Some rest)) = TakesLines command before text new rest.now
+ReadsFirst command before text rows new (Ok None) = new ≡ rows
+ReadsFirst command before text rows new (Err refused) = RefusesLines command before text refused
 
 -- what is kept stands for some rows
 abbrev pub RowsAreKept : Rows → Type 0
@@ -155,6 +175,18 @@ abbrev pub TakesRow : Command → List Row → Record → Rows → Result (Unit 
 TakesRow command before fields rows (Ok _) = (row : Row) × (read_row command before fields ≡ Ok row) × StandsFor (before ++ row ∷ []) rows
 TakesRow command before fields rows (Err (refused.Row row fault)) = (read_row command before fields ≡ Err fault) × (row ≡ length before + 1)
 TakesRow command before fields rows (Err refused.Memory) = ⊤
+
+-- of the records that are left of a text, which ends with them, some were read: their rows were taken, each a record less; or the first
+-- fault is told, or want of memory
+abbrev pub ReadsRecords : Command → List Row → List Record → Rows → List Record → Result (Unit {0}) TraceRefused → Type 0
+ReadsRecords command before records rows left (Ok _) =
+    (after : List Row) × StandsFor after rows × (rows_after command records before ≡ rows_after command left after) × (length after + length left ≡ length before + length records)
+ReadsRecords command before records rows left (Err refused) = IsFaultOf (content_or_fault (rows_after command records before)) refused
+
+-- the trace that these rows and those of the rest of a text are, or the first faulty row
+abbrev pub ReadsRest : Command → List Row → List Record → Result TraceContent TraceRefused → Type 0
+ReadsRest command before records (Ok trace) = (content_or_fault (rows_after command records before) ≡ Ok trace) × IsTrace trace
+ReadsRest command before records (Err refused) = IsFaultOf (content_or_fault (rows_after command records before)) refused
 
 -- what stands after the last row
 abbrev pub Finishes : Rows → Result TraceContent TraceRefused → Type 0

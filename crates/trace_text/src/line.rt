@@ -1,8 +1,8 @@
 // Lines whose fields are plain or stand between quotes, taken apart at their commas.
-ghost use Rattle.std.specs.Prelude.{◌≡◌, ◌≢◌, ◌+◌, ◌<◌, ◌⊎◌, true, length, take, slice_index, IfOk, IfSome};
+ghost use Rattle.std.specs.Prelude.{◌≡◌, ◌≢◌, ◌∷◌, [], ◌+◌, ◌<◌, ◌⊎◌, true, false, length, take, slice_index, IfOk, IfSome};
 ghost use Rattle.std.specs.List.{list_all};
-ghost use Rattle.csv.specs.Records.{fields_of};
-ghost use Rattle.trace_text.specs.Lines.{records_in, BeginsWith, is_plain, is_unquoted, begins_blank, ends_line, IsFieldBefore, IsPlainBefore, IsQuotedBefore};
+ghost use Rattle.csv.specs.Records.{fields_of, partial_of};
+ghost use Rattle.trace_text.specs.Lines.{records_in, AreFieldsBefore, BeginsWith, IsFieldBefore, IsLineBefore, IsPlainBefore, IsQuotedBefore, ReadAlike, begins_blank, ends_line, is_plain, is_unquoted};
 
 use crate::fields::keep;
 use csv::ByteRecord;
@@ -13,23 +13,53 @@ use no_memory::NoMemory;
 pub fn read_line<'a>(text: &'a [u8], fields: &mut ByteRecord) -> Result<Option<&'a [u8]>, NoMemory>
     ensures { IfOk result (λ line. IfSome line (λ rest. BeginsWith (records_in text.now) (fields_of fields.new) (records_in rest.now))) }
 {
-    fields.clear();
     if is_blank(text) {
         return Ok(None);
     }
-    let mut rest = text;
-    while let Some((field, is_last, more)) = first_field(rest) {
-        keep(fields, field)?;
-        if is_last {
-            return Ok(Some(behind_blank_line(more)));
-        }
-        rest = more;
+    let (rest, has_ended) = read_fields(text, fields)?;
+    if has_ended {
+        return Ok(Some(rest));
     }
     if is_plain_field(rest) {
         keep(fields, rest)?;
         return Ok(Some(b"".as_slice()));
     }
     Ok(None)
+}
+
+/// The same of a line whose end stands in the text, however the text goes on.
+pub fn read_whole_line<'a>(
+    text: &'a [u8],
+    fields: &mut ByteRecord,
+) -> Result<Option<&'a [u8]>, NoMemory>
+    ensures { IfOk result (λ line. IfSome line (λ rest. IsLineBefore text.now (fields_of fields.new) rest.now)) }
+{
+    if is_blank(text) {
+        return Ok(None);
+    }
+    let (rest, has_ended) = read_fields(text, fields)?;
+    if has_ended {
+        return Ok(Some(rest));
+    }
+    Ok(None)
+}
+
+// Takes the fields of the first line of a text that a byte ends; answers what stands behind them, and whether the line has ended.
+fn read_fields<'a>(text: &'a [u8], fields: &mut ByteRecord) -> Result<(&'a [u8], bool), NoMemory>
+    requires { begins_blank text.now ≡ false }
+    ensures fields { IfOk result (λ r. AreFieldsBefore text.now (fields_of fields.new) r.1 r.0.now) }
+    ensures partial { IfOk result (λ r. partial_of fields.new ≡ []) }
+{
+    fields.clear();
+    let mut rest = text;
+    while let Some((field, is_last, more)) = first_field(rest) {
+        keep(fields, field)?;
+        if is_last {
+            return Ok((behind_blank_line(more), true));
+        }
+        rest = more;
+    }
+    Ok((rest, false))
 }
 
 // Whether a text is one plain field, which its end ends.
@@ -109,7 +139,7 @@ fn quote(text: &[u8]) -> Option<usize>
 
 /// The text behind the blank line that it may begin with, as it does between a carriage return and a line feed.
 pub fn behind_blank_line(text: &[u8]) -> &[u8]
-    ensures { records_in result.now ≡ records_in text.now }
+    ensures { ReadAlike text.now result.now }
 {
     match behind_line_end(text) {
         Some(rest) => rest,
@@ -119,7 +149,7 @@ pub fn behind_blank_line(text: &[u8]) -> &[u8]
 
 /// The text behind the blank lines that it begins with.
 pub fn behind_blank_lines(text: &[u8]) -> &[u8]
-    ensures { records_in result.now ≡ records_in text.now }
+    ensures { ReadAlike text.now result.now }
 {
     let mut rest = text;
     while let Some(more) = behind_line_end(rest) {
@@ -131,7 +161,7 @@ pub fn behind_blank_lines(text: &[u8]) -> &[u8]
 // The text behind the end of a line with which it begins.
 fn behind_line_end(text: &[u8]) -> Option<&[u8]>
     ensures shorter { IfSome result (λ rest. length rest.now < length text.now) }
-    ensures same { IfSome result (λ rest. records_in rest.now ≡ records_in text.now) }
+    ensures same { IfSome result (λ rest. ReadAlike text.now rest.now) }
 {
     if !is_blank(text) || text.is_empty() {
         return None;

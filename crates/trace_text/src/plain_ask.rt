@@ -1,7 +1,7 @@
 // Asks that are read where they stand: plain ones, most by a head, and those between quotes.
 ghost use Rattle.std.specs.Prelude.{◌≡◌, ◌+◌, ◌≤◌, [], ◌∷◌, ◌++◌, length, take, drop, slice_index, true, IfSome};
 ghost use Rattle.std.specs.Int.{w32, from_le_bytes};
-ghost use Rattle.trace_text.specs.Lines.{records_in, BeginsWithAsk, IsAskHead, IsEndBefore, IsLastNumberBefore, IsNumberBefore};
+ghost use Rattle.trace_text.specs.Lines.{IsAskBefore, IsAskHead, IsEndBefore, IsLastNumberBefore, IsNumberBefore};
 
 use crate::line::behind_blank_line;
 use crate::number::{number_before, number_below_100, short_number};
@@ -59,7 +59,7 @@ impl<'a> AskHead<'a> {
     /// digits, or the text ends soon.
     #[inline(always)]
     pub fn ask<'b>(&self, text: &'b [u8]) -> Option<(PlainAsk, &'b [u8])>
-        ensures ask { IfSome result (λ r. BeginsWithAsk (records_in text.now) r.0 (records_in r.1.now)) }
+        ensures ask { IfSome result (λ r. IsAskBefore text.now r.0 r.1.now) }
         ensures round { IfSome result (λ r. r.0.round ≡ self.now.round) }
     {
         if text.len() < ROOM || !self.begins(text) {
@@ -115,7 +115,7 @@ fn word_at(text: &[u8], at: usize) -> u32
 /// The ask that a text begins with, its head, and what stands behind its line; None where the first line is no ask of four plain
 /// numbers whose end stands in the text.
 pub fn plain_ask<'a>(text: &'a [u8]) -> Option<(PlainAsk, AskHead<'a>, &'a [u8])>
-    ensures { IfSome result (λ r. BeginsWithAsk (records_in text.now) r.0 (records_in r.2.now)) }
+    ensures { IfSome result (λ r. IsAskBefore text.now r.0 r.2.now) }
 {
     let (head, rest) = AskHead::read(text)?;
     let (src, rest) = number_before(rest, b',')?;
@@ -195,7 +195,7 @@ fn last_number_before(text: &[u8]) -> Option<(u32, &[u8])>
 /// The ask that a text begins with, each field of which stands between quotes, and what stands behind its line; None where the first
 /// line is no ask of four such numbers whose end stands in the text.
 pub fn quoted_ask(text: &[u8]) -> Option<(PlainAsk, &[u8])>
-    ensures { IfSome result (λ r. BeginsWithAsk (records_in text.now) r.0 (records_in r.1.now)) }
+    ensures { IfSome result (λ r. IsAskBefore text.now r.0 r.1.now) }
 {
     let rest = text.strip_prefix(b"\"ask\",\"".as_slice())?;
     let (round, rest) = quoted_number(rest)?;

@@ -1,32 +1,32 @@
-// A text read as a trace.
-ghost use Rattle.std.specs.Prelude.{◌≡◌, ◌+◌, ◌≤◌, List, Ok, length, IfOk, IfErr};
-ghost use Rattle.trace_text.specs.Trace.{trace_of, IsFaultOf};
+// The rest of a text, read as rows to its end.
+ghost use Rattle.std.specs.Prelude.{◌+◌, ◌≤◌, List, OnOk, length};
+ghost use Rattle.trace_text.specs.Lines.{records_in};
 ghost use Rattle.trace_text.specs.Rows.{Row};
-ghost use Rattle.trace_text.specs.Valid.{IsTrace};
-ghost use Rattle.trace_text.specs.Standing.{RowsAreKept, StandsFor, TakesAsks, Finishes};
+ghost use Rattle.trace_text.specs.Standing.{Finishes, ReadsRecords, ReadsRest, RowsAreKept, StandsFor};
 
 use crate::records::{Found, Records};
 use crate::rows::Rows;
+use crate::whole_lines::take_whole_lines;
 use crate::{Command, Fault, Trace, TraceRefused};
 use csv::ByteRecord;
 use std::alloc::Global;
 
-/// The trace that a text is, or its first faulty row and that row's fault. The rows and the faults in their order are
-/// this project's own profile; docs/FORMATS.md has them.
-pub fn read_trace(alloc: Global, bytes: &[u8], command: Command) -> Result<Trace, TraceRefused>
-    requires { length bytes.now ≤ 67108864 }
-    ensures accepted { IfOk result (λ trace. trace_of command bytes.now ≡ Ok trace) }
-    ensures valid { IfOk result IsTrace }
-    ensures refused { IfErr result (IsFaultOf (trace_of command bytes.now)) }
+/// The trace that the rows so far and those of the rest of a text are, or its first faulty row and that row's fault.
+pub fn read_rest(
+    alloc: Global,
+    mut rows: Rows,
+    command: Command,
+    text: &[u8],
+) -> Result<Trace, TraceRefused>
+    requires stands { RowsAreKept rows }
+    requires room { rows.count + length (records_in text.now) ≤ 67108864 }
+    ensures { (before : List Row) → StandsFor before rows → ReadsRest command before (records_in text.now) result }
 {
-    let mut records = Records::new(alloc, bytes);
+    let mut records = Records::of(alloc, text);
     let mut fields = ByteRecord::new(alloc);
-    let mut rows = Rows::new(alloc)?;
     loop {
-        take_asks(&mut rows, command, &mut records);
-        let found = records.read(&mut fields)?;
-        match found {
-            Found::Ask(ask) => rows.take_ask(command, &ask)?,
+        take_lines(&mut rows, command, &mut records, &mut fields)?;
+        match records.read(&mut fields)? {
             Found::Fields => rows.take(command, &fields)?,
             Found::TooMany => return Err(rows.refuse_too_many(command, &fields)),
             Found::End => return finish(rows),
@@ -34,18 +34,23 @@ pub fn read_trace(alloc: Global, bytes: &[u8], command: Command) -> Result<Trace
     }
 }
 
-// Takes the asks that follow with the head of the latest, as long as nothing is wrong with them.
-fn take_asks(rows: &mut Rows, command: Command, records: &mut Records)
+// Takes the whole lines that follow, where no front is being read.
+fn take_lines(
+    rows: &mut Rows,
+    command: Command,
+    records: &mut Records,
+    fields: &mut ByteRecord,
+) -> Result<(), TraceRefused>
     requires stands { RowsAreKept rows.old }
     requires room { rows.old.count + length records.old ≤ 67108864 }
-    ensures rows { (before : List Row) → StandsFor before rows.old → TakesAsks command before records.old rows.new records.new }
-    ensures room { rows.new.count + length records.new ≡ rows.old.count + length records.old }
-    ensures fewer { length records.new ≤ length records.old }
+    ensures rows { (before : List Row) → StandsFor before rows.old → ReadsRecords command before records.old rows.new records.new result }
+    ensures fewer { OnOk result (length records.new ≤ length records.old) }
 {
-    if let Some((head, text)) = records.headed() {
-        let rest = rows.take_asks(command, &head, text);
-        records.go_on(head, rest);
+    if let Some(text) = records.text() {
+        let rest = take_whole_lines(rows, command, text, fields)?;
+        records.go_on(rest);
     }
+    Ok(())
 }
 
 // What stands after the last row.

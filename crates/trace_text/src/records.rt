@@ -2,16 +2,13 @@
 // the kit where they do not, a front of the text after the other.
 ghost use Rattle.std.specs.Prelude.{◌≡◌, ◌<◌, ◌≤◌, ◌++◌, ℕ, List, true, length, IfOk, IfSome};
 ghost use Rattle.std.specs.Bool.{MatchBool};
-ghost use Rattle.csv.specs.Reading.{strip_bom};
 ghost use Rattle.csv.specs.Records.{fields_of};
-ghost use Rattle.trace_text.specs.Trace.{records_of_text};
 ghost use Rattle.trace_text.specs.Lines.{Finds, BeginsLong, records_in};
 ghost use Rattle.trace_text.specs.declared.records.Found.TheVariants as found;
 
 use crate::csv_records::CsvRecords;
 use crate::fields::has_too_many;
 use crate::line::{behind_blank_lines, read_line};
-use crate::plain_ask::{AskHead, PlainAsk, plain_ask, quoted_ask};
 use crate::whole_front::whole_front;
 use csv::ByteRecord;
 use no_memory::NoMemory;
@@ -23,11 +20,10 @@ const FIRST_COMMAS: usize = 64;
 
 const MORE_COMMAS: usize = 4_194_304;
 
-/// What a record was found to be: an ask; fields that were put into a buffer; more fields than a row has, of which the first were
-/// put there; or that there is none.
+/// What a record was found to be: fields that were put into a buffer; more fields than a row has, of which the first were put there;
+/// or that there is none.
 #[derive(Clone, Copy, Debug, PartialEq, Eq)]
 pub enum Found {
-    Ask(PlainAsk),
     Fields,
     TooMany,
     End,
@@ -50,8 +46,6 @@ pub struct Records<'a> {
     front: Option<Box<CsvRecords<'a>>>,
     // What stands behind it.
     text: &'a [u8],
-    // The head of the latest plain ask, since most have that of the ask before.
-    head: Option<AskHead<'a>>,
 }
 
 impl<'a> Model for Records<'a> {
@@ -64,22 +58,14 @@ impl<'a> Model for Records<'a> {
 }
 
 impl<'a> Records<'a> {
-    pub fn new(alloc: Global, text: &'a [u8]) -> Records<'a>
-        ensures records { result ≡ records_of_text text.now }
-        ensures few { length result ≤ length text.now }
-    {
-        Records::at(alloc, without_mark(text))
-    }
-
-    // The records of a text.
-    fn at(alloc: Global, text: &'a [u8]) -> Records<'a>
+    /// The records of a text without a byte order mark.
+    pub fn of(alloc: Global, text: &'a [u8]) -> Records<'a>
         ensures { result ≡ records_in text.now }
     {
         Records {
             alloc,
             front: None,
             text,
-            head: None,
         }
     }
 
@@ -91,32 +77,29 @@ impl<'a> Records<'a> {
             alloc,
             front: Some(front),
             text,
-            head: None,
         }
     }
 
-    /// The head of the latest plain ask, and the text that is left, where no front of it is read.
-    pub fn headed(&self) -> Option<(AskHead<'a>, &'a [u8])>
-        ensures { IfSome result (λ r. self.now ≡ records_in r.1.now) }
+    /// The text that is left, where no front of it is read.
+    pub fn text(&self) -> Option<&'a [u8]>
+        ensures { IfSome result (λ text. self.now ≡ records_in text.now) }
     {
         if self.front.is_some() {
             return None;
         }
-        let head = self.head?;
-        Some((head, self.text))
+        Some(self.text)
     }
 
-    /// Goes on at a text, of which asks may have this head.
-    pub fn go_on(&mut self, head: AskHead<'a>, text: &'a [u8])
+    /// Goes on at a text.
+    pub fn go_on(&mut self, text: &'a [u8])
         ensures { self.new ≡ records_in text.now }
     {
         self.front = None;
         self.text = text;
-        self.head = Some(head);
     }
 
-    /// Takes the next record, where there is one; the first fields of one that is no plain ask go into the buffer, and those
-    /// behind them maybe too. Memory for a record is all that can be wanting.
+    /// Takes the next record, where there is one; its first fields go into the buffer, and those behind them maybe too. Memory for a
+    /// record is all that can be wanting.
     #[inline(never)]
     pub fn read(&mut self, fields: &mut ByteRecord) -> Result<Found, NoMemory>
         ensures { IfOk result (λ found. Finds found self.old (fields_of fields.new) self.new) }
@@ -125,18 +108,6 @@ impl<'a> Records<'a> {
             if front.read(fields)? {
                 return Ok(Found::Fields);
             }
-            let (found, left) = read_other(self.alloc, self.text, fields)?;
-            *self = left;
-            return Ok(found);
-        }
-        if let Some((ask, head, rest)) = plain_ask(self.text) {
-            self.head = Some(head);
-            self.text = rest;
-            return Ok(Found::Ask(ask));
-        }
-        if let Some((ask, rest)) = quoted_ask(self.text) {
-            self.text = rest;
-            return Ok(Found::Ask(ask));
         }
         let (found, left) = read_other(self.alloc, self.text, fields)?;
         *self = left;
@@ -144,7 +115,7 @@ impl<'a> Records<'a> {
     }
 }
 
-// Takes the first record of a text, which need not be a plain ask, and answers what is left.
+// Takes the first record of a text, and answers what is left.
 fn read_other<'a>(
     alloc: Global,
     text: &'a [u8],
@@ -154,10 +125,10 @@ fn read_other<'a>(
 {
     let text = behind_blank_lines(text);
     if text.is_empty() {
-        return Ok((Found::End, Records::at(alloc, text)));
+        return Ok((Found::End, Records::of(alloc, text)));
     }
     if let Some(rest) = read_line(text, fields)? {
-        return Ok((Found::Fields, Records::at(alloc, rest)));
+        return Ok((Found::Fields, Records::of(alloc, rest)));
     }
     read_front(alloc, text, fields)
 }
@@ -189,7 +160,7 @@ fn read_long<'a>(
 {
     *fields = ByteRecord::with_capacity(alloc, text.len(), 0)?;
     if begins_too_long(alloc, text, fields)? {
-        return Ok((Found::TooMany, Records::at(alloc, text)));
+        return Ok((Found::TooMany, Records::of(alloc, text)));
     }
     let mut records = CsvRecords::open(alloc, text)?;
     let found = Found::of(records.read(fields)?);
@@ -235,14 +206,4 @@ fn has_long_record(alloc: Global, part: &[u8], fields: &mut ByteRecord) -> Resul
         return Ok(has_too_many(fields));
     }
     Ok(false)
-}
-
-/// The text behind the byte order mark that it may begin with.
-pub fn without_mark(text: &[u8]) -> &[u8]
-    ensures { result.now ≡ strip_bom text.now }
-{
-    match text.strip_prefix(b"\xef\xbb\xbf".as_slice()) {
-        Some(rest) => rest,
-        None => text,
-    }
 }

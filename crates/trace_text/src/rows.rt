@@ -10,7 +10,7 @@ ghost use Rattle.trace_text.specs.Faults.{read_row, checked, is_in_range, is_bet
 ghost use Rattle.std.specs.List.{list_any, filter_map};
 ghost use Rattle.trace_text.specs.Earlier.{fate_in, put_in};
 ghost use Rattle.trace_text.specs.Events.{way_number};
-ghost use Rattle.trace_text.specs.Standing.{StandsFor, RowsAreKept, IsAllowed, AwaitsAsks, TakesAsks, IsWholeRow, IsPacket, is_net, endpoints_kept, row_value, as_rows, row_unless, TakesRow};
+ghost use Rattle.trace_text.specs.Standing.{StandsFor, RowsAreKept, IsAllowed, AwaitsAsks, TakesLines, IsWholeRow, IsPacket, is_net, endpoints_kept, row_value, as_rows, row_unless, TakesRow};
 ghost use Rattle.trace_text.specs.declared.fault.TraceRefused.TheVariants as refused;
 ghost use Rattle.trace_text.specs.declared.taken_row.TakenRow.TheVariants as taken;
 
@@ -133,8 +133,7 @@ impl Rows {
     pub fn take_asks<'a>(&mut self, command: Command, head: &AskHead, text: &'a [u8]) -> &'a [u8]
         requires stands { RowsAreKept self.old }
         requires room { self.old.count + length (records_in text.now) ≤ 67108864 }
-        ensures rows { (before : List Row) → StandsFor before self.old → TakesAsks command before (records_in text.now) self.new (records_in result.now) }
-        ensures room { self.new.count + length (records_in result.now) ≡ self.old.count + length (records_in text.now) }
+        ensures rows { (before : List Row) → StandsFor before self.old → TakesLines command before text.now self.new result.now }
         ensures fewer { length (records_in result.now) ≤ length (records_in text.now) }
     {
         let mut rest = text;

@@ -1,9 +1,9 @@
-use Rattle.std.proofs.Common.{◌≡◌, length}
-use Rattle.trace_text.specs.Lines.{records_in}
+use Rattle.std.proofs.Common.{length}
+use Rattle.trace_text.specs.Lines.{ReadAlike}
 use Rattle.trace_text.proofs.line.behind_blank_lines.Given as goal
 
 abbrev pub invariant-loop-more : goal.invariant-loop-more
-invariant-loop-more l = records_in l.rest ≡ records_in l.text
+invariant-loop-more l = ReadAlike l.text l.rest
 
 abbrev pub decreases-loop-more : goal.decreases-loop-more
 decreases-loop-more l = length l.rest

@@ -4,14 +4,17 @@ use Rattle.trace_text.specs.Rows.{Row, Ask}
 use Rattle.trace_text.specs.Lines.{records_in}
 use Rattle.trace_text.specs.Standing.{AwaitsAsks}
 use Rattle.trace_text.proofs.TraceFacts.{rows_after-ok}
+use Rattle.trace_text.proofs.EndFacts.{record-here}
+use Rattle.trace_text.proofs.RowFacts.{length-more}
 use Rattle.trace_text.proofs.SoundFacts.{ask-sound}
+use Rattle.trace_text.proofs.WholeLineFacts.{one-less}
 use Rattle.trace_text.proofs.rows.Rows.take_asks.Goals as goal
 
 pub loop-ask-init : goal.loop-ask-init
 loop-ask-init c = record {
   kept = c.requires.stands;
   within = rw (← c.round.ensures) (c.awaits_asks.ensures c.if-not-awaits_asks.false);
-  rows = λ before s. (before, s, refl);
+  rows = λ before s. (before, s, λ more. refl, λ more. refl);
   room = refl;
   fewer = omega arith;
 }
@@ -21,9 +24,6 @@ is_sound-requires c = c.loop-ask.invariant.kept
 
 pub returns-then-not-is_sound-clause-rows : goal.returns-then-not-is_sound-clause-rows
 returns-then-not-is_sound-clause-rows c = c.loop-ask.invariant.rows
-
-pub returns-then-not-is_sound-clause-room : goal.returns-then-not-is_sound-clause-room
-returns-then-not-is_sound-clause-room c = c.loop-ask.invariant.room
 
 pub returns-then-not-is_sound-clause-fewer : goal.returns-then-not-is_sound-clause-fewer
 returns-then-not-is_sound-clause-fewer c = c.loop-ask.invariant.fewer
@@ -43,6 +43,7 @@ add_ask-requires-clause-turned c = c.loop-ask.invariant.within.turned ∙ sym c.
 pub loop-ask-preserved : goal.loop-ask-preserved
 loop-ask-preserved c =
     let (fields, row, found) = c.in-Some.ensures.ask in
+    let here = ap length (record-here c.loop-ask.rest.now c.in-Some.more.now fields found) in
     let (before, s) = c.loop-ask.invariant.kept in
     let within : AwaitsAsks c.args.command c.in-Some.ask.round c.loop-ask.self = rw c.in-Some.ensures.round c.loop-ask.invariant.within in
     let allowed = c.is_sound.ensures c.if-not-is_sound.false (omega (arith, c.loop-ask.invariant.within.same, c.in-Some.ensures.round)) in
@@ -51,21 +52,24 @@ loop-ask-preserved c =
       kept = (before ++ ask ∷ [], c.add_ask.ensures.rows before s);
       within = rw (← c.in-Some.ensures.round) (c.add_ask.ensures.within c.args.command within);
       rows = λ before s.
-          let (after, stands, same) = c.loop-ask.invariant.rows before s in
+          let (after, stands, same, count) = c.loop-ask.invariant.rows before s in
           let read = ask-sound c.args.command after fields c.in-Some.ask c.loop-ask.self stands within row allowed in (
             after ++ ask ∷ [],
             c.add_ask.ensures.rows after stands,
-            same ∙ ap (λ l. rows_after c.args.command l after) found ∙ rows_after-ok c.args.command fields (records_in c.in-Some.more.now) after ask read,
+            λ more. same more ∙ ap (λ l. rows_after c.args.command l after) (found more) ∙ rows_after-ok c.args.command fields (records_in (c.in-Some.more.now ++ more)) after ask read,
+            λ more. omega (arith, count more, length-more after ask, ap length (found more)),
           );
-      room = omega (arith, c.loop-ask.invariant.room, c.add_ask.ensures.count, ap length found);
-      fewer = omega (arith, c.loop-ask.invariant.fewer, ap length found);
+      room = omega (arith, c.loop-ask.invariant.room, c.add_ask.ensures.count, here);
+      fewer = omega (arith, c.loop-ask.invariant.fewer, here);
     }
 
 pub returns-clause-rows : goal.returns-clause-rows
 returns-clause-rows c = c.loop-ask.invariant.rows
 
-pub returns-clause-room : goal.returns-clause-room
-returns-clause-room c = c.loop-ask.invariant.room
-
 pub returns-clause-fewer : goal.returns-clause-fewer
 returns-clause-fewer c = c.loop-ask.invariant.fewer
+
+pub loop-ask-smaller : goal.loop-ask-smaller
+loop-ask-smaller c =
+    let (fields, row, found) = c.in-Some.ensures.ask in
+    one-less c.loop-ask.rest.now c.in-Some.more.now fields found

@@ -2,7 +2,7 @@ use Rattle.std.proofs.Common.{◌++◌, Some, None, ap, ◌∙◌}
 use Rattle.std.proofs.lemmas.Bool.Decides.{Decides-eqb}
 use Rattle.std.proofs.lemmas.Slice.Eq.{strip_prefix_is}
 use Rattle.trace_text.proofs.LineFacts.{marked, unmarked}
-use Rattle.trace_text.proofs.records.without_mark.Goals as goal
+use Rattle.trace_text.proofs.mark.without_mark.Goals as goal
 
 pub returns-in-Some : goal.returns-in-Some
 returns-in-Some c =
