@@ -12,6 +12,7 @@ mod audits;
 mod commands;
 mod makes;
 mod meeting;
+mod pieces;
 mod racks;
 mod reader;
 mod replays;

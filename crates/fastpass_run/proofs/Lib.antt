@@ -1,3 +1,4 @@
 pub mod PlainNumbers
+pub mod TransferLemmas
 pub mod RunLemmas
 pub mod AuditLemmas

@@ -1,20 +1,17 @@
 -- What a run tells by the way it ends.
-use Rattle.std.proofs.Common.{◌≡◌, ◌≤◌, ◌<◌, ◌+◌, ℕ, List, [], ◌++◌, length, length-append, Bool, true, false, Option, Some, None, Result, Ok, Err, IsErrAnd, OnOk, OnErr, refl, sym, ap, ◌∙◌, subst, arith, inl, inr}
-use Rattle.std.specs.Prelude.{⊤}
+use Rattle.std.proofs.Common.{◌≡◌, ◌≤◌, ◌<◌, ◌+◌, ℕ, List, [], ◌++◌, length, length-append, Option, Some, None, Result, Ok, Err, IsErrAnd, OnOk, OnErr, refl, sym, ap, ◌∙◌, subst, arith, inl, inr}
 use Rattle.std.specs.Option.{is_some, unwrap_or}
 use Rattle.std.specs.Io.KnownBytes.{Appends, Consumes, IsAtEnd}
 use Rattle.std.proofs.KnownBytes.{Consumes-nil}
 use Rattle.std.proofs.lemmas.Bool.{false≢true}
 use Rattle.std.proofs.lemmas.List.{append-nil}
-use Rattle.clos_topology.specs.Network.{Network}
 use Rattle.trace_text.specs.declared.command.Command.TheVariants.{Plan, Replay, Receive}
 use Rattle.trace_text.specs.declared.fault.Fault.{Fault}
 use Rattle.trace_text.specs.declared.fault.TraceRefused.{TraceRefused}
 use Rattle.trace_text.specs.declared.fault.TraceRefused.TheVariants as trace
 use Rattle.trace_text.specs.declared.command.Command.{Command}
-use Rattle.trace_text.specs.Trace.{FaultyRow, trace_of, IsFaultOf}
+use Rattle.trace_text.specs.Trace.{TraceContent, FaultyRow, trace_of, IsFaultOf}
 use Rattle.fp_edge.specs.declared.source.Failed.{Failed}
-use Rattle.script_text.specs.Script.{script_of}
 use Rattle.text_output.specs.Output.{IsCaused}
 use Rattle.text_output.specs.Transfer.{AppendsFront}
 use Rattle.text_output.specs.declared.output.Stop.{Stop}
@@ -23,7 +20,7 @@ use Rattle.fastpass_run.specs.Failures.{failure_of_stop, failure_of_trace}
 use Rattle.fastpass_run.specs.Outside.{Outside, Growth, IsUnwritten}
 use Rattle.fastpass_run.specs.Rows.{Rows, of_trace, of_script, fault_in, first_faulty, rows_of_input, rows_of, AsksToRead, IsReadAs}
 use Rattle.fastpass_run.specs.Run.{Ending, EndsBy, Performs, HasWords, HasFaultyRow, GivesBytes, Completes, TellsFaults, TellsExcess, status_of}
-use Rattle.fastpass_run.specs.Transfer.{Takes, input_limit}
+use Rattle.fastpass_run.specs.Transfer.{Takes, TakesAll, input_limit}
 use Rattle.fastpass_run.specs.Words.{Asked, asked_by_words}
 use Rattle.fastpass_run.specs.Words.Asked.{writes, plans_by_need, audits, takes_over}
 use Rattle.fastpass_run.specs.declared.outcome.Failure.{Failure}
@@ -31,7 +28,8 @@ use Rattle.fastpass_run.specs.declared.outcome.Failure.TheVariants as failure
 
 -- ---- where a text stops, and the note
 
-by_failure : (P : Ending → Type 0) (failed : Failure) (r : Ending) → IsErrAnd r (λ e. e ≡ failed) → P (Err failed) → P r
+-- what holds of a failure holds of what passes it on
+pub by_failure : {A : Type 0} (P : Result A Failure → Type 0) (failed : Failure) (r : Result A Failure) → IsErrAnd r (λ e. e ≡ failed) → P (Err failed) → P r
 by_failure P failed (Ok done) is p = absurd is
 by_failure P failed (Err e) is p = subst (λ (f : Failure). P (Err f)) (sym is) p
 
@@ -45,26 +43,16 @@ pub stopped : (words : List (List ℕ)) (old new : Outside) (stop : Stop) (r : E
     → IsCaused old.sink.faults new.sink.faults stop → EndsBy words old new r
 stopped words old new stop r is performs asked took cause = by_failure (EndsBy words old new) (failure_of_stop stop) r is (front_ends words old new stop performs asked took cause)
 
--- a refusal of rows tells the first faulty one, or want of memory
-abbrev TellsFault : Option FaultyRow → TraceRefused → Type 0
-TellsFault faulty (trace.Row row fault) = faulty ≡ Some (record { row = row; fault = fault })
-TellsFault faulty trace.Memory = ⊤
+-- what a refused trace comes to, whose bytes were all read
+pub trace_refused : (words : List (List ℕ)) (old new : Outside) (command : Command) (refused : TraceRefused) → AsksToRead words (of_trace command) → IsUnwritten old new
+    → TakesAll old.left new.left (λ bytes. IsFaultOf (trace_of command bytes) refused) → EndsBy words old new (Err (failure_of_trace refused))
+trace_refused words old new command (trace.Row row fault) asks unwritten (bytes, took, ended, few, is) =
+    (record { rows = of_trace command; accepted = asks; read = (bytes, took, ended, few, ap fault_in is) }, unwritten)
+trace_refused words old new command trace.Memory asks unwritten (bytes, took, ended, few, is) = ((asks.0, asks.1), (bytes, took, few), inl unwritten)
 
-trace_fault : (command : Command) (bytes : List ℕ) (refused : TraceRefused) → IsFaultOf (trace_of command bytes) refused → TellsFault (first_faulty (of_trace command) bytes) refused
-trace_fault command bytes (trace.Row row fault) is = ap fault_in is
-trace_fault command bytes trace.Memory is = tt
-
-refused_ends : (words : List (List ℕ)) (old new : Outside) (rows : Rows) (bytes : List ℕ) (refused : TraceRefused) → AsksToRead words rows → Consumes old.left new.left bytes → IsAtEnd new.left → length bytes ≤ input_limit
-    → IsUnwritten old new → TellsFault (first_faulty rows bytes) refused → EndsBy words old new (Err (failure_of_trace refused))
-refused_ends words old new rows bytes (trace.Row row fault) asks took ended few unwritten told = (record { rows = rows; accepted = asks; read = (bytes, took, ended, few, told) }, unwritten)
-refused_ends words old new rows bytes trace.Memory asks took ended few unwritten told = ((asks.0, asks.1), (bytes, took, few), inl unwritten)
-
--- what a refused trace comes to
-pub trace_refused : (words : List (List ℕ)) (old new : Outside) (command : Command) (bytes text : List ℕ) (refused : TraceRefused) (r : Ending) → AsksToRead words (of_trace command) → Consumes old.left new.left bytes
-    → IsAtEnd new.left → length bytes ≤ input_limit → IsUnwritten old new → text ≡ bytes → IsFaultOf (trace_of command text) refused → IsErrAnd r (λ e. e ≡ failure_of_trace refused) → EndsBy words old new r
-trace_refused words old new command bytes text refused r asks took ended few unwritten same told is =
-    by_failure (EndsBy words old new) (failure_of_trace refused) r is
-    (refused_ends words old new (of_trace command) bytes refused asks took ended few unwritten (trace_fault command bytes refused (subst (λ (bs : List ℕ). IsFaultOf (trace_of command bs) refused) same told)))
+-- a trace that was read for a command was read for the same one
+pub read_for : (left left' : Option (List ℕ)) (content : TraceContent) (one other : Command) → one ≡ other → TakesAll left left' (λ bytes. trace_of one bytes ≡ Ok content) → TakesAll left left' (λ bytes. trace_of other bytes ≡ Ok content)
+read_for left left' content one other same read = subst (λ (command : Command). TakesAll left left' (λ bytes. trace_of command bytes ≡ Ok content)) same read
 
 -- where nothing is read
 pub takes_none : (left left' : Option (List ℕ)) → left' ≡ left → Takes left left' (λ n. n ≤ input_limit)

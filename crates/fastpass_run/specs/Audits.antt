@@ -1,6 +1,5 @@
 -- What the audit of a text comes to (this project's own profile).
 use Rattle.std.specs.Prelude.{◌≡◌, ◌≤◌, ◌<◌, ℕ, List, [], ◌∷◌, ◌++◌, length, Option, Some, None, codes, decimal}
-use Rattle.std.specs.Io.KnownBytes.{Consumes, IsAtEnd}
 use Rattle.clos_topology.specs.Network.{Network}
 use Rattle.report_text.specs.declared.line.Line.{Line}
 use Rattle.schedule_audit.specs.Reading.{ReadsLines}

@@ -1,5 +1,6 @@
 pub mod Outside
 pub mod Transfer
+pub mod Given
 pub mod Words
 pub mod Statuses
 pub mod Rows

@@ -10,8 +10,12 @@ pub record Outside : Type 0 where
   pub faults : ℕ
   pub sink : SinkContent
 
+-- what a source tells, beside a sink that tells this
+abbrev pub beside : {S : Type 0} → SourceOf S → SinkContent → S → Outside
+beside source_of sink source = record { left = source_of.left source; faults = source_of.faults source; sink = sink }
+
 abbrev pub outside : {S O : Type 0} → SourceOf S → SinkOf O → S → O → Outside
-outside source_of sink_of source sink = record { left = source_of.left source; faults = source_of.faults source; sink = sink_content sink_of sink }
+outside source_of sink_of source sink = beside source_of (sink_content sink_of sink) source
 
 -- nothing was read
 pub record IsUnread (old new : Outside) : Type 0 where

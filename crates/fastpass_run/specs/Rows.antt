@@ -1,12 +1,11 @@
 -- The rows that words ask for, and the first faulty one of a text that is read as such rows (this project's own profile).
-use Rattle.std.specs.Prelude.{◌≡◌, ◌≤◌, ℕ, List, length, Option, Some, None, Result, Ok, Err}
-use Rattle.std.specs.Io.KnownBytes.{Consumes, IsAtEnd}
+use Rattle.std.specs.Prelude.{◌≡◌, ℕ, List, Option, Some, None, Result, Ok, Err}
 use Rattle.trace_text.specs.declared.command.Command.{Command}
 use Rattle.trace_text.specs.declared.command.Command.TheVariants.{Plan}
 use Rattle.trace_text.specs.Trace.{FaultyRow, trace_of}
 use Rattle.script_text.specs.Script.{script_of}
 use Rattle.fastpass_run.specs.Outside.{Outside}
-use Rattle.fastpass_run.specs.Transfer.{input_limit}
+use Rattle.fastpass_run.specs.Transfer.{TakesAll}
 use Rattle.fastpass_run.specs.Words.{Asked, asked_by_words}
 use Rattle.fastpass_run.specs.Words.Asked.{writes, plans_by_need, audits, takes_over}
 use Rattle.fastpass_run.specs.declared.words.Input.{Input}
@@ -43,4 +42,4 @@ AsksToRead words rows = (asked : Asked) × (asked_by_words words ≡ Some asked)
 
 -- the source was read to its end, and its bytes, at most the limit, are so
 abbrev pub IsReadAs : (List ℕ → Type 0) → Outside → Outside → Type 0
-IsReadAs passes old new = (bytes : List ℕ) × Consumes old.left new.left bytes × IsAtEnd new.left × (length bytes ≤ input_limit) × passes bytes
+IsReadAs passes old new = TakesAll old.left new.left passes

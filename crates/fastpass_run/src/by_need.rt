@@ -7,14 +7,14 @@ ghost use Rattle.fastpass_run.specs.Words.{asked_by_words};
 ghost use Rattle.fastpass_run.specs.Words.Asked.{plans_by_need};
 
 use crate::outcome::Failure;
-use crate::transfer;
+use crate::traces::read_trace;
 use fewest_plan::write_fewest;
 use fp_edge::{Gate, Sink, Source};
 use run_text::Sizes;
 use std::alloc::Global;
 use std::sync::Wait;
 use std::thread::Threads;
-use trace_text::{Command, read_trace};
+use trace_text::Command;
 
 /// Reads a trace, and writes its plan in which the flow that needs the fewest slots goes first.
 pub(crate) fn plan_by_need<R: Threads + Wait + Sync, S: Source, O: Sink, G: Gate + Sync>(
@@ -29,8 +29,6 @@ pub(crate) fn plan_by_need<R: Threads + Wait + Sync, S: Source, O: Sink, G: Gate
     ensures { (words : List (List ℕ)) → asked_by_words words ≡ Some (plans_by_need sizes) → EndsBy words
         (outside S.Source O.Sink src.old out.old) (outside S.Source O.Sink src.new out.new) result }
 {
-    let text = transfer::read_all(alloc, src)?;
-    let trace = read_trace(alloc, &text, Command::Plan)?;
-    drop(text);
+    let trace = read_trace(alloc, Command::Plan, src)?;
     Ok(write_fewest(rt, gate, alloc, &trace, sizes, out)?)
 }

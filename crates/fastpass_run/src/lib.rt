@@ -12,8 +12,9 @@
 //! `run` (`RunsWords`, in specs/Run.antt).
 //!
 //! `fastpass_run` is the whole program over any source, sinks and gate. `lib.rt` has `run` and its contract, `words.rt` the
-//! words, `audits.rt` the audit of a text, `by_need.rt` the plan by need, `takeovers.rt` a takeover, `transfer.rt` reads to the
-//! end, `outcome.rt` has the statuses and the notes. What `run` says is one record of the words, of what source, sink and notes
+//! words, `traces.rt` reads a trace, `audits.rt` has the audit of a text, `by_need.rt` the plan by need, `takeovers.rt` a
+//! takeover. `transfer.rt` reads a source to its end: a text for an audit or a script into memory, a trace piece by piece into its
+//! reader. `outcome.rt` has the statuses and the notes. What `run` says is one record of the words, of what source, sink and notes
 //! tell before and after, and of the status (`RunsWords` in `specs/Run.antt`).
 #![tactic(auto)]
 
@@ -31,6 +32,7 @@ mod audits;
 mod by_need;
 mod outcome;
 mod takeovers;
+mod traces;
 mod transfer;
 mod words;
 
@@ -38,6 +40,7 @@ use crate::audits::audit_text;
 use crate::by_need::plan_by_need;
 use crate::outcome::Failure;
 use crate::takeovers::take_over;
+use crate::traces::read_trace;
 use crate::words::{Input, Task};
 use fp_edge::{Gate, Sink, Source};
 use receive_text::write_receive;
@@ -46,7 +49,7 @@ use schedule_audit::each_text_has_one_reading;
 use std::alloc::Global;
 use std::sync::Wait;
 use std::thread::Threads;
-use trace_text::{Command, read_trace};
+use trace_text::Command;
 
 /// Does what the words ask for: reads the whole trace or script, or makes a trace, and then writes the text; or reads and audits a
 /// text. The status is 0, or 1 where the words are refused, 2 where a row is faulty, 3 and 4 where a read or a write failed, 5 for want of
@@ -114,9 +117,7 @@ fn write_text<R: Threads + Wait + Sync, S: Source, O: Sink, G: Gate + Sync>(
         Input::Made(number) => return Ok(write_made(rt, gate, alloc, number, sizes, out)?),
         Input::Read(command) => command,
     };
-    let text = transfer::read_all(alloc, src)?;
-    let trace = read_trace(alloc, &text, command)?;
-    drop(text);
+    let trace = read_trace(alloc, command, src)?;
     match command {
         Command::Plan => Ok(write_plan(rt, gate, alloc, &trace, sizes, out)?),
         Command::Replay => Ok(write_replay(rt, gate, alloc, &trace, sizes, out)?),

@@ -9,6 +9,7 @@ ghost use Rattle.fastpass_run.specs.declared.outcome.Failure.TheVariants.{Row, M
 use crate::transfer::ReadRefused;
 use fp_edge::{Failed, Sink};
 use itoa::Buffer;
+use no_memory::NoMemory;
 use schedule_audit::AuditRefused;
 use std::alloc::AllocError;
 use text_output::{Stop, write_all};
@@ -75,6 +76,14 @@ impl From<AllocError> for Failure {
     ghost from_gives = { λ _ e. e ≡ Memory };
 
     fn from(_refused: AllocError) -> Self {
+        Failure::Memory
+    }
+}
+
+impl From<NoMemory> for Failure {
+    ghost from_gives = { λ _ e. e ≡ Memory };
+
+    fn from(_refused: NoMemory) -> Self {
         Failure::Memory
     }
 }

@@ -1,11 +1,15 @@
-ghost use Rattle.std.specs.Prelude.{◌≡◌, ◌≤◌, ◌<◌, ◌+◌, [], length, IfOk, OnOk, IsErrOf, IsErr};
+ghost use Rattle.std.specs.Prelude.{◌≡◌, ◌≤◌, ◌<◌, ◌+◌, [], length, take, IfOk, OnOk, IsErrOf, IsErr};
 ghost use Rattle.std.specs.Io.KnownBytes.{Consumes, IsAtEnd};
 ghost use Rattle.fp_edge.specs.Faults.{Rose};
-ghost use Rattle.fastpass_run.specs.Transfer.{Takes, input_limit};
+ghost use Rattle.trace_text.specs.Reader.{MayRead};
+ghost use Rattle.fastpass_run.specs.Given.{IsGiven};
+ghost use Rattle.fastpass_run.specs.Transfer.{Takes, TakesAll, input_limit};
 ghost use Rattle.fastpass_run.specs.declared.transfer.ReadRefused.TheVariants.{Memory};
 
 use fp_edge::{Failed, Source};
+use no_memory::NoMemory;
 use std::alloc::{AllocError, Global};
+use trace_text::TraceReader;
 
 /// The most bytes that an input may have.
 pub(crate) const LIMIT: usize = 67_108_864;
@@ -27,6 +31,14 @@ impl From<AllocError> for ReadRefused {
     ghost from_gives = { λ _ e. e ≡ Memory };
 
     fn from(_refused: AllocError) -> Self {
+        ReadRefused::Memory
+    }
+}
+
+impl From<NoMemory> for ReadRefused {
+    ghost from_gives = { λ _ e. e ≡ Memory };
+
+    fn from(_refused: NoMemory) -> Self {
         ReadRefused::Memory
     }
 }
@@ -57,13 +69,60 @@ fn read_into<S: Source>(source: &mut S, text: &mut Vec<u8>) -> Result<(), ReadRe
 {
     let mut piece = [0; PIECE];
     'reads: loop {
-        let room = PIECE.min(LIMIT + 1 - text.len());
-        let front = &mut piece[..room];
-        match source.read(front) {
-            Ok(0) => return Ok(()),
-            Ok(n) if n > LIMIT - text.len() => return Err(ReadRefused::Big),
-            Ok(n) => text.extend_from_slice(&front[..n])?,
-            Err(Failed) => return Err(ReadRefused::Failed),
+        let n = next_piece(source, &mut piece, text.len())?;
+        if n == 0 {
+            return Ok(());
         }
+        text.extend_from_slice(&piece[..n])?;
+    }
+}
+
+/// Reads to the end, and gives each piece to a reader that has read nothing. It takes at most one byte more than the limit, and then
+/// answers Big.
+pub(crate) fn give_all<S: Source>(
+    source: &mut S,
+    reader: &mut TraceReader,
+) -> Result<(), ReadRefused>
+    requires { MayRead input_limit reader.old }
+    ensures read { OnOk result (TakesAll (S.left source.old) (S.left source.new) (IsGiven reader.old reader.new)) }
+    ensures failed { IsErrOf result ReadRefused.Failed → Rose (S.faults source.old) (S.faults source.new) }
+    ensures big { IsErrOf result ReadRefused.Big → Takes (S.left source.old) (S.left source.new) (λ n. n ≡ input_limit + 1) }
+    ensures not_big { IsErr result → (IsErrOf result ReadRefused.Big → ⊥) → Takes (S.left source.old) (S.left source.new) (λ n. n ≤ input_limit) }
+    ensures later { S.faults source.old ≤ S.faults source.new }
+{
+    let mut piece = [0; PIECE];
+    let mut taken = 0;
+    'gives: loop {
+        let n = next_piece(source, &mut piece, taken)?;
+        if n == 0 {
+            return Ok(());
+        }
+        reader.take(&piece[..n])?;
+        taken += n;
+    }
+}
+
+/// Reads once into the front of `piece`, where so many bytes were taken before, and answers how many came; 0 is the end. It asks for at
+/// most one byte more than the limit, and answers Big where that came.
+fn next_piece<S: Source>(
+    source: &mut S,
+    piece: &mut [u8],
+    taken: usize,
+) -> Result<usize, ReadRefused>
+    requires some { 0 < length piece.old }
+    requires within { taken ≤ input_limit }
+    ensures read { IfOk result (λ n. (n ≤ length piece.new) × (taken + n ≤ input_limit)) }
+    ensures bytes { IfOk result (λ n. Consumes (S.left source.old) (S.left source.new) (take n piece.new)) }
+    ensures end { IfOk result (λ n. n ≡ 0 → IsAtEnd (S.left source.new)) }
+    ensures failed { IsErrOf result ReadRefused.Failed → Consumes (S.left source.old) (S.left source.new) [] × Rose (S.faults source.old) (S.faults source.new) }
+    ensures big { IsErrOf result ReadRefused.Big → Takes (S.left source.old) (S.left source.new) (λ n. taken + n ≡ input_limit + 1) }
+    ensures not_memory { ¬ IsErrOf result ReadRefused.Memory }
+    ensures later { S.faults source.old ≤ S.faults source.new }
+{
+    let room = piece.len().min(LIMIT + 1 - taken);
+    match source.read(&mut piece[..room]) {
+        Ok(n) if n > LIMIT - taken => Err(ReadRefused::Big),
+        Ok(n) => Ok(n),
+        Err(Failed) => Err(ReadRefused::Failed),
     }
 }

@@ -1,13 +1,13 @@
-use Rattle.std.proofs.Common.{ℕ, List, None, inl, inr, refl, sym, ap, ◌∙◌}
-use Rattle.trace_text.specs.declared.command.Command.{Command}
+use Rattle.std.proofs.Common.{None, inl, inr, refl, ap, ◌∙◌}
 use Rattle.trace_text.specs.declared.command.Command.TheVariants.{Plan, Replay, Receive}
-use Rattle.trace_text.specs.Trace.{trace_of}
+use Rattle.text_output.specs.Content.{sink_content}
 use Rattle.fastpass_run.specs.Outside.{Outside, outside}
 use Rattle.fastpass_run.specs.Words.{asked_by_input}
 use Rattle.fastpass_run.specs.Words.Asked.{writes}
 use Rattle.fastpass_run.specs.declared.words.Input.TheVariants.{Read}
 use Rattle.fastpass_run.specs.Rows.{rows_of_input}
-use Rattle.fastpass_run.proofs.RunLemmas.{stopped, takes_none, trace_refused}
+use Rattle.fastpass_run.specs.Run.{EndsBy}
+use Rattle.fastpass_run.proofs.RunLemmas.{by_failure, stopped, takes_none, read_for}
 use Rattle.fastpass_run.proofs.write_text.Goals as goal
 
 pub returns-in_err-write_made-in-Made-clause-ends : goal.returns-in_err-write_made-in-Made-clause-ends
@@ -29,54 +29,38 @@ returns-in_err-write_made-in-Made-clause-ends g c = λ words accepted.
 
 pub returns-in_err-write_plan-in-Plan-clause-ends : goal.returns-in_err-write_plan-in-Plan-clause-ends
 returns-in_err-write_plan-in-Plan-clause-ends g c = λ words accepted.
-    let bytes : List ℕ = c.in_ok-text.text.items in
-    let (long, took, ended) = c.in_ok-text.ensures.read in
+    let (bytes, took, ended, few, is) = c.in_ok-trace.ensures.read in
     let plan = c.in_err-write_plan-in-Plan.ensures in
     let (cores, scheduled, written) = plan.writes in
-    stopped words (outside g.S.Source g.O.Sink c.args.src.now c.args.out.now) (outside g.S.Source g.O.Sink c.read_all.new.source c.write_plan.new.sink) c.in_err-write_plan-in-Plan.field-0.0
+    stopped words (outside g.S.Source g.O.Sink c.args.src.now c.args.out.now) (outside g.S.Source g.O.Sink c.read_trace.new.src c.write_plan.new.sink) c.in_err-write_plan-in-Plan.field-0.0
     c.from_residual-in_err-write_plan-in-Plan.result c.from_residual-in_err-write_plan-in-Plan.ensures.1
     (inl (record {
       asked = asked_by_input c.args.input c.args.sizes;
       accepted = accepted;
       command = c.in-Read.is ∙ ap Read c.in-Plan.is;
       trace = c.in_ok-trace.trace;
-      read = (
-        bytes,
-        took,
-        ended,
-        long,
-        ap (λ (bs : List ℕ). trace_of Plan bs) (sym c.deref.ensures.value)
-            ∙ (ap (λ (command : Command). trace_of command c.deref.result.now) (sym c.in-Plan.is) ∙ c.in_ok-trace.ensures.accepted),
-      );
+      read = read_for (g.S.Source.left c.args.src.now) (g.S.Source.left c.read_trace.new.src) c.in_ok-trace.trace c.in-Read.command Plan c.in-Plan.is c.in_ok-trace.ensures.read;
       cores = cores;
       written = written.front;
       slots = scheduled;
       ledger = plan.ledger;
       balanced = plan.balanced cores;
     }))
-    (writes (asked_by_input c.args.input c.args.sizes), accepted) (bytes, took, long) written.cause
+    (writes (asked_by_input c.args.input c.args.sizes), accepted) (bytes, took, few) written.cause
 
 pub returns-in_err-write_replay-in-Replay-clause-ends : goal.returns-in_err-write_replay-in-Replay-clause-ends
 returns-in_err-write_replay-in-Replay-clause-ends g c = λ words accepted.
-    let bytes : List ℕ = c.in_ok-text.text.items in
-    let (long, took, ended) = c.in_ok-text.ensures.read in
+    let (bytes, took, ended, few, is) = c.in_ok-trace.ensures.read in
     let replay = c.in_err-write_replay-in-Replay.ensures in
     let (cores, makes, written) = replay.writes in
-    stopped words (outside g.S.Source g.O.Sink c.args.src.now c.args.out.now) (outside g.S.Source g.O.Sink c.read_all.new.source c.write_replay.new.sink) c.in_err-write_replay-in-Replay.field-0.0
+    stopped words (outside g.S.Source g.O.Sink c.args.src.now c.args.out.now) (outside g.S.Source g.O.Sink c.read_trace.new.src c.write_replay.new.sink) c.in_err-write_replay-in-Replay.field-0.0
     c.from_residual-in_err-write_replay-in-Replay.result c.from_residual-in_err-write_replay-in-Replay.ensures.1
     (inr (inr (inl (record {
       asked = asked_by_input c.args.input c.args.sizes;
       accepted = accepted;
       command = c.in-Read.is ∙ ap Read c.in-Replay.is;
       trace = c.in_ok-trace.trace;
-      read = (
-        bytes,
-        took,
-        ended,
-        long,
-        ap (λ (bs : List ℕ). trace_of Replay bs) (sym c.deref.ensures.value)
-            ∙ (ap (λ (command : Command). trace_of command c.deref.result.now) (sym c.in-Replay.is) ∙ c.in_ok-trace.ensures.accepted),
-      );
+      read = read_for (g.S.Source.left c.args.src.now) (g.S.Source.left c.read_trace.new.src) c.in_ok-trace.trace c.in-Read.command Replay c.in-Replay.is c.in_ok-trace.ensures.read;
       cores = cores;
       written = written.front;
       slots = makes.scheduled;
@@ -84,12 +68,10 @@ returns-in_err-write_replay-in-Replay-clause-ends g c = λ words accepted.
       sends = replay.sends cores;
       ledger = replay.ledger cores;
     }))))
-    (writes (asked_by_input c.args.input c.args.sizes), accepted) (bytes, took, long) written.cause
+    (writes (asked_by_input c.args.input c.args.sizes), accepted) (bytes, took, few) written.cause
 
 pub returns-in-Replay-clause-ends : goal.returns-in-Replay-clause-ends
 returns-in-Replay-clause-ends g c = λ words accepted.
-    let bytes : List ℕ = c.in_ok-text.text.items in
-    let (long, took, ended) = c.in_ok-text.ensures.read in
     let replay = c.in_ok-write_replay-in-Replay.ensures in
     let (cores, makes, written) = replay.writes in
     inr (inr (inl (record {
@@ -97,14 +79,7 @@ returns-in-Replay-clause-ends g c = λ words accepted.
       accepted = accepted;
       command = c.in-Read.is ∙ ap Read c.in-Replay.is;
       trace = c.in_ok-trace.trace;
-      read = (
-        bytes,
-        took,
-        ended,
-        long,
-        ap (λ (bs : List ℕ). trace_of Replay bs) (sym c.deref.ensures.value)
-            ∙ (ap (λ (command : Command). trace_of command c.deref.result.now) (sym c.in-Replay.is) ∙ c.in_ok-trace.ensures.accepted),
-      );
+      read = read_for (g.S.Source.left c.args.src.now) (g.S.Source.left c.read_trace.new.src) c.in_ok-trace.trace c.in-Read.command Replay c.in-Replay.is c.in_ok-trace.ensures.read;
       cores = cores;
       written = written.all;
       slots = makes.scheduled;
@@ -115,15 +90,12 @@ returns-in-Replay-clause-ends g c = λ words accepted.
 
 pub returns-in_err-trace-clause-ends : goal.returns-in_err-trace-clause-ends
 returns-in_err-trace-clause-ends g c = λ words accepted.
-    let (long, took, ended) = c.in_ok-text.ensures.read in
-    trace_refused words (outside g.S.Source g.O.Sink c.args.src.now c.args.out.now) (outside g.S.Source g.O.Sink c.read_all.new.source c.args.out.now) c.in-Read.command c.in_ok-text.text.items c.deref.result.now
-    c.in_err-trace.field-0.0 c.from_residual-in_err-trace.result (writes (asked_by_input c.args.input c.args.sizes), accepted, ap rows_of_input c.in-Read.is) took ended long (record { same_bytes = refl; same_faults = refl })
-    c.deref.ensures.value c.in_err-trace.ensures.refused c.from_residual-in_err-trace.ensures.1
+    by_failure (EndsBy words (outside g.S.Source g.O.Sink c.args.src.now c.args.out.now) (outside g.S.Source g.O.Sink c.read_trace.new.src c.args.out.now)) c.in_err-trace.field-0.0 c.from_residual-in_err-trace.result
+    c.from_residual-in_err-trace.ensures.1
+    (c.in_err-trace.ensures.refused words (sink_content g.O.Sink c.args.out.now) (writes (asked_by_input c.args.input c.args.sizes), accepted, ap rows_of_input c.in-Read.is))
 
 pub returns-in-Plan-clause-ends : goal.returns-in-Plan-clause-ends
 returns-in-Plan-clause-ends g c = λ words accepted.
-    let bytes : List ℕ = c.in_ok-text.text.items in
-    let (long, took, ended) = c.in_ok-text.ensures.read in
     let plan = c.in_ok-write_plan-in-Plan.ensures in
     let (cores, scheduled, written) = plan.writes in
     inl (record {
@@ -131,14 +103,7 @@ returns-in-Plan-clause-ends g c = λ words accepted.
       accepted = accepted;
       command = c.in-Read.is ∙ ap Read c.in-Plan.is;
       trace = c.in_ok-trace.trace;
-      read = (
-        bytes,
-        took,
-        ended,
-        long,
-        ap (λ (bs : List ℕ). trace_of Plan bs) (sym c.deref.ensures.value)
-            ∙ (ap (λ (command : Command). trace_of command c.deref.result.now) (sym c.in-Plan.is) ∙ c.in_ok-trace.ensures.accepted),
-      );
+      read = read_for (g.S.Source.left c.args.src.now) (g.S.Source.left c.read_trace.new.src) c.in_ok-trace.trace c.in-Read.command Plan c.in-Plan.is c.in_ok-trace.ensures.read;
       cores = cores;
       written = written.all;
       slots = scheduled;
@@ -148,24 +113,16 @@ returns-in-Plan-clause-ends g c = λ words accepted.
 
 pub returns-in_err-write_receive-in-Receive-clause-ends : goal.returns-in_err-write_receive-in-Receive-clause-ends
 returns-in_err-write_receive-in-Receive-clause-ends g c = λ words accepted.
-    let bytes : List ℕ = c.in_ok-text.text.items in
-    let (long, took, ended) = c.in_ok-text.ensures.read in
+    let (bytes, took, ended, few, is) = c.in_ok-trace.ensures.read in
     let written = c.in_err-write_receive-in-Receive.ensures in
-    stopped words (outside g.S.Source g.O.Sink c.args.src.now c.args.out.now) (outside g.S.Source g.O.Sink c.read_all.new.source c.write_receive.new.sink) c.in_err-write_receive-in-Receive.field-0.0
+    stopped words (outside g.S.Source g.O.Sink c.args.src.now c.args.out.now) (outside g.S.Source g.O.Sink c.read_trace.new.src c.write_receive.new.sink) c.in_err-write_receive-in-Receive.field-0.0
     c.from_residual-in_err-write_receive-in-Receive.result c.from_residual-in_err-write_receive-in-Receive.ensures.1
     (inr (inr (inr (inr (inr (inl (record {
       asked = asked_by_input c.args.input c.args.sizes;
       accepted = accepted;
       command = c.in-Read.is ∙ ap Read c.in-Receive.is;
       trace = c.in_ok-trace.trace;
-      read = (
-        bytes,
-        took,
-        ended,
-        long,
-        ap (λ (bs : List ℕ). trace_of Receive bs) (sym c.deref.ensures.value)
-            ∙ (ap (λ (command : Command). trace_of command c.deref.result.now) (sym c.in-Receive.is) ∙ c.in_ok-trace.ensures.accepted),
-      );
+      read = read_for (g.S.Source.left c.args.src.now) (g.S.Source.left c.read_trace.new.src) c.in_ok-trace.trace c.in-Read.command Receive c.in-Receive.is c.in_ok-trace.ensures.read;
       written = written.front;
     })))))))
-    (writes (asked_by_input c.args.input c.args.sizes), accepted) (bytes, took, long) written.cause
+    (writes (asked_by_input c.args.input c.args.sizes), accepted) (bytes, took, few) written.cause

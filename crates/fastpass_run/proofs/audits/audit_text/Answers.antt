@@ -1,7 +1,7 @@
-use Rattle.std.proofs.Common.{ℕ, List, inl, inr, sym, ap, ◌∙◌, subst}
+use Rattle.std.proofs.Common.{inl, inr, ◌∙◌}
 use Rattle.std.specs.Io.KnownBytes.{Appends}
 use Rattle.text_output.specs.Transfer.{AppendsFront}
-use Rattle.fastpass_run.specs.Outside.{Outside, outside}
+use Rattle.fastpass_run.specs.Outside.{outside}
 use Rattle.fastpass_run.proofs.AuditLemmas.{audited}
 use Rattle.fastpass_run.proofs.audits.audit_text.Goals as goal
 
