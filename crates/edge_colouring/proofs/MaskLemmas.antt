@@ -1,16 +1,14 @@
 -- Masks of 64 bits, and the lowest core that a mask or two have free.
-use Rattle.std.proofs.Common.{◌≡◌, ◌≢◌, ◌<◌, ◌≤◌, ◌+◌, ◌-◌, ◌*◌, ◌%◌, ◌^◌, ℕ, List, length, get_or, set, replicate, Bool, true, false, not, ◌==◌, ◌&&◌, cond, min, Option, None, bit_and, bit_or, w64, refl, sym, ap, ◌∙◌, subst, arith, inl, inr}
+use Rattle.std.proofs.Common.{◌≡◌, ◌<◌, ◌≤◌, ◌-◌, ◌*◌, ◌%◌, ◌^◌, ℕ, List, get_or, Bool, true, false, ◌==◌, ◌&&◌, cond, min, Option, bit_and, bit_or, w64, refl, sym, ap, ◌∙◌, subst, arith, inl, inr}
 use Rattle.std.specs.Int.{bit_at, trailing_zeros}
-use Rattle.std.specs.Option.{is_some}
 use Rattle.std.proofs.lemmas.Bool.{cond-true, cond-false, cases_eq, eq-eqb, ne_eqb}
-use Rattle.std.proofs.lemmas.List.{get_or-replicate, get_or-set_same, get_or-set_other, get_or_read, length-replicate, length-set}
-use Rattle.std.proofs.lemmas.Nat.Bits.{bit_at_set_same, bit_at_set_other, bit_at_clear_same, bit_at_clear_other, bit_at-trailing_zeros, bit_at-zero, bit_at_ones, bit_at_and}
+use Rattle.std.proofs.lemmas.Nat.Bits.{bit_at_set_same, bit_at_set_other, bit_at_clear_same, bit_at_clear_other, bit_at-trailing_zeros, bit_at-zero, bit_at_and}
 use Rattle.list_facts.proofs.Bools.{bit_test}
-use Rattle.edge_colouring.specs.Holders.{Holders, is_free_holder, IsLowest}
+use Rattle.edge_colouring.specs.Holders.{Holders, is_free_holder, IsLowest, IsRackOf}
 
 -- the masks of a side: at each rack a bit for each core, 1 where it is free
 abbrev pub AreMasks : List ℕ → Holders → Type 0
-AreMasks masks holders = (rack core : ℕ) → rack < length masks → core < 64 → bit_at (get_or masks rack 0) core ≡ cond (is_free_holder holders rack core) 1 0
+AreMasks masks holders = (rack core : ℕ) → IsRackOf holders rack → core < 64 → bit_at (get_or masks rack 0) core ≡ cond (is_free_holder holders rack core) 1 0
 
 pub bit_set : (mask at i : ℕ) (bit : Bool) → at < 64 → bit ≡ true → bit_at (bit_or mask (1 * 2 ^ at % 2 ^ 64)) i ≡ cond (i == at) (cond bit 1 0) (bit_at mask i)
 bit_set mask at i bit small is =
@@ -67,12 +65,12 @@ both_test true false = refl
 both_test false true = refl
 both_test false false = refl
 
-pub lowest_free_is : (masks : List ℕ) (H : List (Option ℕ)) (rack core : ℕ) → AreMasks masks H → rack < length masks
+pub lowest_free_is : (masks : List ℕ) (H : List (Option ℕ)) (rack core : ℕ) → AreMasks masks H → IsRackOf H rack
     → IsLowest (λ k. bit_at (get_or masks rack 0) k == 1) core → IsLowest (is_free_holder H rack) core
 lowest_free_is masks H rack core are below is =
     IsLowest-same (λ k. bit_at (get_or masks rack 0) k == 1) (is_free_holder H rack) core (λ k lt. ap (λ (n : ℕ). n == 1) (are rack k below lt) ∙ bit_test (is_free_holder H rack k)) is
 
-pub lowest_common_is : (masks other_masks : List ℕ) (H other : List (Option ℕ)) (rack other_rack core : ℕ) → AreMasks masks H → AreMasks other_masks other → rack < length masks → other_rack < length other_masks
+pub lowest_common_is : (masks other_masks : List ℕ) (H other : List (Option ℕ)) (rack other_rack core : ℕ) → AreMasks masks H → AreMasks other_masks other → IsRackOf H rack → IsRackOf other other_rack
     → IsLowest (λ k. bit_at (bit_and (get_or masks rack 0) (get_or other_masks other_rack 0)) k == 1) core → IsLowest (λ k. is_free_holder H rack k && is_free_holder other other_rack k) core
 lowest_common_is masks other_masks H other rack other_rack core are others below other_below is =
     IsLowest-same (λ k. bit_at (bit_and (get_or masks rack 0) (get_or other_masks other_rack 0)) k == 1) (λ k. is_free_holder H rack k && is_free_holder other other_rack k) core
@@ -81,13 +79,3 @@ lowest_common_is masks other_masks H other rack other_rack core are others below
     ∙ (ap (λ (n : ℕ). min n (bit_at (get_or other_masks other_rack 0) k) == 1) (are rack k below lt)
     ∙ (ap (λ (n : ℕ). min (cond (is_free_holder H rack k) 1 0) n == 1) (others other_rack k other_below lt)
     ∙ both_test (is_free_holder H rack k) (is_free_holder other other_rack k)))) is
-
--- the same of masks as they are read
-pub lowest_common_read : (masks other_masks : List ℕ) (H other : List (Option ℕ)) (rack other_rack core m n : ℕ) → AreMasks masks H → AreMasks other_masks other → rack < length masks → other_rack < length other_masks
-    → m ≡ get_or masks rack m → n ≡ get_or other_masks other_rack n
-    → IsLowest (λ k. bit_at (bit_and m n) k == 1) core → IsLowest (λ k. is_free_holder H rack k && is_free_holder other other_rack k) core
-lowest_common_read masks other_masks H other rack other_rack core m n are others below other_below m_is n_is is =
-    let m_at : m ≡ get_or masks rack 0 = get_or_read masks rack m below m_is 0 in
-    let n_at : n ≡ get_or other_masks other_rack 0 = get_or_read other_masks other_rack n other_below n_is 0 in
-    lowest_common_is masks other_masks H other rack other_rack core are others below other_below
-    (subst (λ p. IsLowest (λ k. bit_at (bit_and (get_or masks rack 0) p) k == 1) core) n_at (subst (λ p. IsLowest (λ k. bit_at (bit_and p n) k == 1) core) m_at is))

@@ -1,5 +1,5 @@
 -- What a side shows, place by place.
-use Rattle.std.proofs.Common.{◌≡◌, ◌≢◌, ◌<◌, ◌≤◌, ◌+◌, ◌-◌, ◌*◌, ◌/◌, ◌%◌, ◌^◌, ℕ, zero, suc, List, [], ◌∷◌, length, get_or, set, replicate, Bool, true, false, not, ◌==◌, cond, Option, Some, None, Vec, vec_len, refl, sym, ap, ◌∙◌, subst, arith, inl, inr}
+use Rattle.std.proofs.Common.{◌≡◌, ◌≢◌, ◌<◌, ◌≤◌, ◌+◌, ◌-◌, ◌*◌, ◌/◌, ◌%◌, ◌^◌, ℕ, zero, suc, List, [], ◌∷◌, length, get_or, set, replicate, Bool, true, false, not, ◌==◌, cond, Option, Some, None, Vec, vec_len, refl, sym, ap, ◌∙◌, arith, inl, inr}
 use Rattle.std.specs.Int.{bit_at}
 use Rattle.std.specs.Option.{is_some, is_none, unwrap_or}
 use Rattle.std.proofs.lemmas.Bool.{cases_eq, cond-true, cond-false, eq-eqb, ne_eqb}
@@ -97,35 +97,34 @@ free_bit (suc zero) edge small = refl
 free_bit (suc (suc bit)) edge small = absurd (omega (arith, small))
 
 -- the masks tell which cores are free
-pub masks_tell : (masks edges : List ℕ) → length edges ≡ length masks * 64 → (rack core : ℕ) → rack < length masks → core < 64 → bit_at (get_or masks rack 0) core ≡ cond (is_free_holder (holders_shown masks edges) rack core) 1 0
-masks_tell masks edges len rack core below small =
+pub masks_tell : (masks edges : List ℕ) (rack core : ℕ) → IsRackOf (holders_shown masks edges) rack → core < 64 → bit_at (get_or masks rack 0) core ≡ cond (is_free_holder (holders_shown masks edges) rack core) 1 0
+masks_tell masks edges rack core within small =
     let edge : ℕ = get_or edges (rack * 64 + core) 0 in
     let bit : ℕ = bit_at (get_or masks rack 0) core in
-    let shows : get_or (holders_shown masks edges) (rack * 64 + core) None ≡ cond (bit == 1) None (Some edge) = get_or-shown masks edges (rack * 64 + core) (omega (arith, below, small, len)) ∙ cell-place masks rack core edge small in
+    let shows : get_or (holders_shown masks edges) (rack * 64 + core) None ≡ cond (bit == 1) None (Some edge) = get_or-shown masks edges (rack * 64 + core) (omega (arith, within, small, length-shown masks edges)) ∙ cell-place masks rack core edge small in
     free_bit bit edge (bit_at-lt (get_or masks rack 0) core) ∙ ap (λ (o : Option ℕ). cond (not (is_some o)) 1 0) (sym shows)
 
 -- a rack of a side lies within its masks and its edges
-pub rack_fits : {Y Z : Type 0} (free : Vec ℕ Y) (holders : Vec ℕ Z) (side : List (Option ℕ)) (rack : ℕ) → holders_shown free.items holders.items ≡ side → vec_len holders ≡ vec_len free * 64 → IsRackOf side rack → (rack < vec_len free) × (rack * 64 + 64 ≤ vec_len holders)
+pub rack_fits : {Z : Type 0} (free : List ℕ) (holders : Vec ℕ Z) (side : List (Option ℕ)) (rack : ℕ) → holders_shown free holders.items ≡ side → (length free ≡ 64) × (vec_len holders ≤ 4096) → IsRackOf side rack
+    → (rack < 64) × (rack * 64 + 64 ≤ vec_len holders)
 rack_fits free holders side rack is size within =
-    let len : length side ≡ vec_len holders = ap (λ (xs : List (Option ℕ)). length xs) (sym is) ∙ (length-shown free.items holders.items ∙ sym holders.ok.0) in
-    (omega (arith, len, size, within), omega (arith, len, within))
+    let len : length side ≡ vec_len holders = ap (λ (xs : List (Option ℕ)). length xs) (sym is) ∙ (length-shown free holders.items ∙ sym holders.ok.0) in
+    (omega (arith, len, size.1, within), omega (arith, len, within))
 
 -- who holds a core that is free, and one that isn't
-pub held-free : (masks edges : List ℕ) (rack core mask : ℕ) → core < 64 → rack * 64 + core < length edges → rack < length masks → mask ≡ get_or masks rack mask → (bit_at mask core == 1) ≡ true → None ≡ get_or (holders_shown masks edges) (rack * 64 + core) None
-held-free masks edges rack core mask small within below is set =
+pub held-free : (masks edges : List ℕ) (rack core : ℕ) → core < 64 → rack * 64 + core < length edges → (bit_at (get_or masks rack 0) core == 1) ≡ true → None ≡ get_or (holders_shown masks edges) (rack * 64 + core) None
+held-free masks edges rack core small within set =
     let edge : ℕ = get_or edges (rack * 64 + core) 0 in
-    let at : mask ≡ get_or masks rack 0 = get_or_read masks rack mask below is 0 in
     sym (get_or-shown masks edges (rack * 64 + core) within ∙ (cell-place masks rack core edge small
-    ∙ cond-true (bit_at (get_or masks rack 0) core == 1) None (Some edge) (ap (λ (m : ℕ). bit_at m core == 1) (sym at) ∙ set)))
+    ∙ cond-true (bit_at (get_or masks rack 0) core == 1) None (Some edge) set))
 
-pub held-by : (masks edges : List ℕ) (rack core mask place edge : ℕ) → core < 64 → rack * 64 + core < length edges → rack < length masks → mask ≡ get_or masks rack mask → place ≡ rack * 64 + core → edge ≡ get_or edges place edge → (bit_at mask core == 1) ≡ false
+pub held-by : (masks edges : List ℕ) (rack core place edge : ℕ) → core < 64 → rack * 64 + core < length edges → place ≡ rack * 64 + core → edge ≡ get_or edges place edge → (bit_at (get_or masks rack 0) core == 1) ≡ false
     → Some edge ≡ get_or (holders_shown masks edges) (rack * 64 + core) None
-held-by masks edges rack core mask place edge small within below is place_is edge_is clear =
-    let at : mask ≡ get_or masks rack 0 = get_or_read masks rack mask below is 0 in
+held-by masks edges rack core place edge small within place_is edge_is clear =
     let edge_at : edge ≡ get_or edges (rack * 64 + core) 0 = get_or_read edges place edge (omega (arith, place_is, within)) edge_is 0 ∙ ap (λ (p : ℕ). get_or edges p 0) place_is in
     ap (λ (e : ℕ). Some e) edge_at
     ∙ sym (get_or-shown masks edges (rack * 64 + core) within ∙ (cell-place masks rack core (get_or edges (rack * 64 + core) 0) small
-    ∙ cond-false (bit_at (get_or masks rack 0) core == 1) None (Some (get_or edges (rack * 64 + core) 0)) (ap (λ (m : ℕ). bit_at m core == 1) (sym at) ∙ clear)))
+    ∙ cond-false (bit_at (get_or masks rack 0) core == 1) None (Some (get_or edges (rack * 64 + core) 0)) clear))
 
 written_cell : (edge : Option ℕ) → cond (is_none edge) None (Some (unwrap_or edge 0)) ≡ edge
 written_cell None = refl
@@ -138,10 +137,10 @@ none_is (Some e) true is = absurd (cc)
 none_is (Some e) false is = refl
 
 -- a mask and an edge are written
-pub shown-written : (masks edges : List ℕ) (rack core mask bits place : ℕ) (edge : Option ℕ) → core < 64 → rack * 64 + core < length edges → rack < length masks → mask ≡ get_or masks rack mask → place ≡ rack * 64 + core
-    → ((i : ℕ) → i < 64 → bit_at bits i ≡ cond (i == core) (cond (is_none edge) 1 0) (bit_at mask i)) → holders_shown (set masks rack bits) (set edges place (unwrap_or edge 0)) ≡ set (holders_shown masks edges) (rack * 64 + core) edge
-shown-written masks edges rack core mask bits place edge small within below is place_is bits_are =
-    let at : mask ≡ get_or masks rack 0 = get_or_read masks rack mask below is 0 in
+pub shown-written : (masks edges : List ℕ) (rack core bits place : ℕ) (edge : Option ℕ) → core < 64 → rack * 64 + core < length edges → rack < length masks → place ≡ rack * 64 + core
+    → ((i : ℕ) → i < 64 → bit_at bits i ≡ cond (i == core) (cond (is_none edge) 1 0) (bit_at (get_or masks rack 0) i)) → holders_shown (set masks rack bits) (set edges place (unwrap_or edge 0)) ≡ set (holders_shown masks edges) (rack * 64 + core) edge
+shown-written masks edges rack core bits place edge small within below place_is bits_are =
+    let mask : ℕ = get_or masks rack 0 in
     let new : List ℕ = set masks rack bits in
     let held : ℕ = unwrap_or edge 0 in
     let written : List ℕ = set edges (rack * 64 + core) held in
@@ -154,5 +153,5 @@ shown-written masks edges rack core mask bits place edge small within below is p
     ∙ ((λ i. cond (bit i == 1) None (Some (edge_is i))) ∙ (ap (λ (b : Bool). cond b None (Some held)) (bit_test (is_none edge)) ∙ written_cell edge)) in
     ap (λ (p : ℕ). holders_shown new (set edges p held)) place_is
     ∙ shown-put masks new edges written rack core edge small within (length-set edges (rack * 64 + core) held) (λ r other. get_or-set_other masks rack r bits 0 other)
-    (λ c c_small other. ap (λ (m : ℕ). bit_at m c) mask_is ∙ (bits_are c c_small ∙ (cond-false (c == core) (cond (is_none edge) 1 0) (bit_at mask c) (ne_eqb c core other) ∙ ap (λ (m : ℕ). bit_at m c) at)))
+    (λ c c_small other. ap (λ (m : ℕ). bit_at m c) mask_is ∙ (bits_are c c_small ∙ (cond-false (c == core) (cond (is_none edge) 1 0) (bit_at mask c) (ne_eqb c core other))))
     (λ k other. get_or-set_other edges (rack * 64 + core) k held 0 other) here

@@ -21,6 +21,7 @@ pub(crate) struct Painting {
 impl Painting {
     /// For so many racks, with room for so many edges.
     pub(crate) fn open(alloc: Global, racks: u16, edges: u16) -> Result<Painting, NoMemory>
+        requires { racks ≤ 64 }
         ensures left { IfOk result (λ painting. length painting.left ≡ racks * 64) }
         ensures right { IfOk result (λ painting. length painting.right ≡ racks * 64) }
         ensures room { IfOk result (λ painting. vec_capacity painting.colours ≡ edges) }

@@ -9,32 +9,37 @@ use std::marker::Model;
 /// How many cores a rack has places for.
 const CORES: usize = 64;
 
+/// How many racks a side has at most.
+const RACKS: usize = 64;
+
 /// One side's racks: at each, which cores are free, as a mask, and which edge holds each of the others.
 #[derive(Debug, Drop)]
 pub(crate) struct Ports {
-    free: Vec<u64>,
+    // In the struct itself, since each edge reads and writes two of them.
+    free: [u64; RACKS],
     // Of a core that is free, whatever edge held it last.
     holders: Vec<u16>,
 }
 
 impl Model for Ports {
-    ghost use Rattle.std.specs.Prelude.{◌≡◌, ◌*◌, ℕ, List, Option, vec_len};
+    ghost use Rattle.std.specs.Prelude.{◌≡◌, ◌≤◌, ℕ, List, Option, length, vec_len};
     ghost use Rattle.edge_colouring.specs.Holders.{holders_shown};
 
     ghost Value = { List (Option ℕ) };
 
-    ghost view = { λ p. holders_shown p.free.items p.holders.items };
+    ghost view = { λ p. holders_shown p.free p.holders.items };
 
-    ghost invariant = { λ p. vec_len p.holders ≡ vec_len p.free * 64 };
+    ghost invariant = { λ p. (length p.free ≡ 64) × (vec_len p.holders ≤ 4096) };
 }
 
 impl Ports {
     /// So many racks, at which every core is free.
     pub(crate) fn open(alloc: Global, racks: u16) -> Result<Ports, NoMemory>
+        requires { racks ≤ 64 }
         ensures { IfOk result (λ ports. ports ≡ replicate (racks * 64) None) }
     {
         Ok(Ports {
-            free: vec![in alloc; u64::MAX; racks as usize]?,
+            free: [u64::MAX; RACKS],
             holders: vec![in alloc; 0; racks as usize * CORES]?,
         })
     }
@@ -43,7 +48,7 @@ impl Ports {
     pub(crate) fn clear(&mut self)
         ensures { self.new ≡ replicate (length self.old) None }
     {
-        self.free.fill(u64::MAX);
+        self.free = [u64::MAX; RACKS];
     }
 
     /// The edge that holds the core at the rack.
