@@ -316,6 +316,14 @@ impl Lane {
         }
     }
 
+    /// Reads what is kept of the flow to `dst`, so that memory brings it near. What it answers means nothing.
+    pub fn read_ahead(&self, dst: u16) -> u32 {
+        match self.lines.get(dst as usize) {
+            Some(line) => line.entered,
+            None => 0,
+        }
+    }
+
     /// The counts of the flow to `dst` since the last reset, None where no batch has it.
     pub fn count(&self, dst: u16) -> Option<FlowCount>
         requires { dst < self.now.endpoints }

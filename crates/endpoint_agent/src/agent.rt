@@ -349,6 +349,14 @@ impl Agent {
         send_batch(&mut self.lines, &mut self.waiting, batch, first_slot, into);
     }
 
+    /// Reads what is kept of the flow to `dst`, so that memory brings it near. What it answers means nothing.
+    pub fn read_ahead(&self, dst: u16) -> u32 {
+        match self.lines.get(dst as usize) {
+            Some(line) => line.sent,
+            None => 0,
+        }
+    }
+
     /// How many slots towards `dst` were sent in, and how many were missed, in this boot.
     pub fn totals(&self, dst: u16) -> (u32, u32)
         requires { dst < self.now.endpoints }

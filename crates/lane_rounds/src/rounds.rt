@@ -56,6 +56,8 @@ pub struct LaneRounds {
     down: World,
     up: World,
     is_whole: bool,
+    /// What was read ahead last: it is kept so that it is read, and means nothing.
+    ahead: u32,
     /// The bytes of the packet that was made or arrived last, and what is left of those before.
     buf: [u8; 2048],
 }
@@ -95,6 +97,7 @@ impl LaneRounds {
             down: World::open(alloc)?,
             up: World::open(alloc)?,
             is_whole: true,
+            ahead: 0,
             buf: [0; 2048],
         })
     }
@@ -150,6 +153,18 @@ impl LaneRounds {
         self.agent.send_due(round, sent);
         self.is_whole = true;
         Ok(())
+    }
+
+    /// Reads what is kept of the flows of these slots, of each without waiting for another, so that memory brings all of them at once
+    /// before they are counted and rounds come to them. Nothing but speed rests on it.
+    pub fn read_ahead(&mut self, told: &[Told])
+        ensures { self.new ≡ self.old }
+    {
+        let mut read = 0;
+        for one in told {
+            read ^= self.agent.read_ahead(one.dst) ^ self.lane.read_ahead(one.dst);
+        }
+        self.ahead = read;
     }
 
     /// Counts `n` slots of the flow to `dst` in a batch that is published. A batch below the last reset is passed over.

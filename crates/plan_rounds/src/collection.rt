@@ -23,6 +23,8 @@ pub struct Collection {
     rounds: u32,
     // The slots asked for so far, by source and then destination.
     asked: Vec<u32>,
+    // What was read ahead last: it is kept so that it is read, and means nothing.
+    ahead: u32,
 }
 
 impl Model for Collection {
@@ -45,6 +47,7 @@ impl Collection {
             endpoints,
             rounds: 0,
             asked: vec![in alloc; 0; flows]?,
+            ahead: 0,
         })
     }
 
@@ -79,9 +82,50 @@ impl Collection {
         ensures rounds { OnOk result (self.new.rounds ≡ self.old.rounds + count) }
     {
         let _rounds = trace.rounds();
+        self.ahead = read_ahead(trace, self.rounds, count, &self.asked);
         let batches = collect(alloc, trace, self.rounds, count, &mut self.asked)?;
         self.rounds += count;
         Ok(batches)
+    }
+}
+
+/// Reads what the table has of the flows that so many rounds from this one on ask for, of each without waiting for another, so that
+/// memory brings all of it at once. What it answers means nothing.
+fn read_ahead(trace: &Trace, first: u32, count: u32, asked: &[u32]) -> u32
+    requires within { first + count ≤ trace.now.rounds }
+{
+    let _rounds = trace.rounds();
+    let mut read = 0;
+    for round in first..first + count {
+        read ^= read_round(trace, round, asked);
+    }
+    read
+}
+
+/// Reads what the table has of the flows that a round asks for.
+fn read_round(trace: &Trace, round: u32, asked: &[u32]) -> u32
+    requires round { round < trace.now.rounds }
+{
+    let endpoints = trace.endpoints();
+    let mut read = 0;
+    for ask in trace.asks_in(round) {
+        let flow = Flow {
+            src: ask.src,
+            dst: ask.dst,
+        };
+        read ^= read_flow(endpoints, flow, asked);
+    }
+    read
+}
+
+/// Reads what the table has of a flow.
+fn read_flow(endpoints: u16, flow: Flow, asked: &[u32]) -> u32 {
+    if flow.src >= endpoints || flow.dst >= endpoints {
+        return 0;
+    }
+    match asked.get(place(endpoints, flow)) {
+        Some(slots) => *slots,
+        None => 0,
     }
 }
 

@@ -1,5 +1,5 @@
 //! Slots that are published, counted by the lanes of their sources.
-ghost use Rattle.std.specs.Prelude.{◌≡◌, ◌<◌, ◌≤◌, ◌+◌, ◌*◌, ℕ, length};
+ghost use Rattle.std.specs.Prelude.{◌≡◌, ◌<◌, ◌≤◌, ◌+◌, ◌*◌, ◌^◌, ℕ, length};
 ghost use Rattle.trace_run.specs.Run.{Setting};
 ghost use Rattle.replay_rounds.specs.Standing.{LaneStands};
 ghost use Rattle.replay_rounds.specs.Counting.{HasCounted, IsRest, MayCount};
@@ -40,9 +40,23 @@ pub(crate) fn count_lane(lane: &mut LaneRounds, src: u16, publisher: &Publisher,
         LaneStands setting collected (publisher.now.first_batch + publisher.now.count) src lane.new }
 {
     counting_holds();
+    read_ahead(lane, src, publisher, from);
     let end = publisher.first_batch() + u32::from(publisher.count());
     for batch in from..end {
         count_batch(lane, batch, publisher.told(src, batch));
+    }
+}
+
+/// Reads ahead what the lane keeps of the flows of the slots that it is to count.
+fn read_ahead(lane: &mut LaneRounds, src: u16, publisher: &Publisher, from: u32)
+    requires src { src < publisher.now.endpoints }
+    requires first { publisher.now.first_batch ≤ from }
+    requires few { publisher.now.first_batch + publisher.now.count < 2 ^ 32 }
+    ensures { lane.new ≡ lane.old }
+{
+    let end = publisher.first_batch() + u32::from(publisher.count());
+    for batch in from..end {
+        lane.read_ahead(publisher.told(src, batch));
     }
 }
 

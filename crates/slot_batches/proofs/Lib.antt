@@ -25,6 +25,7 @@ pub mod StandsLemmas
 pub mod MarkLemmas
 pub mod IdleLemmas
 pub mod WeaveLemmas
+mod WrittenLemmas
 pub mod SetAside
 pub mod Front
 pub mod FrontWindow

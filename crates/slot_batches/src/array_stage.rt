@@ -104,7 +104,7 @@ impl ArrayStage {
     {
         open_due(&mut self.filling, &mut self.unopened, batch, item.last > 0);
         let item = with_near_entry(item, batch, &self.marks, &self.places);
-        self.filling.take_up(item);
+        self.filling.serve(item);
     }
 
     /// Feeds the next items of the list, one after the other.

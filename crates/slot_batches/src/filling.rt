@@ -83,9 +83,9 @@ impl Filling {
         self.serve(item);
     }
 
-    /// As `take_up`. Most items take no slot: it stays out of their loop.
+    /// As `take_up`, for an item that seldom takes none. Most items take none: it stays out of their loop.
     #[inline(never)]
-    fn serve(&mut self, item: Item)
+    pub(crate) fn serve(&mut self, item: Item)
         requires room { FillingHasRoom self.old }
         requires may { (taken : List Item) × HasTakenUp taken (fill_of self.old) × MayBeTakenUp self.old.endpoints self.old.first_slot (taken ++ item ∷ []) }
         ensures room { FillingHasRoom self.new }

@@ -82,6 +82,41 @@ fn find(endpoints: u16, items: &[Item], at: &[u32], flow: Flow) -> Option<usize>
     }
 }
 
+/// Where the table has the item of this flow, whether or not one stands there.
+fn noted(endpoints: u16, at: &[u32], flow: Flow) -> usize {
+    if flow.src >= endpoints || flow.dst >= endpoints {
+        return 0;
+    }
+    match at.get(place(endpoints, flow)) {
+        Some(noted) => *noted as usize,
+        None => 0,
+    }
+}
+
+/// Reads where the items of a batch's entries stand, and then of which flow each is: of each without waiting for another, so that
+/// memory brings all of them at once before they are looked up. What it answers means nothing.
+fn read_batch(endpoints: u16, items: &[Item], at: &[u32], batch: &Batch) -> usize {
+    let mut read = 0;
+    for number in 0..batch.len() {
+        read ^= noted(endpoints, at, batch.entry(number).flow);
+    }
+    for number in 0..batch.len() {
+        if let Some(item) = items.get(noted(endpoints, at, batch.entry(number).flow)) {
+            read ^= item.flow.src as usize;
+        }
+    }
+    read
+}
+
+/// Reads where the items of the batches' entries stand, as `read_batch` does.
+fn read_ahead(endpoints: u16, items: &[Item], at: &[u32], batches: &[Batch]) -> usize {
+    let mut read = 0;
+    for batch in batches {
+        read ^= read_batch(endpoints, items, at, batch);
+    }
+    read
+}
+
 /// Sets the bit of the entry's item, if one stands. A flow that opens has none, and is not looked up.
 #[tactic(auto, using(crate::proofs::LogLemmas::new_has_bit))]
 fn mark_entry(endpoints: u16, items: &[Item], at: &[u32], words: &mut [u64], entry: Entry)
@@ -453,6 +488,8 @@ pub(crate) struct ItemLog {
     places: Vec<usize>,
     // Room to close the gaps.
     spare: DemandList,
+    // What was read ahead last: it is kept so that it is read, and means nothing.
+    ahead: usize,
 }
 
 impl Model for ItemLog {
@@ -481,6 +518,7 @@ impl ItemLog {
             busy: vec![in alloc; 0; pairs / 32 + 1]?,
             places: Vec::with_capacity(alloc, pairs)?,
             spare: DemandList::open(alloc, pairs)?,
+            ahead: 0,
         })
     }
 
@@ -536,6 +574,7 @@ impl ItemLog {
             self.places.clear();
             return true;
         }
+        self.ahead = read_ahead(self.endpoints, &self.items, &self.at, batches);
         mark_all(
             self.endpoints,
             &self.items,

@@ -11,8 +11,8 @@ open_due-requires-clause-fed c =
     let fed = c.requires.may.0 in
     (fed, subst (λ (s : ArrayState). HasBeenFed c.args.batch.now fed s.fill s.unopened) (sym c.self.view_is) (c.requires.may.2.feeding refl))
 
-pub take_up-requires-clause-may : goal.take_up-requires-clause-may
-take_up-requires-clause-may c =
+pub serve-requires-clause-may : goal.serve-requires-clause-may
+serve-requires-clause-may c =
     let batch = c.args.batch.now in
     let fed = c.requires.may.0 in
     let item = c.args.item in
@@ -34,9 +34,9 @@ returns-clause-stands c = λ fed given stands may_now.
     let view_is = c.self.view_is in
     let old = fill_of c.self.inside.filling in
     let mid = c.open_due.new.filling in
-    let new = fill_of c.take_up.new.self in
+    let new = fill_of c.serve.new.self in
     let opens = c.open_due.ensures in
-    let takes = c.take_up.ensures in
+    let takes = c.serve.ensures in
     let so_far : HasBeenFed batch fed old c.self.inside.unopened = subst (λ (s : ArrayState). HasBeenFed batch fed s.fill s.unopened) (sym view_is) (stands.feeding refl) in
     let may : MayBeFed batch.entries old.endpoints old.first_slot (fed ++ item ∷ []) =
     subst (λ (s : ArrayState). MayBeFed batch.entries (array_endpoints s) (array_first s) (fed ++ item ∷ [])) (sym view_is) may_now in

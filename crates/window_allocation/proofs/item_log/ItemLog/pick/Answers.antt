@@ -58,7 +58,7 @@ pub note_busy-requires-clause-within : goal.note_busy-requires-clause-within
 note_busy-requires-clause-within c =
     let inside = c.self.inside in
     let before = c.self.invariant.0 in
-    omega (arith, c.len.ensures, inside.items.ok.0, before.room, before.words, c.deref-4.ensures.len, inside.busy.ok.0)
+    omega (arith, c.len.ensures, inside.items.ok.0, before.room, before.words, c.deref-6.ensures.len, inside.busy.ok.0)
 
 pub take_items-requires-clause-within : goal.take_items-requires-clause-within
 take_items-requires-clause-within c =
@@ -66,16 +66,16 @@ take_items-requires-clause-within c =
     let items = inside.items.items in
     let words = c.mark_all.new.words in
     let places = c.note_busy.new.places.items in
-    let four : c.deref-4.result.now ≡ words = c.deref-4.ensures.value ∙ written words inside.busy.items inside.busy.len (c.mark_all.ensures.count ∙ c.deref_mut.ensures.len) in
+    let four : c.deref-6.result.now ≡ words = c.deref-6.ensures.value ∙ written words inside.busy.items inside.busy.len (c.mark_all.ensures.count ∙ c.deref_mut.ensures.len) in
     let count : ℕ = c.len.result / 64 + 1 in
     let noted : places ≡ busy_places items words (count * 64) =
     c.note_busy.ensures.places c.if-not-note_busy.false
-    ∙ (ap (λ (xs : List Item). busy_places xs c.deref-4.result.now (count * 64)) c.deref-3.ensures.value ∙ ap (λ (ws : List ℕ). busy_places items ws (count * 64)) four) in
+    ∙ (ap (λ (xs : List Item). busy_places xs c.deref-6.result.now (count * 64)) c.deref-5.ensures.value ∙ ap (λ (ws : List ℕ). busy_places items ws (count * 64)) four) in
     let before = c.self.invariant.0 in
     let long : length items ≤ count * 64 = omega (arith, c.len.ensures, inside.items.ok.0) in
     let say : SayBits inside.endpoints inside.at.items words items places = bits_picked inside.endpoints inside.at.items words items places (count * 64) before.placed long noted in
-    subst (λ (ps : List ℕ). All (λ place. place < length c.deref-5.result.now) ps) (sym c.deref-6.ensures.value)
-    (subst (λ (xs : List Item). All (λ place. place < length xs) places) (sym c.deref-5.ensures.value) (places_within items places say.places_are))
+    subst (λ (ps : List ℕ). All (λ place. place < length c.deref-7.result.now) ps) (sym c.deref-8.ensures.value)
+    (subst (λ (xs : List Item). All (λ place. place < length xs) places) (sym c.deref-7.ensures.value) (places_within items places say.places_are))
 
 pub invariant_of-self-2 : goal.invariant_of-self-2
 invariant_of-self-2 c =
@@ -84,11 +84,11 @@ invariant_of-self-2 c =
     let words = c.mark_all.new.words in
     let places = c.note_busy.new.places.items in
     let are : take inside.busy.len (words ++ drop (length words) inside.busy.items) ≡ words = written words inside.busy.items inside.busy.len (c.mark_all.ensures.count ∙ c.deref_mut.ensures.len) in
-    let four : c.deref-4.result.now ≡ words = c.deref-4.ensures.value ∙ are in
+    let four : c.deref-6.result.now ≡ words = c.deref-6.ensures.value ∙ are in
     let count : ℕ = c.len.result / 64 + 1 in
     let noted : places ≡ busy_places items words (count * 64) =
     c.note_busy.ensures.places c.if-not-note_busy.false
-    ∙ (ap (λ (xs : List Item). busy_places xs c.deref-4.result.now (count * 64)) c.deref-3.ensures.value ∙ ap (λ (ws : List ℕ). busy_places items ws (count * 64)) four) in
+    ∙ (ap (λ (xs : List Item). busy_places xs c.deref-6.result.now (count * 64)) c.deref-5.ensures.value ∙ ap (λ (ws : List ℕ). busy_places items ws (count * 64)) four) in
     let before = c.self.invariant.0 in
     let long : length items ≤ count * 64 = omega (arith, c.len.ensures, inside.items.ok.0) in
     let say : SayBits inside.endpoints inside.at.items words items places = bits_picked inside.endpoints inside.at.items words items places (count * 64) before.placed long noted in
@@ -113,11 +113,11 @@ returns-clause-picked c =
     let items = inside.items.items in
     let words = c.mark_all.new.words in
     let places = c.note_busy.new.places.items in
-    let four : c.deref-4.result.now ≡ words = c.deref-4.ensures.value ∙ written words inside.busy.items inside.busy.len (c.mark_all.ensures.count ∙ c.deref_mut.ensures.len) in
+    let four : c.deref-6.result.now ≡ words = c.deref-6.ensures.value ∙ written words inside.busy.items inside.busy.len (c.mark_all.ensures.count ∙ c.deref_mut.ensures.len) in
     let count : ℕ = c.len.result / 64 + 1 in
     let noted : places ≡ busy_places items words (count * 64) =
     c.note_busy.ensures.places c.if-not-note_busy.false
-    ∙ (ap (λ (xs : List Item). busy_places xs c.deref-4.result.now (count * 64)) c.deref-3.ensures.value ∙ ap (λ (ws : List ℕ). busy_places items ws (count * 64)) four) in
+    ∙ (ap (λ (xs : List Item). busy_places xs c.deref-6.result.now (count * 64)) c.deref-5.ensures.value ∙ ap (λ (ws : List ℕ). busy_places items ws (count * 64)) four) in
     let before = c.self.invariant.0 in
     let long : length items ≤ count * 64 = omega (arith, c.len.ensures, inside.items.ok.0) in
     let say : SayBits inside.endpoints inside.at.items words items places = bits_picked inside.endpoints inside.at.items words items places (count * 64) before.placed long noted in
@@ -129,11 +129,11 @@ returns-clause-nothing c = λ _.
     let items = inside.items.items in
     let words = c.mark_all.new.words in
     let places = c.note_busy.new.places.items in
-    let four : c.deref-4.result.now ≡ words = c.deref-4.ensures.value ∙ written words inside.busy.items inside.busy.len (c.mark_all.ensures.count ∙ c.deref_mut.ensures.len) in
+    let four : c.deref-6.result.now ≡ words = c.deref-6.ensures.value ∙ written words inside.busy.items inside.busy.len (c.mark_all.ensures.count ∙ c.deref_mut.ensures.len) in
     let count : ℕ = c.len.result / 64 + 1 in
     let noted : places ≡ busy_places items words (count * 64) =
     c.note_busy.ensures.places c.if-not-note_busy.false
-    ∙ (ap (λ (xs : List Item). busy_places xs c.deref-4.result.now (count * 64)) c.deref-3.ensures.value ∙ ap (λ (ws : List ℕ). busy_places items ws (count * 64)) four) in
+    ∙ (ap (λ (xs : List Item). busy_places xs c.deref-6.result.now (count * 64)) c.deref-5.ensures.value ∙ ap (λ (ws : List ℕ). busy_places items ws (count * 64)) four) in
     let before = c.self.invariant.0 in
     let long : length items ≤ count * 64 = omega (arith, c.len.ensures, inside.items.ok.0) in
     let say : SayBits inside.endpoints inside.at.items words items places = bits_picked inside.endpoints inside.at.items words items places (count * 64) before.placed long noted in
@@ -142,6 +142,6 @@ returns-clause-nothing c = λ _.
     let log : IsLog inside.endpoints inside.count items inside.at.items words places =
     with_bits inside.endpoints inside.count items inside.at.items inside.busy.items inside.places.items words places before (c.mark_all.ensures.count ∙ ap length c.deref_mut.ensures.value) more say.places_are in
     let marked : All (λ (batch : DemandBatch). HaveBits words items batch.entries) c.args.batches.now =
-    subst (λ (xs : List Item). All (λ (batch : DemandBatch). HaveBits words xs batch.entries) c.args.batches.now) c.deref.ensures.value c.mark_all.ensures.marked in
+    subst (λ (xs : List Item). All (λ (batch : DemandBatch). HaveBits words xs batch.entries) c.args.batches.now) c.deref-3.ensures.value c.mark_all.ensures.marked in
     subst (λ (l : Logged). NeedNothing (is_left (items_at items places)) c.args.batches.now l.items) c.self.view_is
     (nothing_needed inside.endpoints inside.at.items words items places c.args.batches.now before.placed log.bits marked say)
