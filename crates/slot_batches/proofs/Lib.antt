@@ -37,3 +37,4 @@ pub mod EntryLemmas
 pub mod BusyLemmas
 pub mod NodeCounts
 pub mod Crossing
+mod FedByDoubts

@@ -27,7 +27,7 @@ putting_starts flow places slots = record {
   above = λ place later is after. refl;
 }
 
-without_other : (rest place : ℕ) → rest < 2 ^ 64 → rest ≢ 0 → place ≢ trailing_zeros w64 rest → has_slot (bit_and rest (rest - 1)) place ≡ has_slot rest place
+pub without_other : (rest place : ℕ) → rest < 2 ^ 64 → rest ≢ 0 → place ≢ trailing_zeros w64 rest → has_slot (bit_and rest (rest - 1)) place ≡ has_slot rest place
 without_other rest place fits some other =
     without_lowest rest place fits some ∙ (ap (λ (b : Bool). has_slot rest place && not b) (ne_eqb place (trailing_zeros w64 rest) other) ∙ and-true (has_slot rest place))
 

@@ -19,7 +19,7 @@ use Rattle.slot_batches.specs.Filled.{Fill, HasTakenUp, MayBeTakenUp}
 use Rattle.slot_batches.specs.Rests.{TakesNone, ItemRests}
 use Rattle.slot_batches.specs.ArrayStands.{HasBeenFed, MayBeFed}
 use Rattle.slot_batches.specs.declared.filling.Filling.{Filling}
-use Rattle.slot_batches.specs.Parts.{fill_of, FillingHasRoom}
+use Rattle.slot_batches.specs.Parts.{fill_of, with_waiting, FillingHasRoom}
 use Rattle.slot_batches.proofs.FilledLemmas.{lengths_after, matchings_so_far}
 use Rattle.slot_batches.proofs.Added.{added-none, added-unique}
 use Rattle.slot_batches.proofs.FreePlaces.{takes_lowest_free}
@@ -76,11 +76,23 @@ room_to_keep taken items f room is may =
     let fits = few f.endpoints (taken ++ items) may.once may.in_range in
     omega (arith, waits, fits, length-append taken items, f.waiting.ok.0, room.pairs)
 
+-- also where some of them were served
+pub room_for_left : (taken left : List Item) (f : Filling) → FillingHasRoom f → HasTakenUp taken (with_waiting (f.waiting.items ++ left) (fill_of f)) → vec_len f.waiting + length left ≤ vec_capacity f.waiting
+room_for_left taken left f room is =
+    omega (
+      arith,
+      lengths_after (is_barred f.maps.limits) f.first_slot f.b taken f.slots.slots (f.waiting.items ++ left) f.served.items is.stands,
+      few f.endpoints taken is.may.once is.may.in_range,
+      length-append f.waiting.items left,
+      f.waiting.ok.0,
+      room.pairs,
+    )
+
 no_item : (entries : List Entry) (item : Item) → entry_of entries item.flow ≡ None → with_batch entries item ≡ item
 no_item entries item none = ap (λ (e : Option Entry). record item { need = need_with e item.need }) none
 
 -- what was taken up before the item
-taken_before : (entries : List Entry) (fed : List Item) (item : Item) (unopened : ℕ) → unopened ≡ cond (has_served fed) 0 (length entries) → (was_served item && not (unopened == 0)) ≡ false
+pub taken_before : (entries : List Entry) (fed : List Item) (item : Item) (unopened : ℕ) → unopened ≡ cond (has_served fed) 0 (length entries) → (was_served item && not (unopened == 0)) ≡ false
     → taken_up entries fed (was_served item) ≡ taken_up entries fed false
 taken_before entries fed item unopened left none = elim (cases_Bool (was_served item)) [
   | inr never ↦ ap (taken_up entries fed) never

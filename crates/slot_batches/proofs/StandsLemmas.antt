@@ -190,11 +190,11 @@ stands_for_more batch fed given item old new stands now first_is size_is marks_a
     (given_is ∙ (stands.given_is ∙ sym (given_so_far given (length old.fill.waiting) (stands.more_wait refl)))) (ends_is ∙ stands.ends_is)
     (longer given (length old.fill.waiting) (length new.fill.waiting) more (stands.more_wait refl))
 
--- a run of items that wait as they are was fed
-pub stands_for_run : (batch : DemandBatch) (fed run : List Item) (given : ℕ) (old new : ArrayState) → ArrayStands batch fed false given old → HasBeenFed batch (fed ++ run) new.fill new.unopened
-    → new.fill.waiting ≡ old.fill.waiting ++ run → new.marks ≡ old.marks → new.given ≡ old.given → new.ends ≡ old.ends → ArrayStands batch (fed ++ run) false given new
-stands_for_run batch fed run given old new stands now waiting_is marks_are given_is ends_is =
-    let more : length old.fill.waiting ≤ length new.fill.waiting = omega (arith, ap length waiting_is, length-append old.fill.waiting run) in
+-- items were fed, and more wait
+pub stands_for_run : (batch : DemandBatch) (fed run more_waiting : List Item) (given : ℕ) (old new : ArrayState) → ArrayStands batch fed false given old → HasBeenFed batch (fed ++ run) new.fill new.unopened
+    → new.fill.waiting ≡ old.fill.waiting ++ more_waiting → new.marks ≡ old.marks → new.given ≡ old.given → new.ends ≡ old.ends → ArrayStands batch (fed ++ run) false given new
+stands_for_run batch fed run more_waiting given old new stands now waiting_is marks_are given_is ends_is =
+    let more : length old.fill.waiting ≤ length new.fill.waiting = omega (arith, ap length waiting_is, length-append old.fill.waiting more_waiting) in
     feeding_stands batch (fed ++ run) given new now (subst (AreMarked batch.entries) (sym marks_are) stands.marked)
     (given_is ∙ (stands.given_is ∙ sym (given_so_far given (length old.fill.waiting) (stands.more_wait refl)))) (ends_is ∙ stands.ends_is)
     (longer given (length old.fill.waiting) (length new.fill.waiting) more (stands.more_wait refl))

@@ -2,7 +2,7 @@
 use Rattle.std.proofs.Common.{◌≡◌, ◌<◌, ◌≤◌, ◌+◌, ◌-◌, ◌*◌, ℕ, List, [], ◌∷◌, ◌++◌, length, replicate, Bool, true, false, not, nat_lt, All, Vec, min, count_ones, None, sym, ap, ◌∙◌, subst, arith}
 use Rattle.std.specs.Prelude.{vec_capacity, vec_len}
 use Rattle.std.proofs.lemmas.Bool.{and_left, le-ltb}
-use Rattle.std.proofs.lemmas.List.{length-append}
+use Rattle.std.proofs.lemmas.List.{append-nil, length-append}
 use Rattle.std.proofs.lemmas.List.Elements.{All-head, All-tail}
 use Rattle.std.proofs.lemmas.List.Sums.{length-filter}
 use Rattle.std.specs.declared.alloc.Global.{Global}
@@ -16,14 +16,15 @@ use Rattle.greedy_rules.specs.Schedule.{slot_in}
 use Rattle.greedy_rules.specs.SlotTable.{Slots, destination_of, IsSlotOf}
 use Rattle.greedy_rules.proofs.Facts.{slots-batch, few}
 use Rattle.endpoint_bitmaps.specs.Slots.{has_slot, count_below, is_among_lowest, NoneFrom}
-use Rattle.endpoint_bitmaps.specs.FreeSlots.{FreeSlots, is_common, HasTaken}
+use Rattle.endpoint_bitmaps.specs.FreeSlots.{FreeSlots, is_free_to_send, may_receive, is_common, HasTaken}
 use Rattle.endpoint_bitmaps.proofs.Facts.{count_below-same, count_of_lowest, has_slot-none}
 use Rattle.slot_batches.specs.declared.filling.Filling.{Filling}
 use Rattle.slot_batches.specs.FlowByFlow.{slots_with, item_after, slots_after, items_after}
 use Rattle.slot_batches.specs.FreePlaces.{is_free, is_chosen, HasAdded}
 use Rattle.slot_batches.specs.Progress.{StandsAfter}
 use Rattle.slot_batches.specs.Filled.{HasTakenUp, MayBeTakenUp, IsGreatest}
-use Rattle.slot_batches.specs.Parts.{fill_of, FillingHasRoom}
+use Rattle.slot_batches.specs.Parts.{fill_of, with_waiting, FillingHasRoom}
+use Rattle.slot_batches.specs.Rests.{HaveNoMore}
 use Rattle.slot_batches.proofs.Added.{added-none, added-same, added-unique}
 use Rattle.slot_batches.proofs.FreePlaces.{takes_lowest_free, item_after-served, chosen_within}
 use Rattle.slot_batches.proofs.FreeMaps.{common_is_free, lowest_common_is_chosen, shows_added, chosen_no_destination}
@@ -52,7 +53,28 @@ fits_served limits endpoints number b taken slots waiting served stands may =
       served_fit bar endpoints number b taken may.below in_range,
     )
 
-module _ (taken : List Item) (f : Filling) (item : Item) (room : FillingHasRoom f) (is : HasTakenUp taken (fill_of f)) (may : MayBeTakenUp f.endpoints f.first_slot (taken ++ item ∷ [])) where
+-- there is room for one that waits
+pub waiting_has_room : (taken : List Item) (f : Filling) (item : Item) → FillingHasRoom f → HasTakenUp taken (fill_of f) → MayBeTakenUp f.endpoints f.first_slot (taken ++ item ∷ [])
+    → vec_len f.waiting < vec_capacity f.waiting
+waiting_has_room taken f item room is may =
+    omega (
+      arith,
+      lengths_after (is_barred f.maps.limits) f.first_slot f.b taken f.slots.slots f.waiting.items f.served.items is.stands,
+      few f.endpoints (taken ++ item ∷ []) may.once may.in_range,
+      length-append taken (item ∷ []),
+      f.waiting.ok.0,
+      room.pairs,
+    )
+
+-- whoever was not free is not
+pub no_more : (src dst : ℕ) (is_taken : ℕ → Bool) (old new : FreeSlots) → HasTaken src dst is_taken old new → HaveNoMore old new
+no_more src dst is_taken old new gone = record {
+  senders = λ endpoint slot none. gone.senders endpoint slot ∙ and_left (is_free_to_send old endpoint slot) _ none;
+  receivers = λ endpoint slot none. gone.receivers endpoint slot ∙ and_left (may_receive old endpoint slot) _ none;
+}
+
+-- these items wait, whatever stands among those that do
+module _ (taken waiting : List Item) (f : Filling) (item : Item) (room : FillingHasRoom f) (is : HasTakenUp taken (with_waiting waiting (fill_of f))) (may : MayBeTakenUp f.endpoints f.first_slot (taken ++ item ∷ [])) where
   abbrev bar : Bar
   bar = is_barred f.maps.limits
 
@@ -63,7 +85,7 @@ module _ (taken : List Item) (f : Filling) (item : Item) (room : FillingHasRoom 
   old_last = last_of_all (λ x. x.last < f.first_slot) taken item may.below
 
   matchings : All IsMatching f.slots.slots
-  matchings = matchings_so_far taken (fill_of f) is
+  matchings = matchings_so_far taken (with_waiting waiting (fill_of f)) is
 
   few_slots : length f.slots.slots ≤ 64
   few_slots = omega (arith, room.count, room.few_slots)
@@ -74,17 +96,6 @@ module _ (taken : List Item) (f : Filling) (item : Item) (room : FillingHasRoom 
 
   pub item_in_table : (item.flow.src < f.slots.endpoints) × (item.flow.dst < f.slots.endpoints)
   item_in_table = (omega (arith, in_range.0, room.table), omega (arith, in_range.1, room.table))
-
-  pub waiting_has_room : vec_len f.waiting < vec_capacity f.waiting
-  waiting_has_room =
-      omega (
-        arith,
-        lengths_after bar f.first_slot f.b taken f.slots.slots f.waiting.items f.served.items is.stands,
-        few f.endpoints (taken ++ item ∷ []) may.once may.in_range,
-        length-append taken (item ∷ []),
-        f.waiting.ok.0,
-        room.pairs,
-      )
 
   module _ (places : ℕ) (lowest : (slot : ℕ) → has_slot places slot ≡ is_among_lowest (is_common f.maps item.flow.src item.flow.dst) item.need slot) where
     pub chosen_is : (place : ℕ) → has_slot places place ≡ is_chosen bar item f.slots.slots place
@@ -111,14 +122,13 @@ module _ (taken : List Item) (f : Filling) (item : Item) (room : FillingHasRoom 
           (added-none item.flow (is_chosen bar item f.slots.slots) f.slots.slots none_chosen)
           (takes_lowest_free bar f.first_slot item f.slots.slots).slots_then
 
-      pub taken_up_none : (maps : FreeSlots) (waiting : Vec Item Global) → HasTaken item.flow.src item.flow.dst (has_slot places) f.maps maps → waiting.items ≡ f.waiting.items ++ item ∷ []
-          → HasTakenUp (taken ++ item ∷ []) (fill_of (record f { maps = maps; waiting = waiting }))
-      taken_up_none maps waiting gone pushed = record {
+      pub taken_up_none : (maps : FreeSlots) → HasTaken item.flow.src item.flow.dst (has_slot places) f.maps maps
+          → HasTakenUp (taken ++ item ∷ []) (with_waiting (waiting ++ item ∷ []) (fill_of (record f { maps = maps })))
+      taken_up_none maps gone = record {
         numbers = is.numbers;
         may = may;
-        stands = subst (λ (l : Limits). StandsAfter (is_barred l) f.first_slot f.b (taken ++ item ∷ []) f.slots.slots waiting.items f.served.items) (sym gone.limits)
-            (subst (λ (xs : List Item). StandsAfter bar f.first_slot f.b (taken ++ item ∷ []) f.slots.slots xs f.served.items) (sym pushed)
-            (stands_with_waiting bar f.first_slot f.b taken f.slots.slots f.waiting.items f.served.items is.stands item item f.slots.slots same_slots stays old_last));
+        stands = subst (λ (l : Limits). StandsAfter (is_barred l) f.first_slot f.b (taken ++ item ∷ []) f.slots.slots (waiting ++ item ∷ []) f.served.items) (sym gone.limits)
+            (stands_with_waiting bar f.first_slot f.b taken f.slots.slots waiting f.served.items is.stands item item f.slots.slots same_slots stays old_last);
         free = shows_added f.endpoints f.maps maps item.flow (has_slot places) f.slots.slots f.slots.slots few_slots is.free
             (added-none item.flow (has_slot places) f.slots.slots (λ place. ap (λ (n : ℕ). has_slot n place) none ∙ has_slot-none place))
             gone;
@@ -159,15 +169,15 @@ module _ (taken : List Item) (f : Filling) (item : Item) (room : FillingHasRoom 
           (added-same item.flow (has_slot places) (is_chosen bar item f.slots.slots) f.slots.slots slots.slots chosen_is added)
           (takes_lowest_free bar f.first_slot item f.slots.slots).slots_then
 
-      one_served : StandsAfter bar f.first_slot f.b (taken ++ item ∷ []) slots.slots f.waiting.items (f.served.items ++ now ∷ [])
+      one_served : StandsAfter bar f.first_slot f.b (taken ++ item ∷ []) slots.slots waiting (f.served.items ++ now ∷ [])
       one_served =
-          stands_with_served bar f.first_slot f.b taken f.slots.slots f.waiting.items f.served.items is.stands item now slots.slots slots_then now_is (omega arith)
+          stands_with_served bar f.first_slot f.b taken f.slots.slots waiting f.served.items is.stands item now slots.slots slots_then now_is (omega arith)
 
       pub served_has_room : vec_len f.served < vec_capacity f.served
       served_has_room =
           omega (
             arith,
-            fits_served f.maps.limits f.endpoints f.first_slot f.b (taken ++ item ∷ []) slots.slots f.waiting.items (f.served.items ++ now ∷ []) one_served may,
+            fits_served f.maps.limits f.endpoints f.first_slot f.b (taken ++ item ∷ []) slots.slots waiting (f.served.items ++ now ∷ []) one_served may,
             length-append f.served.items (now ∷ []),
             f.served.ok.0,
             room.places,
@@ -175,12 +185,13 @@ module _ (taken : List Item) (f : Filling) (item : Item) (room : FillingHasRoom 
 
       pub taken_up_some : (maps : FreeSlots) (served : Vec Item Global) → HasTaken item.flow.src item.flow.dst (has_slot places) f.maps maps
           → served.items ≡ f.served.items ++ now ∷ []
-          → HasTakenUp (taken ++ item ∷ []) (fill_of (record f { maps = maps; slots = slots; served = served }))
+          → HasTakenUp (taken ++ item ∷ []) (with_waiting (waiting ++ []) (fill_of (record f { maps = maps; slots = slots; served = served })))
       taken_up_some maps served gone pushed =
           record {
             numbers = is.numbers;
             may = may;
-            stands = subst (λ (l : Limits). StandsAfter (is_barred l) f.first_slot f.b (taken ++ item ∷ []) slots.slots f.waiting.items served.items) (sym gone.limits)
-                (subst (λ (xs : List Item). StandsAfter bar f.first_slot f.b (taken ++ item ∷ []) slots.slots f.waiting.items xs) (sym pushed) one_served);
+            stands = subst (λ (l : Limits). StandsAfter (is_barred l) f.first_slot f.b (taken ++ item ∷ []) slots.slots (waiting ++ []) served.items) (sym gone.limits)
+                (subst (λ (xs : List Item). StandsAfter bar f.first_slot f.b (taken ++ item ∷ []) slots.slots (waiting ++ []) xs) (sym pushed)
+                (subst (λ (xs : List Item). StandsAfter bar f.first_slot f.b (taken ++ item ∷ []) slots.slots xs (f.served.items ++ now ∷ [])) (sym (append-nil waiting)) one_served));
             free = shows_added f.endpoints f.maps maps item.flow (has_slot places) f.slots.slots slots.slots few_slots is.free added gone;
           }

@@ -16,4 +16,5 @@ pub mod Parts
 pub mod Pieces
 pub mod Settled
 pub mod ArrayStands
+pub mod Doubts
 pub mod Stands

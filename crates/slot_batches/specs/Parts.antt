@@ -1,5 +1,6 @@
 -- The parts of a batch as the code keeps them (this project's own profile).
 use Rattle.std.specs.Prelude.{◌≡◌, ◌≤◌, ℕ, ◌*◌, List, length, vec_capacity}
+use Rattle.greedy_rules.specs.declared.flows.Item.{Item}
 use Rattle.greedy_rules.specs.declared.limits.Limits.{Limits}
 use Rattle.slot_batches.specs.declared.filling.Filling.{Filling}
 use Rattle.slot_batches.specs.Filled.{Fill}
@@ -14,6 +15,10 @@ fill_of filling = record {
   waiting = filling.waiting.items;
   served = filling.served.items;
 }
+
+-- the same but for the items that wait
+abbrev pub with_waiting : List Item → Fill → Fill
+with_waiting waiting fill = record fill { waiting = waiting }
 
 -- there is room for every batch of its size
 pub record FillingHasRoom (filling : Filling) : Type 0 where

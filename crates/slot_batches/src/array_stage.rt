@@ -5,12 +5,13 @@ ghost use Rattle.slot_batches.specs.ArrayStands.{array_endpoints, array_size, ar
 ghost use Rattle.slot_batches.specs.Settled.{settled, slots_filled};
 ghost use Rattle.slot_batches.specs.Pieces.{Part, part_of, next_piece};
 
+use crate::doubts::{close_up, doubts, serve_doubted};
 use crate::entry_places::EntryPlaces;
-use crate::filling::Filling;
+use crate::filling::{Filling, append_items};
 use crate::marks::mark_entries;
 use crate::opening::{open_due, with_near_entry};
 use crate::piece::Piece;
-use crate::resting::resting;
+use crate::resting::{all_rest, doubts_suffice, resting};
 use greedy_rules::{Batch, DemandList, Item, SlotTable};
 use item_chain::Chain;
 use no_memory::NoMemory;
@@ -125,6 +126,50 @@ impl ArrayStage {
                 from += 1;
             }
         }
+    }
+
+    /// As `feed_items`, for the items of a piece, whose places may hold anything then.
+    pub(crate) fn feed_piece(&mut self, batch: &Batch, items: &mut [Item])
+        requires few { length items.old ≤ 64 }
+        requires may { (fed : List Item) × (given : ℕ) × ArrayStands batch.now fed false given self.old × MayBeFed batch.now.entries (array_endpoints self.old) (array_first self.old) (fed ++ items.old) }
+        requires needs { All (λ item. need_with (entry_of batch.now.entries item.flow) item.need < 2 ^ 32) items.old }
+        ensures work { IsSameArrayWork (array_endpoints self.old) (array_size self.old) (array_number self.old) (array_first self.old) self.new }
+        ensures stands { (fed : List Item) → (given : ℕ) →
+            ArrayStands batch.now fed false given self.old →
+            MayBeFed batch.now.entries (array_endpoints self.old) (array_first self.old) (fed ++ items.old) →
+            ArrayStands batch.now (fed ++ items.old) false given self.new }
+    {
+        let doubts = doubts_suffice(self.unopened, batch);
+        if doubts && !all_rest(&self.filling, self.unopened, batch) {
+            self.feed_by_doubts(batch, items)
+        } else {
+            self.feed_items(batch, items)
+        }
+    }
+
+    /// Feeds the items of a piece, where no flow may open any more: the doubted ones are served, and all that took no slot wait.
+    fn feed_by_doubts(&mut self, batch: &Batch, items: &mut [Item])
+        requires few { length items.old ≤ 64 }
+        requires opened { self.old.unopened ≡ 0 }
+        requires may { (fed : List Item) × (given : ℕ) × ArrayStands batch.now fed false given self.old × MayBeFed batch.now.entries (array_endpoints self.old) (array_first self.old) (fed ++ items.old) }
+        requires needs { All (λ item. need_with (entry_of batch.now.entries item.flow) item.need < 2 ^ 32) items.old }
+        ensures work { IsSameArrayWork (array_endpoints self.old) (array_size self.old) (array_number self.old) (array_first self.old) self.new }
+        ensures stands { (fed : List Item) → (given : ℕ) →
+            ArrayStands batch.now fed false given self.old →
+            MayBeFed batch.now.entries (array_endpoints self.old) (array_first self.old) (fed ++ items.old) →
+            ArrayStands batch.now (fed ++ items.old) false given self.new }
+    {
+        let doubted = doubts(&self.filling, &self.marks, items);
+        let served = serve_doubted(
+            &mut self.filling,
+            batch,
+            &self.marks,
+            &self.places,
+            items,
+            doubted,
+        );
+        let left = close_up(items, served);
+        append_items(&mut self.filling.waiting, &items[..left]);
     }
 
     /// Feeds the items at the front that wait as they are, and answers how many these are.

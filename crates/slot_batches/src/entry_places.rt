@@ -71,7 +71,8 @@ impl EntryPlaces {
         }
     }
 
-    /// The batch's entry of the flow; None where the batch has none.
+    /// The batch's entry of the flow; None where the batch has none. Most items have none: it stays out of their loop.
+    #[inline(never)]
     pub(crate) fn find(&self, batch: &Batch, flow: Flow) -> Option<Entry>
         ensures { result ≡ entry_of batch.now.entries flow }
     {

@@ -1,4 +1,4 @@
-ghost use Rattle.std.specs.Prelude.{◌≡◌, ◌≢◌, ◌<◌, ◌≤◌, ◌+◌, ◌-◌, ◌^◌, ℕ, List, [], ◌∷◌, ◌++◌, length, true, None, IfOk, count_ones, vec_len, vec_capacity, map, All};
+ghost use Rattle.std.specs.Prelude.{if◌then◌else◌, ◌≡◌, ◌≢◌, ◌<◌, ◌≤◌, ◌+◌, ◌-◌, ◌^◌, ℕ, List, [], ◌∷◌, ◌++◌, length, true, None, IfOk, count_ones, vec_len, vec_capacity, map, All};
 ghost use Rattle.endpoint_bitmaps.specs.Slots.{has_slot};
 ghost use Rattle.greedy_rules.specs.Schedule.{slot_in};
 ghost use Rattle.greedy_rules.specs.SlotTable.{destination_of};
@@ -6,8 +6,8 @@ ghost use Rattle.greedy_rules.specs.Demands.{by_last};
 ghost use Rattle.greedy_rules.specs.Limits.{AreLimits};
 ghost use Rattle.slot_batches.specs.FreePlaces.{HasAdded};
 ghost use Rattle.slot_batches.specs.Filled.{HasTakenUp, MayBeTakenUp, IsGreatest};
-ghost use Rattle.slot_batches.specs.Rests.{TakesNone};
-ghost use Rattle.slot_batches.specs.Parts.{fill_of, FillingHasRoom, IsSameBatch};
+ghost use Rattle.slot_batches.specs.Rests.{TakesNone, HaveNoMore};
+ghost use Rattle.slot_batches.specs.Parts.{fill_of, with_waiting, FillingHasRoom, IsSameBatch};
 
 use crate::served::append_served;
 use endpoint_bitmaps::FreeMaps;
@@ -83,8 +83,7 @@ impl Filling {
         self.serve(item);
     }
 
-    /// As `take_up`, for an item that seldom takes none. Most items take none: it stays out of their loop.
-    #[inline(never)]
+    /// As `take_up`, for an item that seldom takes none.
     pub(crate) fn serve(&mut self, item: Item)
         requires room { FillingHasRoom self.old }
         requires may { (taken : List Item) × HasTakenUp taken (fill_of self.old) × MayBeTakenUp self.old.endpoints self.old.first_slot (taken ++ item ∷ []) }
@@ -95,11 +94,30 @@ impl Filling {
             MayBeTakenUp self.old.endpoints self.old.first_slot (taken ++ item ∷ []) →
             HasTakenUp (taken ++ item ∷ []) (fill_of self.new) }
     {
+        if !self.serve_apart(item) {
+            self.waiting.push_reserved(item);
+        }
+    }
+
+    /// Serves the item, and answers whether it took a slot; where it took none, it is not among those that wait yet, and others may
+    /// be that are not there. Most items take none: it stays out of their loop.
+    #[inline(never)]
+    pub(crate) fn serve_apart(&mut self, item: Item) -> bool
+        requires room { FillingHasRoom self.old }
+        requires may { (taken waiting : List Item) × HasTakenUp taken (with_waiting waiting (fill_of self.old)) × MayBeTakenUp self.old.endpoints self.old.first_slot (taken ++ item ∷ []) }
+        ensures room { FillingHasRoom self.new }
+        ensures same { IsSameBatch self.old.maps.limits self.old.endpoints self.old.b self.old.first_slot self.new }
+        ensures waiting { self.new.waiting ≡ self.old.waiting }
+        ensures no_more { HaveNoMore self.old.maps self.new.maps }
+        ensures taken_up { (taken waiting : List Item) →
+            HasTakenUp taken (with_waiting waiting (fill_of self.old)) →
+            MayBeTakenUp self.old.endpoints self.old.first_slot (taken ++ item ∷ []) →
+            HasTakenUp (taken ++ item ∷ []) (with_waiting (waiting ++ (if result then [] else item ∷ [])) (fill_of self.new)) }
+    {
         let Flow { src, dst } = item.flow;
         let places = self.maps.take_lowest(src, dst, item.need);
         if places == 0 {
-            self.waiting.push_reserved(item);
-            return;
+            return false;
         }
         let put = put_flow(&mut self.slots, places, item.flow);
         self.served.push_reserved(Item {
@@ -107,6 +125,7 @@ impl Filling {
             need: item.need - put.count,
             last: self.first_slot + put.greatest,
         });
+        true
     }
 
     /// Whether the item takes no slot.
@@ -148,7 +167,7 @@ impl Filling {
 }
 
 /// Appends the items, for which there is room. A few are written one by one: that is sooner done than a copy of all.
-fn append_items(waiting: &mut Vec<Item>, items: &[Item])
+pub(crate) fn append_items(waiting: &mut Vec<Item>, items: &[Item])
     requires { vec_len waiting.old + length items.now ≤ vec_capacity waiting.old }
     ensures items { waiting.new.items ≡ waiting.old.items ++ items.now }
     ensures capacity { vec_capacity waiting.old ≤ vec_capacity waiting.new }

@@ -5,7 +5,8 @@
 //! of any list, whatever its order; `opening.rt` applies the batch's entries and takes up the flows that open; `marks.rt` tells
 //! which flows may have an entry, so that no other is looked up, `entry_places.rt` where it may stand, so that it is mostly found
 //! at once, and `flow_marks.rt` which flows may have an entry in one of the batches of a window;
-//! `resting.rt` finds how many items wait as they are, and these are kept at once; `array_stage.rt` orders these
+//! `resting.rt` finds how many items wait as they are, and these are kept at once, and `doubts.rt` which items of a piece may not;
+//! `array_stage.rt` orders these
 //! steps, settles items and gives them piece by piece as soon as more than 64 wait; `stage.rt` is that with the loose nodes
 //! beside it, `chains.rt` writes items into nodes; `piece.rt` is a part of 64 items in nodes (`item_chain`). `served.rt` puts the
 //! items that got slots behind those that wait, slot by slot of their last ones, which is the stable sort of the definition
@@ -17,6 +18,7 @@
 
 mod array_stage;
 mod chains;
+mod doubts;
 mod entry_places;
 mod filling;
 mod flow_marks;

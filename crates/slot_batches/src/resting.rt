@@ -4,31 +4,33 @@ ghost use Rattle.greedy_rules.specs.Batches.{entry_of};
 ghost use Rattle.greedy_rules.specs.Demands.{AreBelow};
 ghost use Rattle.slot_batches.specs.Marks.{AreMarked};
 ghost use Rattle.slot_batches.specs.Parts.{IsWhole};
-ghost use Rattle.slot_batches.specs.Rests.{opens_before, ItemRests, TakesNone};
+ghost use Rattle.slot_batches.specs.Rests.{opens_before, ItemRests, TakesNone, WantsNone, IsUndoubted};
 
 use crate::filling::Filling;
 use crate::marks::common_marks;
 use greedy_rules::{Batch, Item};
 
-/// How many slots the item takes at most: 0 only where it takes none.
+/// How many slots the item takes at most: 0 only where it wants none.
 pub(crate) fn wanted(filling: &Filling, item: &Item) -> u64
     requires src { item.now.flow.src < filling.now.maps.endpoints }
     requires dst { item.now.flow.dst < filling.now.maps.endpoints }
-    ensures { result ≡ 0 → TakesNone filling.now.maps item.now }
+    ensures { result ≡ 0 → WantsNone filling.now.maps item.now }
 {
     let slots = filling.maps.may_share(item.flow.src, item.flow.dst);
     slots.min(u64::from(item.need))
 }
 
-/// What may speak against an item waiting as it is where no flow opens before it, whatever its racks may: 0 only where nothing
-/// does.
-fn doubt(filling: &Filling, marks: &[u64], item: &Item) -> u64
+/// Whether something may speak against the item waiting as it is where no flow opens before it, whatever its racks may: false only
+/// where nothing does, nor will as the batch goes on. All is looked at, and nothing guessed.
+pub(crate) fn is_doubted(filling: &Filling, marks: &[u64], item: &Item) -> bool
     requires whole { IsWhole filling.now marks.now }
     requires src { item.now.flow.src < filling.now.maps.endpoints }
     requires dst { item.now.flow.dst < filling.now.maps.endpoints }
-    ensures { (entries : List Entry) → AreMarked entries marks.now → result ≡ 0 → ItemRests entries 0 filling.now.maps item.now }
+    ensures { (entries : List Entry) → AreMarked entries marks.now → result ≡ false → IsUndoubted entries filling.now.maps item.now }
 {
-    wanted(filling, item) | common_marks(marks, &item.flow)
+    let slots = filling.maps.may_share(item.flow.src, item.flow.dst);
+    let common = common_marks(marks, &item.flow);
+    ((item.need != 0) & (slots != 0)) | (common != 0)
 }
 
 /// How many items at the front wait as they are, at least, where no flow may open any more.
@@ -39,7 +41,7 @@ fn undoubted(filling: &Filling, marks: &[u64], items: &[Item]) -> usize
     ensures rest { (entries : List Entry) → AreMarked entries marks.now → All (ItemRests entries 0 filling.now.maps) (take result items.now) }
 {
     let mut at = 0;
-    while at < items.len() && doubt(filling, marks, &items[at]) == 0 {
+    while at < items.len() && !is_doubted(filling, marks, &items[at]) {
         at += 1;
     }
     at
@@ -76,10 +78,18 @@ fn resting_each(filling: &Filling, marks: &[u64], unopened: usize, items: &[Item
 }
 
 /// Whether every item waits as it is, whichever it be: no endpoint may send any more, and the batch has no entry.
-fn all_rest(filling: &Filling, unopened: usize, batch: &Batch) -> bool
+pub(crate) fn all_rest(filling: &Filling, unopened: usize, batch: &Batch) -> bool
     ensures { result ≡ true → (item : Item) → ItemRests batch.now.entries unopened filling.now.maps item }
 {
     unopened == 0 && batch.is_empty() && filling.maps.none_may_send()
+}
+
+/// Whether what is doubted tells all: no flow may open any more, and racks limit nothing.
+pub(crate) fn doubts_suffice(unopened: usize, batch: &Batch) -> bool
+    ensures { result ≡ true → unopened ≡ 0 }
+{
+    let limits = batch.limits();
+    unopened == 0 && limits.hosts <= limits.cores
 }
 
 /// How many items at the front wait as they are.
@@ -98,8 +108,7 @@ pub(crate) fn resting(
     if all_rest(filling, unopened, batch) {
         return items.len();
     }
-    let limits = batch.limits();
-    if unopened == 0 && limits.hosts <= limits.cores {
+    if doubts_suffice(unopened, batch) {
         return undoubted(filling, marks, items);
     }
     resting_each(filling, marks, unopened, items)

@@ -96,7 +96,7 @@ impl Stage {
         let mut places = [BLANK; 64];
         let items = &mut places[..from.len()];
         read_all(from, &mut self.loose, items);
-        self.arrays.feed_items(batch, items);
+        self.arrays.feed_piece(batch, items);
     }
 
     /// Ends the list: the slots are filled, and all of the list that they leave is settled.

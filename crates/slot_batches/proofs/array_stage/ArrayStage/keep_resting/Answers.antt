@@ -58,7 +58,7 @@ returns-then-count-gt0-clause-stands c = λ fed given stands may_now.
     (may_feed_part batch.entries (array_endpoints c.args.self.now) (array_first c.args.self.now) fed c.args.items.now c.resting-count.result may_now) in
     let marked : AreMarked batch.entries c.deref.result.now = subst (AreMarked batch.entries) (ap (λ (s : ArrayState). s.marks) (sym view_is) ∙ sym c.deref.ensures.value) stands.marked in
     let rests = c.resting-count.ensures.rest marked in
-    stands_for_run batch fed run given c.args.self.now _ stands
+    stands_for_run batch fed run run given c.args.self.now _ stands
     (fed_run batch fed run old new inside.unopened so_far may rests (c.keep.ensures.taken_up (taken_up batch.entries fed false) so_far.taken (may_keep batch fed run old inside.unopened so_far may rests))
     same.same_limits same.same_endpoints same.same_first)
     (c.keep.ensures.waiting ∙ ap (λ (s : ArrayState). s.fill.waiting ++ run) view_is) (ap (λ (s : ArrayState). s.marks) view_is) (ap (λ (s : ArrayState). s.given) view_is)

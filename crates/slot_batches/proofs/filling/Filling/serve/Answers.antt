@@ -1,60 +1,36 @@
-use Rattle.std.proofs.Common.{◌+◌, ◌-◌, ℕ, [], ◌∷◌, ◌++◌, ap, ◌∙◌, arith}
-use Rattle.slot_batches.proofs.TakeUpLemmas.{item_in_maps, item_in_table, waiting_has_room, places_within, places_free, ones_within, greatest_within, served_has_room, taken_up_none, taken_up_some}
+use Rattle.std.proofs.Common.{◌≡◌, ◌<◌, ◌++◌, ◌∷◌, [], Bool, Vec, Global, List, cond, sym, ap, ◌∙◌, subst}
+use Rattle.std.specs.Prelude.{vec_len, vec_capacity}
+use Rattle.std.proofs.lemmas.List.{append-nil}
+use Rattle.greedy_rules.specs.declared.flows.Item.{Item}
+use Rattle.slot_batches.specs.Filled.{HasTakenUp}
+use Rattle.slot_batches.specs.Parts.{fill_of, with_waiting}
+use Rattle.slot_batches.proofs.TakeUpLemmas.{waiting_has_room}
 use Rattle.slot_batches.proofs.filling.Filling.serve.Goals as goal
 
-pub take_lowest-places-requires-clause-src_in_range : goal.take_lowest-places-requires-clause-src_in_range
-take_lowest-places-requires-clause-src_in_range c = (item_in_maps c.requires.may.0 c.args.self.now c.args.item c.requires.room c.requires.may.1 c.requires.may.2).0
-
-pub take_lowest-places-requires-clause-dst_in_range : goal.take_lowest-places-requires-clause-dst_in_range
-take_lowest-places-requires-clause-dst_in_range c = (item_in_maps c.requires.may.0 c.args.self.now c.args.item c.requires.room c.requires.may.1 c.requires.may.2).1
+pub serve_apart-requires-clause-may : goal.serve_apart-requires-clause-may
+serve_apart-requires-clause-may c = (c.requires.may.0, c.args.self.now.waiting.items, c.requires.may.1, c.requires.may.2)
 
 pub push_reserved-requires : goal.push_reserved-requires
-push_reserved-requires c = waiting_has_room c.requires.may.0 c.args.self.now c.args.item c.requires.room c.requires.may.1 c.requires.may.2
+push_reserved-requires c =
+    subst (λ (v : Vec Item Global). vec_len v < vec_capacity v) (sym c.serve_apart.ensures.waiting)
+    (waiting_has_room c.requires.may.0 c.args.self.now c.args.item c.requires.room c.requires.may.1 c.requires.may.2)
 
-pub returns-then-places-eq0-clause-taken_up : goal.returns-then-places-eq0-clause-taken_up
-returns-then-places-eq0-clause-taken_up c = λ taken is may.
-    let took = c.take_lowest-places.ensures in
-    taken_up_none taken c.args.self.now c.args.item c.requires.room is may c.take_lowest-places.result took.lowest c.if-places-eq0.true
-    c.take_lowest-places.new.self c.push_reserved.new.self took.taken c.push_reserved.ensures.items
-
-pub put_flow-put-requires-clause-src : goal.put_flow-put-requires-clause-src
-put_flow-put-requires-clause-src c = (item_in_table c.requires.may.0 c.args.self.now c.args.item c.requires.room c.requires.may.1 c.requires.may.2).0
-
-pub put_flow-put-requires-clause-dst : goal.put_flow-put-requires-clause-dst
-put_flow-put-requires-clause-dst c = (item_in_table c.requires.may.0 c.args.self.now c.args.item c.requires.room c.requires.may.1 c.requires.may.2).1
-
-pub put_flow-put-requires-clause-within : goal.put_flow-put-requires-clause-within
-put_flow-put-requires-clause-within c =
-    places_within c.requires.may.0 c.args.self.now c.args.item c.requires.room c.requires.may.1 c.requires.may.2 c.take_lowest-places.result c.take_lowest-places.ensures.lowest
-
-pub put_flow-put-requires-clause-free : goal.put_flow-put-requires-clause-free
-put_flow-put-requires-clause-free c =
-    places_free c.requires.may.0 c.args.self.now c.args.item c.requires.room c.requires.may.1 c.requires.may.2 c.take_lowest-places.result c.take_lowest-places.ensures.lowest
-
-pub overflow_sub-item : goal.overflow_sub-item
-overflow_sub-item c =
-    let took = c.take_lowest-places.ensures in
-    let within = ones_within c.requires.may.0 c.args.self.now c.args.item c.requires.room c.requires.may.1 c.requires.may.2 c.take_lowest-places.result took.lowest took.count c.put_flow-put.new.slots
-    c.put_flow-put.result.greatest c.put_flow-put.ensures.slots c.put_flow-put.ensures.greatest in
-    omega (arith, c.put_flow-put.ensures.count, within)
-
-pub overflow_add-self : goal.overflow_add-self
-overflow_add-self c =
-    let took = c.take_lowest-places.ensures in
-    let below = greatest_within c.requires.may.0 c.args.self.now c.args.item c.requires.room c.requires.may.1 c.requires.may.2 c.take_lowest-places.result took.lowest took.count c.put_flow-put.new.slots
-    c.put_flow-put.result.greatest c.put_flow-put.ensures.slots c.put_flow-put.ensures.greatest in
-    omega (arith, below, c.requires.may.1.numbers)
-
-pub push_reserved-requires-2 : goal.push_reserved-requires-2
-push_reserved-requires-2 c =
-    let took = c.take_lowest-places.ensures in
-    served_has_room c.requires.may.0 c.args.self.now c.args.item c.requires.room c.requires.may.1 c.requires.may.2 c.take_lowest-places.result took.lowest took.count c.put_flow-put.new.slots
-    c.put_flow-put.result.greatest c.put_flow-put.ensures.slots c.put_flow-put.ensures.greatest
-
-pub returns-clause-taken_up : goal.returns-clause-taken_up
-returns-clause-taken_up c = λ taken is may.
-    let took = c.take_lowest-places.ensures in
+pub returns-then-not-serve_apart-clause-taken_up : goal.returns-then-not-serve_apart-clause-taken_up
+returns-then-not-serve_apart-clause-taken_up c = λ taken is may.
     let old = c.args.self.now in
-    taken_up_some taken c.args.self.now c.args.item c.requires.room is may c.take_lowest-places.result took.lowest took.count c.put_flow-put.new.slots
-    c.put_flow-put.result.greatest c.put_flow-put.ensures.slots c.put_flow-put.ensures.greatest
-    c.take_lowest-places.new.self c.push_reserved-2.new.self took.taken (c.push_reserved-2.ensures.items ∙ ap (λ (n : ℕ). old.served.items ++ record { flow = c.args.item.flow; need = c.args.item.need - n; last = old.first_slot + c.put_flow-put.result.greatest } ∷ []) c.put_flow-put.ensures.count)
+    let item = c.args.item in
+    let new = c.serve_apart.new.self in
+    let waits : old.waiting.items ++ cond c.serve_apart.result [] (item ∷ []) ≡ c.push_reserved.new.self.items =
+    ap (λ (b : Bool). old.waiting.items ++ cond b [] (item ∷ [])) c.if-not-serve_apart.true
+    ∙ (ap (λ (v : Vec Item Global). v.items ++ item ∷ []) (sym c.serve_apart.ensures.waiting) ∙ sym c.push_reserved.ensures.items) in
+    subst (λ (xs : List Item). HasTakenUp (taken ++ item ∷ []) (with_waiting xs (fill_of new))) waits (c.serve_apart.ensures.taken_up taken old.waiting.items is may)
+
+pub returns-else-not-serve_apart-clause-taken_up : goal.returns-else-not-serve_apart-clause-taken_up
+returns-else-not-serve_apart-clause-taken_up c = λ taken is may.
+    let old = c.args.self.now in
+    let item = c.args.item in
+    let new = c.serve_apart.new.self in
+    let waits : old.waiting.items ++ cond c.serve_apart.result [] (item ∷ []) ≡ new.waiting.items =
+    ap (λ (b : Bool). old.waiting.items ++ cond b [] (item ∷ [])) c.if-not-serve_apart.false
+    ∙ (append-nil old.waiting.items ∙ ap (λ (v : Vec Item Global). v.items) (sym c.serve_apart.ensures.waiting)) in
+    subst (λ (xs : List Item). HasTakenUp (taken ++ item ∷ []) (with_waiting xs (fill_of new))) waits (c.serve_apart.ensures.taken_up taken old.waiting.items is may)

@@ -14,8 +14,8 @@ returns-clause-stands c = λ fed given with may.
     let feedable = subst (λ (s : StageState). MayBeFed batch.entries (stage_endpoints s) (first_slot_of s) (fed ++ list)) (sym c.self.view_is) may in
     let is : c.read_all.new.items ≡ list = c.read_all.ensures.items in
     record {
-      arrays = subst (λ (xs : List Item). ArrayStands batch (fed ++ xs) false given c.feed_items.new.self) is
-          (c.feed_items.ensures.stands fed given was.arrays (subst (λ (xs : List Item). MayBeFed batch.entries (array_endpoints inside.arrays) (array_first inside.arrays) (fed ++ xs)) (sym is) feedable));
+      arrays = subst (λ (xs : List Item). ArrayStands batch (fed ++ xs) false given c.feed_piece.new.self) is
+          (c.feed_piece.ensures.stands fed given was.arrays (subst (λ (xs : List Item). MayBeFed batch.entries (array_endpoints inside.arrays) (array_first inside.arrays) (fed ++ xs)) (sym is) feedable));
       nodes = c.read_all.ensures.loose ∙ more_nodes batch fed list given (length inside.loose) inside.arrays was.arrays was.nodes;
     }
 
